@@ -3,14 +3,14 @@
 
 help:
 	@echo "make rust     export the proved sources as plain Rust to target/export, and run its tests"
-	@echo "make test     the same: every test and transcript, without rt"
+	@echo "make test     the same: what is tested without rt"
 	@echo "make rust-c   after it, build its calls for C to target/c, and test them"
 	@echo "make c        prove and build the archives for C (minutes)"
 	@echo "make install  install archives, headers and programs that are built; PREFIX=/usr/local"
 	@echo "make prove    prove everything, and run all tests (rt ci)"
 	@echo "make check    what the gate runs (.ci/run)"
 	@echo "make bench    speed, over the archives that make c built"
-	@echo "make release  release/ from what is built; LOG=FILE is what .ci/run printed"
+	@echo "make release  release/ from what .ci/run built and said; make verify-release tries it"
 
 rust:
 	@tools/rust.sh
@@ -21,8 +21,7 @@ rust-c:
 	@tools/rust_c.sh udp
 
 c:
-	cd crates/stun_c && rt lib
-	cd crates/stun_state && rt lib
+	@tools/archives.sh
 
 install:
 	@$(MAKE) --no-print-directory -C include install
@@ -37,7 +36,7 @@ bench:
 	bench/run.sh
 
 release:
-	@python3 tools/release.py release "$(LOG)"
+	@python3 tools/release.py release $(LOG)
 
 verify-release:
-	@python3 tools/release.py --verify release
+	@python3 tools/release.py --verify release $(LOG)

@@ -1,7 +1,7 @@
 #!/usr/bin/env python3
 """Counts what calls cost through C beside the calls of the library that they wrap.
 
-    bench/state.py [--size N] [--exported]
+    bench/state.py [--size N] [--exported | --built] [--fill]
 
 A row makes its call 10 and 50 times, once in crates/bench_agent and once in bench/state.c, which
 does the same over the archives. The difference of the two runs, through 40, is one call:
@@ -11,8 +11,10 @@ stunp_parse is added to it. N is the number of outstanding requests, or of users
 unless said. A signing is counted through C alone, with its allocations. Last come the pauses of a
 server of 100,000 records that forgets. They are microseconds of processor, by one call and by the
 longest of calls that look at 256 records. It needs a C compiler and valgrind; the first run proves
-what has changed. With --exported it takes the archive of the exported crate (tools/rust_c.sh),
-proves nothing, and leaves out what is beside the library.
+what has changed. With --built it takes archives and program as they are built (rt ci, rt lib), and
+proves nothing. With --exported it takes the archive of the exported crate (tools/rust_c.sh), proves
+nothing, and leaves out what is beside the library. With --fill it counts only the rows whose cells
+are empty in README.md, with 1000 requests, and writes them there.
 """
 
 import argparse
@@ -25,6 +27,8 @@ import time
 HERE = os.path.dirname(os.path.abspath(__file__))
 TOP = os.path.dirname(HERE)
 LIBRARY = os.path.join(TOP, "crates", "bench_agent", "out", "bench_agent")
+README = os.path.join(HERE, "README.md")
+HEAD = "| Call | the library | through C |"
 FEW, MANY, BAR = 10, 50, 150
 
 # malloc keeps no block in its fast bins: else all of them are gathered in whichever call next asks
@@ -95,24 +99,28 @@ def allocations(program, call, size):
     return int(printed.split()[1]) / MANY
 
 
-def archives():
-    """The archives, proved and built, and the program of the library."""
+def archives(is_built):
+    """The archives and the program of the library: as they are, or proved and built."""
     for name in ("stun_state", "stun_c"):
         folder = os.path.join(TOP, "crates", name)
-        _, seconds = done(["rt", "lib"], cwd=folder)
-        print(f"rt lib in crates/{name}: {seconds:.0f} s", file=sys.stderr)
+        if not is_built:
+            _, seconds = done(["rt", "lib"], cwd=folder)
+            print(f"rt lib in crates/{name}: {seconds:.0f} s", file=sys.stderr)
         yield os.path.join(folder, "out", f"lib{name}.a")
-    _, seconds = done(["rt", "run", "--", "poll", "1", "1"],
-                      cwd=os.path.dirname(os.path.dirname(LIBRARY)))
-    print(f"rt run in crates/bench_agent: {seconds:.0f} s", file=sys.stderr)
+    if not is_built:
+        _, seconds = done(["rt", "run", "--", "poll", "1", "1"],
+                          cwd=os.path.dirname(os.path.dirname(LIBRARY)))
+        print(f"rt run in crates/bench_agent: {seconds:.0f} s", file=sys.stderr)
+    elif not os.path.exists(LIBRARY):
+        sys.exit(f"bench: {LIBRARY} is not built")
 
 
-def build(room, is_exported):
+def build(room, chosen):
     """The program over the archives."""
-    if is_exported:
+    if chosen.exported:
         over = [os.path.join(TOP, "target", "c", "libstunp-program.a")]
     else:
-        over = list(archives())
+        over = list(archives(chosen.built))
     source = os.path.join(HERE, "state.c")
     program = os.path.join(room, "state")
     compiler = os.environ.get("CC", "cc")
@@ -121,16 +129,35 @@ def build(room, is_exported):
     return program
 
 
+def counted(program, size, call, title, parsing):
+    """A row of the table."""
+    library = cost(LIBRARY, WRAPPED.get(call, call), size)
+    library += cost(program, parsing, size) if parsing else 0
+    through = cost(program, call, size)
+    return f"| {title} | {library:,.0f} | {through:,.0f} | {through - library:,.0f} | {BAR} |"
+
+
 def beside_the_library(program, size):
     print(f"| Call, of {size:,} | the library | through C | more | at most |")
     print("|---|---|---|---|---|")
-    for call, title, parsing in ROWS:
-        library = cost(LIBRARY, WRAPPED.get(call, call), size)
-        library += cost(program, parsing, size) if parsing else 0
-        through = cost(program, call, size)
-        print(f"| {title} | {library:,.0f} | {through:,.0f} | {through - library:,.0f} | {BAR} |",
-              flush=True)
+    for row in ROWS:
+        print(counted(program, size, *row), flush=True)
     print()
+
+
+def fill(program, size):
+    """Writes the rows that have empty cells in README.md."""
+    with open(README) as opened:
+        lines = opened.read().split("\n")
+    at = next(number for number, line in enumerate(lines) if line.startswith(HEAD))
+    for row in ROWS:
+        place = next(number for number, line in enumerate(lines[at:], at)
+                     if line.startswith(f"| {row[1]} |"))
+        if "| |" in lines[place]:
+            lines[place] = counted(program, size, *row)
+            print(lines[place], flush=True)
+    with open(README, "w") as opened:
+        opened.write("\n".join(lines))
 
 
 def alone(program, size):
@@ -149,16 +176,25 @@ def pauses(program):
 
 
 def main(words):
-    read = argparse.ArgumentParser(usage="state.py [--size N] [--exported]")
+    read = argparse.ArgumentParser(
+        usage="state.py [--size N] [--exported | --built] [--fill]")
     read.add_argument("--size", type=int, default=1000)
-    read.add_argument("--exported", action="store_true")
+    kind = read.add_mutually_exclusive_group()
+    kind.add_argument("--exported", action="store_true")
+    kind.add_argument("--built", action="store_true")
+    read.add_argument("--fill", action="store_true")
     chosen = read.parse_args(words)
+    if chosen.fill and (chosen.exported or chosen.size != 1000):
+        read.error("README.md has the figures of the proved archives, with 1000 requests")
     with tempfile.TemporaryDirectory() as room:
-        program = build(room, chosen.exported)
+        program = build(room, chosen)
+        if chosen.fill:
+            return fill(program, chosen.size)
         if not chosen.exported:
             beside_the_library(program, chosen.size)
         alone(program, chosen.size)
         pauses(program)
 
 
-main(sys.argv[1:])
+if __name__ == "__main__":
+    main(sys.argv[1:])

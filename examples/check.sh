@@ -14,12 +14,10 @@ fi
 scratch=$(mktemp -d)
 trap 'rm -rf "$scratch"' EXIT
 if [ -z "${STUN_C-}" ] || [ -z "${STUN_STATE-}" ]; then
-    for crate in stun_c stun_state; do
-        if ! (cd "../crates/$crate" && rt lib) >"$scratch/lib" 2>&1; then
-            cat "$scratch/lib" >&2
-            exit 1
-        fi
-    done
+    if ! ../tools/archives.sh >"$scratch/lib" 2>&1; then
+        cat "$scratch/lib" >&2
+        exit 1
+    fi
     STUN_C=$PWD/../crates/stun_c/out/libstun_c.a
     STUN_STATE=$PWD/../crates/stun_state/out/libstun_state.a
 fi

@@ -3,8 +3,10 @@
  *
  * Link libstunp.a, which is crates/stun_c/out/libstun_c.a where `rt lib` in crates/stun_c proves
  * and builds it. This archive and that of stunp_state.h hold ELF objects for Linux on x86-64-v2
- * processors. They are position independent, so they may be linked into a shared library, which
- * then shows their calls too, unless it is linked with -Wl,--exclude-libs,ALL.
+ * processors. Elsewhere, or without `rt`, `make rust rust-c` builds target/c/libstunp.a, with
+ * the calls of both headers, which is tested and not proved. All are position independent, so
+ * they may be linked into a shared library, which then shows their calls too, unless it is
+ * linked with -Wl,--exclude-libs,ALL.
  *
  * The calls, in the order of this file:
  *
@@ -37,11 +39,12 @@
  * threads at once, each with its own output. A buffer, a cursor or a writer may move from one
  * thread to another that waits for it (a mutex, a join). No call is made in constant time.
  *
- * Errors. A call that fails returns one of the numbers below zero of stunp_refusal, for the first
- * reason in the order that its comment gives, and leaves its output as it was. stunp_strerror
- * says it in English. A call that writes leaves what comes after the bytes that it wrote.
+ * Errors. A call that fails returns one of the numbers below zero of stunp_refusal, and leaves
+ * its output as it was. The number is of the first reason in the order that the call's comment
+ * gives. stunp_strerror says it in English. A call that writes leaves what comes after the bytes
+ * that it wrote.
  *
- * A server that tells each client its address, and refuses what it does not understand, reads and
+ * A server tells each client its address, and refuses what it does not understand. It reads and
  * writes like this, with `from` of 4 or 16 bytes and a port in the processor's own order:
  *
  *     #include "stunp.h"
@@ -70,11 +73,11 @@
  *         return written < 0 ? 0 : writer.length;
  *     }
  *
- * An agent of ICE writes a check, and tells whether a request is one that knows its password, and
- * of which priority (RFC 8445, sections 7.2.2 and 7.3). `name` is "their fragment:ours", and the
- * first `password` is theirs, the second ours. That USERNAME is the one expected is for the caller
- * to see; examples/c/ice.c has answers and roles too. 0x6e0001ff is the priority of a peer
- * reflexive candidate (section 5.1.2):
+ * An agent of ICE writes a check. It tells whether a request knows its password, and which
+ * priority it has (RFC 8445, sections 7.2.2 and 7.3). `name` is "their fragment:ours", and the
+ * first `password` is theirs, the second ours. That USERNAME is the one expected is for the
+ * caller to see; examples/c/ice.c has answers and roles too. 0x6e0001ff is the priority of a
+ * peer reflexive candidate (section 5.1.2):
  *
  *     size_t write_check(const char *name, const char *password, uint64_t controlling,
  *                        const uint8_t id[12], uint8_t *out, size_t room) {
@@ -190,7 +193,7 @@ typedef enum stunp_refusal {
                                      * type cannot have */
     STUNP_INTEGRITY_FAILED = -6,    /* its value is not the whole digest of what it covers under the
                                      * key */
-    STUNP_BAD_ARGUMENT = -7,  /* a number or a length is none that the call takes */
+    STUNP_BAD_ARGUMENT = -7,  /* an argument is out of range */
     STUNP_NOT_TEXT = -8,      /* a text is not UTF-8 */
     STUNP_TEXT_TOO_LONG = -9, /* a text is too long: a user name over 513 bytes, a reason, realm or
                                * nonce over 763 */
@@ -210,7 +213,7 @@ typedef enum stunp_refusal {
     STUNP_EMPTY_HANDLE = -18,        /* the handle is empty */
     STUNP_FULL_HANDLE = -19,         /* the handle is full already */
     STUNP_ALREADY_IN_PROGRESS = -20, /* a request of this id is outstanding */
-    STUNP_PROTOCOL_VIOLATION = -21,  /* the message or its address is none that this call takes */
+    STUNP_PROTOCOL_VIOLATION = -21,  /* this call does not take the message or its address */
     STUNP_UNAUTHORIZED = -22,        /* server: not sufficiently authenticated (401); client: a 401
                                       * that cannot be taken up */
     STUNP_BAD_REQUEST = -23,         /* the request is not well-formed (400) */
@@ -271,8 +274,8 @@ typedef struct {
 int64_t stunp_parse(const uint8_t *message, size_t length);
 
 /* Reads the header that bytes begin with, all its fields by one call. What follows the first 20
- * bytes is neither looked at nor needed: so a stream tells by its first 20 bytes how many to wait
- * for, and stunp_parse or stunp_walk says of the whole message whether it stands.
+ * bytes is neither looked at nor needed. So a stream tells by its first 20 bytes how many to
+ * wait for. Whether the whole message is well-formed, stunp_parse or stunp_walk tells.
  *
  * Returns 0 and writes the header. Fails: fewer than 20 bytes STUNP_TRUNCATED, a wrong header
  * STUNP_NOT_STUN. */
@@ -314,8 +317,8 @@ int64_t stunp_walk(const uint8_t *message, size_t length, stunp_cursor *cursor, 
 
 /* Finds the first visible attribute that comes after a place: call it with 0, and then with what
  * the call before returned. A walk by stunp_walk comes to the same attributes, and is the linear
- * way: each call of stunp_next reads the message from its start, so a loop over its calls takes
- * time that grows by the square of the number of attributes, of which a message can have 16383.
+ * way. Each call of stunp_next reads the message from its start. So a loop over its calls takes
+ * time that grows by the square of the number of attributes, and a message can have 16383.
  *
  * Returns its place, and writes its type and the length of its value; or returns 0 where there is
  * none. Fails as stunp_parse does. Where there is none and where it fails, it leaves both
@@ -351,15 +354,16 @@ int64_t stunp_read_number(const uint8_t *message, size_t length, size_t place, u
 int64_t stunp_read_address(const uint8_t *message, size_t length, size_t place, uint8_t *out,
                            size_t out_length, uint16_t *port);
 
-/* The same of an address that is hidden under the id of the message, as in XOR-MAPPED-ADDRESS
- * (section 14.2), XOR-PEER-ADDRESS and XOR-RELAYED-ADDRESS (RFC 8656, sections 18.3 and 18.5). */
+/* The same of an address that is hidden under the id of the message. XOR-MAPPED-ADDRESS has one
+ * (section 14.2), and so have XOR-PEER-ADDRESS and XOR-RELAYED-ADDRESS (RFC 8656, sections 18.3
+ * and 18.5). */
 int64_t stunp_read_xor_address(const uint8_t *message, size_t length, size_t place, uint8_t *out,
                                size_t out_length, uint16_t *port);
 
 /* Reads the types of attributes that UNKNOWN-ATTRIBUTES holds, 2 bytes each (section 14.13).
  * `types` is an array of numbers, and its length a number of types.
  *
- * Returns how many there are, also where they are more than have room, and writes the first of
+ * Returns how many there are, also where they are more than have room. It writes the first of
  * them, as many as have room, to the front of `types`. Fails: STUNP_BAD_ARGUMENT;
  * STUNP_MALFORMED_ATTRIBUTE where the value has an odd number of bytes. */
 int64_t stunp_read_types(const uint8_t *message, size_t length, size_t place, uint16_t *types,
@@ -446,7 +450,7 @@ int64_t stunp_check_fingerprint(const uint8_t *message, size_t length);
  * indication that has one, and a response that has one ends its request as failed (sections 6.3.1
  * to 6.3.4).
  *
- * Returns how many there are, also where they are more than have room, and writes the first of
+ * Returns how many there are, also where they are more than have room. It writes the first of
  * them, as many as have room, to the front of `types`. Fails: STUNP_BAD_ARGUMENT where `known`
  * has more than 256; as stunp_parse does. */
 int64_t stunp_unknown_types(const uint8_t *message, size_t length, const uint16_t *known,
@@ -455,7 +459,7 @@ int64_t stunp_unknown_types(const uint8_t *message, size_t length, const uint16_
 /* ---- Messages written. */
 
 /* Writes a message without attributes, 20 bytes (section 5): of a class, of a method, and of a
- * transaction id, which is to be random in a request and that of the request in a response.
+ * transaction id. The id is to be random in a request, and that of the request in a response.
  *
  * Returns 20. Fails: STUNP_BAD_ARGUMENT where the class is not one of four, the method not below
  * 4096, or the id not of 12 bytes; STUNP_BUFFER_TOO_SMALL. */
@@ -481,25 +485,26 @@ int64_t stunp_begin(stunp_message_class message_class, uint32_t method, const ui
 int64_t stunp_add(uint8_t *buffer, size_t room, size_t length, uint32_t type, const void *value,
                   size_t value_length);
 
-/* Adds an attribute of any type that stunp_add takes whose value is a number of `size` bytes, 1,
- * 2, 4 or 8, in network order, as PRIORITY and LIFETIME have 4 and ICE-CONTROLLING has 8.
+/* Adds an attribute of any type that stunp_add takes. Its value is a number of `size` bytes, 1,
+ * 2, 4 or 8, in network order: PRIORITY and LIFETIME have 4, and ICE-CONTROLLING has 8.
  *
  * Fails first with STUNP_BAD_ARGUMENT where the type is not below 65536, the size is another, or
  * the number has more bytes; and with STUNP_NOT_ALLOWED after STUNP_CLOSED. */
 int64_t stunp_add_number(uint8_t *buffer, size_t room, size_t length, uint32_t type,
                          uint64_t number, size_t size);
 
-/* Adds an attribute of any type that stunp_add takes with an address, of 4 bytes (IPv4) or 16
- * (IPv6) in network order, and a port, as MAPPED-ADDRESS and ALTERNATE-SERVER have it (sections
- * 14.1 and 14.15).
+/* Adds an attribute of any type that stunp_add takes. Its value is an address, of 4 bytes (IPv4)
+ * or 16 (IPv6) in network order, and a port. MAPPED-ADDRESS and ALTERNATE-SERVER have it
+ * (sections 14.1 and 14.15).
  *
  * Fails first with STUNP_BAD_ARGUMENT where the type or the port is not below 65536 or the
  * address of another length; and with STUNP_NOT_ALLOWED after STUNP_CLOSED. */
 int64_t stunp_add_address(uint8_t *buffer, size_t room, size_t length, uint32_t type,
                           const uint8_t *address, size_t address_length, uint32_t port);
 
-/* The same of an address that is hidden under the id of the message, as in XOR-MAPPED-ADDRESS
- * (section 14.2), XOR-PEER-ADDRESS and XOR-RELAYED-ADDRESS (RFC 8656, sections 18.3 and 18.5). */
+/* The same of an address that is hidden under the id of the message. XOR-MAPPED-ADDRESS has one
+ * (section 14.2), and so have XOR-PEER-ADDRESS and XOR-RELAYED-ADDRESS (RFC 8656, sections 18.3
+ * and 18.5). */
 int64_t stunp_add_xor_address(uint8_t *buffer, size_t room, size_t length, uint32_t type,
                               const uint8_t *address, size_t address_length, uint32_t port);
 
@@ -541,8 +546,8 @@ static inline void stunp_writer_took(stunp_writer *writer, int64_t answer) {
     else writer->length = (size_t)answer;
 }
 
-/* A writer that goes on with the message at the front of a buffer, whose length, or why there is
- * none, another call returned, as stunp_refuse_unknown. */
+/* A writer that goes on with the message at the front of a buffer. Another call, as
+ * stunp_refuse_unknown, returned the length of that message, or why there is none. */
 static inline stunp_writer stunp_write_on(int64_t answer, uint8_t *bytes, size_t room) {
     stunp_writer writer = {bytes, room, 0, 0};
     stunp_writer_took(&writer, answer);
@@ -672,8 +677,8 @@ int64_t stunp_userhash(const void *username, size_t username_length, const void 
 int64_t stunp_is_stun(const uint8_t *packet, size_t length);
 
 /* Messages in a stream of bytes, as over TCP (section 6.2.2). Each call takes the bytes of the
- * stream that are there, from where a message is to begin, however many they are, and returns a
- * number of bytes: where so many are there, they are the first message; where they are not, so
+ * stream that are there, from where a message is to begin, however many they are. It returns a
+ * number of bytes. Where so many are there, they are the first message. Where they are not, so
  * many must be there before more can be told, and are wanted at the front. So a reader goes like
  * this:
  *
@@ -693,9 +698,9 @@ int64_t stunp_is_stun(const uint8_t *packet, size_t length);
  * packet, and never fails.
  *
  * stunp_next_turn_frame is for messages and ChannelData, as TURN sends them over TCP (RFC 8656,
- * sections 12.4 and 12.5): it is ChannelData where the first byte is 0x40 to 0x4F, counted with
- * its header of 4 bytes and its padding up to a multiple of 4. It returns 4 or more, and fails as
- * stunp_next_frame does. */
+ * sections 12.4 and 12.5). It is ChannelData where the first byte is 0x40 to 0x4F. That is
+ * counted with its header of 4 bytes and its padding up to a multiple of 4. It returns 4 or
+ * more, and fails as stunp_next_frame does. */
 int64_t stunp_next_frame(const uint8_t *bytes, size_t length);
 int64_t stunp_next_packet_frame(const uint8_t *bytes, size_t length);
 int64_t stunp_next_turn_frame(const uint8_t *bytes, size_t length);
@@ -720,7 +725,7 @@ static inline const char *stunp_strerror(int64_t answer) {
         "the message has no integrity attribute",
         "the integrity attribute is malformed",
         "the digest is not that of the message",
-        "a number or a length is none that the call takes",
+        "an argument is out of range",
         "a text is not UTF-8",
         "a text is too long for its attribute",
         "the buffer is too small",
@@ -734,7 +739,7 @@ static inline const char *stunp_strerror(int64_t answer) {
         "the handle is empty",
         "the handle is full already",
         "a request of this id is outstanding",
-        "the message or its address is none that this call takes",
+        "this call does not take the message or its address",
         "the message is not sufficiently authenticated",
         "the request is not well-formed",
         "the nonce is not the current one",

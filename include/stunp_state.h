@@ -1,9 +1,9 @@
 /* STUN (RFC 8489) with state for programs in C, C++ and Rust: an agent that keeps requests and
  * sends them again, and the long-term authenticators of a server and a client.
  *
- * Link libstunp_state.a, which is crates/stun_state/out/libstun_state.a where `rt lib` in
- * crates/stun_state proves and builds it, libstunp.a (stunp.h) for the messages themselves, and
- * libstunp_heap.a (heap.c) or an allocator of your own. Beside these the archive needs what every
+ * Link libstunp_state.a, libstunp.a (stunp.h) for the messages themselves, and libstunp_heap.a
+ * (heap.c) or an allocator of your own. The first is crates/stun_state/out/libstun_state.a where
+ * `rt lib` in crates/stun_state proves and builds it. Beside these the archive needs what every
  * C compiler has: memcpy, memmove, memset, and __udivti3 and __umodti3 of its runtime.
  *
  * The calls, in the order of this file:
@@ -45,27 +45,27 @@
  * what a call writes to overlaps nothing else that is passed. Texts are UTF-8 and taken as they
  * are. What the handles keep is allocated by three functions of the program, which stand below.
  *
- * Threads. The archive has no writable data and no thread-locals, and handles share nothing. So a
- * handle may move from one thread to another that waits for it (a mutex, a join), and each thread
+ * Threads. The archive has no writable data and no thread-locals, and handles share nothing. So
+ * a handle may move from one thread to another that waits for it (a mutex, a join). Each thread
  * may use a handle of its own. Two threads at once may not use one, not even by calls that take
- * it as const. That is trusted, not proved. No call may be made from a signal handler, nor in the
- * forked child of a process with threads. After any other fork each of the two processes may go
- * on with its copy of a handle, and frees it; where they share the memory of the handle, or what
- * rattle_alloc gave, only one of them may.
+ * it as const. That is trusted, not proved. No call may be made from a signal handler, nor in
+ * the forked child of a process with threads. After any other fork each of the two processes may
+ * go on with its copy of a handle, and frees it; where they share the memory of the handle, or
+ * what rattle_alloc gave, only one of them may.
  *
- * Time and chance. No call reads a clock, a socket or a source of random bytes: moments are
- * nanoseconds from a start that the caller chooses once for a handle, by a clock that does not go
- * back (CLOCK_MONOTONIC), and random words are arguments.
+ * Time and chance. No call reads a clock, a socket or a source of random bytes. Times are
+ * nanoseconds from a start that the caller chooses once for a handle. The clock does not go back
+ * (CLOCK_MONOTONIC). Random numbers are arguments.
  *
- * Errors. A call that fails returns one of the numbers below zero of stunp_refusal (stunp.h), for
- * the first reason in the order that its comment gives. STUNP_EMPTY_HANDLE, or STUNP_FULL_HANDLE
- * of a `_new` call, comes before all others, also where a comment does not name it. A call that
- * fails leaves the handle and every output as they were, but where its comment says otherwise. A
- * call that does not leaves as it was each output that its comment does not say is written, such
- * as `*until` where a request ended.
+ * Errors. A call that fails returns one of the numbers below zero of stunp_refusal (stunp.h),
+ * for the first reason in the order that its comment gives. STUNP_EMPTY_HANDLE, or
+ * STUNP_FULL_HANDLE of a `_new` call, comes before all others, also where a comment does not
+ * name it. A call that fails leaves the handle and every output as they were, but where its
+ * comment says otherwise. A call that succeeds leaves as it was each output that its comment
+ * does not say is written, such as `*until` where a request ended.
  *
- * A client with a name and a password asks a server over UDP at which address it sees the client,
- * by an agent that has no other request. The socket, the clock and the random bytes are yours:
+ * A client with a name and a password asks a server over UDP at which address it sees the
+ * client. Its agent has no other request. The socket, the clock and the random bytes are yours:
  * send_to, receive (0 where nothing came until then), moment, fill_randomly.
  *
  *     #include "stunp_state.h"
@@ -124,9 +124,9 @@
  * forged: ask such a server without a stunp_client (examples/c/udp_client.c).
  *
  * stunp_agent_poll_transmit comes before stunp_agent_poll. In a loop that asks the latter alone
- * nothing is sent again and nothing times out, and from the moment on at which something is due
- * it does not wait either: it returns 0 each time, with `*until` not after `now`. Where many
- * requests are due at one moment, send some, read what has come, and go on.
+ * nothing is sent again and nothing times out. Once something is due it does not wait either: it
+ * returns 0 each time, with `*until` not after `now`. Where many requests are due at one moment,
+ * send some, read what has come, and go on.
  *
  * A server tells the users of a realm at which address it sees them: send what `serve` writes, if
  * anything. It judges, asks who it was, signs each answer but a 400, and forgets who it was. Each
@@ -277,16 +277,16 @@ typedef enum stunp_ending {
 } stunp_ending;
 
 /* When a request is sent again (section 6.2.1): the wait after the first transmission, the
- * longest wait between two, the wait after the last, in nanoseconds, and how many transmissions
- * there are over UDP. Each wait between two is twice the one before, up to the longest, and
+ * longest wait between two, and the wait after the last, in nanoseconds. `transmissions` is how
+ * many there are over UDP. Each wait between two is twice the one before, up to the longest, and
  * UINT64_MAX there is no bound; 0 transmissions count as 1. Over TCP a request is sent once, and
  * waited for as long in all.
  *
- * `size` is sizeof (stunp_timeouts), so that a later release may know more time-outs. A call that
- * takes time-outs fails with STUNP_BAD_ARGUMENT where it is another, and reads no more of them.
- * With more than one transmission and an `initial` or a `longest` of 0, all transmissions would
- * be due at one moment, up to UINT32_MAX of them: then it fails with STUNP_NO_WAIT, over TCP too.
- * With a wait, one moment has one transmission of a request. */
+ * `size` is sizeof (stunp_timeouts), so that a later release may know more time-outs. A call
+ * that takes time-outs fails with STUNP_BAD_ARGUMENT where it is another, and reads no more of
+ * them. With more than one transmission and an `initial` or a `longest` of 0, all would be due
+ * at one time, up to UINT32_MAX of them. Then it fails with STUNP_NO_WAIT, over TCP too. With a
+ * wait, one time has one transmission of a request. */
 typedef struct {
     size_t size;
     uint64_t initial;
@@ -301,9 +301,9 @@ typedef struct {
 
 /* What an agent counts. A request counts once as sent, and its bytes with each transmission.
  * Received is where stunp_agent_handle returned 1. A round trip is measured, however late the
- * response comes, where no call of stunp_agent_poll_transmit had sent the request again by then,
- * or would have but for stunp_agent_cancel_retransmissions. Round trips are in nanoseconds, and 0
- * where none was measured. A count stays at UINT64_MAX once it is there.
+ * response comes, where stunp_agent_poll_transmit had not sent the request again by then. Where
+ * it would have but for stunp_agent_cancel_retransmissions, none is measured. Round trips are in
+ * nanoseconds, and 0 where none was measured. A count stays at UINT64_MAX once it is there.
  *
  * `size` is sizeof (stunp_statistics), which the caller sets before it asks. */
 typedef struct {
@@ -356,10 +356,10 @@ static inline void stunp_agent_free(stunp_agent *agent) {
 /* Keeps a request and counts it: send its bytes to `to` now, and ask stunp_agent_poll and
  * stunp_agent_poll_transmit from then on.
  *
- * Returns 0. Fails: STUNP_EMPTY_HANDLE, STUNP_BAD_ARGUMENT (address), STUNP_TRUNCATED,
- * STUNP_NOT_STUN, STUNP_TOO_LARGE, STUNP_PROTOCOL_VIOLATION (the message is no request, or the
- * agent sends only to another address), STUNP_ALREADY_IN_PROGRESS (a request of this id is
- * outstanding), STUNP_OUT_OF_MEMORY. */
+ * Returns 0. Fails: STUNP_EMPTY_HANDLE; STUNP_BAD_ARGUMENT (address); STUNP_TRUNCATED,
+ * STUNP_NOT_STUN, STUNP_TOO_LARGE; STUNP_PROTOCOL_VIOLATION (the message is no request, or the
+ * agent sends only to another address); STUNP_ALREADY_IN_PROGRESS (a request of this id is
+ * outstanding); STUNP_OUT_OF_MEMORY. */
 int64_t stunp_agent_send_request(stunp_agent *agent, const uint8_t *message, size_t length,
                                  const stunp_address *to, uint64_t now);
 
@@ -375,13 +375,13 @@ int64_t stunp_agent_send(stunp_agent *agent, const uint8_t *message, size_t leng
 /* Takes a message that came from an address. It checks no digest: show a response to
  * stunp_client_validate first.
  *
- * The agent keeps each address from which it took a request, an indication or a response, until
- * it is forgotten (stunp_agent_forget_peer) or the agent is freed. Whoever gives it requests and
- * indications of strangers must bound how many (stunp_agent_peer_count).
+ * The agent keeps each address from which it took a message, until it is forgotten
+ * (stunp_agent_forget_peer) or the agent is freed. Whoever gives it requests and indications of
+ * strangers must bound how many (stunp_agent_peer_count).
  *
  * Returns 1 where it is a response that ended the request of its id to this address, or is no
- * response, and 0 where it is a response to nothing that is outstanding: the message is to be
- * dropped. Fails as stunp_agent_send_request does up to STUNP_TOO_LARGE, and with
+ * response. Returns 0 where it is a response to nothing that is outstanding: the message is to
+ * be dropped. Fails as stunp_agent_send_request does up to STUNP_TOO_LARGE, and with
  * STUNP_OUT_OF_MEMORY, but only where the message is taken and its address is not kept yet. */
 int64_t stunp_agent_handle(stunp_agent *agent, const uint8_t *message, size_t length,
                            const stunp_address *from, uint64_t now);
@@ -517,7 +517,7 @@ int64_t stunp_server_remove_user(stunp_server *server, const void *name, size_t 
  * that nobody can foretell (getrandom), new for each call; they are read where a nonce is made.
  *
  * A nonce may be kept for each address that a request or an indication comes from, also where it
- * is refused, so who can send from many addresses makes the server grow: call
+ * is refused. So who can send from many addresses makes the server grow. Call
  * stunp_server_forget_expired now and then, and bound the number of addresses
  * (stunp_server_set_most_addresses).
  *
@@ -564,16 +564,16 @@ int64_t stunp_server_client(const stunp_server *server, const stunp_address *at,
  * The algorithms that a response offers are those that requests from the address must repeat from
  * then on: send what you sign.
  *
- * Does not allocate: the message is signed on the stack, of which the call takes 4 KiB, and
- * 68 KiB where the signed message has more than 2048 bytes.
+ * Does not allocate. The message is signed on the stack: the call takes 4 KiB of it, and 68 KiB
+ * where the signed message has more than 2048 bytes.
  *
  * Returns the message's new length. Fails: STUNP_EMPTY_HANDLE; STUNP_BAD_ARGUMENT (address, or
- * `length` above `room`); STUNP_TRUNCATED, STUNP_NOT_STUN, STUNP_TOO_LARGE; STUNP_CLOSED where it
- * has an integrity attribute or FINGERPRINT, also where nothing would be added;
+ * `length` above `room`); STUNP_TRUNCATED, STUNP_NOT_STUN, STUNP_TOO_LARGE; STUNP_CLOSED where
+ * it has an integrity attribute or FINGERPRINT, also where nothing would be added;
  * STUNP_BUFFER_TOO_SMALL; then, attribute by attribute, STUNP_TEXT_TOO_LONG
- * (STUNP_MESSAGE_TOO_LONG where the message would be too long with all that is added),
- * STUNP_ATTRIBUTE_EXISTS where the message has one that signing adds, STUNP_MESSAGE_TOO_LONG; and
- * STUNP_INTEGRITY_FAILED where the client's user was removed, or the client's algorithm is
+ * (STUNP_MESSAGE_TOO_LONG where the message would be too long with all that is added);
+ * STUNP_ATTRIBUTE_EXISTS where the message has one that signing adds; STUNP_MESSAGE_TOO_LONG;
+ * and STUNP_INTEGRITY_FAILED where the client's user was removed, or the client's algorithm is
  * supported no more: call stunp_server_remove_client. */
 int64_t stunp_server_sign(stunp_server *server, uint8_t *buffer, size_t room, size_t length,
                           const stunp_address *to);
@@ -586,12 +586,12 @@ static inline void stunp_write_server_sign(stunp_writer *writer, stunp_server *s
                                                 writer->length, to));
 }
 
-/* ---- Its messages, with users who are kept elsewhere, as in a data base: ask whom a message
- * names, look that user up, and hand the name and the password in, or the keys that are stored in
- * its place. So no list of users is wanted, and one that the server has is not looked at. The
- * verdict is that of a server that has all of them, where the user is the one who is named. Where
- * there is no such user, or nobody is named, stunp_server_validate of a server without users gives
- * that verdict. Hand the same user in where the answer is signed. */
+/* ---- Its messages, with users who are kept elsewhere, as in a data base. Ask whom a message
+ * names, look that user up, and hand in the name and the password. Keys that are stored in its
+ * place will do too. So no list of users is wanted, and one that the server has is not looked
+ * at. The verdict is that of a server that has all of them, where the user is the one who is
+ * named. Where there is no such user, or nobody is named, stunp_server_validate of a server
+ * without users gives that verdict. Hand the same user in where the answer is signed. */
 
 /* Tells by whose key a message that came from an address is judged: of a response the client of
  * the address; of a request or an indication the user of the last visible USERHASH, where names
@@ -728,10 +728,10 @@ int64_t stunp_client_new(stunp_client *client);
 
 /* Sets whose name and password are used.
  *
- * This and the next two are read where a 401 is taken up. A challenge that was taken up keeps its
- * name, key and algorithm, also where a 438 renews its nonce, and after a success no 401 is taken
- * up: another user then wants a new handle. A name of more than 513 bytes is taken, but where it
- * is not hidden stunp_client_sign fails for a request with STUNP_TEXT_TOO_LONG.
+ * This and the next two are read where a 401 is taken up. A challenge that was taken up keeps
+ * its name, key and algorithm, also where a 438 renews its nonce. After a success no 401 is
+ * taken up: another user then wants a new handle. A name of more than 513 bytes is taken, but
+ * where it is not hidden stunp_client_sign fails for a request with STUNP_TEXT_TOO_LONG.
  *
  * Returns 0. Fails: STUNP_EMPTY_HANDLE, STUNP_NOT_TEXT, STUNP_OUT_OF_MEMORY. */
 int64_t stunp_client_set_credentials(stunp_client *client, const void *name, size_t name_length,
@@ -802,14 +802,14 @@ int64_t stunp_client_signing_algorithm(const stunp_client *client);
  * stunp_error_code reads the first.
  *
  * Returns STUNP_SHA1 or STUNP_SHA256 where the digest verifies. Where another request is asked
- * for it returns STUNP_RESEND_SHA1 or STUNP_RESEND_SHA256 if the 401 or 438 itself verifies under
- * the key that was kept before it, and else STUNP_RESEND, as for a first 401. Fails:
- * STUNP_EMPTY_HANDLE, STUNP_TRUNCATED, STUNP_NOT_STUN, STUNP_TOO_LARGE. Then, of a 401 before any
- * success: STUNP_UNAUTHORIZED (no credentials, no REALM or NONCE, a list of algorithms that is
- * missing, or the challenge that was answered already, as after a wrong password: give up),
- * STUNP_UNSUPPORTED_FEATURE (give up). Of any other message STUNP_INTEGRITY_FAILED (drop it and
- * wait on). STUNP_OUT_OF_MEMORY comes only in place of an answer for which stunp_is_resend
- * holds. */
+ * for, the 401 or 438 may itself verify under the key that was kept before it. Then it returns
+ * STUNP_RESEND_SHA1 or STUNP_RESEND_SHA256. Else, as for a first 401, it returns STUNP_RESEND.
+ * Fails: STUNP_EMPTY_HANDLE, STUNP_TRUNCATED, STUNP_NOT_STUN, STUNP_TOO_LARGE. Then, of a 401
+ * before any success: STUNP_UNAUTHORIZED or STUNP_UNSUPPORTED_FEATURE: give up. The former is
+ * for no credentials, no REALM or NONCE, or a list of algorithms that is missing. It is also for
+ * a challenge that was answered already, as after a wrong password. Of any other message
+ * STUNP_INTEGRITY_FAILED (drop it and wait on). STUNP_OUT_OF_MEMORY comes only in place of an
+ * answer for which stunp_is_resend holds. */
 int64_t stunp_client_validate(stunp_client *client, const uint8_t *message, size_t length);
 
 /* Whether what stunp_client_validate returned asks for another request: whether it is one of

@@ -29,7 +29,7 @@ passes() {
 
 proved='' system=''
 if [ -z "${STUN_C-}" ] || [ -z "${STUN_STATE-}" ]; then
-    for crate in stun_c stun_state; do (cd ../crates/$crate && quiet rt lib); done
+    quiet ../tools/archives.sh
     STUN_C=$PWD/../crates/stun_c/out/libstun_c.a
     STUN_STATE=$PWD/../crates/stun_state/out/libstun_state.a
     proved=yes

@@ -45,11 +45,11 @@ refuses ../examples/c udp OUT="$scratch/examples" LIBRARY="$STUN_C" STATE="$abse
 echo tool >"$scratch/bin/stun_tool"
 chmod +x "$scratch/bin/stun_tool"
 in_root() {
-    make -s -C ../include "$@" CC="$cc" DESTDIR="$root" PREFIX=/usr OUT="$scratch/heap" \
+    make -s -C "$@" CC="$cc" DESTDIR="$root" PREFIX=/usr OUT="$scratch/heap" \
         MESSAGES="$STUN_C" STATE="$STUN_STATE" \
         PROGRAMS="$scratch/bin/stun_tool $scratch/bin/stun_inspect"
 }
-told=$(in_root install)
+told=$(in_root .. install)
 [ "$told" = "left out: $scratch/bin/stun_inspect is not built" ] || fail "told $told"
 for file in bin/stun_tool share/man/man1/stun_tool.1 share/man/man1/stun_inspect.1 \
     share/stunp/heap.c; do
@@ -120,10 +120,10 @@ PROJECT
     checked="$checked, CMake"
 fi
 
-in_root uninstall
+in_root ../include uninstall
 left=$(find "$root" ! -type d)
 [ -z "$left" ] || fail "left $left"
 left=$(find "$root" -name '*stun*')
 [ -z "$left" ] || fail "left $left"
-in_root uninstall
+in_root ../include uninstall
 echo "install: passed with $checked"

@@ -1,15 +1,15 @@
 """Writes the calls for C as plain Rust, for tools/export.py: `capi/src/calls` of what it writes.
 
-The crates `stun_c` and `stun_state` are exported as the others, but for what a caller in C keeps: a
-handle is a flag and a pointer, which `capi/src/handle.rs` has by hand. Their `extern "C"` functions
-become plain ones, and `border.rs` has those that C calls, where a slice is a pointer and a length
-(`capi/src/passed.rs`).
+The crates `stun_numbers`, `stun_c` and `stun_state` are exported as the others, but for what a
+caller in C keeps: a handle is a flag and a pointer, which `capi/src/handle.rs` has by hand. Their
+`extern "C"` functions become plain ones, and `border.rs` has those that C calls, where a slice is a
+pointer and a length (`capi/src/passed.rs`).
 """
 import re
 import shutil
 from pathlib import Path
 
-CRATES = ["stun_c", "stun_state"]
+CRATES = ["stun_numbers", "stun_c", "stun_state"]
 PLACES = {crate: f"crate::calls::{crate}" for crate in CRATES}
 CALL = re.compile(r'((?:^///[^\n]*\n)+)^#\[unsafe\(no_mangle\)\]\npub extern "C" fn '
                   r'(\w+)\(([^)]*)\)(?: -> (\w+))?', re.M)

@@ -138,10 +138,10 @@ def main():
     compare("struct", structs_of_header(header), structs_of_rust(crates, enums))
     numbers = {name.replace("_", ""): int(number) for name,
                number in re.findall(r"STUNP_(\w+) = (-\d+)", header)}
-    for crate in ("stun_c", "stun_state"):
-        found = re.findall(r"Refusal::(\w+) => (-\d+)", read(f"crates/{crate}/src/codes.rt"))
-        compare("number of " + crate, {name.upper(): int(number) for name, number in found},
-                numbers)
+    found = re.findall(r"Refusal::(\w+) => (-\d+)", read("crates/stun_numbers/src/refusal.rt"))
+    refusals = {name.upper(): int(number) for name, number in found}
+    compare("refusal", refusals, numbers)
+    compare("declared refusal", numbers, refusals)
     compare_archives()
     print("\n".join(wrong + [f"exports: {compared} compared, {len(wrong)} differ"]))
     return bool(wrong)

@@ -18,21 +18,21 @@ import sys
 import ratchet
 
 AT_MOST = {
-    "antt lines": 14,
+    "antt lines": 0,
     "c lines": 0,
-    "md lines": 11,
+    "md lines": 1,
     "py lines": 0,
     "rs lines": 0,
-    "rt lines": 80,
+    "rt lines": 0,
     "sh lines": 0,
-    "antt files": 3,
+    "antt files": 0,
     "c files": 2,
     "md files": 0,
     "py files": 0,
     "rs files": 0,
     "rt files": 0,
     "sh files": 0,
-    "functions": 6,
+    "functions": 1,
 }
 
 COLUMNS, LINES, FUNCTION_LINES = 100, 600, 40

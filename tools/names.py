@@ -19,8 +19,8 @@ import ratchet
 from definitions import Repository
 
 AT_MOST = {
-    "doubled": 68,
-    "participles": 65,
+    "doubled": 0,
+    "participles": 0,
 }
 
 # Participles that do not end in -ed.

@@ -1,14 +1,15 @@
 #!/usr/bin/env python3
 """Puts a release together from what is built, and looks at one.
 
-    tools/release.py OUT LOG         OUT/stunp-VERSION and OUT/stunp-VERSION.tar.gz, with the record
-                                     of the gate's LOG
-    tools/release.py --verify OUT    the sums; what is written again from this repository is the
-                                     same; it installs and runs
+    tools/release.py OUT [LOG]       OUT/stunp-VERSION and OUT/stunp-VERSION.tar.gz; LOG is what the
+                                     gate printed at this commit (target/gate.log of .ci/run)
+    tools/release.py --verify OUT    the sums; what is made again from this repository is the same,
+                                     or each file that differs; it installs and runs on a clean root
 
-The archives, the programs and the exported crate must be there: `.ci/run` builds them, and what it
-prints is LOG. A release has neither the toolchain nor anything of it. Made twice from one commit
-and one build it is the same to the byte.
+The archives, the programs and the exported crate must be there: `.ci/run` builds them. A release
+has neither the toolchain nor anything of it. It is laid out as a prefix, and is one: its files for
+pkg-config and CMake find the folder wherever it lies. Made twice from one commit and one build it
+is the same to the byte. Another C compiler makes another libstunp_heap.a.
 """
 
 import gzip
@@ -22,40 +23,82 @@ import tarfile
 import tempfile
 
 TOP = os.path.normpath(os.path.join(os.path.dirname(os.path.abspath(__file__)), ".."))
+LOG = os.path.join(TOP, "target/gate.log")
+EXPORTED = os.path.join(TOP, "target/export")
+ARCHIVES = ("stun_c", "stun_state")
+PROGRAMS = ("stun_tool", "stun_inspect")
 
+# What must be built before.
+BUILT = (*("crates/%s/out/lib%s.a" % (name, name) for name in ARCHIVES),
+         *("crates/%s/out/%s" % (name, name) for name in PROGRAMS), "target/export/Cargo.toml")
 # What is copied, and to where.
-BUILT = (
-    ("crates/stun_c/out/libstun_c.a", "lib/libstunp.a"),
-    ("crates/stun_state/out/libstun_state.a", "lib/libstunp_state.a"),
-    ("crates/stun_tool/out/stun_tool", "bin/stun_tool"),
-    ("crates/stun_inspect/out/stun_inspect", "bin/stun_inspect"),
-)
 KEPT = (
-    ("include", "include"),
-    ("examples/c/heap.c", "src/heap.c"),
-    ("examples/c/heap.h", "src/heap.h"),
-    ("docs/stun_tool.1", "man/stun_tool.1"),
-    ("docs/stun_inspect.1", "man/stun_inspect.1"),
     ("crates/transcripts/data", "transcripts"),
     ("docs/maintainers/TRANSCRIPTS.md", "transcripts/README.md"),
+    ("docs", "docs"),
     ("CHANGELOG.md", "CHANGELOG.md"),
     ("README.md", "README.md"),
     ("SECURITY.md", "SECURITY.md"),
     ("VERSION", "VERSION"),
 )
-MAKEFILE = """# `make install PREFIX=/usr/local` installs headers, archives, programs, man pages,
-# and files for pkg-config and CMake.
-PARTS = MESSAGES=../lib/libstunp.a STATE=../lib/libstunp_state.a EXAMPLES=../src \\
-    PAGES='../man/stun_tool.1 ../man/stun_inspect.1' \\
-    PROGRAMS='../bin/stun_tool ../bin/stun_inspect' OUT=../out
-install uninstall:
-\t@$(MAKE) --no-print-directory -C include $@ $(PARTS)
-.PHONY: install uninstall
+MAKEFILE = """# `make install PREFIX=/usr/local` copies bin, include, lib and share there.
+# `make uninstall` takes all of it out. DESTDIR goes before PREFIX, which is an absolute path.
+PREFIX ?= /usr/local
+TO = $(DESTDIR)$(PREFIX)
+FILES = $(shell find bin include lib share -type f)
+
+help:
+\t@echo "make install    copy this release; PREFIX=/usr/local"
+\t@echo "make uninstall  take it out again"
+
+install:
+\t@set -e; for file in $(FILES); do \\
+\t    case $$file in bin/*) mode=755 ;; *) mode=644 ;; esac; \\
+\t    install -D -m $$mode $$file $(TO)/$$file; \\
+\t    case $$file in *.pc) sed 's|^prefix=.*|prefix=$(PREFIX)|' $$file >$(TO)/$$file ;; esac; \\
+\tdone
+
+uninstall:
+\trm -f $(addprefix $(TO)/,$(FILES))
+\trm -rf $(TO)/lib/cmake/stunp $(TO)/share/stunp
+
+.PHONY: help install uninstall
+"""
+CONTENTS = """# stunp VERSION
+
+This folder is a prefix. Use it where it lies, or copy it by `make install PREFIX=/usr/local`.
+
+| Here | Is |
+|---|---|
+| `lib`, `include` | archives and headers for C on Linux x86-64, for pkg-config and CMake |
+| `bin`, `share/man` | the programs `stun_tool` and `stun_inspect`, and their pages |
+| `share/stunp` | the source of `libstunp_heap.a` |
+| `crate` | the exported crate: as `.crate`, and its workspace as source |
+| `transcripts` | calls with their answers; [README.md](transcripts/README.md) is their language |
+| `docs`, the pages beside this one | those of the repository; links to other folders lead there |
+| `PROOF` | the commit, the toolchain, and what was said of each proof |
+| `SHA256SUMS` | of all other files: `sha256sum -c SHA256SUMS` |
+
+In C, with the folder's path as HERE:
+
+    export PKG_CONFIG_PATH=HERE/lib/pkgconfig
+    cc program.c $(pkg-config --cflags --libs stunp_state) -o program
+
+With CMake: `find_package(stunp VERSION)` and `target_link_libraries(program stunp::stunp_state)`,
+with `-DCMAKE_PREFIX_PATH=HERE`. In Rust, in `Cargo.toml`:
+
+    seatcrane-stun = { path = "HERE/crate/seatcrane-stun" }
+
+The archives and the programs are proved; the crate and the heap are tested
+([what is trusted](README.md#what-is-trusted)).
 """
 
 
 def run(*command, **how):
-    return subprocess.run(command, check=True, capture_output=True, text=True, **how).stdout
+    ran = subprocess.run(command, capture_output=True, text=True, **how)
+    if ran.returncode != 0:
+        sys.exit("release: %s:\n%s%s" % (" ".join(command), ran.stdout, ran.stderr))
+    return ran.stdout
 
 
 def version():
@@ -63,37 +106,75 @@ def version():
         return opened.read().strip()
 
 
+def said(lines):
+    """Of the lines of a build: what it rests on, and its verdict."""
+    return [line for line in lines
+            if re.match(r"axioms \w+:|logic=proved|rt: .* proved$|rt: .* is kept:", line)]
+
+
+def verdicts(lines):
+    """Of the gate's lines: what the build of each crate and of its tests said."""
+    for part in re.split(r"(?m)^== ", "\n".join(lines))[1:]:
+        name, *rest = part.split("\n")
+        for line in said(rest):
+            yield "%s: %s" % (name, line)
+
+
 def record(log):
     """What was proved, by which toolchain, at which commit, and the gate's last line."""
+    if run("git", "status", "--porcelain", cwd=TOP):
+        sys.exit("release: files differ from those of the commit")
+    commit = "commit: " + run("git", "rev-parse", "HEAD", cwd=TOP).strip()
     with open(log, errors="replace") as opened:
         lines = opened.read().splitlines()
-    verdicts, crate = [], None
-    for line in lines:
-        named = re.match(r"== (\w+)", line)
-        crate = named.group(1) if named else crate
-        if re.match(r"(logic=proved|axioms \w+:) ?", line) and crate:
-            verdicts.append("%s: %s" % (crate, line))
-    passed = next(line for line in reversed(lines) if "passed" in line)
-    return "\n".join(
-        ["commit: " + run("git", "rev-parse", "HEAD", cwd=TOP).strip(),
-         "toolchain: " + run("rt", "--version").strip(), "the gate: " + passed, "",
-         "What the build of each crate printed:", "", *dict.fromkeys(verdicts)]) + "\n"
+    if commit not in lines:
+        sys.exit("release: %s is not of this %s" % (log, commit))
+    gate = [line for line in lines if re.match(r"rt: ok; |\d+ passed, \d+ failed$", line)]
+    if len(gate) < 2 or not gate[-1].endswith(" passed, 0 failed"):
+        sys.exit("release: %s has no gate that passed" % log)
+    words = [commit, "toolchain: " + run("rt", "--version").strip(), "the gate: " + gate[-1],
+             next(line for line in gate if line.startswith("rt: ok; ")), "",
+             "What the build of each archive said:", ""]
+    for name in ARCHIVES:
+        proof = os.path.join(TOP, "crates", name, "out/proof.txt")
+        if not os.path.exists(proof):
+            sys.exit("release: %s is not there: run `make c`" % proof)
+        with open(proof, errors="replace") as opened:
+            words += ["lib%s.a: %s" % (name, line) for line in said(opened.read().splitlines())]
+    words += ["", "What the gate said of each crate and of its tests:", "", *verdicts(lines)]
+    return "\n".join(words) + "\n"
 
 
 def copy(source, target):
     os.makedirs(os.path.dirname(target), exist_ok=True)
     if os.path.isdir(source):
-        shutil.copytree(source, target, ignore=shutil.ignore_patterns("out"))
+        skipped = ("out", "target", ".cargo", "Cargo.lock", "__pycache__", "maintainers", "*.1")
+        shutil.copytree(source, target, ignore=shutil.ignore_patterns(*skipped))
     else:
         shutil.copy(source, target)
 
 
-def crate(folder):
-    exported = os.path.join(TOP, "target/export")
+def write(target, text):
+    with open(target, "w") as opened:
+        opened.write(text)
+
+
+def install(folder):
+    """The prefix, by the rules of include/Makefile. Its files for pkg-config name its place."""
+    with tempfile.TemporaryDirectory() as scratch:
+        run("make", "-s", "-C", os.path.join(TOP, "include"), "install", "TO=" + folder,
+            "NAMED=$${pcfiledir}/../..", "OUT=" + scratch,
+            env={key: word for key, word in os.environ.items() if key[:4] != "MAKE"})
+
+
+def crate(folder, is_tried):
+    """The exported crate: packed by cargo, which builds what it packed if asked, and as source."""
+    run(sys.executable, os.path.join(TOP, "tools/export.py"), EXPORTED, cwd=TOP)
+    name = "seatcrane-stun-%s.crate" % version()
     run("cargo", "package", "--quiet", "--offline", "--allow-dirty", "-p", "seatcrane-stun",
-        cwd=exported)
-    copy(os.path.join(exported, "target/package/seatcrane-stun-%s.crate" % version()),
-         os.path.join(folder, "crate/seatcrane-stun-%s.crate" % version()))
+        *([] if is_tried else ["--no-verify"]), cwd=EXPORTED)
+    copy(os.path.join(EXPORTED, "target/package", name), os.path.join(folder, "crate", name))
+    copy(EXPORTED, os.path.join(folder, "crate/seatcrane-stun"))
 
 
 def written(folder):
@@ -102,13 +183,14 @@ def written(folder):
                   for at, _, names in os.walk(folder) for name in names)
 
 
+def contents(folder, name):
+    with open(os.path.join(folder, name), "rb") as opened:
+        return opened.read()
+
+
 def sums(folder):
-    lines = []
-    for name in written(folder):
-        if name != "SHA256SUMS":
-            with open(os.path.join(folder, name), "rb") as opened:
-                lines.append("%s  %s\n" % (hashlib.sha256(opened.read()).hexdigest(), name))
-    return "".join(lines)
+    return "".join("%s  %s\n" % (hashlib.sha256(contents(folder, name)).hexdigest(), name)
+                   for name in written(folder) if name != "SHA256SUMS")
 
 
 def pack(folder, archive):
@@ -124,63 +206,54 @@ def pack(folder, archive):
                     filter=plain)
 
 
-def assemble(folder, log):
-    missing = [source for source, _ in BUILT if not os.path.exists(os.path.join(TOP, source))]
+def assemble(folder, log, is_tried=True):
+    missing = [source for source in (*BUILT, log) if not os.path.exists(os.path.join(TOP, source))]
     if missing:
         sys.exit("release: %s is not there: run .ci/run" % ", ".join(missing))
+    proof = record(log)
     shutil.rmtree(folder, ignore_errors=True)
-    for source, target in BUILT + KEPT:
+    install(folder)
+    for source, target in KEPT:
         copy(os.path.join(TOP, source), os.path.join(folder, target))
-    with open(os.path.join(folder, "Makefile"), "w") as opened:
-        opened.write(MAKEFILE)
-    crate(folder)
-    with open(os.path.join(folder, "PROOF"), "w") as opened:
-        opened.write(record(log) if log else "no record\n")
-    with open(os.path.join(folder, "SHA256SUMS"), "w") as opened:
-        opened.write(sums(folder))
+    write(os.path.join(folder, "Makefile"), MAKEFILE)
+    write(os.path.join(folder, "CONTENTS.md"), CONTENTS.replace("VERSION", version()))
+    crate(folder, is_tried)
+    write(os.path.join(folder, "PROOF"), proof)
+    write(os.path.join(folder, "SHA256SUMS"), sums(folder))
 
 
-def verify(out):
-    folder = os.path.join(out, "stunp-" + version())
-    with open(os.path.join(folder, "SHA256SUMS")) as opened:
-        if opened.read() != sums(folder):
-            sys.exit("release: %s is not what SHA256SUMS says" % folder)
+def differences(one, other):
+    """The files that only one of two folders has, or that differ."""
+    names = sorted({*written(one), *written(other)})
+    return [name for name in names
+            if not all(os.path.exists(os.path.join(folder, name)) for folder in (one, other))
+            or contents(one, name) != contents(other, name)]
+
+
+def verify(out, log):
+    folder = os.path.abspath(os.path.join(out, "stunp-" + version()))
+    if contents(folder, "SHA256SUMS").decode() != sums(folder):
+        sys.exit("release: %s is not what SHA256SUMS says" % folder)
     with tempfile.TemporaryDirectory() as scratch:
-        again = os.path.join(scratch, "stunp-" + version())
-        assemble(again, None)
-        for name in written(folder):
-            if name not in ("PROOF", "SHA256SUMS"):
-                with open(os.path.join(folder, name),
-                          "rb") as one, open(os.path.join(again, name), "rb") as other:
-                    if one.read() != other.read():
-                        sys.exit("release: %s is another one when it is made again" % name)
-        # From its own packed form, in a bare folder: installed, and a program built over it.
-        pack(folder, os.path.join(scratch, "packed.tar.gz"))
-        with tarfile.open(os.path.join(scratch, "packed.tar.gz")) as tar:
-            tar.extractall(os.path.join(scratch, "bare"))
-        bare = os.path.join(scratch, "bare", os.path.basename(folder))
-        root = os.path.join(scratch, "root")
-        run("make", "install", "PREFIX=" + root, cwd=bare)
-        program = os.path.join(scratch, "installed")
-        source = os.path.join(TOP, "tests/c/installed.c")
-        flags = ["-I" + root + "/include", source, "-L" + root + "/lib", "-lstunp_state", "-lstunp",
-                 "-lstunp_heap"]
-        run(os.environ.get("CC", "cc"), "-std=c99", "-DLIBRARYS_MEMORY", *flags, "-o", program)
-        if run(program).strip() != version():
-            sys.exit("release: the installed archive tells another version")
-        if "usage" not in subprocess.run([root + "/bin/stun_tool"], capture_output=True,
-                                         text=True).stderr.lower():
-            sys.exit("release: the installed stun_tool does not run")
+        again = os.path.join(scratch, os.path.basename(folder))
+        assemble(again, log, is_tried=False)
+        pack(again, again + ".tar.gz")
+        for name in differences(folder, again):
+            print("release: %s is another one when it is made again" % name)
+        if contents("", again + ".tar.gz") != contents("", folder + ".tar.gz"):
+            sys.exit("release: made again it differs")
+    subprocess.run([os.path.join(TOP, "tests/release.sh"), folder + ".tar.gz"], check=True)
     print("release: the sums are right, made again it is the same, and what it installs runs")
 
 
 def main():
-    if len(sys.argv) != 3:
+    words = sys.argv[1:]
+    if words[:1] == ["--verify"] and len(words) in (2, 3):
+        return verify(words[1], *(words[2:] or [LOG]))
+    if len(words) not in (1, 2) or words[0].startswith("-"):
         sys.exit(__doc__)
-    if sys.argv[1] == "--verify":
-        return verify(sys.argv[2])
-    folder = os.path.join(sys.argv[1], "stunp-" + version())
-    assemble(folder, sys.argv[2])
+    folder = os.path.abspath(os.path.join(words[0], "stunp-" + version()))
+    assemble(folder, *(words[1:] or [LOG]))
     pack(folder, folder + ".tar.gz")
     print("release: %s.tar.gz" % folder)
 

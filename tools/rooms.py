@@ -3,11 +3,16 @@
 stands in `specs/`, and all other definitions in `specs/code/`. A Model's coding, view and invariant
 may cite `specs/code/`, and so may private functions.
 
+Each module that a file of specs or proofs declares has a file.
+
 Run at the top of the repository. Prints each definition in the wrong room with a definition that
-cites it, then a count a crate.
+cites it and each module without a file, then a count a crate.
 """
 
 import collections
+import glob
+import os
+import re
 import sys
 
 from definitions import Repository, crates, sources
@@ -19,6 +24,17 @@ def is_code(definition):
     return definition.module.split(".")[3] == "code"
 
 
+def without_a_file():
+    """The modules that are declared and have no file: only a proof would tell."""
+    for path in sorted(glob.glob("crates/*/[ps]*s/**/*.antt", recursive=True)):
+        folder = path.removesuffix("/Lib.antt").removesuffix(".antt")
+        with open(path, encoding="utf-8") as opened:
+            for name in re.findall(r"(?m)^(?:pub )?mod (\w+)\s*$", opened.read()):
+                if not any(os.path.exists(folder + "/" + name + end)
+                           for end in (".antt", "/Lib.antt")):
+                    yield "%s declares %s, which has no file" % (path, name)
+
+
 def main():
     repository = Repository(".")
     stated = set()
@@ -28,7 +44,10 @@ def main():
                 for clause in source.public:
                     stated.update(repository.cited_in(None, source.imports, clause.split("\n")))
     because = repository.closure(stated)
-    wrong = 0
+    missing = list(without_a_file())
+    for line in missing:
+        print(line)
+    wrong = len(missing)
     counts = collections.Counter()
     for read in repository.files.values():
         crate = read.module.split(".")[1]
@@ -47,7 +66,7 @@ def main():
     for crate in sorted({name for name, _ in counts}):
         in_specs, in_code = counts[(crate, False)], counts[(crate, True)]
         print("%-12s specs %3d  specs/code %3d" % (crate, in_specs, in_code))
-    in_wrong = "%d definitions in the wrong room" % wrong
+    in_wrong = "%d in the wrong room or missing" % wrong
     print("rooms: %s" % (in_wrong if wrong else "each definition in its room"))
     return 1 if wrong else 0
 

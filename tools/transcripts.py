@@ -1,14 +1,19 @@
 #!/usr/bin/env python3
-"""Runs what the documents show and compares what is printed.
+"""Runs what the pages show and compares what is printed.
 
-    tools/transcripts.py FOLDER ..        each transcript of README.md and docs, with the programs
-                                          of these folders
+    tools/transcripts.py FOLDER ..        each transcript of a page, with the programs of these
+                                          folders
     tools/transcripts.py --first-minute   the command of README.md that needs no proof, in a fresh
-                                          clone of this repository
+                                          clone of this repository, and all that --commands does
+    tools/transcripts.py --commands       each command that a page names is one of commands.txt;
+                                          those that it says so of are run in a fresh clone
     tools/transcripts.py --c ARCHIVE ..   the program in C of README.md, with these archives and
-                                          flags, on that request
+                                          flags, on that request; with the proved archive also the
+                                          commands of examples/README.md
     tools/transcripts.py --rust FOLDER    the command of README.md after `make rust`, and its lines
                                           of Rust, with the exported crate of that folder
+    tools/transcripts.py --write FOLDER   each transcript as two files, .command and .wanted, beside
+                                          request.bin, to be run elsewhere
 
 A transcript is an indented block. It is a line `$ COMMAND`, further lines of a here-document up to
 its end word, and then what the command prints. That ends at the next `$` or the end of the block.
@@ -23,14 +28,9 @@ import subprocess
 import sys
 import tempfile
 
+import commands
+
 TOP = os.path.normpath(os.path.join(os.path.dirname(os.path.abspath(__file__)), ".."))
-
-
-def documents():
-    yield "README.md"
-    for name in sorted(os.listdir(os.path.join(TOP, "docs"))):
-        if name.endswith(".md"):
-            yield os.path.join("docs", name)
 
 
 def blocks(text):
@@ -71,57 +71,78 @@ def missing(command, path):
     return [name for name in named if shutil.which(name, path=path) is None]
 
 
+def lay_request(folder):
+    """request.bin, the request of RFC 5769, section 2.1."""
+    with open(os.path.join(TOP, "crates/stun_tool/stdin")) as opened:
+        digits = "".join(opened.read().split())
+    path = os.path.join(folder, "request.bin")
+    with open(path, "wb") as opened:
+        opened.write(bytes.fromhex(digits))
+    return path
+
+
+def all_transcripts():
+    """Each with the page and the number of the line at which its block begins."""
+    for page in commands.pages():
+        for number, block in blocks(commands.text_of(page)):
+            for command, printed in transcripts(block):
+                yield page, number, command, printed
+
+
 def run_all(folders):
     path = [*(os.path.abspath(folder) for folder in folders), os.environ["PATH"]]
     environment = {**os.environ, "PATH": os.pathsep.join(path)}
     passed, left, wrong = 0, set(), 0
-    scratch = tempfile.mkdtemp()
-    with open(os.path.join(TOP, "crates/stun_tool/stdin")) as opened:
-        digits = "".join(opened.read().split())
-    with open(os.path.join(scratch, "request.bin"), "wb") as opened:
-        opened.write(bytes.fromhex(digits))
-    for document in documents():
-        with open(os.path.join(TOP, document)) as opened:
-            text = opened.read()
-        for number, block in blocks(text):
-            for command, wanted in transcripts(block):
-                absent = missing(command, environment["PATH"])
-                if absent:
-                    left.update(absent)
-                    continue
-                ran = subprocess.run(["sh", "-c", "\n".join(command)], env=environment, cwd=scratch,
-                                     timeout=60, text=True, stdout=subprocess.PIPE,
-                                     stderr=subprocess.STDOUT)
-                if ran.stdout.rstrip("\n").split("\n") == wanted:
-                    passed += 1
-                else:
-                    wrong += 1
-                    print("transcripts: %s:%d: %s\nprinted:\n%s"
-                          % (document, number, command[0], ran.stdout), file=sys.stderr)
-    shutil.rmtree(scratch)
+    with tempfile.TemporaryDirectory() as scratch:
+        lay_request(scratch)
+        for page, number, command, wanted in all_transcripts():
+            absent = missing(command, environment["PATH"])
+            if absent:
+                left.update(absent)
+                continue
+            ran = subprocess.run(["sh", "-c", "\n".join(command)], env=environment, cwd=scratch,
+                                 timeout=60, text=True, stdout=subprocess.PIPE,
+                                 stderr=subprocess.STDOUT)
+            if ran.stdout.rstrip("\n").split("\n") == wanted:
+                passed += 1
+            else:
+                wrong += 1
+                print("transcripts: %s:%d: %s\nprinted:\n%s"
+                      % (page, number, command[0], ran.stdout), file=sys.stderr)
     for name in sorted(left):
         print("transcripts: %s is not there, its transcripts are left out" % name)
     print("transcripts: %d as the documents say, %d not" % (passed, wrong))
     return wrong == 0
 
 
-def first_minute():
-    with open(os.path.join(TOP, "README.md")) as opened:
-        commands = block_after(opened.read(), "not proved yet:")
+def write_all(folder):
+    os.makedirs(folder, exist_ok=True)
+    lay_request(folder)
+    for count, (_, _, command, wanted) in enumerate(all_transcripts(), 1):
+        for kind, lines in (("command", command), ("wanted", wanted)):
+            with open(os.path.join(folder, "%d.%s" % (count, kind)), "w") as opened:
+                opened.write("\n".join(lines) + "\n")
+    return True
+
+
+def in_clone(work):
+    """What a function returns of a fresh clone."""
     with tempfile.TemporaryDirectory() as scratch:
         clone = os.path.join(scratch, "clone")
         if subprocess.run(["git", "clone", "-q", TOP, clone], capture_output=True).returncode != 0:
             # Not a repository of git, or one that git does not trust: its files without what was
             # built.
-            shutil.copytree(TOP, clone, ignore=shutil.ignore_patterns("out", ".git"))
-        ran = subprocess.run(["sh", "-ec", commands], cwd=clone, timeout=900, capture_output=True,
-                             text=True)
-    if ran.stdout != "valid MESSAGE-INTEGRITY\n":
-        print("transcripts: the command of README.md printed:\n%s%s" % (ran.stdout, ran.stderr),
-              file=sys.stderr)
+            skipped = shutil.ignore_patterns("out", "target", ".git")
+            shutil.copytree(TOP, clone, ignore=skipped)
+        return work(clone)
+
+
+def first_minute(clone):
+    shown = block_after(readme(), "not proved yet:")
+    if not prints("valid MESSAGE-INTEGRITY\n", ["sh", "-ec", shown], cwd=clone):
         return False
     print("transcripts: the command of README.md that needs no proof prints what README.md says")
-    return True
+    return commands.tried(clone)
 
 
 def block_after(text, words):
@@ -132,8 +153,7 @@ def block_after(text, words):
 
 
 def readme():
-    with open(os.path.join(TOP, "README.md")) as opened:
-        return opened.read()
+    return commands.text_of("README.md")
 
 
 def prints(wanted, command, **how):
@@ -144,24 +164,37 @@ def prints(wanted, command, **how):
     return False
 
 
+def wrapped_in_c(scratch):
+    """The commands of examples/README.md for C++, over the proved archives."""
+    for name in ("include", "examples", "crates"):
+        os.symlink(os.path.join(TOP, name), os.path.join(scratch, name))
+    shown = block_after(commands.text_of("examples/README.md"), "and both archives:")
+    wanted = commands.text_of("examples/cpp/check.txt")
+    return prints(wanted, ["sh", "-ec", shown + "./a.out"], cwd=scratch)
+
+
 def in_c(archives):
+    if shutil.which(os.environ.get("CC", "cc")) is None:
+        print("transcripts: no C compiler is there, what pages show in C is left out")
+        return True
     with tempfile.TemporaryDirectory() as scratch:
         source, program = os.path.join(scratch, "check.c"), os.path.join(scratch, "check")
         with open(source, "w") as opened:
             opened.write(block_after(readme(), "behind handles."))
         compiler = [os.environ.get("CC", "cc"), "-Wall", "-Wextra", "-Werror",
                     "-I" + os.path.join(TOP, "include"), source]
-        with open(os.path.join(TOP, "crates/stun_tool/stdin")) as digits:
-            request = os.path.join(scratch, "request.bin")
-            with open(request, "wb") as binary:
-                binary.write(bytes.fromhex("".join(digits.read().split())))
         if not prints("", compiler + archives + ["-o", program]):
             return False
-        with open(request, "rb") as binary:
+        with open(lay_request(scratch), "rb") as binary:
             if not prints("valid\n", [program], stdin=binary):
                 return False
-    print("transcripts: the program in C of README.md prints valid")
-    return True
+        print("transcripts: the program in C of README.md prints valid")
+        if archives != ["crates/stun_c/out/libstun_c.a"] or shutil.which("c++") is None:
+            return True
+        if not wrapped_in_c(scratch):
+            return False
+        print("transcripts: the commands of examples/README.md for C++ print check.txt")
+        return True
 
 
 def in_rust(folder):
@@ -186,7 +219,9 @@ def in_rust(folder):
 if __name__ == "__main__":
     if not sys.argv[1:]:
         sys.exit(__doc__)
-    modes = {"--first-minute": lambda _: first_minute(), "--c": in_c,
-             "--rust": lambda words: in_rust(words[0])}
+    modes = {"--first-minute": lambda _: in_clone(first_minute), "--c": in_c,
+             "--commands": lambda _: in_clone(commands.tried),
+             "--rust": lambda words: in_rust(words[0]),
+             "--write": lambda words: write_all(words[0])}
     mode = modes.get(sys.argv[1])
     sys.exit(0 if (mode(sys.argv[2:]) if mode else run_all(sys.argv[1:])) else 1)

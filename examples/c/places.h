@@ -1,5 +1,6 @@
 /* A bound on the addresses that a server keeps, and on those of one network. Who comes to a full
- * table has the place of the address that was silent for longest, so nobody is shut out. */
+ * table has the place of another, so nobody is shut out. It is the one that was silent for longest,
+ * of those that were not validated where there are any. */
 #ifndef STUN_PLACES_H
 #define STUN_PLACES_H
 

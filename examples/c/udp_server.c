@@ -1,7 +1,7 @@
 /* A STUN server on UDP (RFC 8489), with users, two sockets by epoll, workers, and bounds.
  *
- * It tells who asks the address that it sees, over IPv4 and IPv6, and where it has a realm and
- * users, it answers nobody else (section 9.2.4).
+ * It tells who asks the address that it sees, over IPv4 and IPv6. Where it has a realm and users,
+ * it answers nobody else (section 9.2.4).
  *
  *     udp_server PORT [REALM [NAME PASSWORD]..] [OPTION]..
  *
@@ -82,9 +82,9 @@ static bool has_nonce(const stunp_address *at) {
     return stunp_server_nonce(&server, at, nonce, sizeof nonce) > 0;
 }
 
-/* Who signed a request: an algorithm, 0 where nobody need sign, or why it is refused. From an
- * address without a nonce, as after a start of the server or under another port, a request that
- * repeats what was offered is a bad one for the library, which keeps no such offer. It is told that
+/* Who signed a request: an algorithm, 0 where nobody need sign, or why it is refused. An address
+ * may have no nonce, as after a start of the server or under another port. A request from there
+ * that repeats an offer is a bad one for the library, which keeps no such offer. It is told that
  * its nonce is stale: a 400 the client would take for a forgery, and ask for ever. */
 static int64_t validate(const struct message *request) {
     const struct datagram *got = request->got;
@@ -139,8 +139,8 @@ static const char *why_dropped(const struct message *request) {
 }
 
 /* Sends back what a datagram draws, and answers NULL, or why it is dropped. A request is judged,
- * the server says who asked, the answer is signed, and the client is forgotten: no request needs an
- * earlier one, and a client that starts anew at the address of one that is kept would be told no
+ * the server says who asked, the answer is signed, and the client is forgotten. No request needs an
+ * earlier one. Were the client kept, one that starts anew at its address would be told no
  * algorithms, and give up. */
 static const char *answer(int socket, const struct datagram *got) {
     static uint8_t bytes[MOST_BYTES];

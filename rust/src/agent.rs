@@ -42,9 +42,9 @@ impl StunAgentBuilder {
         StunAgentBuilder(self.0.remote_addr(address))
     }
 
-    /// Sets the wait after the first transmission, which doubles up to the longest, how many
-    /// transmissions there are over UDP, and the wait after the last. Without this call 500 ms, no
-    /// bound, 7 and 8 s.
+    /// Sets the wait after the first transmission, the longest wait, how many transmissions there
+    /// are over UDP, and the wait after the last. Each wait is twice the one before it, up to the
+    /// longest. Without this call they are 500 ms, no bound, 7 and 8 s.
     pub fn request_retransmits(
         self,
         initial: Duration,
@@ -147,9 +147,11 @@ impl StunAgent {
     ///
     /// # Errors
     ///
-    /// `ParseError` where the bytes begin with no header, then `ProtocolViolation` for another
-    /// class or where the agent sends to another address alone, then `AlreadyInProgress` where a
-    /// request of its id is outstanding. The agent is then as before.
+    /// The first that holds, and the agent is then as before:
+    ///
+    /// - `ParseError`: the bytes begin with no header.
+    /// - `ProtocolViolation`: the class is another, or the agent sends to another address alone.
+    /// - `AlreadyInProgress`: a request of its id is outstanding.
     pub fn send_request<T: AsRef<[u8]>>(
         &mut self,
         message: T,

@@ -253,7 +253,7 @@ impl LongTermClientAuth {
 /// Judges requests by the users of a realm, and signs answers (section 9.2.4).
 ///
 /// Each request or indication from a new address makes a place, unless it has integrity and lacks
-/// REALM, NONCE or a name, so whoever can send from many addresses makes the server grow. A place
+/// REALM, NONCE or a name. So whoever can send from many addresses makes the server grow. A place
 /// stays until `forget_expired` is called after its nonce's end while it has no client.
 pub struct LongTermServerAuth {
     proved: proved::LongTermServerAuth,

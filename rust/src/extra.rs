@@ -74,9 +74,12 @@ pub fn check_fingerprint(message: &Message<'_>) -> Fingerprint {
 ///
 /// # Errors
 ///
-/// The first that holds: the message has a FINGERPRINT (`AttributeExists`), it would be longer than
-/// 65532 bytes after its header (`TooLarge`), no room for 8 bytes (`TooSmall`), an allocation fails
-/// (`OutOfMemory`).
+/// The first that holds:
+///
+/// - `AttributeExists`: the message has a FINGERPRINT.
+/// - `TooLarge`: it would be longer than 65532 bytes after its header.
+/// - `TooSmall`: the writer has no room for 8 bytes.
+/// - `OutOfMemory`: an allocation fails.
 pub fn finish_with_fingerprint<W: MessageWrite>(writer: W) -> Result<W::Output, StunWriteError> {
     fingerprint::finish_with_fingerprint(writer)
 }

@@ -64,10 +64,13 @@ pub trait MessageWriteExt: MessageWrite + Sized {
     ///
     /// # Errors
     ///
-    /// The first of: a type that this call does not write (`NotAllowed`: the two integrity
-    /// attributes and FINGERPRINT), the message has an integrity attribute
-    /// (`MessageIntegrityExists`) or one of this type (`AttributeExists`), it would be longer than
-    /// 65532 bytes after its header (`TooLarge`), no room (`TooSmall`).
+    /// The first that holds:
+    ///
+    /// - `NotAllowed`: it is an integrity attribute or FINGERPRINT.
+    /// - `MessageIntegrityExists`: the message has an integrity attribute.
+    /// - `AttributeExists`: the message has one of this type.
+    /// - `TooLarge`: the message would be longer than 65532 bytes after its header.
+    /// - `TooSmall`: the writer has no room.
     fn add_attribute<A: Attribute>(&mut self, attribute: &A) -> Result<(), StunWriteError> {
         Proved::add_attribute(self, attribute)
     }

@@ -1,5 +1,5 @@
-//! FINGERPRINT, unknown attributes and streams of messages, at the samples of RFC 5769, and the
-//! values of further attributes, typed from RFC 8489, 8445 and 8656.
+//! FINGERPRINT, unknown attributes and streams of messages, at the samples of RFC 5769. The values
+//! of further attributes are typed from RFC 8489, 8445 and 8656.
 use seatcrane_stun::extra::attribute::*;
 use seatcrane_stun::extra::turn::{self, TurnMethod};
 use seatcrane_stun::extra::{

@@ -467,8 +467,8 @@ fn long_term_client_request() {
     assert_eq!(both.judges(&response, START), Ok(Sha1));
 }
 
-/// A 401 of a server with both algorithms, as somebody between changes its attributes, and what the
-/// server says of the request that comes of it.
+/// What a server with both algorithms says of a request. Somebody between has changed the
+/// attributes of the 401 that the request answers.
 fn bid_down(change: impl Fn(&RawAttribute<'_>, &mut MessageWriteVec)) -> ServerAnswer {
     let mut both = Both::of(&[Sha1, Sha256], &[Sha1, Sha256]);
     let asked = both.signs(request());

@@ -1,6 +1,7 @@
 /* FINGERPRINT, types that are not known, and streams of messages. The calls are made on the samples
- * of RFC 5769, on each of their bits changed, on messages with many types, and on streams in any
- * pieces. What is wanted is counted or spelled here, and does not come from the library. */
+ * of RFC 5769 and on each of their bits changed. They are made on messages with many types and on
+ * streams in any pieces. What is wanted is counted or spelled here, and does not come from the
+ * library. */
 #include "samples.h"
 
 /* ---- FINGERPRINT */

@@ -1,4 +1,4 @@
-/* The samples of RFC 5769, typed from it, for the tests of the calls on messages, and how these
+/* The samples of RFC 5769, typed from it, for the tests of the calls on messages. How these tests
  * tell an answer that is not wanted. */
 #ifndef STUN_SAMPLES_H
 #define STUN_SAMPLES_H

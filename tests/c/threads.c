@@ -1,5 +1,5 @@
 /* Handles that go from thread to thread. They are made in main and handed to threads by a queue
- * with a mutex, and one set of them goes through four threads in turn. And the memory of heap.c, of
+ * with a mutex. One set of them goes through four threads in turn. And the memory of heap.c, of
  * which four threads take at once. check.sh runs it plain, and under ThreadSanitizer and helgrind
  * where they are there.
  *

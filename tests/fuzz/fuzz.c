@@ -1,6 +1,6 @@
-/* A driver for libFuzzer over all calls of stunp.h and stunp_state.h: an input is a sequence of
- * steps, and a step a byte that chooses the call, one that sets it, two of a length, and so many
- * bytes, of which most are a message. A server, a client and an agent are kept over the steps of
+/* A driver for libFuzzer over all calls of stunp.h and stunp_state.h. An input is a sequence of
+ * steps. A step is a byte that chooses the call, one that sets it, two of a length, and so many
+ * bytes. Most of these are a message. A server, a client and an agent are kept over the steps of
  * one input. What one call says is compared with what others say; a message lies between pages that
  * may not be touched; what is written ends where it must; a refusal writes nothing; and no block is
  * kept at the end.

@@ -363,8 +363,8 @@ static int64_t add(enum addition which, size_t room, size_t length, const struct
     }
 }
 
-/* The message of a length in `out` as it was, with an attribute more, where it has just the room
- * that it wants, and one byte less. Returns its new length. */
+/* Adds an attribute to the message of a length in `out`, as it was. It is given just the room that
+ * it wants, and then one byte less. Returns the new length. */
 static size_t add_exactly(enum addition which, size_t length, const struct more *more) {
     size_t whole = length + AMPLE + BEHIND;
     memcpy(before, out, whole);

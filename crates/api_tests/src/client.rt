@@ -239,7 +239,7 @@ fn refuse_copy(rt: &impl Abort, heaps: Heaps<'_>, user: &LongTermCredentials<&He
     expect_live(rt, heaps, 1, 1, 0);
 }
 
-/// A copy of a user and the user at a realm have each text at the heap where the user has it, and
+/// A copy of a user, and a user at a realm, have each text at the heap where the user has it. They
 /// give it back there.
 fn copy_texts(rt: &impl Abort, heaps: Heaps<'_>) -> Result<(), AllocError> {
     let name = String::from_str(heaps.names, "user")?;

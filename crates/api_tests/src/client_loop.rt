@@ -37,7 +37,7 @@ enum End {
     Unanswered,
 }
 
-/// How many requests are sent at the most, each after a challenge to the one before.
+/// How many requests are sent at most, each after a challenge to the one before.
 const MOST_REQUESTS: u32 = 4;
 
 /// Asks a server for the address that it sees, and answers its challenges (RFC 8489, sections 6 and
@@ -50,21 +50,27 @@ fn ask(
     rng: &mut WordSource,
 ) -> Result<End, Fail> {
     let mut agent = StunAgent::builder(alloc, TransportType::Udp, local()).build();
-    let mut requests_left = MOST_REQUESTS;
-    let mut is_to_ask = true;
+    // A 401 may be forged: never ask without an end.
+    for _ in 0..MOST_REQUESTS {
+        let request = request(alloc, auth, rng)?;
+        let sent = agent.send_request(request, server, socket.now())?;
+        socket.send(sent.data, sent.to)?;
+        if let Some(end) = wait_for_end(&mut agent, auth, socket)? {
+            return Ok(end);
+        }
+    }
+    Ok(End::Unanswered)
+}
+
+/// Waits for the end of a request, which is sent again meanwhile. `None` if it was challenged, and
+/// another is to be sent.
+fn wait_for_end(
+    agent: &mut StunAgent,
+    auth: &mut LongTermClientAuth,
+    socket: &mut Socket<'_>,
+) -> Result<Option<End>, Fail> {
     for _ in 0..u64::MAX {
         let now = socket.now();
-        if is_to_ask {
-            // A 401 may be forged: never ask without an end.
-            if requests_left == 0 {
-                return Ok(End::Unanswered);
-            }
-            requests_left -= 1;
-            let request = request(alloc, auth, rng)?;
-            let sent = agent.send_request(request, server, now)?;
-            socket.send(sent.data, sent.to)?;
-            is_to_ask = false;
-        }
         if let Some(again) = agent.poll_transmit(now) {
             socket.send(again.data, again.to)?;
             continue;
@@ -79,26 +85,30 @@ fn ask(
         let Ok(message) = Message::from_bytes(bytes) else {
             continue;
         };
-        let id = message.transaction_id();
-        let Some(asked) = agent.request_transaction(id) else {
-            continue;
-        };
-        if !message.is_response() || asked.peer_address() != from {
+        if !is_answer(agent, &message, from) {
             continue;
         }
         // The authenticator is asked before the agent, and what is forged dropped.
         let verdict = match auth.validate_incoming_message(&message) {
             Ok(verdict) => verdict,
             Err(error) if error.reason() == Reason::IntegrityFailed => continue,
-            Err(error) => return Ok(End::Refused(error.reason())),
+            Err(error) => return Ok(Some(End::Refused(error.reason()))),
         };
         agent.handle_stun_message_with_time(&message, from, socket.now())?;
-        match verdict {
-            LongTermClientValidation::ResendRequest(_) => is_to_ask = true,
-            LongTermClientValidation::Validated(_) => return end_of(&message),
-        }
+        return match verdict {
+            LongTermClientValidation::ResendRequest(_) => Ok(None),
+            LongTermClientValidation::Validated(_) => Ok(Some(end_of(&message)?)),
+        };
     }
-    Ok(End::NoAnswer)
+    Ok(Some(End::NoAnswer))
+}
+
+/// Whether a message from an address answers an outstanding request to that address.
+fn is_answer(agent: &StunAgent, message: &Message<'_>, from: SocketAddr) -> bool {
+    match agent.request_transaction(message.transaction_id()) {
+        Some(asked) => message.is_response() && asked.peer_address() == from,
+        None => false,
+    }
 }
 
 /// A request of a new id, signed where a challenge was taken up.
@@ -146,19 +156,22 @@ const STRAY_CHALLENGE: &str =
 /// A success to the signed request, with XOR-MAPPED-ADDRESS 10.0.0.66:666, signed under the
 /// password `guess`.
 const FORGED_SUCCESS: &str = "01010068 2112a442 000000040000000500000006 00200008 00012388 2b12a400
-    0015001d 6f624d61744a6f73327741414142424242424242424242424242424242000000 00140005 7265616c6d000000
+    0015001d 6f624d61744a6f73327741414142424242424242424242424242424242000000
+    00140005 7265616c6d000000
     001d0004 00020000 001c0020 b1fbbdf40c60ef6bf24dade7331bfe8cb4341632e68398c04f1a1c36f29defc1";
 
 /// The challenge once more, to the signed request.
 const CHALLENGE_AGAIN: &str =
     "01110050 2112a442 000000040000000500000006 00090010 00000401 556e617574686f72697a6564
-    0015001d 6f624d61744a6f73327741414142424242424242424242424242424242000000 00140005 7265616c6d000000
+    0015001d 6f624d61744a6f73327741414142424242424242424242424242424242000000
+    00140005 7265616c6d000000
     80020008 0002000000010000";
 
 /// ERROR-CODE 500 to the signed request, signed.
 const SERVER_ERROR: &str =
     "01110070 2112a442 000000040000000500000006 00090010 00000500 536572766572204572726f72
-    0015001d 6f624d61744a6f73327741414142424242424242424242424242424242000000 00140005 7265616c6d000000
+    0015001d 6f624d61744a6f73327741414142424242424242424242424242424242000000
+    00140005 7265616c6d000000
     001d0004 00020000 001c0020 47a3403c2fec4d798582be3518c1d35a385eade0e6adc649d66cc6da44d34940";
 
 /// ERROR-CODE 400 to the signed request.

@@ -1,5 +1,5 @@
-//! How many bytes an agent, a server and a client take of a heap, in blocks of 16, that what they
-//! tell takes none, and at which heap each text is.
+//! How many bytes an agent, a server and a client take of a heap, in blocks of 16. What they tell
+//! takes none. Each text is at the heap that it came with.
 
 use fail_alloc::RefusingAllocator;
 use linked_list_allocator::LocalHeap;
@@ -87,7 +87,7 @@ fn a_client_of_a_server_takes_its_name(rt: HostRuntime) -> Result<(), Fail> {
     Ok(())
 }
 
-/// A challenge that is taken up takes the name, the realm and the nonce.
+/// A challenge that is kept takes the name, the realm and the nonce.
 #[test]
 fn a_challenge_takes_its_texts(rt: HostRuntime) -> Result<(), Fail> {
     let heap = LocalHeap::new(rt.alloc(), 4096)?;
@@ -160,8 +160,8 @@ fn what_a_client_tells_takes_none(rt: HostRuntime) -> Result<(), Fail> {
     Ok(())
 }
 
-/// A client keeps what it takes up at its own heap, and its user at another. What a stale nonce
-/// replaces is given back.
+/// A client keeps a challenge at its own heap, and its user at another. What a stale nonce replaces
+/// is given back.
 fn expect_client_at<'a>(
     rt: &impl Abort,
     alloc: Global,
@@ -184,8 +184,8 @@ fn a_client_keeps_a_challenge_at_its_heap(rt: HostRuntime) -> Result<(), Fail> {
     expect_client_at(&rt, rt.alloc(), &heap, &users)
 }
 
-/// A server keeps its places at its own heap, its realm at another, and its user at a third, the
-/// copy of the name and the keys too.
+/// A server keeps its records at its own heap, and its realm at another. Its user is at a third,
+/// with the copy of the name and the keys.
 fn expect_server_at<'a>(
     rt: &impl Abort,
     alloc: Global,

@@ -209,7 +209,7 @@ impl<'a> Signer<'a> {
     }
 }
 
-/// Checks what was signed, or that memory was wanting where a refusal was met.
+/// Checks what was signed, or that an allocation failed where one was refused.
 fn expect_signed(rt: &impl Abort, answer: Signed<'_>, met_none: bool, expected: &[u8]) {
     match answer {
         Ok(signed) => assert_eq!(rt; (signed.data(), met_none), (expected, true)),
@@ -233,7 +233,8 @@ fn signs_twice(
     Ok(met_none)
 }
 
-/// Checks that a side signs this message, or wants memory at each allocation in turn.
+/// Checks that a side signs this message, and that it fails where each allocation in turn is
+/// refused.
 fn expect_each(rt: &impl Abort, alloc: Global, side: Side, digits: &str) -> Result<(), Fail> {
     let expected = bytes_of(alloc, digits)?;
     expect_each_refusal(rt, alloc, side, expected.as_slice())

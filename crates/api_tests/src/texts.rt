@@ -1,5 +1,5 @@
-//! What the errors of runs and of authenticators say, what `Debug` shows of calls and of plain
-//! values, and a signing that a server refuses in a run.
+//! What the errors of runs and of authenticators say, and what `Debug` shows of calls and of plain
+//! values. A signing that a server refuses in a run.
 use std::alloc::Global;
 use std::fmt::{Debug, Display};
 use std::process::Abort;
@@ -26,8 +26,8 @@ const NAMELESS: &str =
     "000100182112a442000000000000000000000001000800140000000000000000000000000000000000000000";
 
 /// A Binding error with id 1, ERROR-CODE 401 and a REALM.
-const REALM_ALREADY: &str =
-    "0111001c2112a4420000000000000000000000010009001000000401556e617574686f72697a65640014000461626364";
+const REALM_ALREADY: &str = "0111001c2112a442000000000000000000000001\
+    0009001000000401556e617574686f72697a65640014000461626364";
 
 /// Statistics of an agent that nothing happened to.
 const NO_COUNTS: &str =
@@ -109,7 +109,7 @@ fn expect_client_refuses(
     Ok(())
 }
 
-/// A client cannot check a request without integrity, nor take up a challenge without a nonce, and
+/// A client cannot check a request without integrity, nor answer a challenge without a nonce, and
 /// says so.
 #[test]
 fn of_a_refusal_of_a_client(rt: HostRuntime) -> Result<(), Fail> {

@@ -11,10 +11,10 @@ use stun_types::message::{Message, MessageClass};
 /// When the first transmissions are due, in microseconds after the requests were sent.
 const FIRST_TIMEOUT: u32 = 500_000;
 
-/// When requests end that are sent once, likewise.
+/// When requests end that are sent once, in microseconds after they were sent.
 const LAST_WAIT: u32 = 8_000_000;
 
-/// The bytes that there is room for where a request is sent again.
+/// How many bytes there is room for where a request is sent again.
 const ROOM: usize = 2048;
 
 /// A call, and the state that it meets.
@@ -84,8 +84,7 @@ pub fn call_named(name: &str) -> Option<Call> {
     }
 }
 
-/// How many of so many calls did what they were to do, at an agent with so many outstanding
-/// requests.
+/// How many of `times` calls did what they should, at an agent with `size` outstanding requests.
 pub fn count_of(alloc: Global, call: Call, size: u32, times: u32) -> Option<u32> {
     let mut agent = agent_of(alloc, call, size)?;
     let (class, first) = match call {

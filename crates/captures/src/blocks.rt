@@ -1,4 +1,4 @@
-//! The files of blocks, pcapng: sections, and in each interfaces and packets.
+//! Files of blocks, pcapng: sections, in which are interfaces and packets.
 ghost use Rattle.std.specs.Prelude.{◌≡◌, ◌≤◌, ◌+◌, IfOk, drop, length};
 ghost use Rattle.captures.specs.Numbers.{number_in};
 ghost use Rattle.captures.specs.Records.{BLOCK_LENGTH, block_body, IsEndedBy};
@@ -54,8 +54,8 @@ pub struct Block<'a> {
     pub rest: &'a [u8],
 }
 
-/// The order of the numbers of the block at the front: the section's, or its own where it begins
-/// one.
+/// The order of the bytes of the block at the front: its own if it begins a section, and else the
+/// section's. Fails if the mark of a section is none.
 pub fn order_of(order: Order, bytes: &[u8]) -> Result<Order, Fault> {
     if number_32(order, bytes, 0) != Some(SECTION) {
         return Ok(order);
@@ -68,7 +68,8 @@ pub fn order_of(order: Order, bytes: &[u8]) -> Result<Order, Fault> {
     }
 }
 
-/// The block at the front of these bytes, where it is whole and has its length at both ends.
+/// The block at the front of these bytes. Fails if it is not whole, or does not have its length at
+/// both ends.
 pub fn block_of<'a>(order: Order, bytes: &'a [u8]) -> Result<Block<'a>, Fault>
     ensures body { IfOk result (λ block.
         block.body.now ≡ block_body (number_in order 4 (drop 4 bytes.now)) bytes.now) }
@@ -140,8 +141,8 @@ fn option_of<'a>(order: Order, options: &'a [u8]) -> Option<(u16, &'a [u8], &'a 
     Some((kind, value, after))
 }
 
-/// The number of 64 bits at the front, which is the higher half before the lower one in one order,
-/// and after it in the other.
+/// The number of 64 bits at the front. In one order its higher half comes first, and in the other
+/// its lower half.
 fn number_64(order: Order, bytes: &[u8]) -> Option<u64> {
     let first = u64::from(number_32(order, bytes, 0)?);
     let second = u64::from(number_32(order, bytes, 4)?);
@@ -156,8 +157,8 @@ fn joined(high: u64, low: u64) -> u64 {
     (high << 32) | low
 }
 
-/// The ticks of a second by an interface's resolution: a power of ten, or of two where the first
-/// bit is set. It is 0, for none, where they are more than 1000000000.
+/// How many ticks a second has, by an interface's resolution: a power of ten, or of two if the
+/// first bit is set. It is 0, for unknown, if they are more than 1000000000.
 fn ticks_of(resolution: u8) -> u64 {
     if resolution & 0x80 != 0 {
         return match resolution & 0x7F {
@@ -178,7 +179,7 @@ pub fn enhanced_of<'a>(order: Order, body: &'a [u8]) -> Option<Captured<'a>> {
     stamped_of(order, interface, body)
 }
 
-/// The packet of a packet block, which is obsolete, and has a count of dropped packets after its
+/// The packet of a packet block, which is obsolete. It has a count of dropped packets after its
 /// interface.
 pub fn obsolete_of<'a>(order: Order, body: &'a [u8]) -> Option<Captured<'a>> {
     let interface = usize::from(number_16(order, body, 0)?);
@@ -200,8 +201,8 @@ fn stamped_of<'a>(order: Order, interface: usize, body: &'a [u8]) -> Option<Capt
     })
 }
 
-/// The packet of a simple packet block, of the section's first interface, which captures at most so
-/// many bytes.
+/// The packet of a simple packet block. It is of the section's first interface, which captures at
+/// most `most` bytes of a packet.
 pub fn simple_of<'a>(order: Order, most: usize, body: &'a [u8]) -> Option<Captured<'a>> {
     let whole = count_32(order, body, 0)?;
     let count = if most == 0 { whole } else { whole.min(most) };

@@ -1,4 +1,4 @@
-//! A capture, which is read one packet after another.
+//! A capture, read one packet after another.
 ghost use Rattle.std.specs.Prelude.{◌≡◌, ◌≢◌, ◌≤◌, ◌+◌, IfOk, Ok, length};
 ghost use Rattle.captures.specs.Records.{BLOCK_LENGTH};
 
@@ -26,7 +26,7 @@ pub struct Packet<'a> {
     pub bytes: &'a [u8],
 }
 
-/// What the next record of a capture is.
+/// The next record of a capture.
 #[derive(Clone, Copy)]
 pub enum Step<'a> {
     Packet(Packet<'a>),
@@ -42,7 +42,7 @@ enum Format {
     Blocks(Order),
 }
 
-/// A capture of which a part is read.
+/// A capture that is partly read.
 #[derive(Drop)]
 pub struct Capture<'a, A: Allocator> {
     /// What is left of the file, from the next record on.
@@ -57,8 +57,8 @@ pub struct Capture<'a, A: Allocator> {
 }
 
 impl<'a, A: Allocator> Capture<'a, A> {
-    /// The capture that a file is, before its first packet; none where its first bytes are none of
-    /// a capture. It fails where the header of the file is cut.
+    /// The capture that a file is, before its first packet. `None` if its first bytes are those of
+    /// no capture. Fails if the header of the file is cut.
     pub fn open(alloc: A, bytes: &'a [u8]) -> Option<Result<Capture<'a, A>, Failure>> {
         let (format, header) = if classic::magic_of(bytes).is_some() {
             match classic::header_of(bytes) {
@@ -79,8 +79,8 @@ impl<'a, A: Allocator> Capture<'a, A> {
         }))
     }
 
-    /// Reads the next record. Where there is one, at least twelve bytes fewer are left after it.
-    /// After a failure the same record fails again.
+    /// Reads the next record. If there is one, at least twelve bytes fewer are left after it. Fails
+    /// if the record is damaged or an allocation fails; the same record then fails again.
     pub fn step(&mut self) -> Result<Step<'a>, Failure>
         ensures end { length self.old.rest.now ≡ 0 → result ≡ Ok Step.End }
         ensures moves { length self.old.rest.now ≢ 0 → IfOk result (λ step.

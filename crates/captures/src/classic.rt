@@ -1,13 +1,13 @@
-//! The files of libpcap: a header, and then a record for each packet.
+//! Files of libpcap: a header, and then a record for each packet.
 ghost use Rattle.std.specs.Prelude.{◌≡◌, ◌≤◌, ◌<◌, ◌+◌, IfSome, IfNone, drop, length};
 ghost use Rattle.captures.specs.Records.{RECORD_LENGTH, packet_bytes, record_length};
 
 use crate::numbers::{Order, count_32, number_32};
 
-/// The bytes of a file's header.
+/// How many bytes a file's header has.
 pub const HEADER_LENGTH: usize = 24;
 
-/// The bytes of a record before those of its packet.
+/// How many bytes a record has before those of its packet.
 pub const RECORD_LENGTH: usize = 16;
 
 /// The header of a file.
@@ -45,7 +45,7 @@ pub fn magic_of(bytes: &[u8]) -> Option<(Order, u64)> {
     }
 }
 
-/// The header of a file, where it is whole. Of the link type the upper half counts bytes at a
+/// The header of a file, if it is whole. Of the link type, the upper half counts bytes at a
 /// packet's end.
 pub fn header_of(bytes: &[u8]) -> Option<Header> {
     let magic = magic_of(bytes)?;
@@ -58,7 +58,7 @@ pub fn header_of(bytes: &[u8]) -> Option<Header> {
     })
 }
 
-/// The record at the front of these bytes, where it is whole.
+/// The record at the front of these bytes, if it is whole.
 pub fn record_of<'a>(order: Order, bytes: &'a [u8]) -> Option<Record<'a>>
     ensures none { IfNone result (length bytes.now < record_length order bytes.now) }
     ensures packet { IfSome result (λ found. found.bytes.now ≡ packet_bytes order bytes.now) }

@@ -3,7 +3,7 @@
 use crate::numbers::{Order, number_16};
 use std::net::{IpAddr, Ipv4Addr, Ipv6Addr, SocketAddr};
 
-/// A datagram of UDP.
+/// A UDP datagram.
 #[derive(Clone, Copy)]
 pub struct Datagram<'a> {
     pub from: SocketAddr,
@@ -29,14 +29,14 @@ pub enum Carried<'a> {
 /// The number of UDP among the protocols of IP.
 const UDP: u8 = 17;
 
-/// The bytes of a header of IPv6.
+/// How many bytes a header of IPv6 has.
 const IPV6_LENGTH: usize = 40;
 
-/// The bytes of a header of UDP.
+/// How many bytes a header of UDP has.
 const UDP_LENGTH: usize = 8;
 
-/// What a packet of IPv4 or IPv6 carries, by its version. It is none where the headers are not
-/// whole, here and below.
+/// What a packet of IPv4 or IPv6 carries, by its version. `None` if the headers are not whole, here
+/// and below.
 pub fn internet(bytes: &[u8]) -> Option<Carried<'_>> {
     match *bytes.first()? >> 4 {
         4 => ipv4(bytes),
@@ -52,46 +52,30 @@ pub fn ipv4(bytes: &[u8]) -> Option<Carried<'_>> {
     if first >> 4 != 4 || header < 20 {
         return Some(Carried::Other);
     }
-    let [
-        _,
-        _,
-        high,
-        low,
-        _,
-        _,
-        flags,
-        offset,
-        _,
-        protocol,
-        _,
-        _,
-        a,
-        b,
-        c,
-        d,
-        e,
-        f,
-        g,
-        h,
-        ..
-    ] = bytes
-    else {
-        return None;
-    };
-    if *protocol != UDP {
+    let total = usize::from(number_16(Order::Big, bytes, 2)?);
+    let fragment = number_16(Order::Big, bytes, 6)?;
+    let protocol = *bytes.get(9)?;
+    let from = ipv4_at(bytes, 12)?;
+    let to = ipv4_at(bytes, 16)?;
+    if protocol != UDP {
         return Some(Carried::Other);
     }
-    if flags & 0x3F != 0 || *offset != 0 {
+    if fragment & 0x3FFF != 0 {
         return Some(Carried::Fragment);
     }
-    let total = usize::from(u16::from_be_bytes([*high, *low]));
-    let from = IpAddr::V4(Ipv4Addr::new(*a, *b, *c, *d));
-    let to = IpAddr::V4(Ipv4Addr::new(*e, *f, *g, *h));
     udp(from, to, up_to(bytes, total).get(header..)?)
 }
 
-/// The bytes up to this length; all of them where it is 0, as where the network card cuts what is
-/// sent, or more than there are.
+/// The address of IPv4 at a place.
+fn ipv4_at(bytes: &[u8], place: usize) -> Option<IpAddr> {
+    let [a, b, c, d, ..] = bytes.get(place..)? else {
+        return None;
+    };
+    Some(IpAddr::V4(Ipv4Addr::new(*a, *b, *c, *d)))
+}
+
+/// The first `length` bytes. It is all of them if `length` is 0, as where the network card cuts
+/// what is sent, or if there are fewer.
 fn up_to(bytes: &[u8], length: usize) -> &[u8] {
     if length == 0 {
         return bytes;
@@ -155,8 +139,8 @@ fn is_whole(bytes: &[u8]) -> Option<bool> {
     Some(number_16(Order::Big, bytes, 2)? & 0xFFF9 == 0)
 }
 
-/// The datagram of UDP that these bytes are (RFC 768). A length of 0 is taken for all of them, and
-/// one that is shorter than the header is none of a datagram.
+/// The UDP datagram that these bytes are (RFC 768). A length of 0 means all of them. One that is
+/// shorter than the header is no datagram's.
 fn udp(from: IpAddr, to: IpAddr, bytes: &[u8]) -> Option<Carried<'_>> {
     let from = SocketAddr::new(from, number_16(Order::Big, bytes, 0)?);
     let to = SocketAddr::new(to, number_16(Order::Big, bytes, 2)?);

@@ -1,5 +1,5 @@
-//! Captures of packets: what the files of `tcpdump`, `tshark` and Wireshark have, packet by packet,
-//! and the datagram of UDP that a packet carries.
+//! Captures of packets, from the files of `tcpdump`, `tshark` and Wireshark: packet by packet, with
+//! the UDP datagram that each carries.
 //!
 //! ```text
 //! Capture::open(alloc, bytes)              none: the bytes are no capture

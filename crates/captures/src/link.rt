@@ -9,7 +9,8 @@ pub const ETHERNET: u32 = 1;
 /// A packet of IPv4 or IPv6 without a header before it.
 pub const RAW: u32 = 101;
 
-/// What a packet of a link of this type carries; none where such links are not read.
+/// What a packet of a link of this type carries. `None` if links of the type are not read, or the
+/// headers are not whole.
 pub fn carried(link: u32, bytes: &[u8]) -> Option<Carried<'_>> {
     let found = match link {
         ETHERNET => behind_type(bytes, 12),
@@ -26,8 +27,8 @@ pub fn carried(link: u32, bytes: &[u8]) -> Option<Carried<'_>> {
     Some(found.unwrap_or(Carried::Cut))
 }
 
-/// What stands behind a type of Ethernet at this place. A type may be that of a tag of a VLAN,
-/// behind which another type stands.
+/// What follows a type of Ethernet at this place. The type may be that of a tag of a VLAN, after
+/// which another type follows.
 fn behind_type(bytes: &[u8], place: usize) -> Option<Carried<'_>> {
     let mut rest = bytes.get(place..)?;
     for _tag in 0..bytes.len() {

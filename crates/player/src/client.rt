@@ -211,7 +211,7 @@ fn sign_length(stage: &mut Stage<'_>, words: &[&str], answer: &mut String) -> Re
     push_length(signed(stage, words)?, answer)
 }
 
-/// `client signs-in ROOM MESSAGE`: the same as `signs`, in a slice of so many bytes, up to 256.
+/// `client signs-in ROOM MESSAGE`: the same as `signs`, in a slice of ROOM bytes, up to 256.
 fn sign_in_slice(
     stage: &mut Stage<'_>,
     words: &[&str],

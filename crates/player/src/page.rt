@@ -64,7 +64,7 @@ fn is_named(paragraph: &str, name: &str) -> bool {
     }
 }
 
-/// Whether a paragraph can be taken up: it is there, and takes up no other.
+/// Whether another paragraph can begin with this one: it is there, and begins with no other itself.
 pub fn is_beginning(paragraph: &str) -> bool {
     !paragraph.is_empty() && !paragraph.contains("\nlike ")
 }

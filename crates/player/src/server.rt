@@ -190,7 +190,7 @@ fn forget(stage: &mut Stage<'_>, words: &[&str]) -> Result<(), Trouble> {
     Ok(())
 }
 
-/// `server forget-some COUNT`, or with an ADDRESS to begin at: the same at no more than so many
+/// `server forget-some COUNT`, or with an ADDRESS to begin at: the same for at most COUNT
 /// addresses. It tells the address to go on at, or `none`.
 fn forget_some(stage: &mut Stage<'_>, words: &[&str], answer: &mut String) -> Result<(), Trouble> {
     let (count, from) = match words {
@@ -251,7 +251,7 @@ fn sign_length(stage: &mut Stage<'_>, words: &[&str], answer: &mut String) -> Re
     push_length(signed(stage, words)?, answer)
 }
 
-/// `server signs-in ROOM MESSAGE`: the same as `signs`, in a slice of so many bytes, up to 256.
+/// `server signs-in ROOM MESSAGE`: the same as `signs`, in a slice of ROOM bytes, up to 256.
 fn sign_in_slice(
     stage: &mut Stage<'_>,
     words: &[&str],

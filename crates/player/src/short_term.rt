@@ -140,7 +140,7 @@ fn sign(stage: &mut Stage<'_>, words: &[&str], answer: &mut String) -> Result<()
     )
 }
 
-/// `short-term signs-in ROOM MESSAGE`: the same in a slice of so many bytes, up to 256.
+/// `short-term signs-in ROOM MESSAGE`: the same in a slice of ROOM bytes, up to 256.
 fn sign_in_slice(
     stage: &mut Stage<'_>,
     words: &[&str],

@@ -34,7 +34,7 @@ pub fn on_heap<'a>(heap: &'a Heap, message: &[u8]) -> Result<MessageWriteVec<&'a
     Ok(writer)
 }
 
-/// A message in an empty writer over the first bytes of an array, so many.
+/// A message in an empty writer over the first `length` bytes of an array.
 pub fn in_slice<'a>(
     room: &'a mut Room,
     length: &str,

@@ -80,7 +80,7 @@ impl Spelling {
         }))
     }
 
-    /// The header where so many bytes come behind the attributes (section 5).
+    /// The header of the message, if `more` bytes are to follow its attributes (section 5).
     fn header(&self, more: usize) -> Result<Vec<u8>, Trouble> {
         let Ok(length) = u16::try_from(self.attributes.len().saturating_add(more)) else {
             return Err(Trouble::Words);
@@ -117,7 +117,7 @@ impl Spelling {
         Ok(())
     }
 
-    /// Signs what stands so far under a key (sections 14.5 and 14.6).
+    /// Signs the message so far under a key (sections 14.5 and 14.6).
     fn sign(&mut self, key: &[u8], algorithm: IntegrityAlgorithm) -> Result<(), Trouble> {
         let attributes = self.attributes.as_slice();
         match algorithm {
@@ -160,7 +160,7 @@ fn is_of(attribute: &[u8], kind: AttributeType) -> bool {
     }
 }
 
-/// The first attribute with its padding, and what stands behind it.
+/// The first attribute with its padding, and what follows it.
 fn first_of(bytes: &[u8]) -> Option<(&[u8], &[u8])> {
     let [_, _, high, low, ..] = bytes else {
         return None;

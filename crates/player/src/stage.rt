@@ -30,8 +30,8 @@ const NONE: Blocks = Blocks {
     returned: 0,
 };
 
-/// What a paragraph has: one object of each kind, the address, the time and the random words of the
-/// messages that come, and the messages that were kept.
+/// What a paragraph has: one object of each kind, and the messages that were kept. It has the
+/// address, the time and the random numbers of the messages that come.
 #[derive(Drop)]
 pub struct Stage<'a> {
     pub source: Source<'a>,
@@ -44,11 +44,11 @@ pub struct Stage<'a> {
     pub server: LongTermServerAuth<&'a Heap>,
     pub client: LongTermClientAuth<&'a Heap>,
     pub short_term: ShortTermAuth<&'a Heap>,
-    /// The allocation of a call that is refused; at 0, none.
+    /// Which allocation of a call is refused; at 0, none.
     pub nth: u64,
-    /// Whether it was.
+    /// Whether it was refused.
     pub is_refused: bool,
-    /// Whether it was one of a run, which is left after some of its calls.
+    /// Whether it was one of a run, which then ends after some of its calls.
     pub is_run: bool,
     /// What the last call of the library did to the heap.
     pub work: Blocks,
@@ -86,13 +86,13 @@ impl<'a> Stage<'a> {
         }
     }
 
-    /// From here on the library works, and an allocation may be refused.
+    /// The library works from here on, and an allocation may be refused.
     pub fn begin(&mut self) {
         self.before = Some(self.blocks());
         self.heap.refuse(self.nth);
     }
 
-    /// It has ended, if it worked.
+    /// The library has ended its work.
     pub fn end(&mut self) {
         if let Some(before) = self.before {
             let after = self.blocks();

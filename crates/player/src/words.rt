@@ -178,7 +178,7 @@ pub fn bytes(alloc: Global, digits: &str) -> Result<Vec<u8>, Trouble> {
     }
 }
 
-/// A text: `WORD`, or `WORD*NUMBER`, the word so many times. `-` is the empty text.
+/// A text: `WORD`, or `WORD*NUMBER`, which repeats the word. `-` is the empty text.
 pub fn text(alloc: Global, word: &str) -> Result<String, Trouble> {
     let mut text = String::new(alloc);
     match word.split_once('*') {

@@ -39,7 +39,7 @@ enum Writer<'a> {
     Slice(Slice),
 }
 
-/// A message in the first bytes of an array, so many, as far as it is written.
+/// A message in the first `size` bytes of an array, as far as it is written.
 #[derive(Drop)]
 struct Slice {
     size: usize,
@@ -55,7 +55,7 @@ impl Slice {
         Ok(copied(self.written.as_slice(), MessageWriteMutSlice::new(room))?)
     }
 
-    /// Keeps what is written in the first bytes of an array, so many. The bytes behind must be
+    /// Keeps what is written in the first `size` bytes of an array. The bytes after them must be
     /// untouched.
     fn keep(
         &mut self,

@@ -13,24 +13,27 @@ use Rattle.stun_base.specs.declared.wire.message_type.MessageClass.TheVariants.{
 use Rattle.stun_agent.specs.declared.error.StunError.{StunError}
 use Rattle.stun_agent.specs.declared.error.StunError.TheVariants.{ProtocolViolation, ParseError}
 use Rattle.stun_base.specs.MessageType.{class_in, is_request}
-use Rattle.stun_agent.specs.Agent.{Agent, tallied, with_validated, with_transactions}
+use Rattle.stun_agent.specs.Agent.{Agent, with_tally, with_validated, with_transactions}
 use Rattle.stun_agent.specs.Agent.{tally_of_end, tally_of_sent, sending_tally, address_refusal}
 use Rattle.stun_agent.specs.Agent.{class_refusal, sending_refusal, after_send, request_refusal}
-use Rattle.stun_agent.specs.Agent.{request_of, after_send_request, answered, after_class}
+use Rattle.stun_agent.specs.Agent.{request_of, after_send_request, answered_request, after_class}
 use Rattle.stun_agent.specs.Agent.{after_response, ended_by_poll, sent_by_poll, after_poll}
-use Rattle.stun_agent.specs.Statistics.{Statistics, Tally, counted, LeavesOutstanding, IsNotFull}
+use Rattle.stun_agent.specs.Statistics.{Statistics, Tally, statistics_after, LeavesOutstanding}
+use Rattle.stun_agent.specs.Statistics.{IsNotFull}
 use Rattle.stun_agent.specs.Statistics.{request_sent, request_sent_again, request_received}
 use Rattle.stun_agent.specs.Statistics.{indication_received, response_received}
 use Rattle.stun_agent.specs.Calls.{AgentCall, send, send_request, receive, validate}
 use Rattle.stun_agent.specs.Calls.{forget, poll, poll_transmit, cancel_retransmissions}
 use Rattle.stun_agent.specs.Calls.{cancel, configure, after_agent_call}
 use Rattle.stun_agent.specs.Transactions.{Transaction, repeats, is_over, without}
-use Rattle.stun_agent.specs.Transactions.{changed, silenced, cancelled, configured}
+use Rattle.stun_agent.specs.Transactions.{with_change_at, without_retransmissions}
+use Rattle.stun_agent.specs.Transactions.{with_cancellation, with_settings}
 use Rattle.stun_agent.specs.Transactions.{slot_passed, after_slots, round_trip}
 use Rattle.stun_agent.proofs.AnswerLemmas.{answered_there}
-use Rattle.stun_agent.proofs.LookupLemmas.{length-with, length-without, length-changed, found_there}
+use Rattle.stun_agent.proofs.LookupLemmas.{length-with, length-without, length-with_change_at}
+use Rattle.stun_agent.proofs.LookupLemmas.{found_there}
 use Rattle.stun_agent.proofs.OnceLemmas.{not_refused_is_new}
-use Rattle.stun_agent.proofs.StatisticsLemmas.{leaves_outstanding-counted}
+use Rattle.stun_agent.proofs.StatisticsLemmas.{leaves_outstanding-statistics_after}
 
 -- so many are outstanding by the statistics, if there are any
 abbrev Tells : Option Statistics → ℕ → Type 0
@@ -43,10 +46,10 @@ StillTells stats n = IfSome stats (λ s. IsNotFull s → LeavesOutstanding s n)
 tallied_tells : (tally : Tally) (stats : Option Statistics) (before after : ℕ)
     → before + tally.requests_sent
     ≡ after + (tally.responses_received + tally.timed_out + tally.cancelled)
-    → Tells stats before → StillTells (option_map (counted tally) stats) after
+    → Tells stats before → StillTells (option_map (statistics_after tally) stats) after
 tallied_tells tally None before after moved h = tt
 tallied_tells tally (Some s) before after moved h =
-    λ free. leaves_outstanding-counted tally s before after h free moved
+    λ free. leaves_outstanding-statistics_after tally s before after h free moved
 
 untouched_tells : (stats : Option Statistics) (before after : ℕ) → after ≡ before
     → Tells stats before → StillTells stats after
@@ -56,7 +59,7 @@ untouched_tells (Some s) before after same h = λ free. subst (LeavesOutstanding
 -- a message that is sent as no request
 sent_class : (class : MessageClass) (count : ℕ) (stats : Option Statistics) (n : ℕ)
     → is_request class ≡ false → Tells stats n
-    → StillTells (option_map (counted (sending_tally class count)) stats) n
+    → StillTells (option_map (statistics_after (sending_tally class count)) stats) n
 sent_class Request count stats n other h = cc
 sent_class Indication count stats n other h =
     tallied_tells (sending_tally Indication count) stats n n (omega arith) h
@@ -125,11 +128,11 @@ tells_response : (moment : Option ℕ) (bytes : List ℕ) (from : SocketAddr) (a
     → Tells a.statistics (length a.transactions)
     → StillTells (after_response moment bytes from a).statistics
     (length (after_response moment bytes from a).transactions)
-tells_response moment bytes from a h = by (answered bytes from a) refl
+tells_response moment bytes from a h = by (answered_request bytes from a) refl
   where
-    by : (found : Option Transaction) → answered bytes from a ≡ found
+    by : (found : Option Transaction) → answered_request bytes from a ≡ found
         → let left = option_map_or
-        (λ t. tallied (response_received (length bytes) (round_trip moment t))
+        (λ t. with_tally (response_received (length bytes) (round_trip moment t))
         (with_validated from
         (with_transactions a (without (transaction_id_field bytes) a.transactions))))
         found a in StillTells left.statistics (length left.transactions)
@@ -168,7 +171,8 @@ tells_poll now a h = by (ended_by_poll now a) refl
     by : (found : Option (ℕ × Transaction)) → ended_by_poll now a ≡ found
         → let left =
         option_map_or
-        (λ e. tallied (tally_of_end e.1) (with_transactions a (without e.0 a.transactions))) found
+        (λ e. with_tally (tally_of_end e.1) (with_transactions a (without e.0 a.transactions)))
+        found
         a in StillTells left.statistics (length left.transactions)
     by None is = untouched_tells a.statistics _ _ refl h
     by (Some e) is =
@@ -196,8 +200,9 @@ tells_transmit now a (Some e) h =
 
 tells_changed : (f : Transaction → Transaction) (id : ℕ) (a : Agent)
     → Tells a.statistics (length a.transactions)
-    → StillTells a.statistics (length (changed f id a.transactions))
-tells_changed f id a h = untouched_tells a.statistics _ _ (length-changed f id a.transactions) h
+    → StillTells a.statistics (length (with_change_at f id a.transactions))
+tells_changed f id a h =
+    untouched_tells a.statistics _ _ (length-with_change_at f id a.transactions) h
 
 pub still_tells : (call : AgentCall) (a : Agent) → Tells a.statistics (length a.transactions)
     → StillTells (after_agent_call call a).statistics
@@ -209,6 +214,6 @@ still_tells (validate address) a h = untouched_tells a.statistics _ _ refl h
 still_tells (forget address) a h = untouched_tells a.statistics _ _ refl h
 still_tells (poll now) a h = tells_poll now a h
 still_tells (poll_transmit now) a h = tells_transmit now a (sent_by_poll now a) h
-still_tells (cancel_retransmissions id) a h = tells_changed silenced id a h
-still_tells (cancel id) a h = tells_changed cancelled id a h
-still_tells (configure id settings) a h = tells_changed (configured settings) id a h
+still_tells (cancel_retransmissions id) a h = tells_changed without_retransmissions id a h
+still_tells (cancel id) a h = tells_changed with_cancellation id a h
+still_tells (configure id settings) a h = tells_changed (with_settings settings) id a h

@@ -10,10 +10,10 @@ use Rattle.stun_base.specs.declared.wire.transport.TransportType.{TransportType}
 use Rattle.stun_agent.specs.declared.state.deadlines.Deadline.{Deadline}
 use Rattle.stun_agent.specs.declared.state.deadlines.DeadlineKind.TheVariants.{Cancelled, End, Slot}
 use Rattle.stun_agent.specs.Transactions.{Transaction, Transactions, IsAscending}
-use Rattle.stun_agent.specs.Transactions.{at, with, without, awaited, has_slots}
+use Rattle.stun_agent.specs.Transactions.{at, with, without, awaited_moment, has_slots}
 use Rattle.stun_agent.specs.Transactions.{is_cancelled, is_over, first_over, sooner}
-use Rattle.stun_agent.specs.code.Deadlines.{deadline_of, is_end, has_ended, least_ended}
-use Rattle.stun_agent.specs.code.Deadlines.{earliest, entries_at, IsIndexOf}
+use Rattle.stun_agent.specs.code.Deadlines.{deadline_of, is_end_kind, has_ended, least_ended}
+use Rattle.stun_agent.specs.code.Deadlines.{earliest, entries_at, IsDeadlineIndexOf}
 use Rattle.stun_agent.proofs.Ascending.{find-none, find-least, lookup-remove_other}
 use Rattle.stun_agent.proofs.Ascending.{lookup-insert_same, lookup-insert_other}
 use Rattle.stun_agent.proofs.EntryLemmas.{lookup_found, own_key, same_key}
@@ -26,10 +26,10 @@ use Rattle.stun_agent.proofs.SoonerLemmas.{first_le, sooner_stays, one_of}
 ended_over : (transport : TransportType) (now : ℕ) (e : ℕ × Transaction)
     → has_ended now (deadline_of transport e) ≡ is_over transport now e.1
 ended_over transport now e =
-    by (is_cancelled e.1.sending) (has_slots transport e.1) (awaited transport e.1)
+    by (is_cancelled e.1.sending) (has_slots transport e.1) (awaited_moment transport e.1)
   where
     by : (c s : Bool) (m : ℕ)
-        → (is_end (cond c Cancelled (cond s Slot End)) && nat_le (cond c 0 m) now)
+        → (is_end_kind (cond c Cancelled (cond s Slot End)) && nat_le (cond c 0 m) now)
         ≡ (c || (not s && nat_le m now))
     by true s m = le-leb 0 now (omega arith)
     by false true m = refl
@@ -134,7 +134,7 @@ earliest-in ds m is = let found =
 
 -- ---- the index and the map
 module _ (transport : TransportType) (now : ℕ) (all : Transactions) (ds : List Deadline)
-    (index : IsIndexOf transport all ds) where
+    (index : IsDeadlineIndexOf transport all ds) where
   -- each entry is the deadline of a transaction
   pub entry_of : (d : Deadline) (n : ℕ) → IsIn d ds → d.id ≡ n
       → (t : Transaction) × (at n all ≡ Some t) × (deadline_of transport (n, t) ≡ d)
@@ -210,7 +210,7 @@ other_key n k off same = let own : is_at (nat_cmp n) n ≡ true =
     subst (λ x. is_at (nat_cmp n) x ≡ false) (sym same) off in cc
 
 pub index_permuted : (transport : TransportType) (all : Transactions) (xs ys : List Deadline)
-    → IsIndexOf transport all xs → IsPermutation xs ys → IsIndexOf transport all ys
+    → IsDeadlineIndexOf transport all xs → IsPermutation xs ys → IsDeadlineIndexOf transport all ys
 index_permuted transport all xs ys index moved =
     record { entries = λ n. by n (at n all) (index.entries n) }
   where
@@ -220,9 +220,9 @@ index_permuted transport all xs ys index moved =
     by n (Some t) one = one_permuted (λ d. n == d.id) (deadline_of transport (n, t)) xs ys moved one
 
 pub index_with : (transport : TransportType) (all : Transactions) (ds new : List Deadline) (id : ℕ)
-    (t : Transaction) → at id all ≡ None → IsIndexOf transport all ds
+    (t : Transaction) → at id all ≡ None → IsDeadlineIndexOf transport all ds
     → IsPermutation (deadline_of transport (id, t) ∷ ds) new
-    → IsIndexOf transport (with id t all) new
+    → IsDeadlineIndexOf transport (with id t all) new
 index_with transport all ds new id t absent index moved =
     index_permuted transport (with id t all) (deadline_of transport (id, t) ∷ ds) new
     (record { entries = λ n. by n (is_at (nat_cmp n) id) refl }) moved
@@ -244,7 +244,7 @@ index_with transport all ds new id t absent index moved =
 
 -- what is left where the deadline of an id is taken out
 pub rest_entries : (transport : TransportType) (all : Transactions) (d : Deadline)
-    (rest : List Deadline) → IsIndexOf transport all (d ∷ rest)
+    (rest : List Deadline) → IsDeadlineIndexOf transport all (d ∷ rest)
     → (n : ℕ) (b : Bool) → is_at (nat_cmp n) d.id ≡ b
     → entries_at n rest ≡ cond b [] (entry transport n (at n all))
 rest_entries transport all d rest index n true h =
@@ -258,12 +258,12 @@ rest_entries transport all d rest index n false h =
     sym (other_head d rest n (ne_eqb n d.id (other_key n d.id h))) ∙ index.entries n
 
 pub index_without : (transport : TransportType) (all : Transactions) (ds new : List Deadline)
-    (d : Deadline) → IsAscending all → IsIndexOf transport all ds
-    → IsPermutation ds (d ∷ new) → IsIndexOf transport (without d.id all) new
+    (d : Deadline) → IsAscending all → IsDeadlineIndexOf transport all ds
+    → IsPermutation ds (d ∷ new) → IsDeadlineIndexOf transport (without d.id all) new
 index_without transport all ds new d ascends index moved =
     record { entries = λ n. by n (is_at (nat_cmp n) d.id) refl }
   where
-    left : IsIndexOf transport all (d ∷ new)
+    left : IsDeadlineIndexOf transport all (d ∷ new)
     left = index_permuted transport all ds (d ∷ new) index moved
 
     by : (n : ℕ) (b : Bool) → is_at (nat_cmp n) d.id ≡ b

@@ -17,7 +17,7 @@ use Rattle.stun_agent.specs.declared.state.deadline_tree.Node.{Node}
 use Rattle.stun_agent.specs.code.DeadlineTree.{items, below, middle, is_no_later, IsWithin}
 use Rattle.stun_agent.specs.code.DeadlineTree.{IsFirst, IsTop, IsTree, IsBelow}
 use Rattle.stun_agent.specs.code.DeadlineTree.{IsExchanged, IsAlone, IsNextTaken, TakesOut}
-use Rattle.stun_agent.specs.code.DeadlineTree.{TakesFirst, TakesNext, first_of, next_of}
+use Rattle.stun_agent.specs.code.DeadlineTree.{TakesFirst, TakesNext, first_deadline, next_of}
 
 -- ---- lists
 pub all_permuted : {X : Type 0} (P : X → Type 0) (xs ys : List X) → IsPermutation xs ys
@@ -244,22 +244,22 @@ module _ {A : Type 0} (old new : Node A) (taken : Option Deadline) where
 -- the sooner one is on the left, or on the right
 module _ {A : Type 0} (old new : Node A) where
   pub next_left : new.right ≡ old.right → is_no_later (items old.left) (items old.right) ≡ true
-      → TakesFirst (items old.left) (first_of (items old.left)) (items new.left)
+      → TakesFirst (items old.left) (first_deadline (items old.left)) (items new.left)
       → ((low high : ℕ) → IsTree low high old.left → IsTree low high new.left)
       → TakesNext old (next_of old) new
   next_left same test takes tree =
       subst (λ (b : Bool). TakesNext old
-      (cond b (first_of (items old.left)) (first_of (items old.right))) new) (sym test)
-      (takes_left old new (first_of (items old.left)) same test takes tree)
+      (cond b (first_deadline (items old.left)) (first_deadline (items old.right))) new) (sym test)
+      (takes_left old new (first_deadline (items old.left)) same test takes tree)
 
   pub next_right : new.left ≡ old.left → is_no_later (items old.left) (items old.right) ≡ false
-      → TakesFirst (items old.right) (first_of (items old.right)) (items new.right)
+      → TakesFirst (items old.right) (first_deadline (items old.right)) (items new.right)
       → ((low high : ℕ) → IsTree low high old.right → IsTree low high new.right)
       → TakesNext old (next_of old) new
   next_right same test takes tree =
       subst (λ (b : Bool). TakesNext old
-      (cond b (first_of (items old.left)) (first_of (items old.right))) new) (sym test)
-      (takes_right old new (first_of (items old.right)) same test takes tree)
+      (cond b (first_deadline (items old.left)) (first_deadline (items old.right))) new) (sym test)
+      (takes_right old new (first_deadline (items old.right)) same test takes tree)
 
 -- where there is none, nothing is below
 pub none_next : {A : Type 0} (node : Node A) → None ≡ next_of node → IsAlone node
@@ -270,7 +270,7 @@ none_next node h = by (items node.left) (items node.right) refl refl h
     one false d e h = cc
 
     by : (ls rs : List Deadline) → items node.left ≡ ls → items node.right ≡ rs
-        → None ≡ cond (is_no_later ls rs) (first_of ls) (first_of rs) → IsAlone node
+        → None ≡ cond (is_no_later ls rs) (first_deadline ls) (first_deadline rs) → IsAlone node
     by [] [] l r h = record { left = empty_link node.left l; right = empty_link node.right r }
     by [] (e ∷ es) l r h = cc
     by (d ∷ ds) [] l r h = cc

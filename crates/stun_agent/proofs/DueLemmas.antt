@@ -12,11 +12,12 @@ use Rattle.std.proofs.lemmas.Map.Keys.{sorted_tail}
 use Rattle.stun_base.specs.declared.wire.transport.TransportType.{TransportType}
 use Rattle.stun_agent.specs.declared.state.deadlines.Deadline.{Deadline}
 use Rattle.stun_agent.specs.declared.state.deadlines.DeadlineKind.TheVariants.{Cancelled, End, Slot}
-use Rattle.stun_agent.specs.Transactions.{Transaction, Transactions, IsAscending, at, awaited}
+use Rattle.stun_agent.specs.Transactions.{Transaction, Transactions, IsAscending, at}
+use Rattle.stun_agent.specs.Transactions.{awaited_moment}
 use Rattle.stun_agent.specs.Transactions.{has_slots, is_cancelled, is_due, repeats, next_sent}
-use Rattle.stun_agent.specs.Transactions.{after_slot, slot_passed, after_slots, changed}
+use Rattle.stun_agent.specs.Transactions.{after_slot, slot_passed, after_slots, with_change_at}
 use Rattle.stun_agent.specs.code.Deadlines.{deadline_of, is_slot, is_passed}
-use Rattle.stun_agent.specs.code.Deadlines.{is_slot_after, least_due, IsIndexOf}
+use Rattle.stun_agent.specs.code.Deadlines.{is_slot_after, least_due, IsDeadlineIndexOf}
 use Rattle.stun_agent.specs.code.Transactions.{length_sent}
 use Rattle.stun_agent.proofs.Ascending.{find-none, find-least, IsAscending-map}
 use Rattle.stun_agent.proofs.DeadlineLemmas.{entry_of, entry_at, other_key}
@@ -110,6 +111,17 @@ find-not p all s none = by (find p all) refl
 abbrev pub is_next : TransportType → ℕ → Option ℕ → ℕ × Transaction → Bool
 is_next transport now last e = not (is_passed last e.0) && is_due transport now e.1
 
+pub next_parts : (transport : TransportType) (now : ℕ) (last : Option ℕ) (k : ℕ) (t : Transaction)
+    → is_next transport now last (k, t) ≡ true
+    → (is_passed last k ≡ false) × (is_due transport now t ≡ true)
+next_parts transport now last k t h = by (is_passed last k) (is_due transport now t) refl refl h
+  where
+    by : (p d : Bool) → is_passed last k ≡ p → is_due transport now t ≡ d → (not p && d) ≡ true
+        → (is_passed last k ≡ false) × (is_due transport now t ≡ true)
+    by true d a b h = cc
+    by false true a b h = (a, b)
+    by false false a b h = cc
+
 abbrev test : ℕ → Option ℕ → Deadline → Bool
 test now last d = is_slot_after last d && nat_le d.moment now
 
@@ -117,7 +129,7 @@ test_due : (transport : TransportType) (now : ℕ) (last : Option ℕ) (e : ℕ 
     → test now last (deadline_of transport e) ≡ is_next transport now last e
 test_due transport now last e =
     by (not (is_passed last e.0)) (is_cancelled e.1.sending) (has_slots transport e.1)
-    (awaited transport e.1)
+    (awaited_moment transport e.1)
   where
     by : (l c s : Bool) (m : ℕ)
         → ((is_slot (cond c Cancelled (cond s Slot End)) && l) && nat_le (cond c 0 m) now)
@@ -130,7 +142,7 @@ test_due transport now last e =
     by false false false m = refl
 
 module _ (transport : TransportType) (now : ℕ) (last : Option ℕ) (all : Transactions)
-    (ds : List Deadline) (index : IsIndexOf transport all ds) where
+    (ds : List Deadline) (index : IsDeadlineIndexOf transport all ds) where
   pub due_there : (n : ℕ) → least_due now last ds ≡ Some n
       → (t : Transaction) × (at n all ≡ Some t) × (is_next transport now last (n, t) ≡ true)
   due_there n f = by (least-in (λ d. d.id) (test now last) ds None n f)
@@ -186,7 +198,7 @@ passed_start transport now old =
     same (e ∷ es) = ap (λ xs. e ∷ xs) (same es)
 
 module _ (transport : TransportType) (now : ℕ) (last : Option ℕ) (old all : Transactions)
-    (ds : List Deadline) (ascends : IsAscending old) (index : IsIndexOf transport all ds)
+    (ds : List Deadline) (ascends : IsAscending old) (index : IsDeadlineIndexOf transport all ds)
     (passed : IsPassedTo transport now last old all) where
   pub passed_ascends : IsAscending all
   passed_ascends =
@@ -211,16 +223,6 @@ module _ (transport : TransportType) (now : ℕ) (last : Option ℕ) (old all : 
           ∙ ap (option_map (λ v. passed_at transport now last (k, v))) is in cc
       by (Some u) is = sym (left_new k u left is) ∙ there
 
-  next_parts : (k : ℕ) (t : Transaction) → is_next transport now last (k, t) ≡ true
-      → (is_passed last k ≡ false) × (is_due transport now t ≡ true)
-  next_parts k t h = by (is_passed last k) (is_due transport now t) refl refl h
-    where
-      by : (p d : Bool) → is_passed last k ≡ p → is_due transport now t ≡ d → (not p && d) ≡ true
-          → (is_passed last k ≡ false) × (is_due transport now t ≡ true)
-      by true d a b h = cc
-      by false true a b h = (a, b)
-      by false false a b h = cc
-
   -- nothing is due below the one that is found
   quiet_below : (n k : ℕ) (t : Transaction) → least_due now last ds ≡ Some n → at k old ≡ Some t
       → k < n → is_passed last k ≡ false → is_due transport now t ≡ false
@@ -240,7 +242,7 @@ module _ (transport : TransportType) (now : ℕ) (last : Option ℕ) (old all : 
         × (is_passed last n ≡ false) × (is_due transport now t ≡ true)
     its_there =
         let e = due_there transport now last all ds index n found in
-        let parts = next_parts n e.0 e.2 in
+        let parts = next_parts transport now last n e.0 e.2 in
         (e.0, e.1, left_old n e.0 parts.0 e.1, parts.0, parts.1)
 
     above_passed : (k : ℕ) → is_passed last k ≡ true → k < n
@@ -283,7 +285,7 @@ module _ (transport : TransportType) (now : ℕ) (last : Option ℕ) (old all : 
               | inr back ↦ absurd (apart (omega (arith, from, back)))
             ]
 
-    passes_next : (new : Transactions) → new ≡ changed (after_slot now) n all
+    passes_next : (new : Transactions) → new ≡ with_change_at (after_slot now) n all
         → new ≡ map {B = ℕ × Transaction} (λ e. (e.0, passed_at transport now (Some n) e)) old
     passes_next new is =
         let t = its_there.0 in
@@ -311,7 +313,7 @@ module _ (transport : TransportType) (now : ℕ) (last : Option ℕ) (old all : 
         by false is = absurd (clash due (quiet_below n k t found there less is))
 
     -- it is not sent, and the others are still to come
-    pub passed_more : (new : Transactions) → new ≡ changed (after_slot now) n all
+    pub passed_more : (new : Transactions) → new ≡ with_change_at (after_slot now) n all
         → (answer : Option ℕ) → MatchOption (at n all) (answer ≡ None) (λ t. answer ≡ length_sent t)
         → answer ≡ None
         → IsPassedTo transport now (Some n) old new
@@ -368,7 +370,7 @@ module _ (transport : TransportType) (now : ℕ) (last : Option ℕ) (old all : 
             unsent k u here less true is = silent_below k u here less is
             unsent k u here less false is = refl
 
-    pub sent_after : (new : Transactions) → new ≡ changed (after_slot now) n all
+    pub sent_after : (new : Transactions) → new ≡ with_change_at (after_slot now) n all
         → new ≡ after_slots transport now (Some n) old
     sent_after new is = passes_next new is
 

@@ -10,19 +10,26 @@ use Rattle.std.specs.List.{AllByRecursion}
 use Rattle.stun_base.specs.declared.wire.transport.TransportType.{TransportType}
 use Rattle.stun_agent.specs.declared.state.deadlines.Deadline.{Deadline}
 use Rattle.stun_agent.specs.Transactions.{Transaction, Transactions, IsAscending, IsNamed, at}
-use Rattle.stun_agent.specs.Transactions.{with, without, changed, slot_passed, after_slots}
+use Rattle.stun_agent.specs.Transactions.{with, without, with_change_at, slot_passed, after_slots}
 use Rattle.stun_agent.specs.declared.state.transaction.Change.{Change}
 use Rattle.stun_agent.specs.declared.state.transaction.Change.TheVariants.{Silence, Cancel}
 use Rattle.stun_agent.specs.declared.state.transaction.Change.TheVariants.{Configure}
 use Rattle.stun_agent.specs.code.Deadlines.{deadline_of, entries_at}
-use Rattle.stun_agent.specs.code.Deadlines.{AreIndexed, IsIndexOf, IsReplaced}
-use Rattle.stun_agent.specs.code.Transactions.{after_change, deadlines_around}
+use Rattle.stun_agent.specs.code.Deadlines.{AreIndexed, IsDeadlineIndexOf, IsReplaced}
+use Rattle.stun_agent.specs.code.Transactions.{Outstanding, changed_transaction, deadlines_around}
 use Rattle.stun_agent.proofs.Ascending.{IsAscending-insert, IsAscending-remove, IsAscending-map}
 use Rattle.stun_agent.proofs.DeadlineLemmas.{entry, index_with, index_without}
 use Rattle.stun_agent.proofs.NamedLemmas.{named-with, named-without}
-use Rattle.stun_agent.proofs.NamedLemmas.{named-changed, named-after_slots}
+use Rattle.stun_agent.proofs.NamedLemmas.{named-with_change_at, named-after_slots}
 use Rattle.stun_agent.proofs.OnceLemmas.{ascending_changed}
 use Rattle.stun_agent.proofs.RenewLemmas.{IsTold, index_changed}
+
+-- the index of what is inside is that of the value that contracts see
+pub indexed_as : {transport : TransportType} {all : Transactions} {ds : List Deadline}
+    {o : Outstanding} → record { transport = transport; requests = all } ≡ o
+    → AreIndexed transport all ds → AreIndexed o.transport o.requests ds
+indexed_as {ds = ds} is kept =
+    subst (λ (o : Outstanding). AreIndexed o.transport o.requests ds) is kept
 
 module _ (transport : TransportType) (all new_all : Transactions) (ds new : List Deadline)
     (before : AreIndexed transport all ds) where
@@ -48,17 +55,17 @@ module _ (transport : TransportType) (all new_all : Transactions) (ds new : List
   -- a change that leaves the bytes
   pub indexed_changed : (f : Transaction → Transaction) (id : ℕ) (from to : Deadline)
       → ((t : Transaction) → (f t).bytes ≡ t.bytes) → IsTold transport f id all from to
-      → new_all ≡ changed f id all
+      → new_all ≡ with_change_at f id all
       → IsReplaced from to ds new → AreIndexed transport new_all new
   indexed_changed f id from to same told is replaced =
       subst (λ m. AreIndexed transport m new) (sym is) (record {
         ascending = ascending_changed f id all before.ascending;
-        named = named-changed f id all same before.named;
+        named = named-with_change_at f id all same before.named;
         index = index_changed transport f id all ds from to before.index told new replaced;
       })
 
   pub indexed_slots : (now : ℕ) (sent : Option ℕ) → new_all ≡ after_slots transport now sent all
-      → IsIndexOf transport new_all new → AreIndexed transport new_all new
+      → IsDeadlineIndexOf transport new_all new → AreIndexed transport new_all new
   indexed_slots now sent is index = record {
     ascending =
         subst IsAscending (sym is)
@@ -70,12 +77,13 @@ module _ (transport : TransportType) (all new_all : Transactions) (ds new : List
 
 -- the deadline of a transaction is its entry
 pub told_entry : (transport : TransportType) (all : Transactions) (ds : List Deadline)
-    → IsIndexOf transport all ds → (id : ℕ) (t : Transaction) → at id all ≡ Some t
+    → IsDeadlineIndexOf transport all ds → (id : ℕ) (t : Transaction) → at id all ≡ Some t
     → entries_at id ds ≡ deadline_of transport (id, t) ∷ []
 told_entry transport all ds index id t is = index.entries id ∙ ap (entry transport id) is
 
 -- a change of its user leaves the bytes of a transaction
-pub change-bytes : (change : Change) (t : Transaction) → (after_change change t).bytes ≡ t.bytes
+pub change-bytes : (change : Change) (t : Transaction)
+    → (changed_transaction change t).bytes ≡ t.bytes
 change-bytes Silence t = refl
 change-bytes Cancel t = refl
 change-bytes (Configure settings) t = refl
@@ -84,7 +92,7 @@ change-bytes (Configure settings) t = refl
 pub absent_stays : (transport : TransportType) (f : Transaction → Transaction) (id : ℕ)
     (all : Transactions)
     → ◌≡◌ {A = Option (Deadline × Deadline)} None
-    (option_map (deadlines_around transport f id) (at id all)) → changed f id all ≡ all
+    (option_map (deadlines_around transport f id) (at id all)) → with_change_at f id all ≡ all
 absent_stays transport f id all h = by (at id all) h
   where
     by : (o : Option Transaction)

@@ -14,9 +14,9 @@ use Rattle.stun_agent.specs.declared.state.deadlines.Deadline.{Deadline}
 use Rattle.stun_agent.specs.declared.state.deadlines.DeadlineKind.{DeadlineKind}
 use Rattle.stun_agent.specs.declared.state.deadlines.DeadlineKind.TheVariants.{Cancelled, End, Slot}
 use Rattle.stun_agent.specs.Transactions.{sooner}
-use Rattle.stun_agent.specs.code.Deadlines.{is_end, has_ended, least_ended, is_slot}
+use Rattle.stun_agent.specs.code.Deadlines.{is_end_kind, has_ended, least_ended, is_slot}
 use Rattle.stun_agent.specs.code.Deadlines.{is_passed, is_slot_after, least_due, early}
-use Rattle.stun_agent.specs.code.Deadlines.{entries_at, is_cancellation, AreByKind}
+use Rattle.stun_agent.specs.code.Deadlines.{entries_at, is_cancelled_kind, AreByKind}
 use Rattle.stun_agent.specs.code.Deadlines.{lesser, first_awaited, earliest}
 use Rattle.stun_agent.specs.code.DeadlineTree.{least_come}
 
@@ -212,15 +212,15 @@ module _ (slots ends cancelled : List Deadline) (kinds : AreByKind slots ends ca
 
   pub awaited_parts : first_awaited all ≡ lesser (earliest slots) (earliest ends)
   awaited_parts =
-      let waits : Deadline → Bool = λ d. not (is_cancellation d.kind) in
+      let waits : Deadline → Bool = λ d. not (is_cancelled_kind d.kind) in
       let one =
-      filter-all (IsOf Slot) waits (λ d is. ap (λ k. not (is_cancellation k)) is) slots
+      filter-all (IsOf Slot) waits (λ d is. ap (λ k. not (is_cancelled_kind k)) is) slots
       kinds.all_slots in
       let two =
-      filter-all (IsOf End) waits (λ d is. ap (λ k. not (is_cancellation k)) is) ends
+      filter-all (IsOf End) waits (λ d is. ap (λ k. not (is_cancelled_kind k)) is) ends
       kinds.all_ends in
       let three =
-      filter-none (IsOf Cancelled) waits (λ d is. ap (λ k. not (is_cancellation k)) is) cancelled
+      filter-none (IsOf Cancelled) waits (λ d is. ap (λ k. not (is_cancelled_kind k)) is) cancelled
       kinds.all_cancelled in
       ap (λ ds. fold sooner None (map (λ (d : Deadline). d.moment) ds))
       (filter_parts waits ∙ ap (λ ds. ds ++ (filter waits ends ++ filter waits cancelled)) one
@@ -260,15 +260,17 @@ module _ (slots ends cancelled : List Deadline) (kinds : AreByKind slots ends ca
   ended_parts now =
       let come : Deadline → Bool = λ d. nat_le d.moment now && not (is_passed None d.id) in
       let one =
-      filter-none (IsOf Slot) (has_ended now) (λ d is. ap (λ k. is_end k && nat_le d.moment now) is)
+      filter-none (IsOf Slot) (has_ended now)
+      (λ d is. ap (λ k. is_end_kind k && nat_le d.moment now) is)
       slots kinds.all_slots in
       let two =
       filter-same (IsOf End) (has_ended now) come
-      (λ d is. ap (λ k. is_end k && nat_le d.moment now) is ∙ turned (nat_le d.moment now)) ends
+      (λ d is. ap (λ k. is_end_kind k && nat_le d.moment now) is ∙ turned (nat_le d.moment now))
+      ends
       kinds.all_ends in
       let three =
       filter-same (IsOf Cancelled) (has_ended now) come
-      (λ d is. ap (λ k. is_end k && nat_le d.moment now) is ∙ turned (nat_le d.moment now))
+      (λ d is. ap (λ k. is_end_kind k && nat_le d.moment now) is ∙ turned (nat_le d.moment now))
       cancelled kinds.all_cancelled in
       ap (λ ds. fold sooner None (map (λ (d : Deadline). d.id) ds))
       (filter_parts (has_ended now)

@@ -9,11 +9,12 @@ use Rattle.stun_agent.specs.declared.state.deadlines.Deadline.{Deadline}
 use Rattle.stun_agent.specs.Transactions.{Transaction, Transactions, IsAscending, at}
 use Rattle.stun_agent.specs.Transactions.{is_due, repeats, next_sent, after_slots}
 use Rattle.stun_agent.specs.code.Deadlines.{is_passed, is_slot_after, least_due}
-use Rattle.stun_agent.specs.code.Deadlines.{has_come, earliest, IsIndexOf}
+use Rattle.stun_agent.specs.code.Deadlines.{has_come, earliest, IsDeadlineIndexOf}
 use Rattle.stun_agent.proofs.DeadlineLemmas.{least-one, earliest-none, earliest-le}
 use Rattle.stun_agent.proofs.PermutedLemmas.{IsIn}
-use Rattle.stun_agent.proofs.DueLemmas.{clash, find-is, find-not, is_next, due_there, due_least}
-use Rattle.stun_agent.proofs.DueLemmas.{due_none, passed_start, sends_none, none_after}
+use Rattle.stun_agent.proofs.DueLemmas.{clash, find-is, find-not, is_next, next_parts}
+use Rattle.stun_agent.proofs.DueLemmas.{due_there, due_least, due_none}
+use Rattle.stun_agent.proofs.DueLemmas.{passed_start, sends_none, none_after}
 
 -- of the due ones up to `last` none is sent
 abbrev pub AreSilentTo : TransportType → ℕ → Option ℕ → Transactions → Type 0
@@ -25,24 +26,14 @@ pub silent_start : (transport : TransportType) (now : ℕ) (all : Transactions)
 silent_start transport now all k t there h due = absurd (let no : false ≡ true = h in cc)
 
 module _ (transport : TransportType) (now : ℕ) (last : Option ℕ) (all : Transactions)
-    (ds : List Deadline) (ascends : IsAscending all) (index : IsIndexOf transport all ds)
+    (ds : List Deadline) (ascends : IsAscending all) (index : IsDeadlineIndexOf transport all ds)
     (silent : AreSilentTo transport now last all) where
-  parts : (k : ℕ) (t : Transaction) → is_next transport now last (k, t) ≡ true
-      → (is_passed last k ≡ false) × (is_due transport now t ≡ true)
-  parts k t h = by (is_passed last k) (is_due transport now t) refl refl h
-    where
-      by : (p d : Bool) → is_passed last k ≡ p → is_due transport now t ≡ d → (not p && d) ≡ true
-          → (is_passed last k ≡ false) × (is_due transport now t ≡ true)
-      by true d a b h = cc
-      by false true a b h = (a, b)
-      by false false a b h = cc
-
   -- the one that is found is due, and of another id than all before
   pub found_there : (n : ℕ) → least_due now last ds ≡ Some n → (t : Transaction)
       × (at n all ≡ Some t) × (is_passed last n ≡ false) × (is_due transport now t ≡ true)
   found_there n found =
       let e = due_there transport now last all ds index n found in
-      let both = parts n e.0 e.2 in
+      let both = next_parts transport now last n e.0 e.2 in
       (e.0, e.1, both.0, both.1)
 
   silent_below : (n k : ℕ) (t : Transaction) → least_due now last ds ≡ Some n → at k all ≡ Some t
@@ -128,7 +119,7 @@ none_come now ds late = by (least_due now None ds) refl
         refl late)
 
 module _ (transport : TransportType) (now : ℕ) (all : Transactions) (ds : List Deadline)
-    (ascends : IsAscending all) (index : IsIndexOf transport all ds)
+    (ascends : IsAscending all) (index : IsDeadlineIndexOf transport all ds)
     (late : has_come now ds ≡ false) where
   pub none_next : next_sent transport now all ≡ None
   none_next =

@@ -1,4 +1,3 @@
-pub mod AddressLemmas
 pub mod AnswerLemmas
 pub mod Ascending
 pub mod AwaitedLemmas

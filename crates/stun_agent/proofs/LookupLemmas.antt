@@ -11,7 +11,7 @@ use Rattle.std.specs.declared.cmp.Ordering.TheVariants.{Less, Equal, Greater}
 use Rattle.std.specs.BTreeMap.{is_at}
 use Rattle.std.proofs.lemmas.Map.Keys.{sorted_head, sorted_tail}
 use Rattle.stun_agent.specs.Transactions.{Transaction, Transactions, IsAscending}
-use Rattle.stun_agent.specs.Transactions.{at, with, without, changed}
+use Rattle.stun_agent.specs.Transactions.{at, with, without, with_change_at}
 use Rattle.stun_agent.proofs.Ascending.{lookup-set_other}
 use Rattle.stun_agent.proofs.EntryLemmas.{same_key, own_key}
 
@@ -65,9 +65,9 @@ at-set id w (e ∷ es) t h = by (is_at (nat_cmp id) e.0) refl h (at-set id w es 
     by false is h rest =
         ap (λ b. cond b (Some e.1) (at id (set_value (is_at (nat_cmp id)) es w))) is ∙ rest h
 
-pub at-changed : (f : Transaction → Transaction) (id : ℕ) (all : Transactions)
-    → at id (changed f id all) ≡ option_map f (at id all)
-at-changed f id all = by (at id all) refl
+pub at-with_change_at : (f : Transaction → Transaction) (id : ℕ) (all : Transactions)
+    → at id (with_change_at f id all) ≡ option_map f (at id all)
+at-with_change_at f id all = by (at id all) refl
   where
     by : (found : Option Transaction) → at id all ≡ found
         → at id (option_map_or (λ t. set_value (is_at (nat_cmp id)) all (f t)) found all)
@@ -76,7 +76,7 @@ at-changed f id all = by (at id all) refl
     by (Some t) is = at-set id (f t) all t is
 
 pub at-changed_other : (f : Transaction → Transaction) (id other : ℕ) (all : Transactions)
-    → is_at (nat_cmp id) other ≡ false → at id (changed f other all) ≡ at id all
+    → is_at (nat_cmp id) other ≡ false → at id (with_change_at f other all) ≡ at id all
 at-changed_other f id other all apart = by (at other all)
   where
     by : (found : Option Transaction)
@@ -90,16 +90,16 @@ pub is_some-option_map : {X Y : Type 0} (f : X → Y) (o : Option X)
 is_some-option_map f None = refl
 is_some-option_map f (Some x) = refl
 
-pub is_some-changed : (f : Transaction → Transaction) (id other : ℕ) (all : Transactions)
-    → is_some (at id (changed f other all)) ≡ is_some (at id all)
-is_some-changed f id other all = by (is_at (nat_cmp id) other) refl
+pub is_some-with_change_at : (f : Transaction → Transaction) (id other : ℕ) (all : Transactions)
+    → is_some (at id (with_change_at f other all)) ≡ is_some (at id all)
+is_some-with_change_at f id other all = by (is_at (nat_cmp id) other) refl
   where
     by : (b : Bool) → is_at (nat_cmp id) other ≡ b
-        → is_some (at id (changed f other all)) ≡ is_some (at id all)
+        → is_some (at id (with_change_at f other all)) ≡ is_some (at id all)
     by true is =
         let key : other ≡ id = same_key id other is in
-        subst (λ j. is_some (at id (changed f j all)) ≡ is_some (at id all)) (sym key)
-        (ap is_some (at-changed f id all) ∙ is_some-option_map f (at id all))
+        subst (λ j. is_some (at id (with_change_at f j all)) ≡ is_some (at id all)) (sym key)
+        (ap is_some (at-with_change_at f id all) ∙ is_some-option_map f (at id all))
     by false is = ap is_some (at-changed_other f id other all is)
 
 -- ---- how many there are
@@ -139,9 +139,9 @@ length-set test (e ∷ es) w = by (test e.0) (length-set test es w)
     by true rest = omega arith
     by false rest = omega (arith, rest)
 
-pub length-changed : (f : Transaction → Transaction) (id : ℕ) (all : Transactions)
-    → length (changed f id all) ≡ length all
-length-changed f id all = by (at id all)
+pub length-with_change_at : (f : Transaction → Transaction) (id : ℕ) (all : Transactions)
+    → length (with_change_at f id all) ≡ length all
+length-with_change_at f id all = by (at id all)
   where
     by : (found : Option Transaction)
         → length (option_map_or (λ t. set_value (is_at (nat_cmp id)) all (f t)) found all)

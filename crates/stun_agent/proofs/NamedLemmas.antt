@@ -11,7 +11,7 @@ use Rattle.std.specs.BTreeMap.{is_at}
 use Rattle.std.specs.Cmp.{ranked}
 use Rattle.stun_base.specs.declared.wire.transport.TransportType.{TransportType}
 use Rattle.stun_agent.specs.Transactions.{Transaction, Transactions, IsRequestOf, IsNamed, at}
-use Rattle.stun_agent.specs.Transactions.{with, without, changed, after_slot, after_slots}
+use Rattle.stun_agent.specs.Transactions.{with, without, with_change_at, after_slot, after_slots}
 
 abbrev AreNamed : Transactions → Type 0
 AreNamed all = AllByRecursion IsNamed all
@@ -52,9 +52,10 @@ named-set id (e ∷ es) t w same found h =
     by false found rest = (h.0, rest found)
 
 -- a change that leaves the bytes
-pub named-changed : (f : Transaction → Transaction) (id : ℕ) (all : Transactions)
-    → ((t : Transaction) → (f t).bytes ≡ t.bytes) → AreNamed all → AreNamed (changed f id all)
-named-changed f id all same h = by (at id all) refl
+pub named-with_change_at : (f : Transaction → Transaction) (id : ℕ) (all : Transactions)
+    → ((t : Transaction) → (f t).bytes ≡ t.bytes) → AreNamed all
+    → AreNamed (with_change_at f id all)
+named-with_change_at f id all same h = by (at id all) refl
   where
     by : (found : Option Transaction) → at id all ≡ found
         → AreNamed (option_map_or (λ t. set_value (is_at (nat_cmp id)) all (f t)) found all)

@@ -17,18 +17,19 @@ use Rattle.stun_agent.specs.declared.error.StunError.{StunError}
 use Rattle.stun_agent.specs.declared.error.StunError.TheVariants.{AlreadyInProgress}
 use Rattle.stun_agent.specs.declared.error.StunError.TheVariants.{ProtocolViolation, ParseError}
 use Rattle.stun_base.specs.MessageType.{class_in, is_request}
-use Rattle.stun_agent.specs.Agent.{Agent, tallied, with_validated, with_transactions}
+use Rattle.stun_agent.specs.Agent.{Agent, with_tally, with_validated, with_transactions}
 use Rattle.stun_agent.specs.Agent.{tally_of_end, tally_of_sent, is_elsewhere}
 use Rattle.stun_agent.specs.Agent.{sending_refusal, after_send, request_refusal}
-use Rattle.stun_agent.specs.Agent.{request_of, after_send_request, answered, after_class}
+use Rattle.stun_agent.specs.Agent.{request_of, after_send_request, answered_request, after_class}
 use Rattle.stun_agent.specs.Agent.{after_response, ended_by_poll, sent_by_poll, after_poll}
 use Rattle.stun_agent.specs.Statistics.{response_received}
 use Rattle.stun_agent.specs.Calls.{AgentCall, send, send_request, receive, validate, forget}
 use Rattle.stun_agent.specs.Calls.{poll, poll_transmit, cancel_retransmissions, cancel}
 use Rattle.stun_agent.specs.Calls.{configure, after_agent_call, after_agent_calls, is_id}
-use Rattle.stun_agent.specs.Calls.{is_outstanding, begins, ends, takes_request, once, count}
+use Rattle.stun_agent.specs.Calls.{is_outstanding, begins, ends, takes_request, count_if, count}
 use Rattle.stun_agent.specs.Transactions.{Transaction, Transactions, IsAscending, at, with}
-use Rattle.stun_agent.specs.Transactions.{without, changed, silenced, cancelled, configured}
+use Rattle.stun_agent.specs.Transactions.{without, with_change_at, without_retransmissions}
+use Rattle.stun_agent.specs.Transactions.{with_cancellation, with_settings}
 use Rattle.stun_agent.specs.Transactions.{is_over, slot_passed, after_slots, round_trip}
 use Rattle.stun_agent.proofs.Ascending.{IsAscending-map, IsAscending-set_value, IsAscending-remove}
 use Rattle.stun_agent.proofs.Ascending.{IsAscending-insert, lookup-remove_other}
@@ -36,7 +37,7 @@ use Rattle.stun_agent.proofs.Ascending.{lookup-insert_other, lookup-insert_same}
 use Rattle.stun_agent.proofs.AnswerLemmas.{answered_there}
 use Rattle.stun_agent.proofs.EntryLemmas.{same_key, lookup_found}
 use Rattle.stun_agent.proofs.LookupLemmas.{lookup-map, at-without}
-use Rattle.stun_agent.proofs.LookupLemmas.{is_some-option_map, is_some-changed}
+use Rattle.stun_agent.proofs.LookupLemmas.{is_some-option_map, is_some-with_change_at}
 
 pub ascending_none : IsAscending []
 unfolding IsStrictlySortedBy
@@ -44,7 +45,7 @@ ascending_none = tt
 
 -- ---- the ids ascend
 pub ascending_changed : (f : Transaction → Transaction) (id : ℕ) (all : Transactions)
-    → IsAscending all → IsAscending (changed f id all)
+    → IsAscending all → IsAscending (with_change_at f id all)
 ascending_changed f id all s = by (at id all)
   where
     by : (found : Option Transaction)
@@ -54,11 +55,11 @@ ascending_changed f id all s = by (at id all)
 
 ascending_response : (moment : Option ℕ) (bytes : List ℕ) (from : SocketAddr) (a : Agent)
     → IsAscending a.transactions → IsAscending (after_response moment bytes from a).transactions
-ascending_response moment bytes from a s = by (answered bytes from a)
+ascending_response moment bytes from a s = by (answered_request bytes from a)
   where
     by : (found : Option Transaction)
         → IsAscending (option_map_or
-        (λ t. tallied (response_received (length bytes) (round_trip moment t))
+        (λ t. with_tally (response_received (length bytes) (round_trip moment t))
         (with_validated from
         (with_transactions a (without (transaction_id_field bytes) a.transactions))))
         found a).transactions
@@ -80,7 +81,8 @@ ascending_poll now a s = by (ended_by_poll now a)
     by : (found : Option (ℕ × Transaction))
         → IsAscending
         (option_map_or
-        (λ e. tallied (tally_of_end e.1) (with_transactions a (without e.0 a.transactions))) found
+        (λ e. with_tally (tally_of_end e.1) (with_transactions a (without e.0 a.transactions)))
+        found
         a).transactions
     by None = s
     by (Some e) = IsAscending-remove (is_at (nat_cmp e.0)) a.transactions s
@@ -113,10 +115,11 @@ ascending_call (validate address) a s = s
 ascending_call (forget address) a s = s
 ascending_call (poll now) a s = ascending_poll now a s
 ascending_call (poll_transmit now) a s = ascending_slots now a (sent_by_poll now a) s
-ascending_call (cancel_retransmissions id) a s = ascending_changed silenced id a.transactions s
-ascending_call (cancel id) a s = ascending_changed cancelled id a.transactions s
+ascending_call (cancel_retransmissions id) a s =
+    ascending_changed without_retransmissions id a.transactions s
+ascending_call (cancel id) a s = ascending_changed with_cancellation id a.transactions s
 ascending_call (configure id settings) a s =
-    ascending_changed (configured settings) id a.transactions s
+    ascending_changed (with_settings settings) id a.transactions s
 
 pub ascending_calls : (calls : List AgentCall) (a : Agent) → IsAscending a.transactions
     → IsAscending (after_agent_calls calls a).transactions
@@ -166,7 +169,8 @@ not_refused_is_new a bytes to h = by_header (header_refusal bytes) h
 -- what a call balances
 abbrev IsBalanced : ℕ → Bool → Bool → Transactions → Transactions → Type 0
 IsBalanced id begun ended before after =
-    once begun + once (is_some (at id before)) ≡ once ended + once (is_some (at id after))
+    count_if begun + count_if (is_some (at id before))
+    ≡ count_if ended + count_if (is_some (at id after))
 
 balanced_request : (id : ℕ) (a : Agent) (bytes : List ℕ) (to : SocketAddr) (now : ℕ)
     → IsBalanced id (is_none (request_refusal a bytes to) && is_id id (transaction_id_field bytes))
@@ -188,10 +192,10 @@ balanced_request id a bytes to now = by (request_refusal a bytes to) refl
         subst (λ k. at id (with k (request_of a bytes to now) a.transactions)
         ≡ Some (request_of a bytes to now)) (sym key)
         (lookup-insert_same id (request_of a bytes to now) a.transactions) in
-        ap (λ (o : Option Transaction). 1 + once (is_some o)) none
-        ∙ sym (ap (λ (o : Option Transaction). 0 + once (is_some o)) here)
+        ap (λ (o : Option Transaction). 1 + count_if (is_some o)) none
+        ∙ sym (ap (λ (o : Option Transaction). 0 + count_if (is_some o)) here)
     fresh is false apart =
-        sym (ap (λ (o : Option Transaction). 0 + once (is_some o))
+        sym (ap (λ (o : Option Transaction). 0 + count_if (is_some o))
         (lookup-insert_other id (transaction_id_field bytes) (request_of a bytes to now)
         a.transactions apart))
 
@@ -211,51 +215,54 @@ balanced_without id other all t s there = by (is_id id other) refl
         let here : at id all ≡ Some t = subst (λ k. at k all ≡ Some t) key there in
         let gone : at id (without other all) ≡ None =
         subst (λ k. at id (without k all) ≡ None) (sym key) (at-without id all s) in
-        ap (λ (o : Option Transaction). 0 + once (is_some o)) here
-        ∙ sym (ap (λ (o : Option Transaction). 1 + once (is_some o)) gone)
+        ap (λ (o : Option Transaction). 0 + count_if (is_some o)) here
+        ∙ sym (ap (λ (o : Option Transaction). 1 + count_if (is_some o)) gone)
     by false apart =
-        sym (ap (λ (o : Option Transaction). 0 + once (is_some o))
+        sym (ap (λ (o : Option Transaction). 0 + count_if (is_some o))
         (lookup-remove_other id other all apart))
 
 balanced_response : (id : ℕ) (moment : Option ℕ) (bytes : List ℕ) (from : SocketAddr) (a : Agent)
     → IsAscending a.transactions
-    → IsBalanced id false (is_id id (transaction_id_field bytes) && is_some (answered bytes from a))
+    → IsBalanced id false
+    (is_id id (transaction_id_field bytes) && is_some (answered_request bytes from a))
     a.transactions (after_response moment bytes from a).transactions
-balanced_response id moment bytes from a s = by (answered bytes from a) refl
+balanced_response id moment bytes from a s = by (answered_request bytes from a) refl
   where
-    known : (t : Transaction) → answered bytes from a ≡ Some t
-        → (is_id id (transaction_id_field bytes) && is_some (answered bytes from a))
+    known : (t : Transaction) → answered_request bytes from a ≡ Some t
+        → (is_id id (transaction_id_field bytes) && is_some (answered_request bytes from a))
         ≡ is_id id (transaction_id_field bytes)
     known t there = test (is_id id (transaction_id_field bytes)) refl
       where
         test : (b : Bool) → is_id id (transaction_id_field bytes) ≡ b
-            → (b && is_some (answered bytes from a)) ≡ b
+            → (b && is_some (answered_request bytes from a)) ≡ b
         test true same = ap is_some there
         test false apart = refl
 
-    unknown : answered bytes from a ≡ None
-        → (is_id id (transaction_id_field bytes) && is_some (answered bytes from a)) ≡ false
+    unknown : answered_request bytes from a ≡ None
+        → (is_id id (transaction_id_field bytes) && is_some (answered_request bytes from a)) ≡ false
     unknown none = test (is_id id (transaction_id_field bytes)) refl
       where
         test : (b : Bool) → is_id id (transaction_id_field bytes) ≡ b
-            → (b && is_some (answered bytes from a)) ≡ false
+            → (b && is_some (answered_request bytes from a)) ≡ false
         test true same = ap is_some none
         test false apart = refl
 
-    by : (found : Option Transaction) → answered bytes from a ≡ found
+    by : (found : Option Transaction) → answered_request bytes from a ≡ found
         → IsBalanced id false
-        (is_id id (transaction_id_field bytes) && is_some (answered bytes from a)) a.transactions
+        (is_id id (transaction_id_field bytes) && is_some (answered_request bytes from a))
+        a.transactions
         (option_map_or
-        (λ t. tallied (response_received (length bytes) (round_trip moment t))
+        (λ t. with_tally (response_received (length bytes) (round_trip moment t))
         (with_validated from
         (with_transactions a (without (transaction_id_field bytes) a.transactions))))
         found a).transactions
-    by None is = sym (ap (λ b. once b + once (is_some (at id a.transactions))) (unknown is))
+    by None is = sym (ap (λ b. count_if b + count_if (is_some (at id a.transactions))) (unknown is))
     by (Some t) is =
         balanced_without id (transaction_id_field bytes) a.transactions t s
         (answered_there bytes from a t is)
         ∙ sym (ap
-        (λ b. once b + once (is_some (at id (without (transaction_id_field bytes) a.transactions))))
+        (λ b. count_if b
+        + count_if (is_some (at id (without (transaction_id_field bytes) a.transactions))))
         (known t is))
 
 balanced_class : (class : MessageClass) (id : ℕ) (moment : Option ℕ) (bytes : List ℕ)
@@ -275,7 +282,8 @@ balanced_poll id now a s = by (ended_by_poll now a) refl
     by : (found : Option (ℕ × Transaction)) → ended_by_poll now a ≡ found
         → IsBalanced id false (option_map_or (λ e. is_id id e.0) found false) a.transactions
         (option_map_or
-        (λ e. tallied (tally_of_end e.1) (with_transactions a (without e.0 a.transactions))) found
+        (λ e. with_tally (tally_of_end e.1) (with_transactions a (without e.0 a.transactions)))
+        found
         a).transactions
     by None is = refl
     by (Some e) is =
@@ -289,17 +297,18 @@ balanced_slots : (id now : ℕ) (a : Agent) (found : Option (ℕ × Transaction)
     (with_transactions a
     (after_slots a.transport now (option_map (λ e. e.0) found) a.transactions))).transactions
 balanced_slots id now a None =
-    sym (ap (λ b. 0 + once b)
+    sym (ap (λ b. 0 + count_if b)
     (ap is_some (lookup-map (slot_passed a.transport now None) id a.transactions)
     ∙ is_some-option_map _ (at id a.transactions)))
 balanced_slots id now a (Some e) =
-    sym (ap (λ b. 0 + once b)
+    sym (ap (λ b. 0 + count_if b)
     (ap is_some (lookup-map (slot_passed a.transport now (Some e.0)) id a.transactions)
     ∙ is_some-option_map _ (at id a.transactions)))
 
 balanced_changed : (f : Transaction → Transaction) (id other : ℕ) (all : Transactions)
-    → IsBalanced id false false all (changed f other all)
-balanced_changed f id other all = sym (ap (λ b. 0 + once b) (is_some-changed f id other all))
+    → IsBalanced id false false all (with_change_at f other all)
+balanced_changed f id other all =
+    sym (ap (λ b. 0 + count_if b) (is_some-with_change_at f id other all))
 
 balanced_send : (b : Bool) (id : ℕ) (bytes : List ℕ) (a : Agent)
     → IsBalanced id false false a.transactions (cond b a (after_send bytes a)).transactions
@@ -319,17 +328,17 @@ balanced_call id (forget address) a s = refl
 balanced_call id (poll now) a s = balanced_poll id now a s
 balanced_call id (poll_transmit now) a s = balanced_slots id now a (sent_by_poll now a)
 balanced_call id (cancel_retransmissions other) a s =
-    balanced_changed silenced id other a.transactions
-balanced_call id (cancel other) a s = balanced_changed cancelled id other a.transactions
+    balanced_changed without_retransmissions id other a.transactions
+balanced_call id (cancel other) a s = balanced_changed with_cancellation id other a.transactions
 balanced_call id (configure other settings) a s =
-    balanced_changed (configured settings) id other a.transactions
+    balanced_changed (with_settings settings) id other a.transactions
 
 summed : (b o e p x y z : ℕ) → b + o ≡ e + p → x + p ≡ y + z → (b + x) + o ≡ (e + y) + z
 summed b o e p x y z h k = omega (arith, h, k)
 
 pub balanced_calls : (id : ℕ) (calls : List AgentCall) (a : Agent) → IsAscending a.transactions
-    → count begins id calls a + once (is_outstanding id a)
-    ≡ count ends id calls a + once (is_outstanding id (after_agent_calls calls a))
+    → count begins id calls a + count_if (is_outstanding id a)
+    ≡ count ends id calls a + count_if (is_outstanding id (after_agent_calls calls a))
 balanced_calls id [] a s = refl
 balanced_calls id (call ∷ calls) a s =
     summed _ _ _ _ _ _ _ (balanced_call id call a s)
@@ -340,7 +349,7 @@ from_nothing x y o h k = omega (arith, h, k)
 
 pub ends_once : (id : ℕ) (calls : List AgentCall) (start : Agent) → start.transactions ≡ []
     → count begins id calls start
-    ≡ count ends id calls start + once (is_outstanding id (after_agent_calls calls start))
+    ≡ count ends id calls start + count_if (is_outstanding id (after_agent_calls calls start))
 ends_once id calls start none =
     from_nothing _ _ _ (balanced_calls id calls start (subst IsAscending (sym none) ascending_none))
-    (ap (λ (all : Transactions). once (is_some (at id all))) none)
+    (ap (λ (all : Transactions). count_if (is_some (at id all))) none)

@@ -12,8 +12,9 @@ use Rattle.std.specs.declared.net.socket_addr.SocketAddr.{SocketAddr}
 use Rattle.std.specs.declared.net.socket_addr.SocketAddr.TheVariants.{V4, V6}
 use Rattle.std.specs.contracts.net.socket_addr.SocketAddrOrd.TheImpl.{cmp-value}
 use Rattle.stun_base.specs.Address.{address_cmp, same_address}
+use Rattle.stun_agent.specs.Agent.{Agent}
 use Rattle.stun_agent.specs.Peers.{Peers, is_peer, with_peer, without_peer}
-use Rattle.stun_agent.proofs.AddressLemmas.{address_total, address_exact}
+use Rattle.stun_base.proofs.Addresses.{address_total, address_exact}
 
 -- what `insert` answers where the address was there
 pub same_peers : (was added : Bool) (peers new : Peers) → added ≡ not was
@@ -21,6 +22,13 @@ pub same_peers : (was added : Bool) (peers new : Peers) → added ≡ not was
 same_peers true true peers new is stays there = cc
 same_peers true false peers new is stays there = stays
 same_peers false added peers new is stays there = cc
+
+-- an agent of which the peers alone have become others
+pub changed_peers : {inside now : Agent} (f : Peers → Peers) (new : Peers) → inside ≡ now
+    → new ≡ f inside.peers → record inside { peers = new } ≡ record now { peers = f now.peers }
+changed_peers {inside = inside} f new is same =
+    ap (λ peers. record inside { peers = peers }) same
+    ∙ ap (λ (a : Agent). record a { peers = f a.peers }) is
 
 -- ---- a set
 twice : (s r : Bool) → (s || r) ≡ (s || (s || r))

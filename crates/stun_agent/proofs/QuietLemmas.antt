@@ -10,12 +10,12 @@ use Rattle.stun_base.specs.declared.wire.transport.TransportType.{TransportType}
 use Rattle.stun_agent.specs.declared.agent.StunAgentPollRet.TheVariants.{WaitUntil}
 use Rattle.stun_agent.specs.declared.agent.StunAgentPollRet.TheVariants.{TransactionTimedOut}
 use Rattle.stun_agent.specs.declared.agent.StunAgentPollRet.TheVariants.{TransactionCancelled}
-use Rattle.stun_agent.specs.Agent.{Agent, end_of, tallied, tally_of_end, with_transactions}
+use Rattle.stun_agent.specs.Agent.{Agent, end_of, with_tally, tally_of_end, with_transactions}
 use Rattle.stun_agent.specs.Agent.{poll_answer, after_poll, ended_by_poll, sent_by_poll}
 use Rattle.stun_agent.specs.Laws.{IsWait}
 use Rattle.stun_agent.specs.Timing.{timeout, slots, final_wait}
 use Rattle.stun_agent.specs.Transactions.{Transaction, Transactions, repeats}
-use Rattle.stun_agent.specs.Transactions.{is_cancelled, has_slots, awaited, is_due}
+use Rattle.stun_agent.specs.Transactions.{is_cancelled, has_slots, awaited_moment, is_due}
 use Rattle.stun_agent.specs.Transactions.{is_over, wake_up, without, an_hour}
 use Rattle.stun_agent.proofs.LookupLemmas.{found_passes}
 
@@ -39,7 +39,7 @@ pub due_slots : (transport : TransportType) (now : ℕ) (t : Transaction)
 due_slots transport now t h = by (is_cancelled t.sending) (has_slots transport t) refl h
   where
     by : (c s : Bool) → has_slots transport t ≡ s
-        → (not c && (s && nat_le (awaited transport t) now)) ≡ true
+        → (not c && (s && nat_le (awaited_moment transport t) now)) ≡ true
         → t.slot < slots transport t.settings
     by true s is h = cc
     by false false is h = cc
@@ -83,17 +83,18 @@ record AllQuiet (transport : TransportType) (m : ℕ) (es : Transactions) : Type
   ends : find (λ e. is_over transport m e.1) es ≡ None
 
 quiet : (transport : TransportType) (now m : ℕ) (es : Transactions) (c : ℕ)
-    → m < fold min c (map (λ e. awaited transport e.1) es)
+    → m < fold min c (map (λ e. awaited_moment transport e.1) es)
     → find (λ e. is_over transport now e.1) es ≡ None → AllQuiet transport m es
 quiet transport now m [] c below none = record { sends = refl; ends = refl }
 quiet transport now m (e ∷ es) c below none =
     by (is_over transport now e.1) refl none
-    (quiet transport now m es (min c (awaited transport e.1)) below)
+    (quiet transport now m es (min c (awaited_moment transport e.1)) below)
   where
-    late : m < awaited transport e.1
+    late : m < awaited_moment transport e.1
     late = omega (
       arith,
-      fold-min-le (map (λ x. awaited transport x.1) es) (min c (awaited transport e.1)),
+      fold-min-le (map (λ x. awaited_moment transport x.1) es)
+          (min c (awaited_moment transport e.1)),
     )
 
     by : (b : Bool) → is_over transport now e.1 ≡ b
@@ -102,7 +103,7 @@ quiet transport now m (e ∷ es) c below none =
         → AllQuiet transport m (e ∷ es)
     by true is none rest = cc
     by false is none rest =
-        let unreached = not_reached (awaited transport e.1) m late in
+        let unreached = not_reached (awaited_moment transport e.1) m late in
         let tail = rest none in
         let undue : (is_due transport m e.1 && repeats e.1.sending) ≡ false =
         not_due (is_cancelled e.1.sending) (has_slots transport e.1) _ _ unreached in
@@ -132,13 +133,14 @@ waits now until agent h = by (ended_by_poll now agent) refl h
         → option_map_or end_of found (WaitUntil (wake_up agent.transport now agent.transactions))
         ≡ WaitUntil until
         → (option_map_or
-        (λ e. tallied (tally_of_end e.1) (with_transactions agent (without e.0 agent.transactions)))
+        (λ e. with_tally (tally_of_end e.1)
+        (with_transactions agent (without e.0 agent.transactions)))
         found agent ≡ agent) × IsWait now until agent
     by (Some e) is h = absurd (no_wait e until h)
     by None is h =
         let same : wake_up agent.transport now agent.transactions ≡ until = cc in
         let hour =
-        fold-min-le (map (λ x. awaited agent.transport x.1) agent.transactions)
+        fold-min-le (map (λ x. awaited_moment agent.transport x.1) agent.transactions)
         (moment_after now an_hour) in (
           refl,
           record {
@@ -147,7 +149,7 @@ waits now until agent h = by (ended_by_poll now agent) refl h
             quiet = λ m from below.
                 let least : m
                 < fold min (moment_after now an_hour)
-                (map (λ x. awaited agent.transport x.1) agent.transactions) = omega arith in
+                (map (λ x. awaited_moment agent.transport x.1) agent.transactions) = omega arith in
                 let none =
                 quiet agent.transport now m agent.transactions (moment_after now an_hour)
                 least is in

@@ -9,12 +9,12 @@ use Rattle.std.proofs.lemmas.Bool.{ne_eqb}
 use Rattle.std.proofs.lemmas.Option.{same_Some}
 use Rattle.stun_base.specs.declared.wire.transport.TransportType.{TransportType}
 use Rattle.stun_agent.specs.declared.state.deadlines.Deadline.{Deadline}
-use Rattle.stun_agent.specs.Transactions.{Transaction, Transactions, at, changed}
-use Rattle.stun_agent.specs.code.Deadlines.{deadline_of, entries_at, IsIndexOf, IsReplaced}
+use Rattle.stun_agent.specs.Transactions.{Transaction, Transactions, at, with_change_at}
+use Rattle.stun_agent.specs.code.Deadlines.{deadline_of, entries_at, IsDeadlineIndexOf, IsReplaced}
 use Rattle.stun_agent.specs.code.Transactions.{deadlines_around}
 use Rattle.stun_agent.proofs.DeadlineLemmas.{entry, other_key, index_permuted, rest_entries}
 use Rattle.stun_agent.proofs.EntryLemmas.{same_key}
-use Rattle.stun_agent.proofs.LookupLemmas.{at-changed, at-changed_other}
+use Rattle.stun_agent.proofs.LookupLemmas.{at-with_change_at, at-changed_other}
 use Rattle.stun_agent.proofs.PermutedLemmas.{own_head, other_head}
 
 -- the transaction of an id, and what it awaits before a change and after it
@@ -46,7 +46,7 @@ told_there transport f id all before after h = by (at id all) refl h
         }
 
 module _ (transport : TransportType) (f : Transaction → Transaction) (id : ℕ) (all : Transactions)
-    (ds : List Deadline) (before after : Deadline) (index : IsIndexOf transport all ds)
+    (ds : List Deadline) (before after : Deadline) (index : IsDeadlineIndexOf transport all ds)
     (told : IsTold transport f id all before after) where
   -- it has the deadline that is told, alone
   pub told_alone : entries_at before.id ds ≡ before ∷ []
@@ -60,12 +60,12 @@ module _ (transport : TransportType) (f : Transaction → Transaction) (id : ℕ
 
   -- the map is changed at this id, and the deadline is replaced
   pub index_changed : (new : List Deadline) → IsReplaced before after ds new
-      → IsIndexOf transport (changed f id all) new
+      → IsDeadlineIndexOf transport (with_change_at f id all) new
   index_changed new replaced =
-      index_permuted transport (changed f id all) (after ∷ replaced.rest) new
+      index_permuted transport (with_change_at f id all) (after ∷ replaced.rest) new
       (record { entries = λ n. by n (is_at (nat_cmp n) id) refl }) replaced.put
     where
-      left : IsIndexOf transport all (before ∷ replaced.rest)
+      left : IsDeadlineIndexOf transport all (before ∷ replaced.rest)
       left = index_permuted transport all ds (before ∷ replaced.rest) index replaced.taken
 
       before_key : before.id ≡ id
@@ -81,15 +81,17 @@ module _ (transport : TransportType) (f : Transaction → Transaction) (id : ℕ
           (ap (is_at (nat_cmp n)) before_key ∙ h)
 
       by : (n : ℕ) (b : Bool) → is_at (nat_cmp n) id ≡ b
-          → entries_at n (after ∷ replaced.rest) ≡ entry transport n (at n (changed f id all))
+          → entries_at n (after ∷ replaced.rest)
+          ≡ entry transport n (at n (with_change_at f id all))
       by n true h =
           let key : id ≡ n = same_key n id h in
           own_head after replaced.rest n (sym key ∙ sym after_key)
           ∙ ap (λ xs. after ∷ xs) (rest n true h)
           ∙ ap (λ (d : Deadline). d ∷ []) told.after_is
           ∙ subst (λ m. deadline_of transport (id, f told.transaction) ∷ []
-          ≡ entry transport m (at m (changed f id all))) key
-          (sym (ap (entry transport id) (at-changed f id all ∙ ap (option_map f) told.there)))
+          ≡ entry transport m (at m (with_change_at f id all))) key
+          (sym (ap (entry transport id)
+          (at-with_change_at f id all ∙ ap (option_map f) told.there)))
       by n false h =
           other_head after replaced.rest n
           (ne_eqb n after.id (λ same. other_key n id h (same ∙ after_key))) ∙ rest n false h

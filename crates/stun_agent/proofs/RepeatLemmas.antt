@@ -13,24 +13,27 @@ use Rattle.stun_base.specs.declared.wire.transport.TransportType.{TransportType}
 use Rattle.stun_base.specs.declared.wire.transport.TransportType.TheVariants.{Udp, Tcp}
 use Rattle.stun_agent.specs.declared.error.StunError.{StunError}
 use Rattle.stun_base.specs.MessageType.{class_in}
-use Rattle.stun_agent.specs.Agent.{Agent, tallied, with_validated, with_transactions, tally_of_end}
+use Rattle.stun_agent.specs.Agent.{Agent, with_tally, with_validated, with_transactions}
+use Rattle.stun_agent.specs.Agent.{tally_of_end}
 use Rattle.stun_agent.specs.Agent.{tally_of_sent, sending_refusal, after_send, request_refusal}
-use Rattle.stun_agent.specs.Agent.{request_of, after_send_request, answered, after_class}
+use Rattle.stun_agent.specs.Agent.{request_of, after_send_request, answered_request, after_class}
 use Rattle.stun_agent.specs.Agent.{after_response, ended_by_poll, sent_by_poll, after_poll}
 use Rattle.stun_agent.specs.Statistics.{response_received}
 use Rattle.stun_agent.specs.Calls.{AgentCall, send, send_request, receive, validate}
 use Rattle.stun_agent.specs.Calls.{forget, poll, poll_transmit, cancel_retransmissions}
 use Rattle.stun_agent.specs.Calls.{cancel, configure, after_agent_call, after_agent_calls}
-use Rattle.stun_agent.specs.Calls.{is_id, repeats_request, once, transmissions_allowed}
+use Rattle.stun_agent.specs.Calls.{is_id, repeats_request, count_if, transmissions_allowed}
 use Rattle.stun_agent.specs.Calls.{repetitions_until_end, most_transmissions_allowed}
 use Rattle.stun_agent.specs.Timing.{slots}
 use Rattle.stun_agent.specs.Transactions.{Transaction, Transactions, IsAscending, at, with, without}
-use Rattle.stun_agent.specs.Transactions.{changed, silenced, cancelled, configured, repeats, is_due}
+use Rattle.stun_agent.specs.Transactions.{with_change_at, without_retransmissions}
+use Rattle.stun_agent.specs.Transactions.{with_cancellation, with_settings, repeats, is_due}
 use Rattle.stun_agent.specs.Transactions.{slot_passed, after_slot, after_slots, round_trip}
 use Rattle.stun_agent.proofs.Ascending.{lookup-remove_other}
 use Rattle.stun_agent.proofs.Ascending.{lookup-insert_other, lookup-insert_same}
 use Rattle.stun_agent.proofs.EntryLemmas.{same_key, lookup_found}
-use Rattle.stun_agent.proofs.LookupLemmas.{lookup-map, at-without, at-changed, at-changed_other}
+use Rattle.stun_agent.proofs.LookupLemmas.{lookup-map, at-without, at-with_change_at}
+use Rattle.stun_agent.proofs.LookupLemmas.{at-changed_other}
 use Rattle.stun_agent.proofs.OnceLemmas.{ascending_none, ascending_call}
 use Rattle.stun_agent.proofs.OnceLemmas.{ascending_calls, not_refused_is_new}
 use Rattle.stun_agent.proofs.QuietLemmas.{due_slots, sent_is_due}
@@ -47,7 +50,7 @@ transport_class class moment bytes from a = by class
   where
     response : (found : Option Transaction)
         → (option_map_or
-        (λ t. tallied (response_received (length bytes) (round_trip moment t))
+        (λ t. with_tally (response_received (length bytes) (round_trip moment t))
         (with_validated from
         (with_transactions a (without (transaction_id_field bytes) a.transactions))))
         found a).transport
@@ -58,12 +61,12 @@ transport_class class moment bytes from a = by class
     by : (c : MessageClass) → (after_class c moment bytes from a).transport ≡ a.transport
     by Request = refl
     by Indication = refl
-    by Success = response (answered bytes from a)
-    by Error = response (answered bytes from a)
+    by Success = response (answered_request bytes from a)
+    by Error = response (answered_request bytes from a)
 
 transport_poll : (a : Agent) (found : Option (ℕ × Transaction))
     → (option_map_or
-    (λ e. tallied (tally_of_end e.1) (with_transactions a (without e.0 a.transactions))) found
+    (λ e. with_tally (tally_of_end e.1) (with_transactions a (without e.0 a.transactions))) found
     a).transport ≡ a.transport
 transport_poll a None = refl
 transport_poll a (Some e) = refl
@@ -103,9 +106,10 @@ transport_calls (call ∷ calls) a =
 -- what a call does to the slot of a transaction, and what is left of that
 record TakesSlot (transport : TransportType) (t : Transaction) (repeated : Bool)
     (after : Option Transaction) : Type 0 where
-  within : t.slot + once repeated ≤ max t.slot (slots transport t.settings)
+  within : t.slot + count_if repeated ≤ max t.slot (slots transport t.settings)
   rises : IfSome after
-      (λ u. (t.slot + once repeated ≤ u.slot) × (u.slot ≤ max t.slot (slots transport t.settings)))
+      (λ u. (t.slot + count_if repeated ≤ u.slot)
+      × (u.slot ≤ max t.slot (slots transport t.settings)))
 
 stays : (transport : TransportType) (t u : Transaction) (after : Option Transaction)
     → after ≡ Some u → u.slot ≡ t.slot → TakesSlot transport t false after
@@ -131,14 +135,15 @@ slot_without transport id other all t s there = by (is_id id other) refl
 
 slot_changed : (f : Transaction → Transaction) (transport : TransportType) (id other : ℕ)
     (all : Transactions) (t : Transaction) → (f t).slot ≡ t.slot → at id all ≡ Some t
-    → TakesSlot transport t false (at id (changed f other all))
+    → TakesSlot transport t false (at id (with_change_at f other all))
 slot_changed f transport id other all t same there = by (is_id id other) refl
   where
-    by : (b : Bool) → is_id id other ≡ b → TakesSlot transport t false (at id (changed f other all))
+    by : (b : Bool) → is_id id other ≡ b
+        → TakesSlot transport t false (at id (with_change_at f other all))
     by true is =
         stays transport t (f t) _
-        (subst (λ k. at id (changed f k all) ≡ Some (f t)) (sym (same_key id other is))
-        (at-changed f id all ∙ ap (option_map f) there)) same
+        (subst (λ k. at id (with_change_at f k all) ≡ Some (f t)) (sym (same_key id other is))
+        (at-with_change_at f id all ∙ ap (option_map f) there)) same
     by false apart = stays transport t t _ (at-changed_other f id other all apart ∙ there) refl
 
 slot_request : (id : ℕ) (a : Agent) (bytes : List ℕ) (to : SocketAddr) (now : ℕ) (t : Transaction)
@@ -171,11 +176,11 @@ slot_request id a bytes to now t there = by (request_refusal a bytes to) refl
 slot_response : (id : ℕ) (moment : Option ℕ) (bytes : List ℕ) (from : SocketAddr) (a : Agent)
     (t : Transaction) → IsAscending a.transactions → at id a.transactions ≡ Some t
     → TakesSlot a.transport t false (at id (after_response moment bytes from a).transactions)
-slot_response id moment bytes from a t s there = by (answered bytes from a)
+slot_response id moment bytes from a t s there = by (answered_request bytes from a)
   where
     by : (found : Option Transaction)
         → TakesSlot a.transport t false (at id (option_map_or
-        (λ u. tallied (response_received (length bytes) (round_trip moment u))
+        (λ u. with_tally (response_received (length bytes) (round_trip moment u))
         (with_validated from
         (with_transactions a (without (transaction_id_field bytes) a.transactions))))
         found a).transactions)
@@ -199,7 +204,8 @@ slot_poll id now a t s there = by (ended_by_poll now a)
     by : (found : Option (ℕ × Transaction))
         → TakesSlot a.transport t false
         (at id (option_map_or
-        (λ e. tallied (tally_of_end e.1) (with_transactions a (without e.0 a.transactions))) found
+        (λ e. with_tally (tally_of_end e.1) (with_transactions a (without e.0 a.transactions)))
+        found
         a).transactions)
     by None = stays a.transport t t _ there refl
     by (Some e) = slot_without a.transport id e.0 a.transactions t s there
@@ -284,11 +290,11 @@ slot_call id (forget address) a t s there = stays a.transport t t _ there refl
 slot_call id (poll now) a t s there = slot_poll id now a t s there
 slot_call id (poll_transmit now) a t s there = slot_transmit id now a t s there
 slot_call id (cancel_retransmissions other) a t s there =
-    slot_changed silenced a.transport id other a.transactions t refl there
+    slot_changed without_retransmissions a.transport id other a.transactions t refl there
 slot_call id (cancel other) a t s there =
-    slot_changed cancelled a.transport id other a.transactions t refl there
+    slot_changed with_cancellation a.transport id other a.transactions t refl there
 slot_call id (configure other settings) a t s there =
-    slot_changed (configured settings) a.transport id other a.transactions t refl there
+    slot_changed (with_settings settings) a.transport id other a.transactions t refl there
 
 -- ---- all calls
 slots_within : (transport : TransportType) (t : Transaction)
@@ -311,9 +317,9 @@ bounded id (call ∷ calls) a t s there =
   where
     by : (after : Option Transaction) → at id (after_agent_call call a).transactions ≡ after
         → IfSome after
-        (λ u. (t.slot + once (repeats_request id call a) ≤ u.slot)
+        (λ u. (t.slot + count_if (repeats_request id call a) ≤ u.slot)
         × (u.slot ≤ max t.slot (slots a.transport t.settings)))
-        → t.slot + once (repeats_request id call a) ≤ max t.slot (slots a.transport t.settings)
+        → t.slot + count_if (repeats_request id call a) ≤ max t.slot (slots a.transport t.settings)
         → slots a.transport t.settings ≤ max 1 t.settings.transmissions - 1
         → transmissions_allowed id a ≡ t.settings.transmissions
         → ((u : Transaction) → IsAscending (after_agent_call call a).transactions
@@ -321,7 +327,7 @@ bounded id (call ∷ calls) a t s there =
         → u.slot + repetitions_until_end id calls (after_agent_call call a)
         ≤ max u.slot (max 1 (most_transmissions_allowed id calls (after_agent_call call a)) - 1))
         → t.slot
-        + (once (repeats_request id call a)
+        + (count_if (repeats_request id call a)
         + cond (is_some after) (repetitions_until_end id calls (after_agent_call call a)) 0)
         ≤ max t.slot
         (max 1 (max (transmissions_allowed id a)
@@ -340,17 +346,17 @@ once_over_tcp id (call ∷ calls) a t s there tcp =
     let slot = slot_call id call a t s there in
     let none : slots a.transport t.settings ≡ 0 =
     ap (λ transport. slots transport t.settings) tcp in
-    let here : once (repeats_request id call a) ≡ 0 = omega (arith, slot.within, none) in
+    let here : count_if (repeats_request id call a) ≡ 0 = omega (arith, slot.within, none) in
     by (at id (after_agent_call call a).transactions) refl here
     (once_over_tcp id calls (after_agent_call call a))
   where
     by : (after : Option Transaction) → at id (after_agent_call call a).transactions ≡ after
-        → once (repeats_request id call a) ≡ 0
+        → count_if (repeats_request id call a) ≡ 0
         → ((u : Transaction) → IsAscending (after_agent_call call a).transactions
         → at id (after_agent_call call a).transactions ≡ Some u
         → (after_agent_call call a).transport ≡ Tcp
         → repetitions_until_end id calls (after_agent_call call a) ≡ 0)
-        → once (repeats_request id call a)
+        → count_if (repeats_request id call a)
         + cond (is_some after) (repetitions_until_end id calls (after_agent_call call a)) 0 ≡ 0
     by None is here rest = omega (arith, here)
     by (Some u) is here rest =

@@ -11,22 +11,24 @@ use Rattle.stun_base.specs.declared.wire.message_type.MessageClass.{MessageClass
 use Rattle.stun_base.specs.declared.wire.message_type.MessageClass.TheVariants.{Request, Indication}
 use Rattle.stun_base.specs.declared.wire.message_type.MessageClass.TheVariants.{Success, Error}
 use Rattle.stun_base.specs.declared.wire.transport.TransportType.TheVariants.{Udp, Tcp}
-use Rattle.stun_agent.specs.Agent.{Agent, takes, answered, after_class, after_response}
-use Rattle.stun_agent.specs.Agent.{tallied, with_validated, with_transactions}
+use Rattle.stun_agent.specs.Agent.{Agent, takes_by_class, answered_request, after_class}
+use Rattle.stun_agent.specs.Agent.{after_response}
+use Rattle.stun_agent.specs.Agent.{with_tally, with_validated, with_transactions}
 use Rattle.stun_agent.specs.Statistics.{response_received}
 use Rattle.stun_agent.specs.Timing.{Settings, planned_end, sum_of_timeouts, repetitions}
 use Rattle.stun_agent.specs.Transactions.{Transaction, without, round_trip}
 use Rattle.stun_agent.proofs.TimingLemmas.{sum_of_timeouts-zero}
 
 ignored : (moment : Option ℕ) (bytes : List ℕ) (from : SocketAddr) (agent : Agent)
-    → answered bytes from agent ≡ None
-    → (is_some (answered bytes from agent) ≡ false)
+    → answered_request bytes from agent ≡ None
+    → (is_some (answered_request bytes from agent) ≡ false)
     × (after_response moment bytes from agent ≡ agent)
-ignored moment bytes from agent none = (ap is_some none, by (answered bytes from agent) none)
+ignored moment bytes from agent none =
+    (ap is_some none, by (answered_request bytes from agent) none)
   where
     by : (found : Option Transaction) → found ≡ None
         → option_map_or
-        (λ t. tallied (response_received (length bytes) (round_trip moment t))
+        (λ t. with_tally (response_received (length bytes) (round_trip moment t))
         (with_validated from
         (with_transactions agent (without (transaction_id_field bytes) agent.transactions))))
         found agent
@@ -36,7 +38,7 @@ ignored moment bytes from agent none = (ap is_some none, by (answered bytes from
 
 pub unanswering_ignored : (class : MessageClass) (moment : Option ℕ) (bytes : List ℕ)
     (from : SocketAddr) (agent : Agent) → IsResponse class
-    → answered bytes from agent ≡ None → (takes class bytes from agent ≡ false)
+    → answered_request bytes from agent ≡ None → (takes_by_class class bytes from agent ≡ false)
     × (after_class class moment bytes from agent ≡ agent)
 unanswering_ignored Request moment bytes from agent response none =
     absurd (let clash : false ≡ true = response in cc)

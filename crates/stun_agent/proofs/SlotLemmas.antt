@@ -9,9 +9,10 @@ use Rattle.std.specs.BTreeMap.{is_at}
 use Rattle.std.proofs.lemmas.Map.Keys.{sorted_head, sorted_tail}
 use Rattle.stun_base.specs.declared.wire.transport.TransportType.{TransportType}
 use Rattle.stun_agent.specs.declared.state.deadlines.Deadline.{Deadline}
-use Rattle.stun_agent.specs.Transactions.{Transaction, Transactions, IsAscending, at, awaited}
+use Rattle.stun_agent.specs.Transactions.{Transaction, Transactions, IsAscending, at}
+use Rattle.stun_agent.specs.Transactions.{awaited_moment}
 use Rattle.stun_agent.specs.Transactions.{is_cancelled, has_slots, is_over, repeats, first_over}
-use Rattle.stun_agent.specs.code.Deadlines.{deadline_of, earliest, IsIndexOf}
+use Rattle.stun_agent.specs.code.Deadlines.{deadline_of, earliest, IsDeadlineIndexOf}
 use Rattle.stun_agent.specs.code.Transactions.{id_and_repeats}
 use Rattle.stun_agent.proofs.Ascending.{find-none, fold-min-le, fold-min-le_first}
 use Rattle.stun_agent.proofs.DeadlineLemmas.{entry_of, entry_at, earliest-none}
@@ -40,39 +41,42 @@ head_at e es = ap (λ b. cond b (Some e.1) (at e.0 es)) (own_key e.0)
 
 -- ---- the first moment
 module _ (transport : TransportType) (all : Transactions) (ds : List Deadline)
-    (index : IsIndexOf transport all ds) where
+    (index : IsDeadlineIndexOf transport all ds) where
   not_over : (now : ℕ) → first_over transport now all ≡ None → (n : ℕ) (t : Transaction)
-      → at n all ≡ Some t → (deadline_of transport (n, t)).moment ≡ awaited transport t
+      → at n all ≡ Some t → (deadline_of transport (n, t)).moment ≡ awaited_moment transport t
   not_over now none n t here =
-      by (is_cancelled t.sending) (not (has_slots transport t) && nat_le (awaited transport t) now)
+      by (is_cancelled t.sending)
+      (not (has_slots transport t) && nat_le (awaited_moment transport t) now)
       (find-none (λ e. is_over transport now e.1) all n t here none)
     where
-      by : (c b : Bool) → (c || b) ≡ false → cond c 0 (awaited transport t) ≡ awaited transport t
+      by : (c b : Bool) → (c || b) ≡ false
+          → cond c 0 (awaited_moment transport t) ≡ awaited_moment transport t
       by true b h = cc
       by false b h = refl
 
   fold-least : (c least : ℕ) → least ≤ c → (es : Transactions) → IsAscending es
-      → ((n : ℕ) (t : Transaction) → at n es ≡ Some t → least ≤ awaited transport t)
-      → least ≤ fold min c (map (λ e. awaited transport e.1) es)
+      → ((n : ℕ) (t : Transaction) → at n es ≡ Some t → least ≤ awaited_moment transport t)
+      → least ≤ fold min c (map (λ e. awaited_moment transport e.1) es)
   fold-least c least low [] s above = low
   fold-least c least low (e ∷ es) s above =
       let head = above e.0 e.1 (head_at e es) in
-      fold-least (min c (awaited transport e.1)) least (omega (arith, low, head)) es
+      fold-least (min c (awaited_moment transport e.1)) least (omega (arith, low, head)) es
       (sorted_tail nat_cmp e.0 (keys_of es) s) (λ n t h. above n t (tail_at n e es t s h))
 
   -- the least awaited moment is the first one
   pub wake_up_first : (now c : ℕ) → IsAscending all → first_over transport now all ≡ None
-      → fold min c (map (λ e. awaited transport e.1) all)
+      → fold min c (map (λ e. awaited_moment transport e.1) all)
       ≡ option_map_or (λ m. min m c) (earliest ds) c
   wake_up_first now c ascends none = by (earliest ds) refl
     where
       empty : (es : Transactions) → ((n : ℕ) (t : Transaction) → at n es ≡ Some t → ⊥)
-          → fold min c (map (λ e. awaited transport e.1) es) ≡ c
+          → fold min c (map (λ e. awaited_moment transport e.1) es) ≡ c
       empty [] none_there = refl
       empty (e ∷ es) none_there = absurd (none_there e.0 e.1 (head_at e es))
 
       by : (o : Option ℕ) → earliest ds ≡ o
-          → fold min c (map (λ e. awaited transport e.1) all) ≡ option_map_or (λ m. min m c) o c
+          → fold min c (map (λ e. awaited_moment transport e.1) all)
+          ≡ option_map_or (λ m. min m c) o c
       by None is =
           empty all
           (λ n t h. earliest-none ds (deadline_of transport (n, t)) is
@@ -80,10 +84,11 @@ module _ (transport : TransportType) (all : Transactions) (ds : List Deadline)
       by (Some m) is =
           let found = earliest-in ds m is in
           let own = entry_of transport now all ds index found.0 found.0.id found.1 refl in
-          let moment : awaited transport own.0 ≡ m = sym (not_over now none found.0.id own.0 own.1)
+          let moment : awaited_moment transport own.0 ≡ m =
+          sym (not_over now none found.0.id own.0 own.1)
           ∙ ap (λ (d : Deadline). d.moment) own.2 ∙ found.2 in
-          let most = fold-min-le (λ e. awaited transport e.1) all c found.0.id own.0 own.1 in
-          let first = fold-min-le_first (map (λ e. awaited transport e.1) all) c in
+          let most = fold-min-le (λ e. awaited_moment transport e.1) all c found.0.id own.0 own.1 in
+          let first = fold-min-le_first (map (λ e. awaited_moment transport e.1) all) c in
           let least = fold-least c (min m c) (omega arith) all ascends (λ n t h.
           let up =
           earliest-le ds (deadline_of transport (n, t)) m is

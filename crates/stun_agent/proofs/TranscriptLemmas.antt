@@ -9,11 +9,12 @@ use Rattle.stun_base.specs.declared.wire.message_type.MessageClass.TheVariants.{
 use Rattle.stun_base.specs.declared.wire.message_type.MessageClass.TheVariants.{Success, Error}
 use Rattle.stun_base.specs.MessageType.{class_in}
 use Rattle.stun_agent.specs.declared.error.StunError.{StunError}
-use Rattle.stun_agent.specs.Agent.{Agent, tallied, with_validated, with_transactions}
+use Rattle.stun_agent.specs.Agent.{Agent, with_tally, with_validated, with_transactions}
 use Rattle.stun_agent.specs.Agent.{tally_of_end, tally_of_sent, sending_tally, sending_refusal}
-use Rattle.stun_agent.specs.Agent.{after_send, request_refusal, after_send_request, answered}
+use Rattle.stun_agent.specs.Agent.{after_send, request_refusal, after_send_request}
+use Rattle.stun_agent.specs.Agent.{answered_request}
 use Rattle.stun_agent.specs.Agent.{after_class, ended_by_poll, sent_by_poll}
-use Rattle.stun_agent.specs.Statistics.{Statistics, Tally, no_tally, counted}
+use Rattle.stun_agent.specs.Statistics.{Statistics, Tally, no_tally, statistics_after}
 use Rattle.stun_agent.specs.Statistics.{counted_in_turn, total, new_statistics}
 use Rattle.stun_agent.specs.Statistics.{request_sent, request_sent_again, response_received}
 use Rattle.stun_agent.specs.Calls.{AgentCall, send, send_request, receive, validate}
@@ -21,25 +22,27 @@ use Rattle.stun_agent.specs.Calls.{forget, poll, poll_transmit, cancel_retransmi
 use Rattle.stun_agent.specs.Calls.{cancel, configure, after_agent_call, after_agent_calls}
 use Rattle.stun_agent.specs.Transactions.{Transaction, without, after_slots, round_trip}
 use Rattle.stun_agent.specs.Transcript.{tally_of_message, tally_of, tallies}
-use Rattle.stun_agent.proofs.StatisticsLemmas.{counted-counted-nothing, counted_in_turn-new}
+use Rattle.stun_agent.proofs.StatisticsLemmas.{statistics_after-statistics_after-nothing}
+use Rattle.stun_agent.proofs.StatisticsLemmas.{counted_in_turn-new}
 
 -- statistics in which no counter is past its greatest number
 abbrev AreCapped : Statistics → Type 0
-AreCapped s = counted no_tally s ≡ s
+AreCapped s = statistics_after no_tally s ≡ s
 
 -- what is counted of a tally, and that nothing is counted where nothing was
 record Adds (tally : Tally) (before after : Option Statistics) : Type 0 where
-  some : (s : Statistics) → AreCapped s → before ≡ Some s → after ≡ Some (counted tally s)
+  some : (s : Statistics) → AreCapped s → before ≡ Some s → after ≡ Some (statistics_after tally s)
   none : before ≡ None → after ≡ None
 
 adds_nothing : (o : Option Statistics) → Adds no_tally o o
 adds_nothing o = record { some = λ s capped is. is ∙ ap Some (sym capped); none = λ is. is }
 
-adds_tally : (tally : Tally) (o : Option Statistics) → Adds tally o (option_map (counted tally) o)
+adds_tally : (tally : Tally) (o : Option Statistics)
+    → Adds tally o (option_map (statistics_after tally) o)
 adds_tally tally o =
     record {
-      some = λ s capped is. ap (option_map (counted tally)) is;
-      none = λ is. ap (option_map (counted tally)) is;
+      some = λ s capped is. ap (option_map (statistics_after tally)) is;
+      none = λ is. ap (option_map (statistics_after tally)) is;
     }
 
 adds_send : (bytes : List ℕ) (a : Agent) (r : Option StunError)
@@ -59,7 +62,7 @@ adds_response : (moment : Option ℕ) (bytes : List ℕ) (from : SocketAddr) (a 
     → Adds (option_map_or (λ t. response_received (length bytes) (round_trip moment t)) found
     no_tally) a.statistics
     (option_map_or
-    (λ t. tallied (response_received (length bytes) (round_trip moment t))
+    (λ t. with_tally (response_received (length bytes) (round_trip moment t))
     (with_validated from
     (with_transactions a (without (transaction_id_field bytes) a.transactions))))
     found a).statistics
@@ -75,13 +78,15 @@ adds_message Request moment bytes from a =
     adds_tally (tally_of_message Request moment bytes from a) a.statistics
 adds_message Indication moment bytes from a =
     adds_tally (tally_of_message Indication moment bytes from a) a.statistics
-adds_message Success moment bytes from a = adds_response moment bytes from a (answered bytes from a)
-adds_message Error moment bytes from a = adds_response moment bytes from a (answered bytes from a)
+adds_message Success moment bytes from a =
+    adds_response moment bytes from a (answered_request bytes from a)
+adds_message Error moment bytes from a =
+    adds_response moment bytes from a (answered_request bytes from a)
 
 adds_end : (a : Agent) (found : Option (ℕ × Transaction))
     → Adds (option_map_or (λ e. tally_of_end e.1) found no_tally) a.statistics
     (option_map_or
-    (λ e. tallied (tally_of_end e.1) (with_transactions a (without e.0 a.transactions))) found
+    (λ e. with_tally (tally_of_end e.1) (with_transactions a (without e.0 a.transactions))) found
     a).statistics
 adds_end a None = adds_nothing a.statistics
 adds_end a (Some e) = adds_tally (tally_of_end e.1) a.statistics
@@ -112,12 +117,13 @@ counts_in_turn : (calls : List AgentCall) (a : Agent) (s : Statistics) → AreCa
     → (after_agent_calls calls a).statistics ≡ Some (counted_in_turn (tallies calls a) s)
 counts_in_turn [] a s capped is = is
 counts_in_turn (call ∷ calls) a s capped is =
-    counts_in_turn calls (after_agent_call call a) (counted (tally_of call a) s)
-    (counted-counted-nothing (tally_of call a) s) ((adds_call call a).some s capped is)
+    counts_in_turn calls (after_agent_call call a) (statistics_after (tally_of call a) s)
+    (statistics_after-statistics_after-nothing (tally_of call a) s)
+    ((adds_call call a).some s capped is)
 
 pub counts_calls : (calls : List AgentCall) (a : Agent) → a.statistics ≡ Some new_statistics
     → (after_agent_calls calls a).statistics
-    ≡ Some (counted (total (tallies calls a)) new_statistics)
+    ≡ Some (statistics_after (total (tallies calls a)) new_statistics)
 counts_calls calls a is =
     counts_in_turn calls a new_statistics refl is ∙ ap Some (counted_in_turn-new (tallies calls a))
 

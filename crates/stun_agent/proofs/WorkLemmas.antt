@@ -12,9 +12,9 @@ use Rattle.std.proofs.lemmas.Map.Keys.{sorted_tail}
 use Rattle.stun_base.specs.declared.wire.transport.TransportType.{TransportType}
 use Rattle.stun_agent.specs.declared.state.deadlines.Deadline.{Deadline}
 use Rattle.stun_agent.specs.Transactions.{Transaction, Transactions, IsAscending}
-use Rattle.stun_agent.specs.Transactions.{without, awaited, is_cancelled}
+use Rattle.stun_agent.specs.Transactions.{without, awaited_moment, is_cancelled}
 use Rattle.stun_agent.specs.Deadlines.{early_requests, is_early}
-use Rattle.stun_agent.specs.code.Deadlines.{deadline_of, entries_at, early, IsIndexOf}
+use Rattle.stun_agent.specs.code.Deadlines.{deadline_of, entries_at, early, IsDeadlineIndexOf}
 use Rattle.stun_agent.proofs.DeadlineLemmas.{index_without}
 use Rattle.stun_agent.proofs.EntryLemmas.{own_key}
 use Rattle.stun_agent.proofs.SlotLemmas.{head_at}
@@ -25,14 +25,14 @@ count-cons p x xs = sum_by-cons (λ z. cond (p z) 1 0) x xs
 
 early_own : (transport : TransportType) (now : ℕ) (e : ℕ × Transaction)
     → nat_le (deadline_of transport e).moment now ≡ is_early transport now e.1
-early_own transport now e = by (is_cancelled e.1.sending) (awaited transport e.1)
+early_own transport now e = by (is_cancelled e.1.sending) (awaited_moment transport e.1)
   where
     by : (c : Bool) (m : ℕ) → nat_le (cond c 0 m) now ≡ (c || nat_le m now)
     by true m = le-leb 0 now (omega arith)
     by false m = refl
 
 pub early_counts : (transport : TransportType) (now : ℕ) (all : Transactions) (ds : List Deadline)
-    → IsAscending all → IsIndexOf transport all ds
+    → IsAscending all → IsDeadlineIndexOf transport all ds
     → early now ds ≡ early_requests transport now all
 early_counts transport now [] ds s index = by ds (λ n. index.entries n)
   where
@@ -55,7 +55,7 @@ early_counts transport now (e ∷ es) ds s index =
     (λ d. refl) ds) in
     let same : without e.0 (e ∷ es) ≡ es = ap (λ b. cond b es (e ∷ without e.0 es)) (own_key e.0) in
     let tail =
-    subst (λ m. IsIndexOf transport m rest_of) same
+    subst (λ m. IsDeadlineIndexOf transport m rest_of) same
     (index_without transport (e ∷ es) ds rest_of own s index moved) in
     let rest =
     early_counts transport now es rest_of (sorted_tail nat_cmp e.0 (keys_of es) s) tail in

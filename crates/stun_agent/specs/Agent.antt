@@ -10,6 +10,7 @@ use Rattle.stun_base.specs.declared.wire.transport.TransportType.{TransportType}
 use Rattle.stun_base.specs.Address.{same_address}
 use Rattle.stun_base.specs.Header.{transaction_id_field, header_refusal}
 use Rattle.stun_base.specs.MessageType.{class_in, is_request}
+use Rattle.stun_types.specs.Integrity.{deciding_algorithm}
 use Rattle.stun_agent.specs.declared.agent.StunAgentPollRet.{StunAgentPollRet}
 use Rattle.stun_agent.specs.declared.agent.StunAgentPollRet.TheVariants.{TransactionTimedOut}
 use Rattle.stun_agent.specs.declared.agent.StunAgentPollRet.TheVariants.{TransactionCancelled}
@@ -18,12 +19,13 @@ use Rattle.stun_agent.specs.declared.error.StunError.{StunError}
 use Rattle.stun_agent.specs.declared.error.StunError.TheVariants.{AlreadyInProgress}
 use Rattle.stun_agent.specs.declared.error.StunError.TheVariants.{ProtocolViolation, ParseError}
 use Rattle.stun_agent.specs.Datagrams.{Datagram}
-use Rattle.stun_agent.specs.Integrity.{signing_algorithm}
 use Rattle.stun_agent.specs.Peers.{Peers, with_peer, without_peer}
-use Rattle.stun_agent.specs.Statistics.{Statistics, Tally, new_statistics, counted, request_sent}
+use Rattle.stun_agent.specs.Statistics.{Statistics, Tally, new_statistics, statistics_after}
+use Rattle.stun_agent.specs.Statistics.{request_sent}
 use Rattle.stun_agent.specs.Statistics.{request_sent_again, response_sent, indication_sent}
 use Rattle.stun_agent.specs.Statistics.{request_received, response_received, indication_received}
-use Rattle.stun_agent.specs.Statistics.{timed_out as one_timed_out, cancelled as one_cancelled}
+use Rattle.stun_agent.specs.Statistics.{request_timed_out as one_timed_out}
+use Rattle.stun_agent.specs.Statistics.{request_cancelled as one_cancelled}
 use Rattle.stun_agent.specs.Timing.{Settings, default_settings}
 use Rattle.stun_agent.specs.Transactions.{Transaction, Transactions, repeats}
 use Rattle.stun_agent.specs.Transactions.{new_transaction, at, with, without, first_over}
@@ -68,8 +70,9 @@ abbrev pub without_validated : SocketAddr → Agent → Agent
 without_validated address agent = record agent { peers = without_peer address agent.peers }
 
 -- the agent once a tally is counted
-abbrev pub tallied : Tally → Agent → Agent
-tallied tally agent = record agent { statistics = option_map (counted tally) agent.statistics }
+abbrev pub with_tally : Tally → Agent → Agent
+with_tally tally agent =
+    record agent { statistics = option_map (statistics_after tally) agent.statistics }
 
 -- ---- messages
 -- what sending a message of a class counts
@@ -88,19 +91,19 @@ is_elsewhere agent to = option_map_or (λ peer. not (same_address to peer)) agen
 abbrev pub address_refusal : Agent → SocketAddr → Option StunError
 address_refusal agent to = if is_elsewhere agent to then Some ProtocolViolation else None
 
--- why bytes are no message that wants no answer, the first reason that holds
+-- why bytes are neither an indication nor a response, the first reason that holds
 abbrev pub class_refusal : List ℕ → Option StunError
 class_refusal bytes =
     option_map_or (λ error. Some (ParseError error)) (header_refusal bytes)
     (if is_request (class_in bytes) then Some ProtocolViolation else None)
 
--- why bytes are not sent as such a message, the first reason that holds
+-- why bytes are not sent as an indication or a response, the first reason that holds
 abbrev pub sending_refusal : Agent → List ℕ → SocketAddr → Option StunError
 sending_refusal agent bytes to = option_or (class_refusal bytes) (address_refusal agent to)
 
--- the agent after it has sent a message that wants no answer
+-- the agent after it has sent an indication or a response
 abbrev pub after_send : List ℕ → Agent → Agent
-after_send bytes agent = tallied (sending_tally (class_in bytes) (length bytes)) agent
+after_send bytes agent = with_tally (sending_tally (class_in bytes) (length bytes)) agent
 
 -- why bytes are not sent as a request, the first reason that holds
 abbrev pub request_refusal : Agent → List ℕ → SocketAddr → Option StunError
@@ -115,68 +118,69 @@ request_refusal agent bytes to =
 -- the transaction of a request
 abbrev pub request_of : Agent → List ℕ → SocketAddr → ℕ → Transaction
 request_of agent bytes to now =
-    new_transaction bytes to (signing_algorithm bytes) agent.settings now
+    new_transaction bytes to (deciding_algorithm bytes) agent.settings now
 
 -- the agent after it has sent a request, which is then outstanding
 abbrev pub after_send_request : Agent → List ℕ → SocketAddr → ℕ → Agent
 after_send_request agent bytes to now =
-    tallied (request_sent (length bytes))
+    with_tally (request_sent (length bytes))
     (with_transactions agent
     (with (transaction_id_field bytes) (request_of agent bytes to now) agent.transactions))
 
--- what is sent of a transaction: bytes, transport, and the addresses from and to
+-- what is sent of a transaction: bytes, transport, sender and receiver
 abbrev pub datagram_of : Agent → Transaction → Datagram
 datagram_of agent t = (t.bytes, agent.transport, agent.local_addr, t.to)
 
 -- ---- receiving
--- the one that was found, where its request went to this address
+-- the one that was found, if its request was sent to this address
 abbrev pub went_to : SocketAddr → Option Transaction → Option Transaction
 went_to address None = None
 went_to address (Some t) = if same_address address t.to then Some t else None
 
--- the outstanding request that a response answers: that of its transaction, where it went to the
--- sender
-abbrev pub answered : List ℕ → SocketAddr → Agent → Option Transaction
-answered bytes from agent = went_to from (at (transaction_id_field bytes) agent.transactions)
+-- the outstanding request that a response answers: that of its transaction, if it was sent to the
+-- response's sender
+abbrev pub answered_request : List ℕ → SocketAddr → Agent → Option Transaction
+answered_request bytes from agent =
+    went_to from (at (transaction_id_field bytes) agent.transactions)
 
--- a response ends the request that it answers and validates its sender, and changes nothing where
--- it answers none
+-- a response ends the request that it answers and validates its sender. If it answers none, nothing
+-- changes
 abbrev pub after_response : Option ℕ → List ℕ → SocketAddr → Agent → Agent
 after_response moment bytes from agent =
     option_map_or
-    (λ t. tallied (response_received (length bytes) (round_trip moment t))
+    (λ t. with_tally (response_received (length bytes) (round_trip moment t))
     (with_validated from
     (with_transactions agent (without (transaction_id_field bytes) agent.transactions))))
-    (answered bytes from agent)
+    (answered_request bytes from agent)
     agent
 
--- whether a message is taken, by its class: a response only where it answers an outstanding request
-abbrev pub takes : MessageClass → List ℕ → SocketAddr → Agent → Bool
-takes Request bytes from agent = true
-takes Indication bytes from agent = true
-takes Success bytes from agent = is_some (answered bytes from agent)
-takes Error bytes from agent = is_some (answered bytes from agent)
+-- whether a message is accepted, by its class: a response only if it answers an outstanding request
+abbrev pub takes_by_class : MessageClass → List ℕ → SocketAddr → Agent → Bool
+takes_by_class Request bytes from agent = true
+takes_by_class Indication bytes from agent = true
+takes_by_class Success bytes from agent = is_some (answered_request bytes from agent)
+takes_by_class Error bytes from agent = is_some (answered_request bytes from agent)
 
 -- the agent after a message, by its class
 abbrev pub after_class : MessageClass → Option ℕ → List ℕ → SocketAddr → Agent → Agent
 after_class Request moment bytes from agent =
-    tallied (request_received (length bytes)) (with_validated from agent)
+    with_tally (request_received (length bytes)) (with_validated from agent)
 after_class Indication moment bytes from agent =
-    tallied (indication_received (length bytes)) (with_validated from agent)
+    with_tally (indication_received (length bytes)) (with_validated from agent)
 after_class Success moment bytes from agent = after_response moment bytes from agent
 after_class Error moment bytes from agent = after_response moment bytes from agent
 
--- whether a message is taken
+-- whether a message is accepted
 abbrev pub takes_message : List ℕ → SocketAddr → Agent → Bool
-takes_message bytes from agent = takes (class_in bytes) bytes from agent
+takes_message bytes from agent = takes_by_class (class_in bytes) bytes from agent
 
 -- the agent after a message
 abbrev pub after_message : Option ℕ → List ℕ → SocketAddr → Agent → Agent
 after_message moment bytes from agent = after_class (class_in bytes) moment bytes from agent
 
 -- ---- ends
--- how a transaction ends that no response took: cancelled where its user has stopped its
--- retransmissions or itself
+-- how a transaction ends without a response: as cancelled, if its user has stopped it or its
+-- retransmissions
 abbrev pub end_of : ℕ × Transaction → StunAgentPollRet
 end_of e = if repeats e.1.sending then TransactionTimedOut e.0 else TransactionCancelled e.0
 
@@ -188,7 +192,7 @@ tally_of_end t = if repeats t.sending then one_timed_out else one_cancelled
 abbrev pub ended_by_poll : ℕ → Agent → Option (ℕ × Transaction)
 ended_by_poll now agent = first_over agent.transport now agent.transactions
 
--- what a poll answers: the end, or until when to wait
+-- what a poll returns: the end, or until when to wait
 abbrev pub poll_answer : ℕ → Agent → StunAgentPollRet
 poll_answer now agent =
     option_map_or end_of (ended_by_poll now agent)
@@ -198,7 +202,7 @@ poll_answer now agent =
 abbrev pub after_poll : ℕ → Agent → Agent
 after_poll now agent =
     option_map_or
-    (λ e. tallied (tally_of_end e.1) (with_transactions agent (without e.0 agent.transactions)))
+    (λ e. with_tally (tally_of_end e.1) (with_transactions agent (without e.0 agent.transactions)))
     (ended_by_poll now agent) agent
 
 -- ---- retransmission
@@ -209,7 +213,7 @@ sent_by_poll now agent = next_sent agent.transport now agent.transactions
 -- what sending again counts
 abbrev pub tally_of_sent : Option (ℕ × Transaction) → Agent → Agent
 tally_of_sent sent agent =
-    option_map_or (λ e. tallied (request_sent_again (length e.1.bytes)) agent) sent agent
+    option_map_or (λ e. with_tally (request_sent_again (length e.1.bytes)) agent) sent agent
 
 -- the agent after a poll for transmissions
 abbrev pub after_poll_transmit : ℕ → Agent → Agent

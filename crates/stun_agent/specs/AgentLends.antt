@@ -1,4 +1,4 @@
--- What an agent ends as, once what it lent has ended.
+-- What an agent is once the loans of a call have ended.
 use Rattle.std.specs.Prelude.{◌≡◌, ⊤, Result, MatchResult, Option, Some}
 use Rattle.std.specs.Borrow.{Fml, RattleType, MutBor, LendsIf, follows_so}
 use Rattle.std.specs.declared.alloc.Allocator as alloc
@@ -20,8 +20,7 @@ ends_if_ok_as A heap agent answer after =
     follows_so (the_row A heap) (the_row A heap) agent.ghost_name none (λ _ _. ⊤)
     (λ n. MatchResult answer (λ _. n ≡ after) (λ _. n ≡ agent.now))
 
--- the agent ends with the statistics that are left after what it lent, and as it was where it has
--- none
+-- the agent ends with the statistics that the loan leaves, and as it was if it has none
 abbrev pub lends_statistics : (A : RattleType) → alloc.Ghosts A.Denot → MutBor Agent
     → Option (MutBor Statistics) → Fml
 lends_statistics A heap agent lent =

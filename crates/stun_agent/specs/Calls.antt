@@ -12,13 +12,15 @@ use Rattle.stun_base.specs.declared.wire.message_type.MessageClass.TheVariants.{
 use Rattle.stun_base.specs.MessageType.{class_in}
 use Rattle.stun_agent.specs.Agent.{Agent, with_transactions, with_validated, without_validated}
 use Rattle.stun_agent.specs.Agent.{sending_refusal, after_send, request_refusal}
-use Rattle.stun_agent.specs.Agent.{after_send_request, answered, after_message, ended_by_poll}
+use Rattle.stun_agent.specs.Agent.{after_send_request, answered_request, after_message}
+use Rattle.stun_agent.specs.Agent.{ended_by_poll}
 use Rattle.stun_agent.specs.Agent.{after_poll, sent_by_poll, after_poll_transmit}
 use Rattle.stun_agent.specs.Timing.{Settings}
-use Rattle.stun_agent.specs.Transactions.{at, changed, silenced, cancelled, configured}
+use Rattle.stun_agent.specs.Transactions.{at, with_change_at, without_retransmissions}
+use Rattle.stun_agent.specs.Transactions.{with_cancellation, with_settings}
 
--- a call: a message is sent, a request is sent, a message comes, an address is validated or
--- forgotten, both polls, and what the user of a request does to it
+-- a call. A message or a request is sent, a message comes, an address is validated or forgotten;
+-- both polls; and what the user of a request does to it
 pub data AgentCall : Type 0 where
   send : List ℕ → SocketAddr → AgentCall
   send_request : List ℕ → SocketAddr → ℕ → AgentCall
@@ -44,11 +46,11 @@ after_agent_call (forget address) agent = without_validated address agent
 after_agent_call (poll now) agent = after_poll now agent
 after_agent_call (poll_transmit now) agent = after_poll_transmit now agent
 after_agent_call (cancel_retransmissions id) agent =
-    with_transactions agent (changed silenced id agent.transactions)
+    with_transactions agent (with_change_at without_retransmissions id agent.transactions)
 after_agent_call (cancel id) agent =
-    with_transactions agent (changed cancelled id agent.transactions)
+    with_transactions agent (with_change_at with_cancellation id agent.transactions)
 after_agent_call (configure id settings) agent =
-    with_transactions agent (changed (configured settings) id agent.transactions)
+    with_transactions agent (with_change_at (with_settings settings) id agent.transactions)
 
 -- the agent after calls, one after the other
 abbrev pub after_agent_calls : List AgentCall → Agent → Agent
@@ -78,14 +80,14 @@ begins id (cancel_retransmissions other) agent = false
 begins id (cancel other) agent = false
 begins id (configure other settings) agent = false
 
--- a message of a class takes the request of the transaction
+-- a message of a class ends the request of the transaction, as its response
 abbrev pub takes_request : MessageClass → ℕ → List ℕ → SocketAddr → Agent → Bool
 takes_request Request id bytes from agent = false
 takes_request Indication id bytes from agent = false
 takes_request Success id bytes from agent =
-    is_id id (transaction_id_field bytes) && is_some (answered bytes from agent)
+    is_id id (transaction_id_field bytes) && is_some (answered_request bytes from agent)
 takes_request Error id bytes from agent =
-    is_id id (transaction_id_field bytes) && is_some (answered bytes from agent)
+    is_id id (transaction_id_field bytes) && is_some (answered_request bytes from agent)
 
 -- a call ends the transaction: by a response that comes, or by a poll, as timed out or cancelled
 abbrev pub ends : ℕ → AgentCall → Agent → Bool
@@ -115,14 +117,14 @@ repeats_request id (cancel other) agent = false
 repeats_request id (configure other settings) agent = false
 
 -- 1 where it is so
-abbrev pub once : Bool → ℕ
-once b = if b then 1 else 0
+abbrev pub count_if : Bool → ℕ
+count_if b = if b then 1 else 0
 
--- how many of the calls have something to do with the transaction
+-- how many of the calls do this to the transaction
 abbrev pub count : (ℕ → AgentCall → Agent → Bool) → ℕ → List AgentCall → Agent → ℕ
 count happens id [] agent = 0
 count happens id (call ∷ calls) agent =
-    once (happens id call agent) + count happens id calls (after_agent_call call agent)
+    count_if (happens id call agent) + count happens id calls (after_agent_call call agent)
 
 -- how many transmissions the settings of the transaction allow
 abbrev pub transmissions_allowed : ℕ → Agent → ℕ
@@ -133,7 +135,7 @@ transmissions_allowed id agent =
 abbrev pub repetitions_until_end : ℕ → List AgentCall → Agent → ℕ
 repetitions_until_end id [] agent = 0
 repetitions_until_end id (call ∷ calls) agent =
-    once (repeats_request id call agent)
+    count_if (repeats_request id call agent)
     + (if is_outstanding id (after_agent_call call agent)
     then repetitions_until_end id calls (after_agent_call call agent) else 0)
 

@@ -14,15 +14,15 @@ use Rattle.stun_agent.specs.declared.calls.transmit.Transmit.{Transmit}
 abbrev pub parts : {T : Type 0} → Transmit T → T × TransportType × SocketAddr × SocketAddr
 parts t = (t.«data», t.transport, t.from, t.to)
 
--- bytes, transport, and the addresses from and to
+-- bytes, transport, sender and receiver
 abbrev pub Datagram : Type 0
 Datagram = List ℕ × TransportType × SocketAddr × SocketAddr
 
--- the datagram whose bytes are lent
+-- the datagram whose bytes are borrowed
 abbrev pub lent_datagram : Transmit (Bor (List ℕ)) → Datagram
 lent_datagram t = (t.«data».now, t.transport, t.from, t.to)
 
--- the datagram whose bytes are lent or owned
+-- the datagram whose bytes are borrowed or owned
 abbrev pub datagram : {A : Type 0} → Transmit (Data A) → Datagram
 datagram t = (data_bytes t.«data», t.transport, t.from, t.to)
 

@@ -1,19 +1,19 @@
 -- The work of a poll: which deadlines it reads, and how they are counted.
 use Rattle.std.specs.Prelude.{ℕ, ◌≡◌, ◌<◌, ◌+◌, ◌*◌, Bool, ◌||◌, nat_le, count_by}
 use Rattle.stun_base.specs.declared.wire.transport.TransportType.{TransportType}
-use Rattle.stun_agent.specs.Transactions.{Transaction, Transactions, awaited, is_cancelled}
+use Rattle.stun_agent.specs.Transactions.{Transaction, Transactions, awaited_moment, is_cancelled}
 
 -- a transaction that is cancelled, or awaits at most this moment
 abbrev pub is_early : TransportType → ℕ → Transaction → Bool
-is_early transport now t = is_cancelled t.sending || nat_le (awaited transport t) now
+is_early transport now t = is_cancelled t.sending || nat_le (awaited_moment transport t) now
 
 -- how many of them there are
 abbrev pub early_requests : TransportType → ℕ → Transactions → ℕ
 early_requests transport now all = count_by (λ e. is_early transport now e.1) all
 
 -- how often a poll reads at most, however many requests there are: the index itself, and a path in
--- each of two trees. A path halves the ids at each node: one for each of their 96 bits, and one
--- more
+-- each of two trees. Each node of a path halves the ids, so it has one for each of their 96 bits,
+-- and one more
 abbrev pub most_reads : ℕ
 most_reads = 1 + 2 * (96 + 1)
 

@@ -1,5 +1,4 @@
--- What holds of an agent whatever is done to it, moments that go back included (RFC 8489, section
--- 6.2).
+-- Laws of an agent over any calls. Their moments may go back (RFC 8489, section 6.2).
 use Rattle.std.specs.Prelude.{◌≡◌, ◌≢◌, ◌≤◌, ◌<◌, ◌+◌, ℕ, false, max, List}
 use Rattle.std.specs.Prelude.{[], Option, Some, None, IfSome, length}
 use Rattle.std.specs.declared.net.socket_addr.SocketAddr.{SocketAddr}
@@ -12,12 +11,12 @@ use Rattle.stun_agent.specs.Agent.{Agent, takes_message, after_message, poll_ans
 use Rattle.stun_agent.specs.Agent.{ended_by_poll, sent_by_poll, request_refusal, after_send_request}
 use Rattle.stun_agent.specs.Statistics.{LeavesOutstanding, IsNotFull}
 use Rattle.stun_agent.specs.Calls.{AgentCall, after_agent_call, after_agent_calls}
-use Rattle.stun_agent.specs.Calls.{is_outstanding, begins, ends, once, count}
+use Rattle.stun_agent.specs.Calls.{is_outstanding, begins, ends, count_if, count}
 use Rattle.stun_agent.specs.Calls.{repetitions_until_end, most_transmissions_allowed}
 use Rattle.stun_agent.specs.Timing.{Settings, timeout, planned_end}
 use Rattle.stun_agent.specs.Transactions.{Transaction, at, an_hour}
 
--- a request is sent again no earlier than its timeout after the moment before
+-- a request is sent again no earlier than its timeout after it was sent, or after its last timeout
 abbrev pub IsNeverEarly : Type 0
 IsNeverEarly =
     (now : ℕ) (agent : Agent) (e : ℕ × Transaction) → sent_by_poll now agent ≡ Some e
@@ -28,26 +27,26 @@ pub record IsQuiet (moment : ℕ) (agent : Agent) : Type 0 where
   pub sends_nothing : sent_by_poll moment agent ≡ None
   pub ends_nothing : ended_by_poll moment agent ≡ None
 
--- a moment to wait until lies in the next hour, and until then all is quiet
+-- a moment to wait until: it lies in the next hour, and until then all is quiet
 pub record IsWait (now until : ℕ) (agent : Agent) : Type 0 where
   pub not_past : now ≤ until
   pub within_an_hour : until ≤ now + an_hour
   pub quiet : (moment : ℕ) → now ≤ moment → moment < until → IsQuiet moment agent
 
--- where a poll says to wait it changes nothing, and all is quiet until the moment that it tells
+-- if a poll says to wait, it changes nothing, and all is quiet until the moment that it returns
 abbrev pub WaitsAsTold : Type 0
 WaitsAsTold =
     (now until : ℕ) (agent : Agent) → poll_answer now agent ≡ WaitUntil until
     → (after_poll now agent ≡ agent) × IsWait now until agent
 
--- a response without its request is not taken, and changes nothing
+-- a response to no outstanding request is not accepted, and changes nothing
 abbrev pub IgnoresUnknown : Type 0
 IgnoresUnknown =
     (moment : Option ℕ) (bytes : List ℕ) (from : SocketAddr) (agent : Agent)
     → IsResponse (class_in bytes) → at (transaction_id_field bytes) agent.transactions ≡ None
     → (takes_message bytes from agent ≡ false) × (after_message moment bytes from agent ≡ agent)
 
--- a response from another address than its request went to is not taken, and changes nothing
+-- a response from another address than its request was sent to is not accepted, and changes nothing
 abbrev pub IgnoresElsewhere : Type 0
 IgnoresElsewhere =
     (moment : Option ℕ) (bytes : List ℕ) (from : SocketAddr) (agent : Agent) (t : Transaction)
@@ -60,15 +59,15 @@ abbrev pub EndsAlike : Type 0
 EndsAlike = (settings : Settings) (start : ℕ)
     → planned_end Udp settings start ≡ planned_end Tcp settings start
 
--- over any calls, each request that was taken is outstanding or has ended once
+-- over any calls, each request that was accepted is outstanding or has ended once
 abbrev pub EndsOnce : Type 0
 EndsOnce =
     (id : ℕ) (calls : List AgentCall) (start : Agent) → start.transactions ≡ []
     → count begins id calls start
-    ≡ count ends id calls start + once (is_outstanding id (after_agent_calls calls start))
+    ≡ count ends id calls start + count_if (is_outstanding id (after_agent_calls calls start))
 
--- from a request that is sent at a moment over any calls until it ends, it is transmitted no more
--- often than its settings ever allow, and over TCP once
+-- a request is transmitted at most as often as its settings ever allow, and over TCP once: from
+-- when it is sent, over any calls, until it ends
 abbrev pub IsTransmittedAtMost : Type 0
 IsTransmittedAtMost =
     (earlier later : List AgentCall) (start : Agent) (bytes : List ℕ) (to : SocketAddr) (now : ℕ)
@@ -79,7 +78,7 @@ IsTransmittedAtMost =
     (1 + repetitions_until_end id later begun ≤ max 1 (most_transmissions_allowed id later begun))
     × (start.transport ≡ Tcp → repetitions_until_end id later begun ≡ 0)
 
--- while no counter is full, the statistics tell how many requests are outstanding
+-- while no counter is full, the statistics show how many requests are outstanding
 abbrev pub KeepsCount : Type 0
 KeepsCount =
     (call : AgentCall) (agent : Agent)

@@ -2,29 +2,27 @@
 
 -- when a request is sent again, and when it ends (RFC 8489, sections 6.2.1 and 6.2.2)
 pub mod Timing
--- requests that wait for their responses (section 6.2)
+-- outstanding requests (section 6.2)
 pub mod Transactions
 -- an agent, and what each call makes of it (sections 6.2 and 6.3)
 pub mod Agent
--- the addresses that an agent has had messages from
+-- the addresses that an agent has validated
 pub mod Peers
 -- what an agent counts
 pub mod Statistics
--- the algorithm that a request is signed with (sections 14.5 and 14.6)
-pub mod Integrity
 -- what is sent: bytes, transport and addresses
 pub mod Datagrams
 -- which requests a poll has to look at
 pub mod Deadlines
 -- requests that are lent with their agent
 pub mod Requests
--- what an agent is after a loan has ended
+-- what an agent is once the loans of a call have ended
 pub mod AgentLends
 -- what is done to an agent, call by call
 pub mod Calls
 -- what the calls of a list count
 pub mod Transcript
--- what holds of an agent whatever is done to it
+-- laws of an agent over any calls
 pub mod Laws
--- what no clause of a public call says: codings of models, views of structs, steps of the code
+-- what no clause of a public call cites: codings of models, views of structs, steps of the code
 pub mod code

@@ -11,7 +11,7 @@ use Rattle.stun_agent.specs.contracts.calls.request.StunRequestMut.{the_row as r
 use Rattle.stun_agent.specs.Agent.{Agent, with_transactions}
 use Rattle.stun_agent.specs.Transactions.{Transaction, Transactions}
 
--- where a request was sent, and the algorithm of its integrity
+-- the address that a request was sent to, and the algorithm of its integrity
 abbrev pub peer_and_integrity : Transaction → SocketAddr × Option IntegrityAlgorithm
 peer_and_integrity t = (t.to, t.integrity)
 
@@ -23,7 +23,7 @@ pub record StaysWith {A : Type 0} (old new : StunRequestMut A) (all : Transactio
   pub peer_address : new.peer_address ≡ old.peer_address
   pub integrity : new.integrity ≡ old.integrity
 
--- the agent ends as the request leaves it, and as it was where there is none
+-- the agent ends as the request leaves it, and as it was if there is none
 abbrev pub rests : (A : RattleType) → alloc.Ghosts A.Denot → MutBor Agent
     → Option (StunRequestMut A.Denot) → Fml
 rests A heap agent request =

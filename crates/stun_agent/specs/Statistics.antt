@@ -42,7 +42,7 @@ new_statistics =
       rtt_total = 0;
     }
 
--- what one call and its answer, or several, add
+-- what one call, or several, add
 pub record Tally : Type 0 where
   pub requests_sent : ℕ
   pub requests_received : ℕ
@@ -90,7 +90,7 @@ indication_sent bytes = record no_tally { indications_sent = 1; bytes_sent = byt
 abbrev pub request_received : ℕ → Tally
 request_received bytes = record no_tally { requests_received = 1; bytes_received = bytes }
 
--- a response to an outstanding request, a success or an error, and the round trip where it is known
+-- a response to an outstanding request, a success or an error, and the round trip if it is known
 abbrev pub response_received : ℕ → Option ℕ → Tally
 response_received bytes round_trip =
     record no_tally {
@@ -103,12 +103,12 @@ abbrev pub indication_received : ℕ → Tally
 indication_received bytes = record no_tally { indications_received = 1; bytes_received = bytes }
 
 -- a request ended because no response came in time
-abbrev pub timed_out : Tally
-timed_out = record no_tally { timed_out = 1 }
+abbrev pub request_timed_out : Tally
+request_timed_out = record no_tally { timed_out = 1 }
 
 -- a request was cancelled, and ended
-abbrev pub cancelled : Tally
-cancelled = record no_tally { cancelled = 1 }
+abbrev pub request_cancelled : Tally
+request_cancelled = record no_tally { cancelled = 1 }
 
 -- two tallies in one
 abbrev pub together : Tally → Tally → Tally
@@ -127,19 +127,19 @@ together first second =
       round_trips = first.round_trips ++ second.round_trips;
     }
 
--- the greatest number of 64 bits, where a counter stays
+-- the greatest number of 64 bits, at which a counter stays
 abbrev pub last_count : ℕ
 last_count = 2 ^ 64 - 1
 
--- the greatest number of 128 bits, where the sum of the round trips stays
+-- the greatest number of 128 bits, at which the sum of the round trips stays
 abbrev pub last_total : ℕ
 last_total = 2 ^ 128 - 1
 
--- a counter with so many more
-abbrev pub raised : ℕ → ℕ → ℕ
-raised counter more = min (counter + more) last_count
+-- a counter to which this many are added
+abbrev pub saturating_sum : ℕ → ℕ → ℕ
+saturating_sum counter more = min (counter + more) last_count
 
--- the least among a number that may be there and these
+-- the least among a number that may be absent and these
 abbrev pub least : Option ℕ → List ℕ → Option ℕ
 least first others = fold (λ found other. Some (option_map_or (min other) found other)) first others
 
@@ -148,49 +148,49 @@ abbrev pub greatest : Option ℕ → List ℕ → Option ℕ
 greatest first others =
     fold (λ found other. Some (option_map_or (max other) found other)) first others
 
--- the least of these, and nothing where there are none
+-- the least of these, and nothing if there are none
 abbrev pub IsLeast : List ℕ → Option ℕ → Type 0
 IsLeast numbers found =
     MatchOption found (numbers ≡ []) (λ m. Contains numbers m × All (λ n. m ≤ n) numbers)
 
--- the greatest of these, and nothing where there are none
+-- the greatest of these, and nothing if there are none
 abbrev pub IsGreatest : List ℕ → Option ℕ → Type 0
 IsGreatest numbers found =
     MatchOption found (numbers ≡ []) (λ m. Contains numbers m × All (λ n. n ≤ m) numbers)
 
 -- the statistics once this is counted too
-abbrev pub counted : Tally → Statistics → Statistics
-counted tally old =
+abbrev pub statistics_after : Tally → Statistics → Statistics
+statistics_after tally old =
     record {
-      requests_sent = raised old.requests_sent tally.requests_sent;
-      requests_received = raised old.requests_received tally.requests_received;
-      responses_sent = raised old.responses_sent tally.responses_sent;
-      responses_received = raised old.responses_received tally.responses_received;
-      indications_sent = raised old.indications_sent tally.indications_sent;
-      indications_received = raised old.indications_received tally.indications_received;
-      transactions_timed_out = raised old.transactions_timed_out tally.timed_out;
-      transactions_cancelled = raised old.transactions_cancelled tally.cancelled;
-      bytes_sent = raised old.bytes_sent tally.bytes_sent;
-      bytes_received = raised old.bytes_received tally.bytes_received;
-      rtt_count = raised old.rtt_count (length tally.round_trips);
+      requests_sent = saturating_sum old.requests_sent tally.requests_sent;
+      requests_received = saturating_sum old.requests_received tally.requests_received;
+      responses_sent = saturating_sum old.responses_sent tally.responses_sent;
+      responses_received = saturating_sum old.responses_received tally.responses_received;
+      indications_sent = saturating_sum old.indications_sent tally.indications_sent;
+      indications_received = saturating_sum old.indications_received tally.indications_received;
+      transactions_timed_out = saturating_sum old.transactions_timed_out tally.timed_out;
+      transactions_cancelled = saturating_sum old.transactions_cancelled tally.cancelled;
+      bytes_sent = saturating_sum old.bytes_sent tally.bytes_sent;
+      bytes_received = saturating_sum old.bytes_received tally.bytes_received;
+      rtt_count = saturating_sum old.rtt_count (length tally.round_trips);
       rtt_min = least old.rtt_min tally.round_trips;
       rtt_max = greatest old.rtt_max tally.round_trips;
       rtt_total = min (old.rtt_total + sum tally.round_trips) last_total;
     }
 
--- the mean round trip in nanoseconds, rounded down, where there is one
+-- the mean round trip in nanoseconds, rounded down, if there is one
 abbrev pub average : Statistics → Option ℕ
 average statistics =
     if statistics.rtt_count == 0 then None else Some (statistics.rtt_total / statistics.rtt_count)
 
--- the requests that neither a response nor an end has met
+-- the requests that had neither a response nor another end, and 0 if more have ended than were sent
 abbrev pub outstanding_requests : Statistics → ℕ
 outstanding_requests statistics =
     statistics.requests_sent
     - (statistics.responses_received + statistics.transactions_timed_out
     + statistics.transactions_cancelled)
 
--- of the requests sent, n have met neither a response, nor a time-out, nor a cancellation
+-- of the requests sent, n had neither a response, nor a time-out, nor a cancellation
 abbrev pub LeavesOutstanding : Statistics → ℕ → Type 0
 LeavesOutstanding statistics n =
     statistics.requests_sent
@@ -223,4 +223,5 @@ total tallies =
 
 -- the statistics once each of these was counted in its turn
 abbrev pub counted_in_turn : List Tally → Statistics → Statistics
-counted_in_turn tallies old = fold (λ statistics tally. counted tally statistics) old tallies
+counted_in_turn tallies old =
+    fold (λ statistics tally. statistics_after tally statistics) old tallies

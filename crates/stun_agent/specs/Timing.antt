@@ -59,7 +59,7 @@ final_wait Udp settings = settings.last_wait
 final_wait Tcp settings =
     min (settings.last_wait + sum_of_timeouts settings (repetitions settings)) max_nanos
 
--- the end of a request that is sent at a moment and never answered, and whose agent is asked at
+-- the end of a request that is sent at a moment and never answered, and whose agent is polled at
 -- each moment that it awaits: all timeouts have passed, and the final wait
 abbrev pub planned_end : TransportType → Settings → ℕ → ℕ
 planned_end transport settings start =

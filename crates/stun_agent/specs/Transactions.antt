@@ -1,4 +1,4 @@
--- Requests that wait for their responses (RFC 8489, section 6.2).
+-- Outstanding requests, which await their responses (RFC 8489, section 6.2).
 use Rattle.std.specs.Prelude.{◌≡◌, ℕ, ◌+◌, ◌-◌, ◌*◌, ◌==◌, Bool, true, false, not}
 use Rattle.std.specs.Prelude.{◌&&◌, ◌||◌, nat_lt, nat_le, if◌then◌else◌, List}
 use Rattle.std.specs.Prelude.{Option, Some, None, map, fold, find, filter, min, max}
@@ -18,8 +18,9 @@ use Rattle.stun_agent.specs.declared.state.transaction.Sending.TheVariants.{Repe
 use Rattle.stun_agent.specs.declared.state.transaction.Sending.TheVariants.{Cancelled}
 use Rattle.stun_agent.specs.Timing.{Settings, timeout, slots, final_wait}
 
--- a request that waits for its response. `slot` counts the timeouts that have passed, `last` is the
--- moment of the last one, at first that of sending, and `sending` says what is still sent of it
+-- an outstanding request. `slot` counts the timeouts that have passed: each is the slot of one
+-- retransmission. `last` is the moment of the last one, at first that of sending. `sending` says
+-- whether the request is still sent again
 pub record Transaction : Type 0 where
   pub bytes : List ℕ
   pub to : SocketAddr
@@ -30,7 +31,7 @@ pub record Transaction : Type 0 where
   pub sending : Sending
 
 -- ---- what is still sent
--- it is sent again while slots are left
+-- it is sent again while timeouts are left
 abbrev pub repeats : Sending → Bool
 repeats Repeats = true
 repeats Silent = false
@@ -64,16 +65,16 @@ new_transaction bytes to integrity settings now =
     }
 
 -- it is not sent again
-abbrev pub silenced : Transaction → Transaction
-silenced t = record t { sending = after_silence t.sending }
+abbrev pub without_retransmissions : Transaction → Transaction
+without_retransmissions t = record t { sending = after_silence t.sending }
 
 -- it is to end
-abbrev pub cancelled : Transaction → Transaction
-cancelled t = record t { sending = Cancelled }
+abbrev pub with_cancellation : Transaction → Transaction
+with_cancellation t = record t { sending = Cancelled }
 
 -- it has other settings
-abbrev pub configured : Settings → Transaction → Transaction
-configured settings t = record t { settings = settings }
+abbrev pub with_settings : Settings → Transaction → Transaction
+with_settings settings t = record t { settings = settings }
 
 -- one timeout has passed
 abbrev pub after_slot : ℕ → Transaction → Transaction
@@ -84,22 +85,24 @@ abbrev pub has_slots : TransportType → Transaction → Bool
 has_slots transport t = nat_lt t.slot (slots transport t.settings)
 
 -- the moment at which it is sent again, or ends
-abbrev pub awaited : TransportType → Transaction → ℕ
-awaited transport t =
+abbrev pub awaited_moment : TransportType → Transaction → ℕ
+awaited_moment transport t =
     moment_after t.last
     (if has_slots transport t then timeout t.settings t.slot else final_wait transport t.settings)
 
 -- its next timeout has passed
 abbrev pub is_due : TransportType → ℕ → Transaction → Bool
 is_due transport now t =
-    not (is_cancelled t.sending) && (has_slots transport t && nat_le (awaited transport t) now)
+    not (is_cancelled t.sending)
+    && (has_slots transport t && nat_le (awaited_moment transport t) now)
 
--- it is over: it ends at the next poll that comes to it
+-- it is over: it ends at the next poll that reaches it
 abbrev pub is_over : TransportType → ℕ → Transaction → Bool
 is_over transport now t =
-    is_cancelled t.sending || (not (has_slots transport t) && nat_le (awaited transport t) now)
+    is_cancelled t.sending
+    || (not (has_slots transport t) && nat_le (awaited_moment transport t) now)
 
--- the round trip of a response that is taken at a moment: only before any timeout has passed
+-- the round trip of a response that is accepted at a moment: only before any timeout has passed
 abbrev pub round_trip : Option ℕ → Transaction → Option ℕ
 round_trip moment t = if t.slot == 0 then option_map (λ now. now - t.last) moment else None
 
@@ -139,8 +142,9 @@ abbrev pub without : ℕ → Transactions → Transactions
 without id all = remove_entry (is_at (nat_cmp id)) all
 
 -- the one at an id is changed, if there is one
-abbrev pub changed : (Transaction → Transaction) → ℕ → Transactions → Transactions
-changed f id all = option_map_or (λ t. set_value (is_at (nat_cmp id)) all (f t)) (at id all) all
+abbrev pub with_change_at : (Transaction → Transaction) → ℕ → Transactions → Transactions
+with_change_at f id all =
+    option_map_or (λ t. set_value (is_at (nat_cmp id)) all (f t)) (at id all) all
 
 -- ---- ends
 -- the one of the least id among those that are over
@@ -154,14 +158,14 @@ an_hour = 3600 * 1_000_000_000
 -- the least awaited moment, or in an hour, and never before `now`
 abbrev pub wake_up : TransportType → ℕ → Transactions → ℕ
 wake_up transport now all =
-    max now (fold min (moment_after now an_hour) (map (λ e. awaited transport e.1) all))
+    max now (fold min (moment_after now an_hour) (map (λ e. awaited_moment transport e.1) all))
 
 -- the moments that those which are not cancelled await
 abbrev pub awaited_moments : TransportType → Transactions → List ℕ
 awaited_moments transport all =
-    map (λ e. awaited transport e.1) (filter (λ e. not (is_cancelled e.1.sending)) all)
+    map (λ e. awaited_moment transport e.1) (filter (λ e. not (is_cancelled e.1.sending)) all)
 
--- the lesser of a moment that may be there and another one
+-- the earlier of two moments, of which the first one may be absent
 abbrev pub sooner : Option ℕ → ℕ → Option ℕ
 sooner None moment = Some moment
 sooner (Some least) moment = Some (min least moment)
@@ -175,15 +179,15 @@ next_awaited transport all = fold sooner None (awaited_moments transport all)
 abbrev pub next_sent : TransportType → ℕ → Transactions → Option (ℕ × Transaction)
 next_sent transport now all = find (λ e. is_due transport now e.1 && repeats e.1.sending) all
 
--- an id up to the one that is sent, and any id where none is
+-- an id up to the one that is sent, and any id if none is
 abbrev pub is_reached : Option ℕ → ℕ → Bool
 is_reached sent id = option_map_or (λ last. nat_le id last) sent true
 
--- a due one up to the one that is sent takes its slot
+-- the timeout (slot) of a due one passes, up to the one that is sent
 abbrev pub slot_passed : TransportType → ℕ → Option ℕ → ℕ × Transaction → Transaction
 slot_passed transport now sent e =
     if is_reached sent e.0 && is_due transport now e.1 then after_slot now e.1 else e.1
 
--- all of them once the due slots are passed
+-- all of them once the due timeouts have passed
 abbrev pub after_slots : TransportType → ℕ → Option ℕ → Transactions → Transactions
 after_slots transport now sent all = map (λ e. (e.0, slot_passed transport now sent e)) all

@@ -1,5 +1,5 @@
--- What calls add to the statistics of an agent: a tally a call, by what the agent held before it
--- (RFC 8489, section 6.2).
+-- What calls add to the statistics of an agent: one tally for each call, by what the agent was
+-- before it (RFC 8489, section 6.2).
 use Rattle.std.specs.Prelude.{ℕ, ◌≡◌, if◌then◌else◌, List, [], ◌∷◌, length, Option, Some, None}
 use Rattle.std.specs.Option.{option_map_or, is_some}
 use Rattle.std.specs.declared.net.socket_addr.SocketAddr.{SocketAddr}
@@ -8,20 +8,21 @@ use Rattle.stun_base.specs.declared.wire.message_type.MessageClass.TheVariants.{
 use Rattle.stun_base.specs.declared.wire.message_type.MessageClass.TheVariants.{Success, Error}
 use Rattle.stun_base.specs.MessageType.{class_in}
 use Rattle.stun_agent.specs.Agent.{Agent, sending_refusal, sending_tally, request_refusal}
-use Rattle.stun_agent.specs.Agent.{answered, ended_by_poll, tally_of_end, sent_by_poll}
+use Rattle.stun_agent.specs.Agent.{answered_request, ended_by_poll, tally_of_end, sent_by_poll}
 use Rattle.stun_agent.specs.Statistics.{Tally, no_tally, request_sent, request_sent_again}
 use Rattle.stun_agent.specs.Statistics.{request_received, response_received}
-use Rattle.stun_agent.specs.Statistics.{indication_received, new_statistics, counted, total}
+use Rattle.stun_agent.specs.Statistics.{indication_received, new_statistics, statistics_after}
+use Rattle.stun_agent.specs.Statistics.{total}
 use Rattle.stun_agent.specs.Calls.{AgentCall, send, send_request, receive, validate}
 use Rattle.stun_agent.specs.Calls.{forget, poll, poll_transmit, cancel_retransmissions}
 use Rattle.stun_agent.specs.Calls.{cancel, configure, after_agent_call, after_agent_calls}
 use Rattle.stun_agent.specs.Transactions.{round_trip}
 
--- a response counts where it is taken
+-- a response counts if it is accepted
 abbrev pub tally_of_response : Option ℕ → List ℕ → SocketAddr → Agent → Tally
 tally_of_response moment bytes from agent =
     option_map_or (λ t. response_received (length bytes) (round_trip moment t))
-    (answered bytes from agent) no_tally
+    (answered_request bytes from agent) no_tally
 
 -- a message that comes, by its class
 abbrev pub tally_of_message : MessageClass → Option ℕ → List ℕ → SocketAddr → Agent → Tally
@@ -30,7 +31,7 @@ tally_of_message Indication moment bytes from agent = indication_received (lengt
 tally_of_message Success moment bytes from agent = tally_of_response moment bytes from agent
 tally_of_message Error moment bytes from agent = tally_of_response moment bytes from agent
 
--- one call. What is refused counts nothing
+-- what one call adds. A refused call adds nothing
 abbrev pub tally_of : AgentCall → Agent → Tally
 tally_of (send bytes to) agent =
     if is_some (sending_refusal agent bytes to) then no_tally
@@ -53,13 +54,13 @@ abbrev pub tallies : List AgentCall → Agent → List Tally
 tallies [] agent = []
 tallies (call ∷ calls) agent = tally_of call agent ∷ tallies calls (after_agent_call call agent)
 
--- over any calls since nothing was counted, each counter is the sum over their tallies, capped
+-- over any calls from the start of counting, each counter is the sum over their tallies, capped
 -- once, and the round trips are theirs
 abbrev pub CountsCalls : Type 0
 CountsCalls =
     (calls : List AgentCall) (agent : Agent) → agent.statistics ≡ Some new_statistics
     → (after_agent_calls calls agent).statistics
-    ≡ Some (counted (total (tallies calls agent)) new_statistics)
+    ≡ Some (statistics_after (total (tallies calls agent)) new_statistics)
 
 -- an agent that does not count never begins to
 abbrev pub CountsNothing : Type 0

@@ -7,7 +7,7 @@
 //! let mut agent = StunAgent::builder(alloc, TransportType::Udp, local_addr).build();
 //! let mut is_to_ask = true;
 //! loop {
-//!     // Ask, under a new id, signed by what the authenticator knows by now.
+//!     // Ask under a new id, signed with what the authenticator knows so far.
 //!     if is_to_ask {
 //!         let id = TransactionId::generate(&mut rng);
 //!         let request = Message::builder_request(BINDING, id, MessageWriteVec::new(alloc))?;
@@ -32,26 +32,28 @@
 //!     let id = message.transaction_id();
 //!     let Some(asked) = agent.request_transaction(id) else { continue };
 //!     if !message.is_response() || asked.peer_address() != from { continue }
-//!     // Then the authenticator is asked, and what is forged dropped.
+//!     // Ask the authenticator, and drop what is forged.
 //!     let verdict = match authenticator.validate_incoming_message(&message) {
 //!         Ok(verdict) => verdict,
-//!         Err(error) if error.reason() == LongTermClientAuthErrorReason::IntegrityFailed => continue,
-//!         Err(error) => return Err(refused(error)),
+//!         Err(error) => match error.reason() {
+//!             LongTermClientAuthErrorReason::IntegrityFailed => continue,
+//!             _ => return Err(refused(error)),
+//!         },
 //!     };
-//!     // And only then the agent.
+//!     // Only then hand it to the agent.
 //!     agent.handle_stun_message_with_time(&message, from, clock.now())?;
 //!     match verdict {
 //!         // A challenge: another request answers it.
 //!         LongTermClientValidation::ResendRequest(_) => is_to_ask = true,
-//!         // The server's word, a success or an error.
+//!         // The server's response, a success or an error.
 //!         LongTermClientValidation::Validated(_) => return Ok(message),
 //!     }
 //! }
 //! ```
 //!
-//! Socket, clock and the source of random words are the caller's. After each call but the getters
-//! ask both polls again: `poll_transmit` until it answers `None`, then `poll`. The test
-//! `client_loop` of the crate `api_tests` runs this loop.
+//! The caller owns the socket, the clock and the source of random numbers. After each call that can
+//! change the agent, call both polls again: `poll_transmit` until it returns `None`, then `poll`.
+//! The test `client_loop` of the crate `api_tests` runs this loop.
 ghost use Rattle.std.specs.Prelude.{◌≡◌};
 ghost use Rattle.std.specs.Borrow.{sem};
 ghost use Rattle.std.specs.Option.{option_copied, option_copied_mut};
@@ -73,21 +75,21 @@ use stun_base::instant::Instant;
 use stun_base::transaction_id::TransactionId;
 use stun_base::transport::TransportType;
 
-/// What `StunAgent::poll` found.
+/// What `StunAgent::poll` returns.
 #[derive(Clone, Copy, Debug, PartialEq, Eq)]
 pub enum StunAgentPollRet {
     /// The request of this id has ended: no response came in time.
     TransactionTimedOut(TransactionId),
-    /// The request of this id has ended: its user has cancelled it, or its retransmissions.
+    /// The request of this id has ended: its user cancelled it, or its retransmissions.
     TransactionCancelled(TransactionId),
-    /// Nothing has ended. Poll again at this moment, or after any other call.
+    /// Nothing has ended. Poll again at this time, or after any other call.
     WaitUntil(Instant),
 }
 
 /// A STUN agent: requests, their retransmissions and their ends.
 ///
-/// It has no socket and no clock: the caller tells moments, sends what is lent and hands in what is
-/// received.
+/// It has no socket and no clock: the caller passes the time, sends the bytes it is given, and
+/// hands in what arrives.
 #[derive(Drop)]
 #[derive_where(Debug)]
 pub struct StunAgent<A: Allocator = Global> {
@@ -122,9 +124,9 @@ impl<A: Allocator + Copy> StunAgent<A> {
     ghost use Rattle.stun_agent.specs.Agent.{new_agent};
     ghost use Rattle.stun_agent.specs.AgentLends.{lends_statistics};
 
-    /// A builder of an agent. Where nothing is set, the agent has no fixed peer, the timeouts of
-    /// `RequestRto::default()` and no statistics. Does not allocate; what the agent takes later it
-    /// asks of `alloc`.
+    /// A builder of an agent. If nothing is set, the agent has no fixed peer, the timeouts of
+    /// `RequestRto::default()` and no statistics. Does not allocate: the agent allocates later,
+    /// from `alloc`.
     pub fn builder(
         alloc: A,
         transport: TransportType,
@@ -142,36 +144,36 @@ impl<A: Allocator + Copy> StunAgent<A> {
         }
     }
 
-    /// What carries the messages.
+    /// The transport that carries the messages.
     pub fn transport(&self) -> TransportType
         ensures { result ≡ self.now.transport }
     {
         self.outstanding.transport()
     }
 
-    /// The address that messages are sent from.
+    /// The address that the agent sends from.
     pub fn local_addr(&self) -> SocketAddr
         ensures { result ≡ self.now.local_addr }
     {
         self.local_addr
     }
 
-    /// The address that the agent was told to speak to. Where it is set, nothing is sent to another
-    /// one. Receiving does not look at it.
+    /// The fixed peer, if one is set: the one address that the agent sends to. It does not restrict
+    /// whose messages are accepted.
     pub fn remote_addr(&self) -> Option<SocketAddr>
         ensures { result ≡ self.now.remote_addr }
     {
         self.remote_addr
     }
 
-    /// The statistics, where they are kept.
+    /// The statistics, if they are kept.
     pub fn stats(&self) -> Option<&StunAgentStats>
         ensures { option_copied result ≡ self.now.statistics }
     {
         self.stats.as_ref()
     }
 
-    /// The statistics, where they are kept, to be changed.
+    /// The statistics, if they are kept, to be changed.
     pub fn stats_mut(&mut self) -> Option<&mut StunAgentStats>
         ensures* lends { sem 𝓛 (lends_statistics A.row A.Allocator self.entry result) }
         ensures value { option_copied_mut result ≡ self.old.statistics }

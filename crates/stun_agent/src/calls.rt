@@ -1,7 +1,6 @@
-//! What an agent does at each call: it sends, receives, polls, and lends requests.
+//! The calls of an agent: sending, receiving, polls, and the handles of requests.
 
 pub(crate) mod builder;
-pub(crate) mod integrity;
 pub(crate) mod poll;
 pub(crate) mod receive;
 pub(crate) mod request;

@@ -10,14 +10,14 @@ use crate::state::rto::RequestRto;
 use crate::stats::StunAgentStats;
 use std::alloc::{AllocError, Allocator};
 
-/// Settings of which nothing is said are those of RFC 8489, section 6.2.1.
+/// The default settings are those of RFC 8489, section 6.2.1.
 pub fn default_retransmissions() -> RequestRto
     ensures { settings_of result ≡ default_settings }
 {
     RequestRto::default()
 }
 
-/// Statistics begin with nothing counted.
+/// In the default statistics nothing is counted.
 pub fn default_statistics() -> StunAgentStats
     ensures { result ≡ new_statistics }
 {
@@ -31,7 +31,7 @@ pub fn copied_statistics(statistics: &StunAgentStats) -> Result<StunAgentStats, 
     statistics.clone()
 }
 
-/// Copies of settings, of what polls answer and of errors are the same values.
+/// Copies of settings, of what polls return and of errors are the same values.
 pub fn copied_parts(
     settings: &RequestRto,
     answer: &StunAgentPollRet,
@@ -48,7 +48,7 @@ pub fn copied_parts(
     ))
 }
 
-/// Copies of an outstanding request that is looked at are of the same agent and request.
+/// A copy of a `StunRequest` is of the same agent and request.
 pub fn copied_request<'a, A: Allocator>(
     request: &StunRequest<'a, A>,
 ) -> Result<StunRequest<'a, A>, AllocError>
@@ -57,28 +57,28 @@ pub fn copied_request<'a, A: Allocator>(
     request.clone()
 }
 
-/// Statistics are equal where all counters and round trips are.
+/// Statistics are equal if and only if all counters and round trips are.
 pub fn are_same_statistics(one: &StunAgentStats, other: &StunAgentStats) -> bool
     ensures { IsTrue result ↔ (one.now ≡ other.now) }
 {
     one == other
 }
 
-/// Settings of retransmissions are equal field by field.
+/// Settings of retransmissions are equal if and only if all their fields are.
 pub fn are_same_settings(one: RequestRto, other: RequestRto) -> bool
     ensures { IsTrue result ↔ (one ≡ other) }
 {
     one == other
 }
 
-/// What polls answer is equal as values.
+/// Equality of what polls return is equality of values.
 pub fn is_same_poll(one: StunAgentPollRet, other: StunAgentPollRet) -> bool
     ensures { IsTrue result ↔ (one ≡ other) }
 {
     one == other
 }
 
-/// An agent's errors are equal as values.
+/// Equality of an agent's errors is equality of values.
 pub fn is_same_error(one: StunError, other: StunError) -> bool
     ensures { IsTrue result ↔ (one ≡ other) }
 {

@@ -9,23 +9,23 @@ pub enum StunError {
     /// A request of this transaction is outstanding.
     #[error("The operation is already in progress")]
     AlreadyInProgress,
-    /// Kept from the Rust crate: no call of an agent answers it.
+    /// Kept from the Rust crate: no call of an agent returns it.
     #[error("A required resource could not be found")]
     ResourceNotFound,
-    /// Kept from the Rust crate: no call of an agent answers it.
+    /// Kept from the Rust crate: no call of an agent returns it.
     #[error("An operation timed out")]
     TimedOut,
-    /// The message has a class that this call does not send, or the agent is to speak to another
-    /// address.
+    /// The call does not send messages of this class, or the agent has a fixed peer and this is
+    /// another address.
     #[error("Unexpected data was received")]
     ProtocolViolation,
-    /// Kept from the Rust crate: no call of an agent answers it.
+    /// Kept from the Rust crate: no call of an agent returns it.
     #[error("Operation was aborted")]
     Aborted,
-    /// The bytes do not begin with a header of STUN.
+    /// The bytes do not begin with a STUN header.
     #[error(transparent)]
     ParseError(StunParseError),
-    /// Kept from the Rust crate: no call of an agent answers it.
+    /// Kept from the Rust crate: no call of an agent returns it.
     #[error(transparent)]
     WriteError(StunWriteError),
     /// An allocation failed.
@@ -33,7 +33,7 @@ pub enum StunError {
     OutOfMemory,
 }
 
-/// What is to be sent has more bytes than there is room for.
+/// The bytes that are to be sent do not fit into the room that was given.
 #[derive(Clone, Copy, Debug, PartialEq, Eq, Error)]
 #[error("No room for what is to be sent")]
 pub struct NoRoom;

@@ -1,5 +1,4 @@
-//! What holds of an agent whatever is done to it. Moments may go back, and calls may come in any
-//! order.
+//! Laws of an agent over any calls. Calls may come in any order, and their time may go back.
 ghost use Rattle.std.specs.Prelude.{◌≡◌, ◌&&◌, ◌||◌, ◌↔◌, true, not};
 ghost use Rattle.std.specs.declared.net.socket_addr.SocketAddr.{SocketAddr};
 ghost use Rattle.stun_base.specs.Address.{same_address};
@@ -9,68 +8,68 @@ ghost use Rattle.stun_agent.specs.Laws.{IsTransmittedAtMost, KeepsCount};
 ghost use Rattle.stun_agent.specs.Transcript.{CountsCalls, CountsNothing};
 ghost use Rattle.stun_agent.specs.Peers.{Peers, is_peer, with_peer, without_peer};
 
-/// A request is sent again only once its timeout has passed since the moment before: since it was
-/// sent, or since its last timeout passed (RFC 8489, section 6.2.1).
+/// A request is sent again only after its timeout. The timeout runs from when the request was sent,
+/// or from when its last timeout passed (RFC 8489, section 6.2.1).
 pub fn a_request_is_never_sent_early()
     ensures { IsNeverEarly }
 {}
 
-/// Over any calls of an agent that began with no request outstanding, a request is transmitted at
-/// most so often as the greatest count of transmissions that its settings ever held, the first ones
-/// too, or once where that is 0; over TCP it is transmitted once (RFC 8489, sections 6.2.1 and
-/// 6.2.2).
+/// A request is transmitted at most as often as its settings allow (RFC 8489, section 6.2.1). The
+/// greatest count that its settings ever held decides, its first settings included; 0 counts as 1.
+/// Over TCP it is transmitted once (section 6.2.2). This holds over any calls of an agent that
+/// began with no request outstanding.
 pub fn a_request_is_transmitted_at_most_as_often_as_set()
     ensures { IsTransmittedAtMost }
 {}
 
-/// Where `poll` says to wait, it says until when: now or later, and at most an hour from now. Until
+/// If `poll` says to wait, it says until when: not before now, and at most an hour from now. Until
 /// then nothing is to be sent again and nothing ends, as long as no other call is made.
 pub fn a_poll_tells_how_long_all_is_quiet()
     ensures { WaitsAsTold }
 {}
 
-/// Over any calls of an agent that began with no request outstanding, each request that
-/// `send_request` took is outstanding, or has ended once: by a response, by a time-out, or by a
-/// cancellation.
+/// Each request that `send_request` accepted is outstanding, or has ended once: by a response, a
+/// time-out, or a cancellation. This holds over any calls of an agent that began with no request
+/// outstanding.
 pub fn a_request_ends_once()
     ensures { EndsOnce }
 {}
 
-/// A response to no outstanding request is not taken, and leaves requests, peers and statistics as
-/// they were (RFC 8489, section 6.3).
+/// A response to no outstanding request is not accepted, and leaves requests, peers and statistics
+/// unchanged (RFC 8489, section 6.3).
 pub fn a_response_to_no_request_changes_nothing()
     ensures { IgnoresUnknown }
 {}
 
-/// A response from another address than its request went to is not taken, and leaves requests,
-/// peers and statistics as they were.
+/// A response from another address than its request went to is not accepted, and leaves requests,
+/// peers and statistics unchanged.
 pub fn a_response_from_elsewhere_changes_nothing()
     ensures { IgnoresElsewhere }
 {}
 
-/// Over UDP and over TCP a request of the same settings that is sent at one moment ends at one
-/// moment (RFC 8489, section 6.2.2).
+/// Two requests are sent at the same time with the same settings, over UDP and over TCP. Both end
+/// at the same time (RFC 8489, section 6.2.2).
 pub fn both_transports_end_at_one_moment()
     ensures { EndsAlike }
 {}
 
-/// While no counter is full, each call keeps it so that the requests sent are those answered, timed
-/// out or cancelled, and those outstanding.
+/// While no counter is full, each call keeps this sum: the requests sent are those answered, timed
+/// out, cancelled or outstanding.
 pub fn statistics_tell_how_many_requests_are_outstanding()
     ensures { KeepsCount }
 {}
 
-/// Over any list of calls each counter is the number, or the sum of the bytes, of what it counts,
-/// each call telling its part by its answer (`tally_of`): sums that stop once at the greatest
-/// number, and the shortest, longest and all round trips. An agent that keeps no statistics never
-/// begins to.
+/// From zero and over any calls, each counter is the sum of what the calls add to it: a number of
+/// messages, or their bytes. What a call adds is its tally (`tally_of`). A sum stops at the
+/// greatest number. The round trips are the shortest, the longest and the sum of all. An agent that
+/// keeps no statistics never begins to.
 pub fn statistics_count_the_calls()
     ensures counts { CountsCalls }
     ensures nothing { CountsNothing }
 {}
 
-/// Validating an address adds it to the peers and no other, and two addresses are told apart where
-/// they differ, and there alone.
+/// Validating an address adds it to the peers, and no other. Addresses are equal if and only if all
+/// their parts are.
 pub fn validating_adds_one_peer()
     ensures added { (address other : SocketAddr) (peers : Peers)
         → is_peer other (with_peer address peers)
@@ -79,7 +78,7 @@ pub fn validating_adds_one_peer()
         → (same_address address other ≡ true) ↔ (address ≡ other) }
 {}
 
-/// Forgetting an address takes it from the peers and no other.
+/// Forgetting an address removes it from the peers, and no other.
 pub fn forgetting_removes_one_peer()
     ensures { (address other : SocketAddr) (peers : Peers)
         → is_peer other (without_peer address peers)

@@ -2,12 +2,14 @@
 ghost use Rattle.std.specs.Prelude.{◌≡◌, ◌≤◌, ◌+◌, ℕ, List};
 ghost use Rattle.std.specs.Option.{option_map};
 ghost use Rattle.std.specs.Duration.{as_nanos};
-ghost use Rattle.stun_agent.specs.Statistics.{Statistics, Tally, new_statistics, counted};
+ghost use Rattle.stun_agent.specs.Statistics.{Statistics, Tally, new_statistics, statistics_after};
 ghost use Rattle.stun_agent.specs.Statistics.{average, outstanding_requests, request_sent};
 ghost use Rattle.stun_agent.specs.Statistics.{request_sent_again, response_sent, indication_sent};
 ghost use Rattle.stun_agent.specs.Statistics.{request_received, response_received};
-ghost use Rattle.stun_agent.specs.Statistics.{indication_received, timed_out, cancelled};
-ghost use Rattle.stun_agent.specs.Statistics.{together, total, counted_in_turn, raised, last_count};
+ghost use Rattle.stun_agent.specs.Statistics.{indication_received, request_timed_out};
+ghost use Rattle.stun_agent.specs.Statistics.{request_cancelled};
+ghost use Rattle.stun_agent.specs.Statistics.{together, total, counted_in_turn, saturating_sum};
+ghost use Rattle.stun_agent.specs.Statistics.{last_count};
 ghost use Rattle.stun_agent.specs.Statistics.{IsLeast, IsGreatest, LeavesOutstanding, IsNotFull};
 
 use std::marker::Model;
@@ -19,8 +21,8 @@ mod tests;
 
 /// What an agent has counted since it was built, or since `reset`.
 ///
-/// Bytes are those of whole messages. No counter wraps: it stays at the greatest number of 64
-/// bits, and the sum of the round trips at the greatest number of 128 bits. No call allocates.
+/// Bytes are those of whole messages. No counter wraps: it stays at the greatest number of 64 bits.
+/// The sum of the round trips stays at the greatest number of 128 bits. No call allocates.
 #[derive(Clone, Debug, Default, Drop, PartialEq, Eq)]
 pub struct StunAgentStats {
     requests_sent: u64,
@@ -55,7 +57,7 @@ impl Model for StunAgentStats {
 }
 
 impl StunAgentStats {
-    /// Requests sent, each counted once however often it was sent again.
+    /// Requests sent. Each counts once, however often it was sent again.
     pub fn requests_sent(&self) -> u64
         ensures { result ≡ self.now.requests_sent }
     {
@@ -69,14 +71,14 @@ impl StunAgentStats {
         self.requests_received
     }
 
-    /// Responses sent, of success and of error.
+    /// Responses sent, successes and errors.
     pub fn responses_sent(&self) -> u64
         ensures { result ≡ self.now.responses_sent }
     {
         self.responses_sent
     }
 
-    /// Responses received for an outstanding request, of success and of error.
+    /// Responses received to an outstanding request, successes and errors.
     pub fn responses_received(&self) -> u64
         ensures { result ≡ self.now.responses_received }
     {
@@ -104,50 +106,51 @@ impl StunAgentStats {
         self.transactions_timed_out
     }
 
-    /// Requests that ended because the caller had cancelled them or their retransmissions.
+    /// Requests that ended because the caller cancelled them or their retransmissions.
     pub fn transactions_cancelled(&self) -> u64
         ensures { result ≡ self.now.transactions_cancelled }
     {
         self.transactions_cancelled
     }
 
-    /// Bytes of the messages sent, those of retransmissions with them.
+    /// Bytes of the messages sent, retransmissions included.
     pub fn bytes_sent(&self) -> u64
         ensures { result ≡ self.now.bytes_sent }
     {
         self.bytes_sent
     }
 
-    /// Bytes of the messages received. Responses that were not taken are left out.
+    /// Bytes of the messages received. Responses that were not accepted do not count.
     pub fn bytes_received(&self) -> u64
         ensures { result ≡ self.now.bytes_received }
     {
         self.bytes_received
     }
 
-    /// Round trips measured: of responses that came with a moment, to requests of which
-    /// `poll_transmit` had passed no timeout.
+    /// Round trips measured. A response has one if it was handed in with its time, before
+    /// `poll_transmit` passed any timeout of its request.
     pub fn rtt_count(&self) -> u64
         ensures { result ≡ self.now.rtt_count }
     {
         self.rtt_count
     }
 
-    /// The shortest round trip, where one was measured.
+    /// The shortest round trip, if any was measured.
     pub fn rtt_min(&self) -> Option<Duration>
         ensures { option_map as_nanos result ≡ self.now.rtt_min }
     {
         self.rtt_min.map(|nanos| Duration::from_nanos(nanos))
     }
 
-    /// The longest round trip, where one was measured.
+    /// The longest round trip, if any was measured.
     pub fn rtt_max(&self) -> Option<Duration>
         ensures { option_map as_nanos result ≡ self.now.rtt_max }
     {
         self.rtt_max.map(|nanos| Duration::from_nanos(nanos))
     }
 
-    /// The sum of all round trips divided by their count, rounded down to whole nanoseconds.
+    /// The mean round trip, if any was measured: the sum of all divided by their count, rounded
+    /// down to whole nanoseconds.
     pub fn rtt_average(&self) -> Option<Duration>
         ensures { option_map as_nanos result ≡ average self.now }
     {
@@ -158,8 +161,8 @@ impl StunAgentStats {
         Some(Duration::from_nanos_u128(nanos))
     }
 
-    /// The requests sent less those that were answered, timed out or were cancelled, and 0 where
-    /// that is below it, as it can be after `reset`.
+    /// The requests sent, less those that were answered, timed out or were cancelled. It is 0 if
+    /// these are more than were sent, as they can be after `reset`.
     pub fn outstanding_requests(&self) -> u64
         ensures { result ≡ outstanding_requests self.now }
     {
@@ -169,7 +172,7 @@ impl StunAgentStats {
             .saturating_sub(self.transactions_cancelled)
     }
 
-    /// Begins to count anew.
+    /// Starts to count from zero.
     pub fn reset(&mut self)
         ensures { self.new ≡ new_statistics }
     {
@@ -177,42 +180,42 @@ impl StunAgentStats {
     }
 
     pub(crate) fn count_request_sent(&mut self, bytes: u64)
-        ensures { self.new ≡ counted (request_sent bytes) self.old }
+        ensures { self.new ≡ statistics_after (request_sent bytes) self.old }
     {
         self.requests_sent = self.requests_sent.saturating_add(1);
         self.bytes_sent = self.bytes_sent.saturating_add(bytes);
     }
 
     pub(crate) fn count_request_sent_again(&mut self, bytes: u64)
-        ensures { self.new ≡ counted (request_sent_again bytes) self.old }
+        ensures { self.new ≡ statistics_after (request_sent_again bytes) self.old }
     {
         self.bytes_sent = self.bytes_sent.saturating_add(bytes);
     }
 
     pub(crate) fn count_response_sent(&mut self, bytes: u64)
-        ensures { self.new ≡ counted (response_sent bytes) self.old }
+        ensures { self.new ≡ statistics_after (response_sent bytes) self.old }
     {
         self.responses_sent = self.responses_sent.saturating_add(1);
         self.bytes_sent = self.bytes_sent.saturating_add(bytes);
     }
 
     pub(crate) fn count_indication_sent(&mut self, bytes: u64)
-        ensures { self.new ≡ counted (indication_sent bytes) self.old }
+        ensures { self.new ≡ statistics_after (indication_sent bytes) self.old }
     {
         self.indications_sent = self.indications_sent.saturating_add(1);
         self.bytes_sent = self.bytes_sent.saturating_add(bytes);
     }
 
     pub(crate) fn count_request_received(&mut self, bytes: u64)
-        ensures { self.new ≡ counted (request_received bytes) self.old }
+        ensures { self.new ≡ statistics_after (request_received bytes) self.old }
     {
         self.requests_received = self.requests_received.saturating_add(1);
         self.bytes_received = self.bytes_received.saturating_add(bytes);
     }
 
-    /// A response to an outstanding request, and its round trip in nanoseconds where that is known.
+    /// A response to an outstanding request, and its round trip in nanoseconds if that is known.
     pub(crate) fn count_response_received(&mut self, bytes: u64, round_trip: Option<u64>)
-        ensures { self.new ≡ counted (response_received bytes round_trip) self.old }
+        ensures { self.new ≡ statistics_after (response_received bytes round_trip) self.old }
     {
         self.responses_received = self.responses_received.saturating_add(1);
         self.bytes_received = self.bytes_received.saturating_add(bytes);
@@ -225,49 +228,51 @@ impl StunAgentStats {
     }
 
     pub(crate) fn count_indication_received(&mut self, bytes: u64)
-        ensures { self.new ≡ counted (indication_received bytes) self.old }
+        ensures { self.new ≡ statistics_after (indication_received bytes) self.old }
     {
         self.indications_received = self.indications_received.saturating_add(1);
         self.bytes_received = self.bytes_received.saturating_add(bytes);
     }
 
     pub(crate) fn count_timed_out(&mut self)
-        ensures { self.new ≡ counted timed_out self.old }
+        ensures { self.new ≡ statistics_after request_timed_out self.old }
     {
         self.transactions_timed_out = self.transactions_timed_out.saturating_add(1);
     }
 
     pub(crate) fn count_cancelled(&mut self)
-        ensures { self.new ≡ counted cancelled self.old }
+        ensures { self.new ≡ statistics_after request_cancelled self.old }
     {
         self.transactions_cancelled = self.transactions_cancelled.saturating_add(1);
     }
 }
 
-/// Counting is adding: one tally after another counts as both together, from the start any list
-/// of tallies counts as its sums, each capped once, with its shortest and longest round trip, and
-/// a full counter stays full.
+/// Counting is adding. One tally after another counts as both together. From the start, any list of
+/// tallies counts as its sums, each capped once, and its shortest and longest round trip. A full
+/// counter stays full.
 pub fn counting_is_adding()
     ensures both { (first second : Tally) (statistics : Statistics)
-        → counted second (counted first statistics) ≡ counted (together first second) statistics }
+        → statistics_after second (statistics_after first statistics)
+        ≡ statistics_after (together first second) statistics }
     ensures all { (tallies : List Tally) → counted_in_turn tallies new_statistics
-        ≡ counted (total tallies) new_statistics }
+        ≡ statistics_after (total tallies) new_statistics }
     ensures shortest { (tallies : List Tally)
         → IsLeast (total tallies).round_trips (counted_in_turn tallies new_statistics).rtt_min }
     ensures longest { (tallies : List Tally)
         → IsGreatest (total tallies).round_trips (counted_in_turn tallies new_statistics).rtt_max }
-    ensures full { (counter more : ℕ) → last_count ≤ counter → raised counter more ≡ last_count }
+    ensures full { (counter more : ℕ) → last_count ≤ counter
+        → saturating_sum counter more ≡ last_count }
 {}
 
-/// While no counter is full, the requests outstanding are those sent that have met neither a
-/// response, nor a time-out, nor a cancellation. Before anything is counted there are none.
+/// While no counter is full, the requests outstanding are those sent that had neither a response,
+/// nor a time-out, nor a cancellation. Before anything is counted there are none.
 pub fn outstanding_requests_are_those_left()
     ensures none { LeavesOutstanding new_statistics 0 }
     ensures left { (statistics : Statistics) (n : ℕ) → LeavesOutstanding statistics n
         → outstanding_requests statistics ≡ n }
     ensures kept { (tally : Tally) (statistics : Statistics) (before after : ℕ)
-        → LeavesOutstanding statistics before → IsNotFull (counted tally statistics)
+        → LeavesOutstanding statistics before → IsNotFull (statistics_after tally statistics)
         → before + tally.requests_sent ≡ after +
         (tally.responses_received + tally.timed_out + tally.cancelled)
-        → LeavesOutstanding (counted tally statistics) after }
+        → LeavesOutstanding (statistics_after tally statistics) after }
 {}

@@ -1,4 +1,4 @@
--- The verdict is acceptance exactly where the conjunction holds.
+-- The verdict is acceptance if and only if the conjunction holds.
 use Rattle.std.proofs.Common.{◌≡◌, ℕ, List, Option, Some, None, Bool}
 use Rattle.std.proofs.Common.{true, false, refl, sym, ◌∙◌, ap, Ok, Err}
 use Rattle.std.specs.Prelude.{cond, not, ◌||◌, ◌&&◌}
@@ -10,8 +10,8 @@ use Rattle.std.proofs.lemmas.Slice.Eq.{bytes_eq-Decides}
 use Rattle.stun_base.specs.declared.keys.algorithm.IntegrityAlgorithm.{IntegrityAlgorithm}
 use Rattle.stun_auth.specs.declared.algorithm_set.AlgorithmSet.{AlgorithmSet}
 use Rattle.stun_auth.specs.declared.feature.Feature.{Feature}
-use Rattle.stun_auth.specs.declared.server.reason.Refusal.{Refusal}
-use Rattle.stun_auth.specs.declared.server.reason.Refusal.TheVariants as Refused
+use Rattle.stun_auth.specs.declared.server.reason.VerdictRefusal.{VerdictRefusal}
+use Rattle.stun_auth.specs.declared.server.reason.VerdictRefusal.TheVariants as Refused
 use Rattle.stun_auth.specs.declared.server.reason.LongTermServerAuthErrorReason.TheVariants.{
   BadRequest,
 }
@@ -22,7 +22,8 @@ use Rattle.stun_auth.specs.Reading.{Reading, verified_under}
 use Rattle.stun_auth.specs.Registered.{Registered, RegisteredUser, UserSecret}
 use Rattle.stun_auth.specs.Registered.{key_at, key_from, key_if, key_of, user_named}
 use Rattle.stun_auth.specs.Seen.{ClientSeen}
-use Rattle.stun_auth.specs.Server.{Sight, IsAccepted, agreed, nonce_refusal, standing, verdict}
+use Rattle.stun_auth.specs.Server.{Sight, IsAccepted, agreement, nonce_refusal, current_place}
+use Rattle.stun_auth.specs.Server.{verdict}
 use Rattle.stun_auth.specs.Validation.{AcceptedWith, ValidatesAccepted, answer}
 use Rattle.stun_auth.specs.Validation.{answer_to, client_verified, is_complete}
 use Rattle.stun_auth.specs.Validation.{is_malformed, validated_or_failed, verdict_at}
@@ -32,12 +33,12 @@ use Rattle.stun_auth.proofs.VerdictLemmas.{by_steps-verdict, user_of}
 
 -- ---- from the verdict
 
-past : {X : Type 0} (b : Bool) (e : Refusal) (x : Result X Refusal) (c : X)
+past : {X : Type 0} (b : Bool) (e : VerdictRefusal) (x : Result X VerdictRefusal) (c : X)
     → cond b (Err e) x ≡ Ok c → (b ≡ false) × (x ≡ Ok c)
 past true e x c h = cc
 past false e x c h = (refl, h)
 
-passed : {X : Type 0} (b : Bool) (e : Refusal) (x : Result X Refusal) (c : X)
+passed : {X : Type 0} (b : Bool) (e : VerdictRefusal) (x : Result X VerdictRefusal) (c : X)
     → cond b x (Err e) ≡ Ok c → (b ≡ true) × (x ≡ Ok c)
 passed true e x c h = (refl, h)
 passed false e x c h = cc
@@ -50,7 +51,7 @@ front_true : (a b : Bool) → (a && b) ≡ true → a ≡ true
 front_true true b h = refl
 front_true false b h = cc
 
--- a key that a digest verifies under is that of a present user for a supported algorithm
+-- a key that a digest verifies under is that of a registered user for a supported algorithm
 pub record HasKey (users : Registered) (r : Reading) (name : List ℕ) (a : IntegrityAlgorithm) : Type
     0 where
   pub secret : UserSecret
@@ -94,7 +95,7 @@ module _ (users : Registered) (feature : Feature) (ours : List ℕ) (offered : O
     (r : Reading) (client : ClientSeen) where
   digests : (is_some r.realm ≡ true) → (theirs : List ℕ) → r.nonce ≡ Some theirs → theirs ≡ ours
       → (a : IntegrityAlgorithm)
-      → agreed r theirs offered ≡ Some a → (name : List ℕ) → name_in users feature r ≡ Some name
+      → agreement r theirs offered ≡ Some a → (name : List ℕ) → name_in users feature r ≡ Some name
       → by_digest users r name a ≡ Ok client
       → IsAccepted users feature ours offered r client
   digests realm theirs nonce same a choice name user h =
@@ -116,7 +117,7 @@ module _ (users : Registered) (feature : Feature) (ours : List ℕ) (offered : O
         key = key.key;
         realm = realm;
         nonce = nonce ∙ ap Some same;
-        algorithm = sym (ap (λ n. agreed r n offered) same) ∙ choice ∙ ap Some algorithms;
+        algorithm = sym (ap (λ n. agreement r n offered) same) ∙ choice ∙ ap Some algorithms;
         named = user_of users feature r.userhash r.username
             ∙ ap (option_and_then (user_named users)) (user ∙ ap Some names)
             ∙ ap (option_map
@@ -130,7 +131,7 @@ module _ (users : Registered) (feature : Feature) (ours : List ℕ) (offered : O
 
   by_names : (is_some r.realm ≡ true) → (theirs : List ℕ) → r.nonce ≡ Some theirs → theirs ≡ ours
       → (a : IntegrityAlgorithm)
-      → agreed r theirs offered ≡ Some a → (o : Option (List ℕ)) → name_in users feature r ≡ o
+      → agreement r theirs offered ≡ Some a → (o : Option (List ℕ)) → name_in users feature r ≡ o
       → by_name users r o a ≡ Ok client
       → IsAccepted users feature ours offered r client
   by_names realm theirs nonce same a choice None user h = cc
@@ -139,7 +140,7 @@ module _ (users : Registered) (feature : Feature) (ours : List ℕ) (offered : O
 
   by_choices : (is_some r.realm ≡ true) → (theirs : List ℕ) → r.nonce ≡ Some theirs
       → (o : Option IntegrityAlgorithm)
-      → agreed r theirs offered ≡ o → by_choice users feature ours r theirs o ≡ Ok client
+      → agreement r theirs offered ≡ o → by_choice users feature ours r theirs o ≡ Ok client
       → IsAccepted users feature ours offered r client
   by_choices realm theirs nonce None choice h = cc
   by_choices realm theirs nonce (Some a) choice h =
@@ -152,7 +153,7 @@ module _ (users : Registered) (feature : Feature) (ours : List ℕ) (offered : O
       → IsAccepted users feature ours offered r client
   by_nonces realm None nonce h = cc
   by_nonces realm (Some theirs) nonce h =
-      by_choices realm theirs nonce (agreed r theirs offered) refl h
+      by_choices realm theirs nonce (agreement r theirs offered) refl h
 
   pub accepted_from_verdict : verdict users feature ours offered r ≡ Ok client
       → IsAccepted users feature ours offered r client
@@ -186,7 +187,7 @@ name_there users feature name None None h = cc
 name_there users feature name None (Some u) h = refl
 name_there users feature name (Some k) username h = refl
 
--- the name of a present user is the name that was looked up
+-- the name of a registered user is the name that was looked up
 looked_up : (users : Registered) (user : RegisteredUser) (name : Option (List ℕ))
     → option_and_then (user_named users) name ≡ Some user → name ≡ Some user.username
 looked_up users user None h = cc
@@ -235,20 +236,20 @@ verdict_from_accepted users feature ours offered r client h =
 
 -- ---- the answer
 
--- it is an acceptance exactly where the verdict is
-client_from : (v : Result ClientSeen Refusal) (a : IntegrityAlgorithm) → answer_to v
+-- it is an acceptance if and only if the verdict is
+client_from : (v : Result ClientSeen VerdictRefusal) (a : IntegrityAlgorithm) → answer_to v
     ≡ Ok (Validated a) → (client : ClientSeen) × (v ≡ Ok client) × (client.algorithm ≡ a)
 client_from (Ok client) a h = (client, refl, cc)
 client_from (Err refusal) a h = cc
 
 pub unresponded : (s : Sight) (now : ℕ) (words : List ℕ) (r : Reading) → is_response r.class ≡ false
-    → answer s now words r ≡ answer_to (verdict_at s (standing s now words) r)
+    → answer s now words r ≡ answer_to (verdict_at s (current_place s now words) r)
 unresponded s now words r h =
     ap (λ b. cond b (validated_or_failed (client_verified s.registered r s.place))
-    (answer_to (verdict_at s (standing s now words) r))) h
+    (answer_to (verdict_at s (current_place s now words) r))) h
 
 -- what is malformed is refused, whatever nonce is current
-incomplete : (protected complete : Bool) (rest : Result ClientSeen Refusal)
+incomplete : (protected complete : Bool) (rest : Result ClientSeen VerdictRefusal)
     → (protected && not complete) ≡ true
     → cond (not protected) (Err Refused.Unauthorized)
     (cond (not complete) (Err Refused.BadRequest) rest) ≡ Err Refused.BadRequest
@@ -259,7 +260,7 @@ incomplete false complete rest h = cc
 pub malformed-answer : (s : Sight) (now : ℕ) (words : List ℕ) (r : Reading)
     → is_response r.class ≡ false → is_malformed r ≡ true → answer s now words r ≡ Err BadRequest
 malformed-answer s now words r plain malformed =
-    let p = standing s now words in
+    let p = current_place s now words in
     unresponded s now words r plain
     ∙ ap answer_to
     (sym (by_steps-verdict s.registered s.feature p.nonce p.offered r)
@@ -271,7 +272,7 @@ answer-accepted s now words r plain a = (forth, back)
   where
     forth : answer s now words r ≡ Ok (Validated a) → AcceptedWith s now words r a
     forth h =
-        let p = standing s now words in
+        let p = current_place s now words in
         let found =
         client_from (verdict_at s p r) a (sym (unresponded s now words r plain) ∙ h) in (
           found.0.name,
@@ -282,7 +283,7 @@ answer-accepted s now words r plain a = (forth, back)
 
     back : AcceptedWith s now words r a → answer s now words r ≡ Ok (Validated a)
     back one =
-        let p = standing s now words in
+        let p = current_place s now words in
         let client : ClientSeen = record { name = one.0; algorithm = a } in
         let judged =
         verdict_from_accepted s.registered s.feature p.nonce p.offered r client one.1 in

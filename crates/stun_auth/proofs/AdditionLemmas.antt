@@ -1,6 +1,6 @@
 -- What additions take, and why texts are refused.
 use Rattle.std.proofs.Common.{◌≡◌, ℕ, ◌+◌, ◌*◌, ◌<◌, ◌≤◌, List, [], ◌∷◌, ◌++◌}
-use Rattle.std.proofs.Common.{Err, true, refl, arith, length-append, lt-ltb}
+use Rattle.std.proofs.Common.{Result, Ok, Err, true, refl, arith, length-append, lt-ltb}
 use Rattle.std.specs.Prelude.{length, map}
 use Rattle.std.proofs.lemmas.List.Sums.{sum_by-append}
 use Rattle.stun_base.specs.declared.keys.algorithm.IntegrityAlgorithm.{IntegrityAlgorithm}
@@ -24,7 +24,7 @@ use Rattle.stun_types.specs.declared.attribute.password_algorithm.PasswordAlgori
 }
 use Rattle.stun_auth.specs.AddedAttribute.{nonce, realm, username}
 use Rattle.stun_auth.specs.Additions.{Addition, attribute, Page, growth_of}
-use Rattle.stun_auth.specs.Additions.{growth, added_one, is_too_long}
+use Rattle.stun_auth.specs.Additions.{growth, added_all, added_one, after, is_text_too_long}
 use Rattle.stun_auth.specs.code.Additions.{IsAdded}
 use Rattle.stun_auth.specs.ClientSigning.{algorithm_choice}
 
@@ -32,9 +32,20 @@ use Rattle.stun_auth.specs.ClientSigning.{algorithm_choice}
 pub growth-append : (xs ys : List Addition) → growth (xs ++ ys) ≡ growth xs + growth ys
 growth-append xs ys = sum_by-append growth_of xs ys
 
+-- what one list leaves is what the next begins on
+pub added_all-append : (xs ys : List Addition) (page : Page)
+    → added_all (xs ++ ys) page ≡ after (added_all xs page) (added_all ys)
+added_all-append [] ys page = refl
+added_all-append (x ∷ xs) ys page =
+    elim (added_one x page) as (λ (r : Result Page StunWriteError). after r (added_all (xs ++ ys))
+    ≡ after (after r (added_all xs)) (added_all ys)) [
+      | Ok next ↦ added_all-append xs ys next
+      | Err reason ↦ refl
+    ]
+
 -- a text past its limit is refused, whatever the writer
 pub too_long : (a : TypedValue) (page now : Page) (reserved reserved_now : ℕ)
-    (reason : StunWriteError) → reason ≡ TooLarge → is_too_long a ≡ true
+    (reason : StunWriteError) → reason ≡ TooLarge → is_text_too_long a ≡ true
     → IsAdded (attribute a ∷ []) page reserved (Err reason) now reserved_now
 unfolding added_one
 too_long a page now reserved reserved_now NotAllowed is long =
@@ -64,13 +75,13 @@ all_named_again [] = refl
 all_named_again (algorithm ∷ list) = rw (named_again algorithm, all_named_again list) refl
 
 -- texts past their limits
-pub long_nonce : (text : List ℕ) → 763 < length text → is_too_long (nonce text) ≡ true
+pub long_nonce : (text : List ℕ) → 763 < length text → is_text_too_long (nonce text) ≡ true
 long_nonce text long = let h = lt-ltb 763 (length text) long in rw h refl
 
-pub long_realm : (text : List ℕ) → 763 < length text → is_too_long (realm text) ≡ true
+pub long_realm : (text : List ℕ) → 763 < length text → is_text_too_long (realm text) ≡ true
 long_realm text long = let h = lt-ltb 763 (length text) long in rw h refl
 
-pub long_username : (text : List ℕ) → 513 < length text → is_too_long (username text) ≡ true
+pub long_username : (text : List ℕ) → 513 < length text → is_text_too_long (username text) ≡ true
 long_username text long = let h = lt-ltb 513 (length text) long in rw h refl
 
 -- a password algorithm takes four bytes

@@ -9,6 +9,7 @@ use Rattle.std.specs.List.{filter, IsDistinct}
 use Rattle.std.specs.Map.{keys_of}
 use Rattle.std.specs.Ordering.{eq_by_cmp}
 use Rattle.std.specs.List.Sorted.{IsStrictlySortedBy}
+use Rattle.std.proofs.Math.Bool.{and-false}
 use Rattle.std.proofs.lemmas.Bool.{ltb-false, le-ltb}
 use Rattle.std.proofs.lemmas.Map.Entries.{lookup-filter-values, option_filter}
 use Rattle.std.proofs.lemmas.Map.Keys.{IsDistinct-from_sorted}
@@ -19,11 +20,12 @@ use Rattle.stun_auth.specs.Forgetting.{is_forgotten, place_kept, places_kept}
 use Rattle.stun_auth.specs.Places.{PlacesSeen}
 use Rattle.stun_auth.specs.code.Places.{place_seen, places_seen}
 use Rattle.stun_auth.specs.Seen.{ClientSeen, PlaceSeen}
-use Rattle.stun_auth.proofs.Addresses.{address_total, address_exact}
+use Rattle.stun_base.proofs.Addresses.{address_total, address_exact}
 use Rattle.stun_auth.proofs.Maps.{get-seen}
 use Rattle.stun_auth.proofs.PlaceMaps.{derived, derived_is}
 
-same_place : (now : ℕ) (o : Option PlaceSeen)
+-- a place that is kept is what is kept of it
+pub same_place : (now : ℕ) (o : Option PlaceSeen)
     → cond (is_some (place_kept now o)) o None ≡ place_kept now o
 same_place now None = refl
 same_place now (Some place) = by (is_forgotten now place)
@@ -77,14 +79,10 @@ places_seen-filter {A = A} now es sorted =
 kept-client : (now : ℕ) (place : PlaceSeen) → IsSome place.client → is_forgotten now place ≡ false
 kept-client now place there = ap (λ b. not b && nat_lt place.expires now) there
 
-no_more : (b : Bool) → (b && false) ≡ false
-no_more true = refl
-no_more false = refl
-
 kept-current : (now : ℕ) (place : PlaceSeen) → now ≤ place.expires → is_forgotten now place ≡ false
 kept-current now place later =
     ap (λ b. is_none place.client && b) (le-ltb place.expires now later)
-    ∙ no_more (is_none place.client)
+    ∙ and-false (is_none place.client)
 
 -- such a place stays
 pub kept_at : (now : ℕ) (places : PlacesSeen) (a : SocketAddr) (place : PlaceSeen)

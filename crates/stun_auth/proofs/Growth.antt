@@ -21,13 +21,15 @@ use Rattle.stun_types.specs.Grammar.{spelled_attribute}
 use Rattle.stun_types.specs.Message.{with_length}
 use Rattle.stun_types.specs.Writing.{covered_at_end, integrity_attribute, with_integrity}
 use Rattle.stun_auth.specs.Additions.{Addition, attribute, integrity, Page, growth_of, growth}
-use Rattle.stun_auth.specs.Additions.{refusal_of, with_addition, unless_refused, added_one, after}
-use Rattle.stun_auth.specs.Additions.{added_all, UnlessMemory, WantsMemory, page_in, written}
+use Rattle.stun_auth.specs.Additions.{addition_refusal, with_addition, page_unless_refused}
+use Rattle.stun_auth.specs.Additions.{added_one, after}
+use Rattle.stun_auth.specs.Additions.{added_all, UnlessMemory, WantsMemory, page_in, written_page}
 use Rattle.stun_auth.specs.Registered.{Registered, key_at}
 use Rattle.stun_auth.specs.Seen.{ClientSeen, PlaceSeen}
 use Rattle.stun_auth.specs.Server.{Sight}
 use Rattle.stun_auth.specs.ServerSigning.{additions_at, attributes_for, digest_for, digest_under}
-use Rattle.stun_auth.specs.ServerSigning.{growth_at, protected, protected_for, protection_growth}
+use Rattle.stun_auth.specs.ServerSigning.{growth_at, signed_under_key, protected_for}
+use Rattle.stun_auth.specs.ServerSigning.{protection_growth}
 use Rattle.stun_auth.specs.ServerSigning.{server_additions, server_growth, server_signed, signed_at}
 use Rattle.stun_auth.proofs.AdditionLemmas.{growth-append}
 
@@ -76,7 +78,8 @@ length-with_addition (attribute a) message long = length-with_attribute message 
 length-with_addition (integrity algorithm key) message long =
     length-with_integrity message algorithm key long
 
-not_refused : (refusal : Option StunWriteError) (page q : Page) → unless_refused refusal page ≡ Ok q
+not_refused : (refusal : Option StunWriteError) (page q : Page)
+    → page_unless_refused refusal page ≡ Ok q
     → page ≡ q
 not_refused None page q h = cc
 not_refused (Some reason) page q h = cc
@@ -85,7 +88,7 @@ grown_one : (x : Addition) (p q : Page) → 20 ≤ length p.bytes → added_one 
     → length q.bytes ≡ length p.bytes + growth_of x
 unfolding added_one
 grown_one x p q long h =
-    let same = not_refused (refusal_of x p) _ q h in
+    let same = not_refused (addition_refusal x p) _ q h in
     ap (λ (r : Page). length r.bytes) (sym same) ∙ length-with_addition x p.bytes long
 
 grown_after : (x : Addition) (list : List Addition) (p q : Page) → 20 ≤ length p.bytes
@@ -114,7 +117,8 @@ grown_all (x ∷ list) p q long h =
 pub grown_answer : {W : Type 0} (bytes : W → List ℕ) (room : W → ℕ) (list : List Addition)
     (before : W) (Q : Type 0) (result : Result W StunWriteError)
     → 20 ≤ length (bytes before)
-    → UnlessMemory result (written bytes room result ≡ added_all list (page_in bytes room before)) Q
+    → UnlessMemory result
+    (written_page bytes room result ≡ added_all list (page_in bytes room before)) Q
     → IfOk result (λ signed. length (bytes signed) ≡ length (bytes before) + growth list)
 grown_answer bytes room list before Q (Ok signed) long h =
     grown_all list (page_in bytes room before) (page_in bytes room signed) long (sym h)
@@ -123,7 +127,7 @@ grown_answer bytes room list before Q (Err reason) long h = tt
 -- ---- the server
 
 grown_protected : (a : IntegrityAlgorithm) (key : Option (List ℕ)) (m q : Page)
-    → 20 ≤ length m.bytes → protected a key m ≡ Ok q
+    → 20 ≤ length m.bytes → signed_under_key a key m ≡ Ok q
     → length q.bytes ≡ length m.bytes + attribute_length (digest_length a)
 grown_protected a None m q long h = absurd (let clash : Err IntegrityFailed ≡ Ok q = h in cc)
 grown_protected a (Some key) m q long h =

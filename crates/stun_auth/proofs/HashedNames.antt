@@ -16,6 +16,7 @@ use Rattle.std.specs.BTreeMap.{is_at}
 use Rattle.std.specs.BTreeMap.Range.{IsLeBy}
 use Rattle.std.specs.BTreeSet.{BTreeSet, IsKeyRangeOf, UpdatesBy, contains}
 use Rattle.std.specs.Set.{KeepsOthers}
+use Rattle.std.proofs.Math.Bool.{or-true}
 use Rattle.std.proofs.lemmas.Map.Lookups.{exact_bytes, exact_pairs}
 use Rattle.stun_auth.specs.Registered.{name_cmp}
 use Rattle.stun_auth.specs.code.NameIndex.{IsLeastNamed, hashed_cmp, hashed_seen, names_hashed}
@@ -108,10 +109,6 @@ record IsKept {A : Type 0} (pairs : List (List ℕ × String A)) (q : List ℕ �
   pub pair : List ℕ × String A
   pub seen_is : q ≡ hashed_seen pair
   pub there : list_any (is_at (pair_cmp pair)) pairs ≡ true
-
-or-true : (b : Bool) → (b || true) ≡ true
-or-true true = refl
-or-true false = refl
 
 kept : {A : Type 0} (pairs : List (List ℕ × String A)) (q : List ℕ × List ℕ) → has pairs q ≡ true
     → IsKept pairs q

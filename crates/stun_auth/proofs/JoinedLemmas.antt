@@ -27,8 +27,8 @@ use Rattle.stun_types.specs.Writing.{integrity_attribute, integrity_kind, is_set
 use Rattle.stun_types.specs.Writing.{length_with, max_length, signing_refusal, size_refusal}
 use Rattle.stun_types.specs.Writing.{with_attribute, with_integrity}
 use Rattle.stun_auth.specs.Additions.{Addition, attribute, integrity, Page, added_all}
-use Rattle.stun_auth.specs.Additions.{added_one, after, growth_of, is_too_long}
-use Rattle.stun_auth.specs.Additions.{refusal_of, unless_refused, with_addition}
+use Rattle.stun_auth.specs.Additions.{added_one, after, growth_of, is_text_too_long}
+use Rattle.stun_auth.specs.Additions.{addition_refusal, page_unless_refused, with_addition}
 use Rattle.stun_auth.specs.Joined.{HasAdded, IsTyped, Protection, added_members}
 
 -- what writing one attribute does
@@ -81,7 +81,7 @@ roomy message room n none =
 
 -- what holds of an attribute that is not refused
 pub record IsTaken (message : List ℕ) (room : ℕ) (a : TypedValue) : Type 0 where
-  pub short : is_too_long a ≡ false
+  pub short : is_text_too_long a ≡ false
   pub apart : is_set_apart a.kind ≡ false
   pub unsigned : has_integrity_attribute message ≡ false
   pub fresh : has_kind a.kind (walk message) ≡ false
@@ -89,7 +89,7 @@ pub record IsTaken (message : List ℕ) (room : ℕ) (a : TypedValue) : Type 0 w
   pub enough : attribute_length (length a.value) ≤ room
 
 pub taken : (message : List ℕ) (room : ℕ) (a : TypedValue)
-    → refusal_of (attribute a) (record { bytes = message; room = room }) ≡ None
+    → addition_refusal (attribute a) (record { bytes = message; room = room }) ≡ None
     → IsTaken message room a
 taken message room a none =
     let n = length a.value in
@@ -98,7 +98,8 @@ taken message room a none =
     then Some (AttributeExists (record { 0 = a.kind })) else size in
     let unsigned : Option StunWriteError = if has_integrity_attribute message
     then Some MessageIntegrityExists else fresh in
-    let long = unrefused (is_too_long a) TooLarge (attribute_refusal message room a.kind n) none in
+    let long = unrefused (is_text_too_long a) TooLarge
+    (attribute_refusal message room a.kind n) none in
     let apart = unrefused (is_set_apart a.kind) NotAllowed unsigned long.1 in
     let signed = unrefused (has_integrity_attribute message) MessageIntegrityExists fresh apart.1 in
     let exists =
@@ -114,8 +115,8 @@ taken message room a none =
     }
 
 -- a digest that is not refused
-pub record IsTakenDigest (message : List ℕ) (room : ℕ) (algorithm : IntegrityAlgorithm) : Type
-    0 where
+pub record IsTakenDigest (message : List ℕ) (room : ℕ)
+    (algorithm : IntegrityAlgorithm) : Type 0 where
   pub unsigned : has_integrity_attribute message ≡ false
   pub fits : length_with message (digest_length algorithm) ≤ max_length
   pub enough : attribute_length (digest_length algorithm) ≤ room
@@ -131,31 +132,50 @@ taken_digest message room algorithm none =
       enough = roomy message room (digest_length algorithm) signed.1;
     }
 
+-- what a success says of its first addition: it is not refused, and the others succeed after it
+pub record FirstIsAdded (addition : Addition) (others : List Addition)
+    (page done : Page) : Type 0 where
+  pub accepted : addition_refusal addition page ≡ None
+  pub rest :
+      added_all others
+      (record {
+        bytes = with_addition addition page.bytes;
+        room = page.room - growth_of addition;
+      })
+      ≡ Ok done
+
+pub first_added : (addition : Addition) (others : List Addition) (page done : Page)
+    → added_all (addition ∷ others) page ≡ Ok done → FirstIsAdded addition others page done
+unfolding added_one
+first_added addition others page done is =
+    let next : Page =
+    record { bytes = with_addition addition page.bytes; room = page.room - growth_of addition } in
+    elim (addition_refusal addition page) as (λ refused. addition_refusal addition page ≡ refused
+    → after (page_unless_refused refused next) (added_all others) ≡ Ok done
+    → FirstIsAdded addition others page done) [
+      | None ↦ λ accepted is. record { accepted = accepted; rest = is }
+      | Some reason ↦ λ refused is. absurd (cc)
+    ] refl is
+
 -- nothing is added after a digest
 refused_behind : (addition : Addition) (message : List ℕ) (room : ℕ)
     → has_integrity_attribute message ≡ true
-    → refusal_of addition (record { bytes = message; room = room }) ≡ None → ⊥
+    → addition_refusal addition (record { bytes = message; room = room }) ≡ None → ⊥
 refused_behind (attribute a) message room signed none =
     let unsigned = (taken message room a none).unsigned in cc
 refused_behind (integrity algorithm key) message room signed none =
     let unsigned = (taken_digest message room algorithm none).unsigned in cc
 
-pub all_refused_behind : (addition : Addition) (others : List Addition) (message : List ℕ)
+all_refused_behind : (addition : Addition) (others : List Addition) (message : List ℕ)
     (room : ℕ) (page : Page) → has_integrity_attribute message ≡ true
     → added_all (addition ∷ others) (record { bytes = message; room = room }) ≡ Ok page → ⊥
-unfolding added_one
 all_refused_behind addition others message room page signed done =
     let here : Page = record { bytes = message; room = room } in
-    let next : Page =
-    record { bytes = with_addition addition message; room = room - growth_of addition } in
-    elim (refusal_of addition here) as (λ refused. refusal_of addition here ≡ refused
-    → after (unless_refused refused next) (added_all others) ≡ Ok page → ⊥) [
-      | None ↦ λ accepted done. refused_behind addition message room signed accepted
-      | Some reason ↦ λ refused done. cc
-    ] refl done
+    refused_behind addition message room signed
+    (first_added addition others here page done).accepted
 
 -- the integrity attribute is there once it is added
-pub signed_has : (message longer : List ℕ) (algorithm : IntegrityAlgorithm) (value : List ℕ)
+signed_has : (message longer : List ℕ) (algorithm : IntegrityAlgorithm) (value : List ℕ)
     → walk longer
     ≡ walk message ++ (length message, record { kind = integrity_kind algorithm; value = value })
     ∷ [] → IsOpen message → has_integrity_attribute longer ≡ true
@@ -217,7 +237,7 @@ nothing laws message is_open = record {
   visible_is = sym (append-nil (visible message));
   integrity_is = ap is_some (none_open laws message is_open);
   is_open = λ none. is_open;
-  digest_stands = λ p some. absurd (cc);
+  digest_verifies = λ p some. absurd (cc);
 }
 
 -- one attribute, and then others
@@ -235,7 +255,7 @@ attribute_first message longer a others one rest = record {
       (added_members (with_attribute message a) others));
   integrity_is = rest.integrity_is;
   is_open = rest.is_open;
-  digest_stands = rest.digest_stands;
+  digest_verifies = rest.digest_verifies;
 }
 
 -- a digest at the end
@@ -258,37 +278,47 @@ digest_last laws message algorithm key is_open fits =
       visible_is = one.visible_is;
       integrity_is = ap is_some found;
       is_open = λ none. absurd (cc);
-      digest_stands = λ p is.
+      digest_verifies = λ p is.
           let same : record { algorithm = algorithm; key = key } ≡ p =
           (let h : Some (record { algorithm = algorithm; key = key }) ≡ Some p = is in cc) in
           subst (λ (q : Protection). verified_algorithm (with_integrity message algorithm key) q.key
           ≡ Some q.algorithm) same stood;
     }
 
+-- no addition succeeds after a digest
+pub behind_digest : WritingLaws → (algorithm : IntegrityAlgorithm) (key : List ℕ)
+    (other : Addition) (others : List Addition) (message : List ℕ) (room : ℕ) (page : Page)
+    → IsOpen message
+    → added_all (integrity algorithm key ∷ other ∷ others)
+    (record { bytes = message; room = room }) ≡ Ok page → ⊥
+behind_digest laws algorithm key other others message room page is_open done =
+    let here : Page = record { bytes = message; room = room } in
+    let first = first_added (integrity algorithm key) (other ∷ others) here page done in
+    let one =
+    laws.signed message algorithm key is_open
+    (taken_digest message room algorithm first.accepted).fits in
+    let signed =
+    signed_has message (with_integrity message algorithm key) algorithm
+    (integrity_attribute message algorithm key).value one.walk_is is_open in
+    all_refused_behind other others (with_integrity message algorithm key)
+    (room - growth_of (integrity algorithm key)) page signed first.rest
+
 -- what successful additions leave
 pub has_added : WritingLaws → (list : List Addition) (message : List ℕ) (room : ℕ) (page : Page)
     → IsOpen message → AllByRecursion IsTyped list
     → added_all list (record { bytes = message; room = room }) ≡ Ok page
     → HasAdded message list page.bytes
-unfolding added_one
 has_added laws [] message room page is_open typed done =
     let same : record { bytes = message; room = room } ≡ page = cc in
     subst (λ (p : Page). HasAdded message [] p.bytes) same (nothing laws message is_open)
 has_added laws (attribute a ∷ others) message room page is_open typed done =
     let here : Page = record { bytes = message; room = room } in
-    let next : Page =
-    record { bytes = with_attribute message a; room = room - growth_of (attribute a) } in
-    elim (refusal_of (attribute a) here) as (λ refused. refusal_of (attribute a) here ≡ refused
-    → after (unless_refused refused next) (added_all others) ≡ Ok page
-    → HasAdded message (attribute a ∷ others) page.bytes) [
-      | None ↦ λ accepted done.
-          let facts = taken message room a accepted in
-          let addable : IsAddable message a = record { kind = typed.0; value = facts.fits } in
-          attribute_first message page.bytes a others (laws.added message a is_open addable)
-          (has_added laws others (with_attribute message a) (room - growth_of (attribute a)) page
-          (laws.opened message a is_open addable facts.apart) typed.1 done)
-      | Some reason ↦ λ refused done. absurd (cc)
-    ] refl done
+    let first = first_added (attribute a) others here page done in
+    let facts = taken message room a first.accepted in
+    let addable : IsAddable message a = record { kind = typed.0; value = facts.fits } in
+    attribute_first message page.bytes a others (laws.added message a is_open addable)
+    (has_added laws others (with_attribute message a) (room - growth_of (attribute a)) page
+    (laws.opened message a is_open addable facts.apart) typed.1 first.rest)
 has_added laws (integrity algorithm key ∷ []) message room page is_open typed done =
     let here : Page = record { bytes = message; room = room } in
     let next : Page =
@@ -296,59 +326,29 @@ has_added laws (integrity algorithm key ∷ []) message room page is_open typed 
       bytes = with_integrity message algorithm key;
       room = room - growth_of (integrity algorithm key);
     } in
-    elim (refusal_of (integrity algorithm key) here) as (λ refused.
-    refusal_of (integrity algorithm key) here ≡ refused
-    → after (unless_refused refused next) (added_all []) ≡ Ok page
-    → HasAdded message (integrity algorithm key ∷ []) page.bytes) [
-      | None ↦ λ accepted done.
-          let same : next ≡ page = cc in
-          subst (λ (p : Page). HasAdded message (integrity algorithm key ∷ []) p.bytes) same
-          (digest_last laws message algorithm key is_open
-          (taken_digest message room algorithm accepted).fits)
-      | Some reason ↦ λ refused done. absurd (cc)
-    ] refl done
+    let first = first_added (integrity algorithm key) [] here page done in
+    let same : next ≡ page = let h : added_all [] next ≡ Ok page = first.rest in cc in
+    subst (λ (p : Page). HasAdded message (integrity algorithm key ∷ []) p.bytes) same
+    (digest_last laws message algorithm key is_open
+    (taken_digest message room algorithm first.accepted).fits)
 has_added laws (integrity algorithm key ∷ other ∷ others) message room page is_open typed done =
-    let here : Page = record { bytes = message; room = room } in
-    let next : Page =
-    record {
-      bytes = with_integrity message algorithm key;
-      room = room - growth_of (integrity algorithm key);
-    } in
-    elim (refusal_of (integrity algorithm key) here) as (λ refused.
-    refusal_of (integrity algorithm key) here ≡ refused
-    → after (unless_refused refused next) (added_all (other ∷ others)) ≡ Ok page
-    → HasAdded message (integrity algorithm key ∷ other ∷ others) page.bytes) [
-      | None ↦ λ accepted done.
-          let one =
-          laws.signed message algorithm key is_open
-          (taken_digest message room algorithm accepted).fits in
-          let signed =
-          signed_has message (with_integrity message algorithm key) algorithm
-          (integrity_attribute message algorithm key).value one.walk_is is_open in
-          absurd (all_refused_behind other others (with_integrity message algorithm key)
-          (room - growth_of (integrity algorithm key)) page signed done)
-      | Some reason ↦ λ refused done. absurd (cc)
-    ] refl done
+    absurd (behind_digest laws algorithm key other others message room page is_open done)
 
 -- a text that is added is within its limit
 abbrev pub IsShort : Addition → Type 0
-IsShort (attribute a) = is_too_long a ≡ false
+IsShort (attribute a) = is_text_too_long a ≡ false
 IsShort (integrity algorithm key) = Unit {0}
 
-short_one : (addition : Addition) (page : Page) → refusal_of addition page ≡ None → IsShort addition
+short_one : (addition : Addition) (page : Page) → addition_refusal addition page ≡ None
+    → IsShort addition
 short_one (attribute a) page accepted = (taken page.bytes page.room a accepted).short
 short_one (integrity algorithm key) page accepted = tt
 
 pub all_short : (list : List Addition) (page done : Page) → added_all list page ≡ Ok done
     → AllByRecursion IsShort list
-unfolding added_one
 all_short [] page done is = tt
 all_short (addition ∷ others) page done is =
-    let next : Page =
-    record { bytes = with_addition addition page.bytes; room = page.room - growth_of addition } in
-    elim (refusal_of addition page) as (λ refused. refusal_of addition page ≡ refused
-    → after (unless_refused refused next) (added_all others) ≡ Ok done
-    → AllByRecursion IsShort (addition ∷ others)) [
-      | None ↦ λ accepted is. (short_one addition page accepted, all_short others next done is)
-      | Some reason ↦ λ refused is. absurd (cc)
-    ] refl is
+    let first = first_added addition others page done is in (
+      short_one addition page first.accepted,
+      all_short others _ done first.rest,
+    )

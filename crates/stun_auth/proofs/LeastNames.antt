@@ -1,4 +1,4 @@
--- The index of the present users, and whom it finds.
+-- The index of the registered users, and whom it finds.
 use Rattle.std.proofs.Common.{◌≡◌, ℕ, List, [], ◌∷◌, map, Bool, true, false, not, T, ◌&&◌}
 use Rattle.std.proofs.Common.{◌||◌, refl, sym, ◌∙◌, ap, subst, true≢false, Option, Some, None}
 use Rattle.std.specs.Prelude.{cond}
@@ -16,11 +16,12 @@ use Rattle.std.specs.FinSet.{contains-empty, contains-insert, contains-remove, s
 use Rattle.std.specs.List.{find, list_any}
 use Rattle.std.specs.Option.{is_some}
 use Rattle.std.specs.Str.{bytes_eq}
+use Rattle.std.proofs.Math.Bool.{or-true}
 use Rattle.std.proofs.lemmas.Map.Lookups.{exact_bytes}
 use Rattle.std.proofs.lemmas.Map.Text.{is_eq-slice_cmp}
 use Rattle.std.proofs.lemmas.Slice.Eq.{bytes_eq-Decides}
-use Rattle.stun_base.specs.Keys.{userhash}
-use Rattle.stun_auth.specs.code.NameIndex.{HashedNames, IsIndexOf, IsLeastNamed, hashed_cmp}
+use Rattle.stun_base.specs.Keys.{userhash_of}
+use Rattle.stun_auth.specs.code.NameIndex.{HashedNames, IsNameIndexOf, IsLeastNamed, hashed_cmp}
 use Rattle.stun_auth.specs.Registered.{UserSecret, name_cmp}
 use Rattle.stun_auth.proofs.HashedNames.{hashed_exact, hashed_total}
 
@@ -29,11 +30,12 @@ use Rattle.stun_auth.proofs.HashedNames.{hashed_exact, hashed_total}
 abbrev pub Secrets : Type 0
 Secrets = fin.FinMap name_cmp UserSecret
 
-pub indexed_none : (realm : List ℕ) → IsIndexOf realm fin.empty set.empty
+pub indexed_none : (realm : List ℕ) → IsNameIndexOf realm fin.empty set.empty
 indexed_none realm =
     λ hash name. contains-empty hashed_cmp (hash, name)
-    ∙ neither (bytes_eq hash (userhash name realm))
-    ∙ ap (λ o. bytes_eq hash (userhash name realm) && is_some o) (sym (fin.get-empty name_cmp name))
+    ∙ neither (bytes_eq hash (userhash_of name realm))
+    ∙ ap (λ o. bytes_eq hash (userhash_of name realm) && is_some o)
+    (sym (fin.get-empty name_cmp name))
   where
     neither : (b : Bool) → false ≡ (b && false)
     neither true = refl
@@ -79,19 +81,21 @@ there-removed secrets name q =
 -- the pairs of a name are of its hash
 module _ (realm name : List ℕ) where
   joined : (hash q : List ℕ) (there : Bool)
-      → ((bytes_eq hash (userhash name realm) && bytes_eq q name)
-      || (bytes_eq hash (userhash q realm) && there))
-      ≡ (bytes_eq hash (userhash q realm) && (bytes_eq q name || there))
+      → ((bytes_eq hash (userhash_of name realm) && bytes_eq q name)
+      || (bytes_eq hash (userhash_of q realm) && there))
+      ≡ (bytes_eq hash (userhash_of q realm) && (bytes_eq q name || there))
   joined hash q there =
       elim (bytes_eq q name) as (λ b. bytes_eq q name ≡ b
-      → ((bytes_eq hash (userhash name realm) && b) || (bytes_eq hash (userhash q realm) && there))
-      ≡ (bytes_eq hash (userhash q realm) && (b || there))) [
+      → ((bytes_eq hash (userhash_of name realm) && b)
+      || (bytes_eq hash (userhash_of q realm) && there))
+      ≡ (bytes_eq hash (userhash_of q realm) && (b || there))) [
         | true ↦ λ same.
-            ap (λ n. (bytes_eq hash (userhash n realm) && true)
-            || (bytes_eq hash (userhash q realm) && there)) (sym ((bytes_eq-Decides q name).0 same))
-            ∙ absorbed (bytes_eq hash (userhash q realm)) there
-        | false ↦ λ _. ap (λ b. b || (bytes_eq hash (userhash q realm) && there))
-            (none (bytes_eq hash (userhash name realm)))
+            ap (λ n. (bytes_eq hash (userhash_of n realm) && true)
+            || (bytes_eq hash (userhash_of q realm) && there))
+            (sym ((bytes_eq-Decides q name).0 same))
+            ∙ absorbed (bytes_eq hash (userhash_of q realm)) there
+        | false ↦ λ _. ap (λ b. b || (bytes_eq hash (userhash_of q realm) && there))
+            (none (bytes_eq hash (userhash_of name realm)))
       ] refl
     where
       absorbed : (b c : Bool) → ((b && true) || (b && c)) ≡ (b && true)
@@ -103,20 +107,22 @@ module _ (realm name : List ℕ) where
       none false = refl
 
   parted : (hash q : List ℕ) (there : Bool)
-      → (not (bytes_eq hash (userhash name realm) && bytes_eq q name)
-      && (bytes_eq hash (userhash q realm) && there))
-      ≡ (bytes_eq hash (userhash q realm) && (not (bytes_eq q name) && there))
+      → (not (bytes_eq hash (userhash_of name realm) && bytes_eq q name)
+      && (bytes_eq hash (userhash_of q realm) && there))
+      ≡ (bytes_eq hash (userhash_of q realm) && (not (bytes_eq q name) && there))
   parted hash q there =
       elim (bytes_eq q name) as (λ b. bytes_eq q name ≡ b
-      → (not (bytes_eq hash (userhash name realm) && b)
-      && (bytes_eq hash (userhash q realm) && there))
-      ≡ (bytes_eq hash (userhash q realm) && (not b && there))) [
+      → (not (bytes_eq hash (userhash_of name realm) && b)
+      && (bytes_eq hash (userhash_of q realm) && there))
+      ≡ (bytes_eq hash (userhash_of q realm) && (not b && there))) [
         | true ↦ λ same.
-            ap (λ n. not (bytes_eq hash (userhash n realm) && true)
-            && (bytes_eq hash (userhash q realm) && there)) (sym ((bytes_eq-Decides q name).0 same))
-            ∙ excluded (bytes_eq hash (userhash q realm)) there
+            ap (λ n. not (bytes_eq hash (userhash_of n realm) && true)
+            && (bytes_eq hash (userhash_of q realm) && there))
+            (sym ((bytes_eq-Decides q name).0 same))
+            ∙ excluded (bytes_eq hash (userhash_of q realm)) there
         | false ↦ λ _.
-            other (bytes_eq hash (userhash name realm)) (bytes_eq hash (userhash q realm) && there)
+            other (bytes_eq hash (userhash_of name realm))
+            (bytes_eq hash (userhash_of q realm) && there)
       ] refl
     where
       excluded : (b c : Bool) → (not (b && true) && (b && c)) ≡ (b && false)
@@ -128,22 +134,25 @@ module _ (realm name : List ℕ) where
       other false c = refl
 
   pub indexed-inserted : (secrets : Secrets) (names : HashedNames) (secret : UserSecret)
-      → IsIndexOf realm secrets names
-      → IsIndexOf realm (fin.insert secrets name secret)
-      (set.insert names (userhash name realm, name))
+      → IsNameIndexOf realm secrets names
+      → IsNameIndexOf realm (fin.insert secrets name secret)
+      (set.insert names (userhash_of name realm, name))
   indexed-inserted secrets names secret indexed = λ hash q.
-      contains-insert hashed_total names (userhash name realm, name) (hash, q)
-      ∙ (λ i. same_pair hash q (userhash name realm) name i || indexed hash q i)
+      contains-insert hashed_total names (userhash_of name realm, name) (hash, q)
+      ∙ (λ i. same_pair hash q (userhash_of name realm) name i || indexed hash q i)
       ∙ joined hash q (fin.contains_key secrets q)
-      ∙ ap (λ b. bytes_eq hash (userhash q realm) && b) (sym (there-inserted secrets name secret q))
+      ∙ ap (λ b. bytes_eq hash (userhash_of q realm) && b)
+      (sym (there-inserted secrets name secret q))
 
-  pub indexed-removed : (secrets : Secrets) (names : HashedNames) → IsIndexOf realm secrets names
-      → IsIndexOf realm (fin.remove secrets name) (set.remove names (userhash name realm, name))
+  pub indexed-removed : (secrets : Secrets) (names : HashedNames)
+      → IsNameIndexOf realm secrets names
+      → IsNameIndexOf realm (fin.remove secrets name)
+      (set.remove names (userhash_of name realm, name))
   indexed-removed secrets names indexed = λ hash q.
-      contains-remove hashed_total names (userhash name realm, name) (hash, q)
-      ∙ (λ i. not (same_pair hash q (userhash name realm) name i) && indexed hash q i)
+      contains-remove hashed_total names (userhash_of name realm, name) (hash, q)
+      ∙ (λ i. not (same_pair hash q (userhash_of name realm) name i) && indexed hash q i)
       ∙ parted hash q (fin.contains_key secrets q)
-      ∙ ap (λ b. bytes_eq hash (userhash q realm) && b) (sym (there-removed secrets name q))
+      ∙ ap (λ b. bytes_eq hash (userhash_of q realm) && b) (sym (there-removed secrets name q))
 
 -- a pair that was not there goes again without a trace
 pub insert-undone : (names : HashedNames) (pair : List ℕ × List ℕ) → set.contains names pair ≡ false
@@ -161,26 +170,26 @@ insert-undone names pair absent = same_set hashed_total hashed_exact _ _ (λ q.
 
 -- the index as the calls leave it
 module _ (realm name : List ℕ) (secrets : Secrets) (names : HashedNames)
-    (indexed : IsIndexOf realm secrets names) (hash copy : List ℕ)
-    (hash_is : hash ≡ userhash name realm) (copy_is : copy ≡ name) where
-  same_names : ◌≡◌ {A = List ℕ × List ℕ} (hash, copy) (userhash name realm, name)
+    (indexed : IsNameIndexOf realm secrets names) (hash copy : List ℕ)
+    (hash_is : hash ≡ userhash_of name realm) (copy_is : copy ≡ name) where
+  same_names : ◌≡◌ {A = List ℕ × List ℕ} (hash, copy) (userhash_of name realm, name)
   same_names = λ i. (hash_is i, copy_is i)
 
   pub index_after_add : (secret : UserSecret) (new_secrets : Secrets) (new_names : HashedNames)
       → new_secrets ≡ fin.insert secrets name secret → new_names ≡ set.insert names (hash, copy)
-      → IsIndexOf realm new_secrets new_names
+      → IsNameIndexOf realm new_secrets new_names
   index_after_add secret new_secrets new_names secrets_are names_are =
-      subst (λ (p : Secrets). IsIndexOf realm p new_names) (sym secrets_are)
-      (subst (IsIndexOf realm (fin.insert secrets name secret))
+      subst (λ (p : Secrets). IsNameIndexOf realm p new_names) (sym secrets_are)
+      (subst (IsNameIndexOf realm (fin.insert secrets name secret))
       (sym (names_are ∙ ap (set.insert names) same_names))
       (indexed-inserted realm name secrets names secret indexed))
 
   pub index_after_remove : (new_secrets : Secrets) (new_names : HashedNames)
       → new_secrets ≡ fin.remove secrets name → new_names ≡ set.remove names (hash, copy)
-      → IsIndexOf realm new_secrets new_names
+      → IsNameIndexOf realm new_secrets new_names
   index_after_remove new_secrets new_names secrets_are names_are =
-      subst (λ (p : Secrets). IsIndexOf realm p new_names) (sym secrets_are)
-      (subst (IsIndexOf realm (fin.remove secrets name))
+      subst (λ (p : Secrets). IsNameIndexOf realm p new_names) (sym secrets_are)
+      (subst (IsNameIndexOf realm (fin.remove secrets name))
       (sym (names_are ∙ ap (set.remove names) same_names))
       (indexed-removed realm name secrets names indexed))
 
@@ -191,11 +200,11 @@ module _ (realm name : List ℕ) (secrets : Secrets) (names : HashedNames)
       undone_is
       ∙ (λ i. set.remove ((added_is ∙ ap (set.insert names) same_names) i) (hash_is i, name))
       ∙ insert-undone names (
-        userhash name realm,
+        userhash_of name realm,
         name,
-      ) (indexed (userhash name realm) name
-      ∙ ap (λ b. bytes_eq (userhash name realm) (userhash name realm) && b) absent
-      ∙ none (bytes_eq (userhash name realm) (userhash name realm)))
+      ) (indexed (userhash_of name realm) name
+      ∙ ap (λ b. bytes_eq (userhash_of name realm) (userhash_of name realm) && b) absent
+      ∙ none (bytes_eq (userhash_of name realm) (userhash_of name realm)))
     where
       none : (b : Bool) → (b && false) ≡ false
       none true = refl
@@ -210,10 +219,6 @@ first false b p = p
 second : (a b : Bool) → T (a && b) → T b
 second true b p = p
 second false b p = absurd p
-
-or-true : (b : Bool) → (b || true) ≡ true
-or-true true = refl
-or-true false = refl
 
 module _ {K X : Type 0} {R : K → K → Ordering} (o : IsTotalOrder R) (same : IsAntisymmetric R)
     (test : K → Bool) where
@@ -285,38 +290,40 @@ both : (a b : Bool) → (a && b) ≡ true → (a ≡ true) × (b ≡ true)
 both true b h = (refl, h)
 both false b h = (h, absurd (true≢false (sym h)))
 
--- the least name of a hash is that of the first present user with the hash
+-- the least name of a hash is that of the first registered user with the hash
 pub name_found : (realm : List ℕ) (secrets : Secrets) (names : HashedNames) (hash : List ℕ)
-    (found : Option (List ℕ)) → IsIndexOf realm secrets names → IsLeastNamed names hash found
-    → found ≡ find (λ name. bytes_eq (userhash name realm) hash) (fin.keys secrets)
+    (found : Option (List ℕ)) → IsNameIndexOf realm secrets names → IsLeastNamed names hash found
+    → found ≡ find (λ name. bytes_eq (userhash_of name realm) hash) (fin.keys secrets)
 name_found realm secrets names hash found indexed least = by found least
   where
     turned : (name : List ℕ)
-        → bytes_eq (userhash name realm) hash ≡ bytes_eq hash (userhash name realm)
-    turned name = nat_list_eq_equiv.symm (userhash name realm) hash
+        → bytes_eq (userhash_of name realm) hash ≡ bytes_eq hash (userhash_of name realm)
+    turned name = nat_list_eq_equiv.symm (userhash_of name realm) hash
 
     there : (name : List ℕ) → list_any (eq_by_cmp name_cmp name) (fin.keys secrets) ≡ true
-        → set.contains names (hash, name) ≡ bytes_eq (userhash name realm) hash
+        → set.contains names (hash, name) ≡ bytes_eq (userhash_of name realm) hash
     there name present =
         indexed hash name
-        ∙ ap (λ b. bytes_eq hash (userhash name realm) && b)
+        ∙ ap (λ b. bytes_eq hash (userhash_of name realm) && b)
         (contains_key-keys secrets name ∙ present)
-        ∙ alone (bytes_eq hash (userhash name realm)) ∙ sym (turned name)
+        ∙ alone (bytes_eq hash (userhash_of name realm)) ∙ sym (turned name)
       where
         alone : (b : Bool) → (b && true) ≡ b
         alone true = refl
         alone false = refl
 
     by : (found : Option (List ℕ)) → IsLeastNamed names hash found
-        → found ≡ find (λ name. bytes_eq (userhash name realm) hash) (fin.keys secrets)
+        → found ≡ find (λ name. bytes_eq (userhash_of name realm) hash) (fin.keys secrets)
     by None none =
-        sym (find-none nat_list_cmp_total exact_bytes (λ name. bytes_eq (userhash name realm) hash)
+        sym (find-none nat_list_cmp_total exact_bytes
+        (λ name. bytes_eq (userhash_of name realm) hash)
         (fin.entries secrets) (λ name present. sym (there name present) ∙ none name))
     by (Some name) first =
         let is =
-        both (bytes_eq hash (userhash name realm)) (fin.contains_key secrets name)
+        both (bytes_eq hash (userhash_of name realm)) (fin.contains_key secrets name)
         (sym (indexed hash name) ∙ first.0) in
-        sym (find-least nat_list_cmp_total exact_bytes (λ name. bytes_eq (userhash name realm) hash)
+        sym (find-least nat_list_cmp_total exact_bytes
+        (λ name. bytes_eq (userhash_of name realm) hash)
         (fin.entries secrets) (entries_sorted secrets) name
         (sym (contains_key-keys secrets name) ∙ is.1) (turned name ∙ is.0)
         (λ other present passes. first.1 other (there other present ∙ passes)))

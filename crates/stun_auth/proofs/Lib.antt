@@ -1,6 +1,5 @@
 pub mod Accepting
 pub mod AdditionLemmas
-pub mod Addresses
 pub mod Drawn
 pub mod Forgotten
 pub mod Growth
@@ -8,6 +7,7 @@ pub mod HashedNames
 pub mod JoinedLemmas
 pub mod JoinedReading
 pub mod JudgingLemmas
+pub mod KeptPlaces
 pub mod LeastNames
 pub mod ListSteps
 pub mod Maps

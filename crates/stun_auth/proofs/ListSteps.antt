@@ -1,8 +1,9 @@
 -- One step of a walk over a list by index.
 use Rattle.std.proofs.Common.{◌≡◌, ℕ, zero, suc, ◌+◌, Bool, true, false, List, []}
 use Rattle.std.proofs.Common.{◌∷◌, ◌++◌, take, drop, Some, None, refl, ap, add-one}
-use Rattle.std.specs.Prelude.{map, find}
+use Rattle.std.specs.Prelude.{cond, map, find}
 use Rattle.std.specs.List.{slice_get}
+use Rattle.std.specs.Option.{IfSome}
 
 from_at : {X : Type 0} (xs : List X) (i : ℕ) (x : X) → slice_get xs i ≡ Some x
     → drop i xs ≡ x ∷ drop (suc i) xs
@@ -59,3 +60,14 @@ pub find-past : {X Y : Type 0} (p : Y → Bool) (f : X → Y) (xs : List X) (i :
     → slice_get xs i ≡ Some x → p (f x) ≡ false
     → find p (map f (drop i xs)) ≡ find p (map f (drop (i + 1) xs))
 find-past p f xs i x h fails = rw (drop-at xs i x h, fails) refl
+
+-- what `find` finds passes
+pub find-passes : {X : Type 0} (test : X → Bool) (list : List X)
+    → IfSome (find test list) (λ x. test x ≡ true)
+find-passes test [] = tt
+find-passes {X = X} test (first ∷ list) = by (test first) refl (find-passes test list)
+  where
+    by : (b : Bool) → test first ≡ b → IfSome (find test list) (λ x. test x ≡ true)
+        → IfSome (cond b (Some first) (find test list)) (λ x. test x ≡ true)
+    by true is rest = is
+    by false is rest = rest

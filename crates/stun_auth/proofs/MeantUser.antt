@@ -1,5 +1,5 @@
--- A message is judged by the one user whom it means: that user is found where nobody else is
--- present, and the verdict looks at no other.
+-- A message is judged by the one user whom it means. That user is found where there is no other
+-- user, and the verdict looks at no other.
 use Rattle.std.proofs.Common.{◌≡◌, ℕ, List, [], ◌∷◌, map, length, Option, Some}
 use Rattle.std.proofs.Common.{None, Bool, true, false, refl, sym, ◌∙◌, ap, arith}
 use Rattle.std.specs.Prelude.{cond, not, ◌&&◌, ◌||◌}
@@ -11,26 +11,28 @@ use Rattle.std.specs.FinMap as fin
 use Rattle.std.specs.Str.{bytes_eq}
 use Rattle.std.specs.declared.net.socket_addr.SocketAddr.{SocketAddr}
 use Rattle.std.specs.declared.result.Result.{Result}
-use Rattle.stun_base.specs.Keys.{userhash}
+use Rattle.stun_base.specs.Keys.{userhash_of}
 use Rattle.stun_base.specs.MessageType.{is_response}
 use Rattle.stun_auth.specs.declared.algorithm_set.AlgorithmSet.{AlgorithmSet}
 use Rattle.stun_auth.specs.declared.feature.Feature.{Feature}
-use Rattle.stun_auth.specs.declared.server.reason.Refusal.{Refusal}
-use Rattle.stun_auth.specs.declared.server.reason.Refusal.TheVariants.{Unauthorized, BadRequest}
+use Rattle.stun_auth.specs.declared.server.reason.VerdictRefusal.{VerdictRefusal}
+use Rattle.stun_auth.specs.declared.server.reason.VerdictRefusal.TheVariants.{Unauthorized}
+use Rattle.stun_auth.specs.declared.server.reason.VerdictRefusal.TheVariants.{BadRequest}
 use Rattle.stun_base.specs.declared.keys.algorithm.IntegrityAlgorithm.TheVariants.{Sha1}
 use Rattle.stun_auth.specs.Feature.{is_possible}
-use Rattle.stun_auth.specs.Handed.{Named, by_name, by_hash, just, meant, named_at}
+use Rattle.stun_auth.specs.Handed.{Named, by_name, by_hash, just, meant_user, named_at}
 use Rattle.stun_auth.specs.Handed.{named_in, only_user, user_of, with_users}
 use Rattle.stun_auth.specs.Reading.{Reading, verified_under}
 use Rattle.stun_auth.specs.Registered.{Registered, RegisteredUser, UserSecret}
 use Rattle.stun_auth.specs.Registered.{key_of, name_cmp, user_named, user_with_hash}
 use Rattle.stun_auth.specs.Seen.{ClientSeen, PlaceSeen}
-use Rattle.stun_auth.specs.Server.{Sight, agreed, named, named_by, nonce_refusal}
-use Rattle.stun_auth.specs.Server.{or_refused, standing, their_nonce, verdict, verified_for}
-use Rattle.stun_auth.specs.Validation.{ServerSeen, after_message, answer, answer_to}
+use Rattle.stun_auth.specs.Server.{Sight, agreement, named_user, named_by, nonce_refusal}
+use Rattle.stun_auth.specs.Server.{or_refused, current_place, their_nonce, verdict, verified_for}
+use Rattle.stun_auth.specs.Validation.{ServerSeen, after_validation, answer, answer_to}
 use Rattle.stun_auth.specs.Validation.{client_verified, is_malformed, put_place}
 use Rattle.stun_auth.specs.Validation.{sight, validated_or_failed, verdict_at}
 use Rattle.stun_auth.specs.Validation.{verified_for_client, with_accepted}
+use Rattle.stun_auth.proofs.ListSteps.{find-passes}
 
 -- ---- nobody, or one user
 
@@ -68,23 +70,11 @@ named_alone users name = by (fin.get users.secrets name)
     by None = ap (with_secret name) (fin.get-empty name_cmp name)
     by (Some secret) = ap (with_secret name) (found name secret)
 
--- what `find` finds passes
-passes : (test : List ℕ → Bool) (names : List (List ℕ))
-    → IfSome (find test names) (λ name. test name ≡ true)
-passes test [] = tt
-passes test (name ∷ names) = by (test name) refl (passes test names)
-  where
-    by : (b : Bool) → test name ≡ b → IfSome (find test names) (λ name. test name ≡ true)
-        → IfSome (cond b (Some name) (find test names)) (λ name. test name ≡ true)
-    by true is rest = is
-    by false is rest = rest
-
 -- whether a name has a hash
 abbrev has_hash : Registered → List ℕ → List ℕ → Bool
-has_hash users hash name = bytes_eq (userhash name users.realm) hash
+has_hash users hash name = bytes_eq (userhash_of name users.realm) hash
 
--- the first of these names that has a hash, as a user of a realm where one user is present or
--- nobody
+-- the first of these names that has a hash, as a user of a realm with one user or none
 abbrev first_in : Registered → Option RegisteredUser → List ℕ → List (List ℕ × UserSecret)
     → Option RegisteredUser
 first_in users user hash es =
@@ -105,7 +95,7 @@ pub hashed_alone : (users : Registered) (hash : List ℕ)
     → user_with_hash (just users (user_with_hash users hash)) hash ≡ user_with_hash users hash
 hashed_alone users hash =
     by (find (has_hash users hash) (fin.keys users.secrets))
-    (passes (has_hash users hash) (fin.keys users.secrets))
+    (find-passes (has_hash users hash) (fin.keys users.secrets))
   where
     by : (o : Option (List ℕ)) → IfSome o (λ name. has_hash users hash name ≡ true)
         → user_with_hash (just users (option_and_then (user_named users) o)) hash
@@ -135,37 +125,38 @@ named_by-alone users feature (Some hash) username = by (is_possible feature)
 
 -- the table of refusals, of the user who is named
 abbrev rows : Registered → List ℕ → Option AlgorithmSet → Reading → Option RegisteredUser
-    → List (Bool × Refusal)
+    → List (Bool × VerdictRefusal)
 rows users ours offered r user =
     (is_none r.integrity, Unauthorized)
     ∷ (is_none r.realm || is_none r.nonce, BadRequest)
     ∷ (is_none r.userhash && is_none r.username, BadRequest)
-    ∷ (is_none (agreed r (their_nonce r) offered), BadRequest)
+    ∷ (is_none (agreement r (their_nonce r) offered), BadRequest)
     ∷ (not (bytes_eq (their_nonce r) ours), nonce_refusal ours (their_nonce r))
     ∷ (
       is_none (option_and_then (λ a. option_and_then (verified_for users r a) user)
-          (agreed r (their_nonce r) offered)),
+          (agreement r (their_nonce r) offered)),
       Unauthorized,
     )
     ∷ []
 
 abbrev verdict_of : Registered → List ℕ → Option AlgorithmSet → Reading → Option RegisteredUser
-    → Result ClientSeen Refusal
+    → Result ClientSeen VerdictRefusal
 verdict_of users ours offered r user =
     or_refused
-    (option_map_or (λ (row : Bool × Refusal). Some row.1)
-    (find (λ (row : Bool × Refusal). row.0) (rows users ours offered r user)) None)
+    (option_map_or (λ (row : Bool × VerdictRefusal). Some row.1)
+    (find (λ (row : Bool × VerdictRefusal). row.0) (rows users ours offered r user)) None)
     (record {
       name = option_map_or (λ (u : RegisteredUser). u.username) user [];
-      algorithm = unwrap_or (agreed r (their_nonce r) offered) Sha1;
+      algorithm = unwrap_or (agreement r (their_nonce r) offered) Sha1;
     })
 
 -- the verdict looks at the users for the one who is named alone
-verdict-named : (users : Registered) (user : Option RegisteredUser) (feature : Feature)
+verdict-named_user : (users : Registered) (user : Option RegisteredUser) (feature : Feature)
     (ours : List ℕ) (offered : Option AlgorithmSet) (r : Reading)
-    → named (just users user) feature r ≡ named users feature r
+    → named_user (just users user) feature r ≡ named_user users feature r
     → verdict (just users user) feature ours offered r ≡ verdict users feature ours offered r
-verdict-named users user feature ours offered r same = ap (verdict_of users ours offered r) same
+verdict-named_user users user feature ours offered r same =
+    ap (verdict_of users ours offered r) same
 
 -- of a response: the client of its address
 client-alone : (users : Registered) (r : Reading) (place : Option PlaceSeen)
@@ -193,50 +184,52 @@ abbrev who_by : ServerSeen → SocketAddr → Reading → Bool → Option Named
 who_by s from r response =
     cond response (named_at (fin.get s.places from)) (named_in r.userhash r.username s.feature)
 
-verdict-meant : (s : ServerSeen) (from : SocketAddr) (place : PlaceSeen) (r : Reading)
+verdict-meant_user : (s : ServerSeen) (from : SocketAddr) (place : PlaceSeen) (r : Reading)
     → verdict_at (alone_at s from (who_by s from r false)) place r
     ≡ verdict_at (sight s from) place r
-verdict-meant s from place r =
-    verdict-named s.registered _ s.feature place.nonce place.offered r
+verdict-meant_user s from place r =
+    verdict-named_user s.registered _ s.feature place.nonce place.offered r
     (named_by-alone s.registered s.feature r.userhash r.username)
 
-pub answer-meant : (s : ServerSeen) (from : SocketAddr) (now : ℕ) (words : List ℕ) (r : Reading)
-    → answer (sight (with_users s (just s.registered (meant s from r))) from) now words r
+pub answer-meant_user : (s : ServerSeen) (from : SocketAddr) (now : ℕ) (words : List ℕ)
+    (r : Reading)
+    → answer (sight (with_users s (just s.registered (meant_user s from r))) from) now words r
     ≡ answer (sight s from) now words r
-answer-meant s from now words r = by (is_response r.class)
+answer-meant_user s from now words r = by (is_response r.class)
   where
     by : (b : Bool)
         → cond b
         (validated_or_failed (client_verified (alone s.registered (who_by s from r b)) r
         (fin.get s.places from)))
         (answer_to (verdict_at (alone_at s from (who_by s from r b))
-        (standing (sight s from) now words) r))
+        (current_place (sight s from) now words) r))
         ≡ cond b (validated_or_failed (client_verified s.registered r (fin.get s.places from)))
-        (answer_to (verdict_at (sight s from) (standing (sight s from) now words) r))
+        (answer_to (verdict_at (sight s from) (current_place (sight s from) now words) r))
     by true = ap validated_or_failed (client-alone s.registered r (fin.get s.places from))
-    by false = ap answer_to (verdict-meant s from (standing (sight s from) now words) r)
+    by false = ap answer_to (verdict-meant_user s from (current_place (sight s from) now words) r)
 
-pub after_message-meant : (s : ServerSeen) (from : SocketAddr) (now : ℕ) (words : List ℕ)
+pub after_validation-meant_user : (s : ServerSeen) (from : SocketAddr) (now : ℕ) (words : List ℕ)
     (r : Reading)
-    → after_message (with_users s (just s.registered (meant s from r))) from now words r
-    ≡ with_users (after_message s from now words r) (just s.registered (meant s from r))
-after_message-meant s from now words r =
+    → after_validation (with_users s (just s.registered (meant_user s from r))) from now words r
+    ≡ with_users (after_validation s from now words r) (just s.registered (meant_user s from r))
+after_validation-meant_user s from now words r =
     ap (λ (place : Option PlaceSeen). record s {
-      registered = just s.registered (meant s from r);
+      registered = just s.registered (meant_user s from r);
       places = put_place s.places from place;
     }) (by (is_response r.class) (is_malformed r))
   where
     by : (b m : Bool)
         → cond (not (b || m))
-        (Some (with_accepted (standing (sight s from) now words)
-        (verdict_at (alone_at s from (who_by s from r b)) (standing (sight s from) now words) r)))
+        (Some (with_accepted (current_place (sight s from) now words)
+        (verdict_at (alone_at s from (who_by s from r b))
+        (current_place (sight s from) now words) r)))
         (fin.get s.places from)
         ≡ cond (not (b || m))
-        (Some (with_accepted (standing (sight s from) now words)
-        (verdict_at (sight s from) (standing (sight s from) now words) r)))
+        (Some (with_accepted (current_place (sight s from) now words)
+        (verdict_at (sight s from) (current_place (sight s from) now words) r)))
         (fin.get s.places from)
     by true m = refl
     by false true = refl
     by false false =
-        ap (λ v. Some (with_accepted (standing (sight s from) now words) v))
-        (verdict-meant s from (standing (sight s from) now words) r)
+        ap (λ v. Some (with_accepted (current_place (sight s from) now words) v))
+        (verdict-meant_user s from (current_place (sight s from) now words) r)

@@ -97,14 +97,14 @@ asks_by_cases true false = (refl, refl)
 asks_by_cases false true = (refl, refl)
 asks_by_cases false false = (refl, refl)
 
--- it asks for algorithms exactly where Sha256 is supported
+-- it asks for algorithms if and only if Sha256 is supported
 pub asks_for_algorithms-nonce_of : (algorithms : AlgorithmSet) (feature : Feature) (words : List ℕ)
     → asks_for_algorithms (nonce_of algorithms feature words) ≡ contains Sha256 algorithms
 asks_for_algorithms-nonce_of algorithms feature words =
     ap (first_has 0x80) (bits-nonce_of algorithms feature words)
     ∙ (asks_by_cases (contains Sha256 algorithms) (is_possible feature)).0
 
--- it asks for hashed names exactly where these are possible
+-- it asks for hashed names if and only if these are possible
 pub asks_for_userhash-nonce_of : (algorithms : AlgorithmSet) (feature : Feature) (words : List ℕ)
     → asks_for_userhash (nonce_of algorithms feature words) ≡ is_possible feature
 asks_for_userhash-nonce_of algorithms feature words =

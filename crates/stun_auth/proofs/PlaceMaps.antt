@@ -20,7 +20,7 @@ use Rattle.stun_auth.specs.Seen.{PlaceSeen}
 use Rattle.stun_auth.specs.Places.{PlacesSeen, at_place}
 use Rattle.stun_auth.specs.code.Places.{place_seen, places_seen}
 use Rattle.stun_auth.specs.declared.server.places.Place.{Place}
-use Rattle.stun_auth.proofs.Addresses.{address_total, address_exact}
+use Rattle.stun_base.proofs.Addresses.{address_total, address_exact}
 use Rattle.stun_auth.proofs.Maps.{get-seen, seen_inserted, seen_removed}
 
 -- the order that `SocketAddr` derives

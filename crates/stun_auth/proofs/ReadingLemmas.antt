@@ -5,6 +5,7 @@ use mathlib.Core.List.{reverse-cons}
 use Rattle.std.specs.Prelude.{cond, reverse, ◌==◌, ◌||◌}
 use Rattle.std.specs.List.{find}
 use Rattle.std.specs.Option.{is_some, option_and_then, option_map, option_or}
+use Rattle.std.proofs.Math.Bool.{or-false}
 use Rattle.std.proofs.lemmas.List.Folds.{find-append}
 use Rattle.stun_base.specs.Attributes.{ERROR_CODE, MESSAGE_INTEGRITY}
 use Rattle.stun_base.specs.Attributes.{MESSAGE_INTEGRITY_SHA256, NONCE, PASSWORD_ALGORITHM}
@@ -14,7 +15,7 @@ use Rattle.stun_types.specs.Integrity.{first_of, is_integrity}
 use Rattle.stun_types.specs.Walk.{Member}
 use Rattle.stun_auth.specs.Reading.{last_of}
 use Rattle.stun_auth.specs.declared.message.reading.LastAttributes.{LastAttributes}
-use Rattle.stun_auth.specs.code.LastAttributes.{last_attributes, with_attribute}
+use Rattle.stun_auth.specs.code.LastAttributes.{last_attributes, with_member}
 
 -- the last of a type with one member more in front
 pub last_of-cons : (kind : ℕ) (m : Member) (members : List Member) → last_of kind (m ∷ members)
@@ -80,7 +81,7 @@ passed kind m members found =
     ∙ last_of-passed (m.1.kind == kind) m (last_of kind members) found
 
 pub noted-passed : (last : LastAttributes) (m : Member) (members : List Member)
-    → noted_from last (m ∷ members) ≡ noted_from (with_attribute last m) members
+    → noted_from last (m ∷ members) ≡ noted_from (with_member last m) members
 noted-passed last m members = λ i. record {
   error_code = passed ERROR_CODE m members last.error_code i;
   realm = passed REALM m members last.realm i;
@@ -102,10 +103,6 @@ noted-passed last m members = λ i. record {
 or_none : {X : Type 0} (o : Option X) → option_or o None ≡ o
 or_none None = refl
 or_none (Some x) = refl
-
-or_false : (b : Bool) → (b || false) ≡ b
-or_false true = refl
-or_false false = refl
 
 abbrev pub nothing_noted : LastAttributes
 nothing_noted = record {
@@ -134,7 +131,7 @@ noted-first members = λ i. record {
   password_algorithm = or_none (option_map (λ m. m.1) (last_of PASSWORD_ALGORITHM members)) i;
   integrity = first_of MESSAGE_INTEGRITY members;
   integrity_sha256 = first_of MESSAGE_INTEGRITY_SHA256 members;
-  has_integrity = or_false (is_some (find (λ m. is_integrity m.1) members)) i;
+  has_integrity = or-false (is_some (find (λ m. is_integrity m.1) members)) i;
 }
 
 -- reading the attribute of a member

@@ -9,25 +9,25 @@ use Rattle.std.specs.FinMap as fin
 use Rattle.std.specs.Str.{bytes_eq}
 use Rattle.std.specs.declared.net.socket_addr.SocketAddr.{SocketAddr}
 use Rattle.std.specs.declared.result.Result.{Result}
-use Rattle.stun_base.specs.Keys.{userhash}
+use Rattle.stun_base.specs.Keys.{userhash_of}
 use Rattle.stun_base.specs.MessageType.{is_response}
 use Rattle.stun_base.specs.declared.keys.algorithm.IntegrityAlgorithm.{IntegrityAlgorithm}
 use Rattle.stun_base.specs.declared.wire.error.StunWriteError.{StunWriteError}
 use Rattle.stun_auth.specs.declared.algorithm_set.AlgorithmSet.{AlgorithmSet}
 use Rattle.stun_auth.specs.declared.feature.Feature.{Feature}
-use Rattle.stun_auth.specs.declared.server.reason.Refusal.{Refusal}
-use Rattle.stun_auth.specs.declared.server.reason.Refusal.TheVariants as Refused
+use Rattle.stun_auth.specs.declared.server.reason.VerdictRefusal.{VerdictRefusal}
+use Rattle.stun_auth.specs.declared.server.reason.VerdictRefusal.TheVariants as Refused
 use Rattle.stun_auth.specs.Additions.{Addition, Page, added_all, after}
 use Rattle.stun_auth.specs.Feature.{is_possible}
 use Rattle.stun_auth.specs.Handed.{with_users}
 use Rattle.stun_auth.specs.Reading.{Reading, verified_under}
 use Rattle.stun_auth.specs.Registered.{Registered, UserSecret, key_at, name_cmp}
 use Rattle.stun_auth.specs.Seen.{ClientSeen, PlaceSeen}
-use Rattle.stun_auth.specs.Server.{agreed, nonce_refusal, standing, verdict}
+use Rattle.stun_auth.specs.Server.{agreement, nonce_refusal, current_place, verdict}
 use Rattle.stun_auth.specs.ServerSigning.{additions_at, after_signing, attributes_for}
-use Rattle.stun_auth.specs.ServerSigning.{digest_for, digest_under, protected, protected_for}
+use Rattle.stun_auth.specs.ServerSigning.{digest_for, digest_under, signed_under_key, protected_for}
 use Rattle.stun_auth.specs.ServerSigning.{server_additions, server_signed, signed_at}
-use Rattle.stun_auth.specs.Validation.{ServerSeen, after_message, answer, answer_to}
+use Rattle.stun_auth.specs.Validation.{ServerSeen, after_validation, answer, answer_to}
 use Rattle.stun_auth.specs.Validation.{client_verified, is_complete, needs_nonce, put_place, sight}
 use Rattle.stun_auth.specs.Validation.{validated_or_failed, verified_for_client, with_accepted}
 use Rattle.stun_auth.specs.code.Judging.{name_by, name_in}
@@ -62,14 +62,14 @@ module _ (users : Registered) (x y : fin.FinMap name_cmp UserSecret)
   name-same feature None username = refl
   name-same feature (Some hash) username =
       ap (λ (ns : List (List ℕ)). cond (is_possible feature)
-      (find (λ name. bytes_eq (userhash name users.realm) hash) ns) None) names
+      (find (λ name. bytes_eq (userhash_of name users.realm) hash) ns) None) names
 
   module _ (feature : Feature) (ours : List ℕ) (offered : Option AlgorithmSet) (r : Reading) where
     nonce-same : (theirs : List ℕ) (a : IntegrityAlgorithm)
         → by_nonce (knowing users x) feature ours r theirs a
         ≡ by_nonce (knowing users y) feature ours r theirs a
     nonce-same theirs a =
-        ap (λ (v : Result ClientSeen Refusal).
+        ap (λ (v : Result ClientSeen VerdictRefusal).
         cond (bytes_eq theirs ours) v (Err (nonce_refusal ours theirs)))
         (ap (λ o. by_name (knowing users x) r o a) (name-same feature r.userhash r.username)
         ∙ named-same r (name_in (knowing users y) feature r) a)
@@ -84,12 +84,12 @@ module _ (users : Registered) (x y : fin.FinMap name_cmp UserSecret)
         → by_attributes (knowing users x) feature ours offered r o
         ≡ by_attributes (knowing users y) feature ours offered r o
     attributes-same None = refl
-    attributes-same (Some theirs) = choice-same theirs (agreed r theirs offered)
+    attributes-same (Some theirs) = choice-same theirs (agreement r theirs offered)
 
     steps-same : by_steps (knowing users x) feature ours offered r
         ≡ by_steps (knowing users y) feature ours offered r
     steps-same =
-        ap (λ (v : Result ClientSeen Refusal).
+        ap (λ (v : Result ClientSeen VerdictRefusal).
         cond (not (is_some r.integrity)) (Err Refused.Unauthorized)
         (cond (not (is_complete r)) (Err Refused.BadRequest) v))
         (attributes-same r.nonce)
@@ -112,10 +112,12 @@ module _ (users : Registered) (x y : fin.FinMap name_cmp UserSecret)
 
   -- ---- the digest of an answer
 
-  protected-same : (o : Option ClientSeen) (page : Page) → protected_for (knowing users x) o page
+  signed_under_key-same : (o : Option ClientSeen) (page : Page)
+      → protected_for (knowing users x) o page
       ≡ protected_for (knowing users y) o page
-  protected-same None page = refl
-  protected-same (Some c) page = ap (λ k. protected c.algorithm k page) (keys c.name c.algorithm)
+  signed_under_key-same None page = refl
+  signed_under_key-same (Some c) page =
+      ap (λ k. signed_under_key c.algorithm k page) (keys c.name c.algorithm)
 
   attributes-alike : (response : Bool) (nonce : List ℕ) (o : Option ClientSeen)
       → attributes_for response (knowing users x) nonce o
@@ -127,7 +129,7 @@ module _ (users : Registered) (x y : fin.FinMap name_cmp UserSecret)
       → after done (protected_for (knowing users x) o)
       ≡ after done (protected_for (knowing users y) o)
   next-same o (Err reason) = refl
-  next-same o (Ok page) = protected-same o page
+  next-same o (Ok page) = signed_under_key-same o page
 
   pub signed-same : (response : Bool) (place : Option PlaceSeen) (page : Page)
       → signed_at response (knowing users x) place page
@@ -167,19 +169,19 @@ module _ (s : ServerSeen) (x y : fin.FinMap name_cmp UserSecret) (names : fin.ke
   answer-same from now words r = λ i.
       cond (is_response r.class)
       (validated_or_failed (client-same s.registered x y names keys r (fin.get s.places from) i))
-      (answer_to (judged (standing (sight s from) now words) r i))
+      (answer_to (judged (current_place (sight s from) now words) r i))
 
   pub message-same : (from : SocketAddr) (now : ℕ) (words : List ℕ) (r : Reading)
-      → with_users (after_message (with_users s (knowing s.registered x)) from now words r)
+      → with_users (after_validation (with_users s (knowing s.registered x)) from now words r)
       s.registered
-      ≡ with_users (after_message (with_users s (knowing s.registered y)) from now words r)
+      ≡ with_users (after_validation (with_users s (knowing s.registered y)) from now words r)
       s.registered
   message-same from now words r =
-      ap (λ (v : Result ClientSeen Refusal). record s {
+      ap (λ (v : Result ClientSeen VerdictRefusal). record s {
         places = put_place s.places from
-            (cond (needs_nonce r) (Some (with_accepted (standing (sight s from) now words) v))
+            (cond (needs_nonce r) (Some (with_accepted (current_place (sight s from) now words) v))
             (fin.get s.places from));
-      }) (judged (standing (sight s from) now words) r)
+      }) (judged (current_place (sight s from) now words) r)
 
   pub server_signed-same : (to : SocketAddr) (response : Bool) (page : Page)
       → server_signed (sight (with_users s (knowing s.registered x)) to) response page

@@ -13,7 +13,7 @@ use Rattle.stun_base.specs.MessageType.{class_of, class_in, is_error}
 use Rattle.stun_types.specs.Attribute.{TypedValue, attribute_length}
 use Rattle.stun_types.specs.ErrorCode.{CodeAndReason, IsError, error_of}
 use Rattle.stun_types.specs.ErrorCodeLaws.{error_of-written}
-use Rattle.stun_types.specs.Grammar.{spelled, spelled_attribute, spelled_attributes}
+use Rattle.stun_types.specs.Grammar.{spelled_message, spelled_attribute, spelled_attributes}
 use Rattle.stun_types.specs.Visible.{has_kind, visible}
 use Rattle.stun_types.specs.Walk.{Member, walk}
 use Rattle.stun_types.specs.Writing.{IsAddable, IsOpen, with_attribute}
@@ -24,18 +24,18 @@ use Rattle.stun_auth.proofs.JoinedLemmas.{WritingLaws}
 -- what building a message does
 pub record BuildingLaws : Type 0 where
   pub begun : (message_type transaction_id : ℕ) → message_type < 2 ^ 14
-      → IsOpen (spelled message_type transaction_id [])
-      × (walk (spelled message_type transaction_id []) ≡ [])
+      → IsOpen (spelled_message message_type transaction_id [])
+      × (walk (spelled_message message_type transaction_id []) ≡ [])
   pub continued : (message_type transaction_id : ℕ) (attributes : List TypedValue)
       (attribute : TypedValue)
-      → with_attribute (spelled message_type transaction_id attributes) attribute
-      ≡ spelled message_type transaction_id (attributes ++ attribute ∷ [])
+      → with_attribute (spelled_message message_type transaction_id attributes) attribute
+      ≡ spelled_message message_type transaction_id (attributes ++ attribute ∷ [])
 
 -- the type is read as it is written
-type_field-spelled : (message_type transaction_id : ℕ) (attributes : List TypedValue)
+type_field-spelled_message : (message_type transaction_id : ℕ) (attributes : List TypedValue)
     → message_type < 2 ^ 14
-    → type_field (spelled message_type transaction_id attributes) ≡ message_type
-type_field-spelled message_type transaction_id attributes fits =
+    → type_field (spelled_message message_type transaction_id attributes) ≡ message_type
+type_field-spelled_message message_type transaction_id attributes fits =
     big_number-reads_back 2 message_type
     (big_bytes 2 (length (spelled_attributes attributes)) ++ big_bytes 4 MAGIC_COOKIE
     ++ big_bytes 12 transaction_id ++ spelled_attributes attributes)
@@ -59,9 +59,9 @@ same_both_ways false error = refl
 
 -- a message without attributes
 pub bare : WritingLaws → BuildingLaws → (message_type transaction_id : ℕ) → message_type < 2 ^ 14
-    → IsBuilt (spelled message_type transaction_id []) (class_of message_type) None
+    → IsBuilt (spelled_message message_type transaction_id []) (class_of message_type) None
 bare laws building message_type transaction_id fits =
-    let message = spelled message_type transaction_id [] in
+    let message = spelled_message message_type transaction_id [] in
     let begun = building.begun message_type transaction_id fits in
     let none : (kind : ℕ)
     → has_kind kind (walk message) ≡ false = λ kind. ap (has_kind kind) begun.1 in
@@ -73,7 +73,7 @@ bare laws building message_type transaction_id fits =
       unsigned =
           unsigned message begun.0 (none NONCE) (none REALM) (none USERNAME) (none USERHASH)
           (none PASSWORD_ALGORITHMS) (none PASSWORD_ALGORITHM);
-      class_is = ap class_of (type_field-spelled message_type transaction_id [] fits);
+      class_is = ap class_of (type_field-spelled_message message_type transaction_id [] fits);
       error_is =
           ap (λ error. if is_error (class_in message)
           then option_map (λ (e : CodeAndReason). e.code) error else None) nothing
@@ -90,11 +90,11 @@ length-spelled_attribute a = simp (length-append, length-replicate) (omega arith
 pub with_error : WritingLaws → BuildingLaws
     → (message_type transaction_id : ℕ) (error : CodeAndReason) → message_type < 2 ^ 14
     → IsError error
-    → IsBuilt (spelled message_type transaction_id (error_attribute error ∷ []))
+    → IsBuilt (spelled_message message_type transaction_id (error_attribute error ∷ []))
     (class_of message_type) (if is_error (class_of message_type) then Some error.code else None)
 with_error laws building message_type transaction_id error fits is_written =
-    let before = spelled message_type transaction_id [] in
-    let message = spelled message_type transaction_id (error_attribute error ∷ []) in
+    let before = spelled_message message_type transaction_id [] in
+    let message = spelled_message message_type transaction_id (error_attribute error ∷ []) in
     let a = error_attribute error in
     let only : Member = (20, a) in
     let begun = building.begun message_type transaction_id fits in
@@ -114,7 +114,7 @@ with_error laws building message_type transaction_id error fits is_written =
     ap (λ ms. option_and_then (λ (m : Member). error_of m.1) (last_of ERROR_CODE ms)) shown
     ∙ error_of-written error is_written in
     let class : class_in message ≡ class_of message_type =
-    ap class_of (type_field-spelled message_type transaction_id (a ∷ []) fits) in
+    ap class_of (type_field-spelled_message message_type transaction_id (a ∷ []) fits) in
     record {
       unsigned =
           unsigned message is_open (none NONCE refl) (none REALM refl) (none USERNAME refl)

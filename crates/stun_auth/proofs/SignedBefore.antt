@@ -1,7 +1,7 @@
 -- What was signed with success was signable: each addition was taken after those before it.
 use Rattle.std.proofs.Common.{◌≡◌, ℕ, ◌+◌, ◌-◌, ◌≤◌, false, List, [], ◌∷◌}
-use Rattle.std.proofs.Common.{◌++◌, length, Ok, refl, sym, ◌∙◌, ap, arith}
-use Rattle.std.specs.Prelude.{Some, None, ◌==◌}
+use Rattle.std.proofs.Common.{◌++◌, length, Ok, sym, ◌∙◌, ap, arith}
+use Rattle.std.specs.Prelude.{◌==◌}
 use Rattle.std.specs.List.{AllByRecursion}
 use Rattle.std.proofs.lemmas.List.Folds.{list_any-append}
 use Rattle.std.proofs.lemmas.List.Sums.{sum_by-cons}
@@ -10,14 +10,13 @@ use Rattle.stun_types.specs.Attribute.{TypedValue, attribute_length}
 use Rattle.stun_types.specs.Message.{LENGTH_LIMIT}
 use Rattle.stun_types.specs.Visible.{has_kind}
 use Rattle.stun_types.specs.Walk.{Member, walk}
-use Rattle.stun_types.specs.Writing.{IsAddable, IsOpen, integrity_attribute}
-use Rattle.stun_types.specs.Writing.{with_attribute, with_integrity}
+use Rattle.stun_types.specs.Writing.{IsAddable, IsOpen, with_attribute}
 use Rattle.stun_auth.specs.Additions.{Addition, attribute, integrity, Page, added_all}
-use Rattle.stun_auth.specs.Additions.{added_one, after, growth_of, refusal_of, unless_refused}
+use Rattle.stun_auth.specs.Additions.{growth_of}
 use Rattle.stun_auth.specs.Joined.{IsTyped}
 use Rattle.stun_auth.specs.Signed.{Added, IsSignable, additions_of, kinds_in}
-use Rattle.stun_auth.proofs.JoinedLemmas.{WritingLaws, all_refused_behind, or_none}
-use Rattle.stun_auth.proofs.JoinedLemmas.{signed_has, taken, taken_digest}
+use Rattle.stun_auth.proofs.JoinedLemmas.{WritingLaws, behind_digest, first_added, or_none}
+use Rattle.stun_auth.proofs.JoinedLemmas.{taken, taken_digest}
 use Rattle.stun_auth.proofs.SignedReading.{typed-additions, written-within}
 use Rattle.stun_auth.proofs.SignedRoom.{IsReady, length-one_more}
 
@@ -39,88 +38,50 @@ pub was_ready : WritingLaws → (list : List Addition) (message : List ℕ) (roo
     → IsOpen message → length message ≤ 65552
     → AllByRecursion IsTyped list → added_all list (record { bytes = message; room = room })
     ≡ Ok page → IsReady message room list
-unfolding added_one
 was_ready laws [] message room page is_open short typed done =
     record { is_open = is_open; fresh = tt; field = omega (arith, short); room_is = omega arith }
 was_ready laws (attribute a ∷ others) message room page is_open short typed done =
     let here : Page = record { bytes = message; room = room } in
     let longer = with_attribute message a in
     let left = room - attribute_length (length a.value) in
-    let next : Page = record { bytes = longer; room = left } in
-    elim (refusal_of (attribute a) here) as (λ refused. refusal_of (attribute a) here ≡ refused
-    → after (unless_refused refused next) (added_all others) ≡ Ok page
-    → IsReady message room (attribute a ∷ others)) [
-      | None ↦ λ accepted done.
-          let facts = taken message room a accepted in
-          let fits : length message - 20 + attribute_length (length a.value) ≤ 65532 = facts.fits in
-          let enough : attribute_length (length a.value) ≤ room = facts.enough in
-          let addable : IsAddable message a = record { kind = typed.0; value = facts.fits } in
-          let one = laws.added message a is_open addable in
-          let long = length-one_more message longer a is_open.is_message one in
-          let header = is_open.is_message.header.is_whole in
-          let sum = sum_by-cons growth_of (attribute a) others in
-          let rest =
-          was_ready laws others longer left page (laws.opened message a is_open addable facts.apart)
-          (omega (arith, long, fits, header)) typed.1 done in
-          record {
-            is_open = is_open;
-            fresh = (
-              facts.fresh,
-              fresh_before message longer a (kinds_in others) one.walk_is rest.fresh,
-            );
-            field = omega (arith, rest.field, sum, long, header);
-            room_is = omega (arith, rest.room_is, enough, sum);
-          }
-      | Some reason ↦ λ refused done. absurd (cc)
-    ] refl done
+    let first = first_added (attribute a) others here page done in
+    let facts = taken message room a first.accepted in
+    let fits : length message - 20 + attribute_length (length a.value) ≤ 65532 = facts.fits in
+    let enough : attribute_length (length a.value) ≤ room = facts.enough in
+    let addable : IsAddable message a = record { kind = typed.0; value = facts.fits } in
+    let one = laws.added message a is_open addable in
+    let long = length-one_more message longer a is_open.is_message one in
+    let header = is_open.is_message.header.is_whole in
+    let sum = sum_by-cons growth_of (attribute a) others in
+    let rest =
+    was_ready laws others longer left page (laws.opened message a is_open addable facts.apart)
+    (omega (arith, long, fits, header)) typed.1 first.rest in
+    record {
+      is_open = is_open;
+      fresh = (
+        facts.fresh,
+        fresh_before message longer a (kinds_in others) one.walk_is rest.fresh,
+      );
+      field = omega (arith, rest.field, sum, long, header);
+      room_is = omega (arith, rest.room_is, enough, sum);
+    }
 was_ready laws (integrity algorithm key ∷ []) message room page is_open short typed done =
     let here : Page = record { bytes = message; room = room } in
-    let next : Page =
+    let first = first_added (integrity algorithm key) [] here page done in
+    let facts = taken_digest message room algorithm first.accepted in
+    let fits : length message - 20 + attribute_length (digest_length algorithm) ≤ 65532 =
+    facts.fits in
+    let enough : attribute_length (digest_length algorithm) ≤ room = facts.enough in
+    let sum = sum_by-cons growth_of (integrity algorithm key) [] in
     record {
-      bytes = with_integrity message algorithm key;
-      room = room - attribute_length (digest_length algorithm);
-    } in
-    elim (refusal_of (integrity algorithm key) here) as (λ refused.
-    refusal_of (integrity algorithm key) here ≡ refused
-    → after (unless_refused refused next) (added_all []) ≡ Ok page
-    → IsReady message room (integrity algorithm key ∷ [])) [
-      | None ↦ λ accepted done.
-          let facts = taken_digest message room algorithm accepted in
-          let fits : length message - 20 + attribute_length (digest_length algorithm) ≤ 65532 =
-          facts.fits in
-          let enough : attribute_length (digest_length algorithm) ≤ room = facts.enough in
-          let sum = sum_by-cons growth_of (integrity algorithm key) [] in
-          record {
-            is_open = is_open;
-            fresh = tt;
-            field = omega (arith, fits, sum);
-            room_is = omega (arith, enough, sum);
-          }
-      | Some reason ↦ λ refused done. absurd (cc)
-    ] refl done
+      is_open = is_open;
+      fresh = tt;
+      field = omega (arith, fits, sum);
+      room_is = omega (arith, enough, sum);
+    }
 was_ready laws (integrity algorithm key ∷ other ∷ others) message room page is_open short typed
     done =
-    let here : Page = record { bytes = message; room = room } in
-    let next : Page =
-    record {
-      bytes = with_integrity message algorithm key;
-      room = room - attribute_length (digest_length algorithm);
-    } in
-    elim (refusal_of (integrity algorithm key) here) as (λ refused.
-    refusal_of (integrity algorithm key) here ≡ refused
-    → after (unless_refused refused next) (added_all (other ∷ others)) ≡ Ok page
-    → IsReady message room (integrity algorithm key ∷ other ∷ others)) [
-      | None ↦ λ accepted done.
-          let one =
-          laws.signed message algorithm key is_open
-          (taken_digest message room algorithm accepted).fits in
-          let signed =
-          signed_has message (with_integrity message algorithm key) algorithm
-          (integrity_attribute message algorithm key).value one.walk_is is_open in
-          absurd (all_refused_behind other others (with_integrity message algorithm key)
-          (room - growth_of (integrity algorithm key)) page signed done)
-      | Some reason ↦ λ refused done. absurd (cc)
-    ] refl done
+    absurd (behind_digest laws algorithm key other others message room page is_open done)
 
 pub was_signable : WritingLaws → (a : Added) (message : List ℕ) (room : ℕ) (page : Page)
     → IsOpen message → length message ≤ LENGTH_LIMIT

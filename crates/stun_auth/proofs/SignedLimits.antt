@@ -7,8 +7,8 @@ use Rattle.stun_auth.specs.ClientSigning.{kept_challenge}
 use Rattle.stun_auth.specs.Registered.{Registered, key_at}
 use Rattle.stun_auth.specs.Seen.{ClientSeen, PlaceSeen}
 use Rattle.stun_auth.specs.Server.{Sight}
-use Rattle.stun_auth.specs.Signed.{Added, ClientMaySign, IsSignable, IsSignableByClient}
-use Rattle.stun_auth.specs.Signed.{IsSignableByServer, ServerMaySign, added_at}
+use Rattle.stun_auth.specs.Signed.{Added, IsSignableAtClient, IsSignable, IsSignableByClient}
+use Rattle.stun_auth.specs.Signed.{IsSignableByServer, IsSignableAtServer, added_at}
 use Rattle.stun_auth.specs.Signed.{added_by_client, added_by_server, added_for, added_if_kept}
 use Rattle.stun_auth.specs.Signed.{added_under_key, added_without_client, nothing, only_if}
 use Rattle.stun_auth.specs.code.ClientKept.{KeepsShortTexts}
@@ -52,7 +52,7 @@ short_realm request (Some c) short = only_short request c.realm short.1
 
 pub client_signable : (request : Bool) (state : ClientState) (message : List ℕ) (room : ℕ)
     → KeepsShortTexts state
-    → ClientMaySign request state message room
+    → IsSignableAtClient request state message room
     → IsSignable (added_by_client request state) message room
 client_signable request state message room short may = record {
   is_open = may.is_open;
@@ -107,7 +107,7 @@ module _ (message : List ℕ) (room : ℕ) where
 
 pub server_signable : (s : Sight) (response : Bool) (message : List ℕ) (room : ℕ)
     → IfSome s.place (λ p. length p.nonce ≤ 763)
-    → ServerMaySign s response message room
+    → IsSignableAtServer s response message room
     → IsSomeAnd (added_by_server s response) (λ a. IsSignable a message room)
 server_signable s response message room short may =
     at_place message room response s.registered s.place short may

@@ -23,7 +23,8 @@ use Rattle.stun_types.specs.Visible.{has_kind, visible}
 use Rattle.stun_types.specs.Walk.{Member, walk}
 use Rattle.stun_types.specs.Writing.{IsOpen, is_set_apart}
 use Rattle.stun_auth.specs.AddedAttribute.{password_algorithm, password_algorithms}
-use Rattle.stun_auth.specs.Additions.{Addition, attribute, integrity, Page, added_all, is_too_long}
+use Rattle.stun_auth.specs.Additions.{Addition, attribute, integrity, Page, added_all}
+use Rattle.stun_auth.specs.Additions.{is_text_too_long}
 use Rattle.stun_auth.specs.Joined.{IsReadBack, IsTyped, Protection}
 use Rattle.stun_auth.specs.Joined.{added_last, last_value, protection_in}
 use Rattle.stun_auth.specs.Reading.{error_code, has_visible_integrity, last, last_of, reading_of}
@@ -300,22 +301,25 @@ algorithm_again (Some Sha256) = refl
 
 short_there : {A : Type 0} (own : ℕ) (value : A → List ℕ) (o : Option A) (others : List Addition)
     → AllByRecursion IsShort (if_there (λ x. attribute (typed_as own (value x))) o others)
-    → IfSome o (λ x. is_too_long (typed_as own (value x)) ≡ false) × AllByRecursion IsShort others
+    → IfSome o (λ x. is_text_too_long (typed_as own (value x)) ≡ false)
+    × AllByRecursion IsShort others
 short_there own value None others all = (tt, all)
 short_there own value (Some x) others all = (all.0, all.1)
 
-within-nonce : (o : Option (List ℕ)) → IfSome o (λ x. is_too_long (typed_as NONCE (text x)) ≡ false)
+within-nonce : (o : Option (List ℕ))
+    → IfSome o (λ x. is_text_too_long (typed_as NONCE (text x)) ≡ false)
     → IfSome o (λ bytes. length bytes ≤ 763)
 within-nonce None short = tt
 within-nonce (Some bytes) short = not_above 763 (length bytes) short
 
-within-realm : (o : Option (List ℕ)) → IfSome o (λ x. is_too_long (typed_as REALM (text x)) ≡ false)
+within-realm : (o : Option (List ℕ))
+    → IfSome o (λ x. is_text_too_long (typed_as REALM (text x)) ≡ false)
     → IfSome o (λ bytes. length bytes ≤ 763)
 within-realm None short = tt
 within-realm (Some bytes) short = not_above 763 (length bytes) short
 
 within-username : (o : Option (List ℕ))
-    → IfSome o (λ x. is_too_long (typed_as USERNAME (text x)) ≡ false)
+    → IfSome o (λ x. is_text_too_long (typed_as USERNAME (text x)) ≡ false)
     → IfSome o (λ bytes. length bytes ≤ 513)
 within-username None short = tt
 within-username (Some bytes) short =
@@ -403,13 +407,13 @@ reads_as laws a message room page unsigned texts done =
           ∙ algorithm_again a.algorithm;
       integrity_is = is_some-cond (has_visible_integrity bytes) (verified_algorithm bytes)
           ∙ (added.integrity_is ∙ ap is_some protection);
-      digest_stands = λ p is.
+      digest_verifies = λ p is.
           let has : has_visible_integrity bytes ≡ true = added.integrity_is
           ∙ ap is_some (protection ∙ is) in
           ap (λ holds.
           option_and_then (λ (verify : List ℕ → Option IntegrityAlgorithm). verify p.key)
           (if holds then Some (verified_algorithm bytes) else None)) has
-          ∙ added.digest_stands p (protection ∙ is);
+          ∙ added.digest_verifies p (protection ∙ is);
     }
 
 -- of a message that was built, class and error code are what it was built with

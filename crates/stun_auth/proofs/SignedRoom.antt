@@ -24,7 +24,7 @@ use Rattle.stun_types.specs.Writing.{length_with, max_length, signing_refusal, s
 use Rattle.stun_types.specs.Writing.{with_attribute, with_integrity}
 use Rattle.stun_auth.specs.Additions.{Addition, attribute, integrity, Page}
 use Rattle.stun_auth.specs.Additions.{added_all, added_one, after, growth, growth_of}
-use Rattle.stun_auth.specs.Additions.{is_too_long, refusal_of, unless_refused}
+use Rattle.stun_auth.specs.Additions.{is_text_too_long, addition_refusal, page_unless_refused}
 use Rattle.stun_auth.specs.Joined.{Protection, page_after}
 use Rattle.stun_auth.specs.Signed.{Added, HasRoomFor, IsSignable, IsUnsigned, IsWithinLimits}
 use Rattle.stun_auth.specs.Signed.{added_kinds, additions_of, if_there, kinds_in}
@@ -94,7 +94,7 @@ step : WritingLaws
     → IsReady message room (if_there (λ x. attribute (typed_as own (value x))) o others)
     → own < 2 ^ 16 → is_set_apart own ≡ false
     → AllByRecursion (λ kind. (own == kind) ≡ false) (kinds_in others)
-    → IfSome o (λ x. is_too_long (typed_as own (value x)) ≡ false)
+    → IfSome o (λ x. is_text_too_long (typed_as own (value x)) ≡ false)
     → ((m : List ℕ) (r : ℕ) → IsReady m r others → Succeeds others m r)
     → Succeeds (if_there (λ x. attribute (typed_as own (value x))) o others) message room
 unfolding added_one
@@ -113,8 +113,9 @@ step laws own value (Some x) others message room ready small apart other short r
     then Some (AttributeExists (record { 0 = own })) else size in
     let unsigned : Option StunWriteError = if has_integrity_attribute message
     then Some MessageIntegrityExists else fresh in
-    let accepted : refusal_of (attribute a) (record { bytes = message; room = room }) ≡ None =
-    allowed (is_too_long a) TooLarge (if is_set_apart own then Some NotAllowed else unsigned) short
+    let accepted : addition_refusal (attribute a) (record { bytes = message; room = room }) ≡ None =
+    allowed (is_text_too_long a) TooLarge
+    (if is_set_apart own then Some NotAllowed else unsigned) short
     (allowed (is_set_apart own) NotAllowed unsigned apart
     (allowed (has_integrity_attribute message) MessageIntegrityExists fresh
     ready.is_open.no_integrity
@@ -127,7 +128,7 @@ step laws own value (Some x) others message room ready small apart other short r
     let long = length-one_more message longer a ready.is_open.is_message one in
     let header = ready.is_open.is_message.header.is_whole in
     let next : Page = record { bytes = longer; room = left } in
-    ap (λ refused. after (unless_refused refused next) (added_all others)) accepted
+    ap (λ refused. after (page_unless_refused refused next) (added_all others)) accepted
     ∙ rest longer left (record {
       is_open = laws.opened message a ready.is_open addable apart;
       fresh = still_fresh message longer a (kinds_in others) one.walk_is ready.fresh.1 other;
@@ -151,27 +152,27 @@ last_step (Some p) message room ready =
     (omega (arith, ready.room_is, sum))) in
     let next : Page =
     record { bytes = with_integrity message p.algorithm p.key; room = room - attribute_length n } in
-    ap (λ refused. after (unless_refused refused next) (added_all [])) accepted
+    ap (λ refused. after (page_unless_refused refused next) (added_all [])) accepted
 
 -- texts within their limits
 short_nonce : (o : Option (List ℕ)) → IfSome o (λ bytes. length bytes ≤ 763)
-    → IfSome o (λ x. is_too_long (typed_as NONCE (text x)) ≡ false)
+    → IfSome o (λ x. is_text_too_long (typed_as NONCE (text x)) ≡ false)
 short_nonce None fits = tt
 short_nonce (Some bytes) fits = below 763 (length bytes) fits
 
 short_realm : (o : Option (List ℕ)) → IfSome o (λ bytes. length bytes ≤ 763)
-    → IfSome o (λ x. is_too_long (typed_as REALM (text x)) ≡ false)
+    → IfSome o (λ x. is_text_too_long (typed_as REALM (text x)) ≡ false)
 short_realm None fits = tt
 short_realm (Some bytes) fits = below 763 (length bytes) fits
 
 short_username : (o : Option (List ℕ)) → IfSome o (λ bytes. length bytes ≤ 513)
-    → IfSome o (λ x. is_too_long (typed_as USERNAME (text x)) ≡ false)
+    → IfSome o (λ x. is_text_too_long (typed_as USERNAME (text x)) ≡ false)
 short_username None fits = tt
 short_username (Some bytes) fits = rw (below 513 (length bytes) fits) refl
 
 short_other : {A : Type 0} (own : ℕ) (value : A → List ℕ) (o : Option A) → (own == USERNAME) ≡ false
     → (own == REALM) ≡ false → (own == NONCE) ≡ false
-    → IfSome o (λ x. is_too_long (typed_as own (value x)) ≡ false)
+    → IfSome o (λ x. is_text_too_long (typed_as own (value x)) ≡ false)
 short_other own value None username realm nonce = tt
 short_other own value (Some x) username realm nonce = rw (username, realm, nonce) refl
 

@@ -6,18 +6,19 @@ use Rattle.std.specs.Option.{IsSome, option_map}
 use Rattle.stun_base.specs.declared.keys.algorithm.IntegrityAlgorithm.{IntegrityAlgorithm}
 use Rattle.stun_base.specs.declared.keys.algorithm.IntegrityAlgorithm.TheVariants.{Sha1, Sha256}
 use Rattle.stun_base.specs.declared.wire.error.StunWriteError.{StunWriteError}
-use Rattle.stun_auth.specs.Additions.{Addition, Page, added_all, added_one, after, integrity}
+use Rattle.stun_auth.specs.Additions.{Page, added_all, after, integrity}
 use Rattle.stun_auth.specs.Client.{Naming, plain, hashed, ClientState}
 use Rattle.stun_auth.specs.Client.{initial, authenticating, authenticated}
 use Rattle.stun_auth.specs.ClientSigning.{challenge_additions, client_additions}
 use Rattle.stun_auth.specs.Registered.{Registered, key_at}
 use Rattle.stun_auth.specs.Seen.{ClientSeen, PlaceSeen}
 use Rattle.stun_auth.specs.Server.{Sight}
-use Rattle.stun_auth.specs.ServerSigning.{attributes_for, protected}
+use Rattle.stun_auth.specs.ServerSigning.{attributes_for, signed_under_key}
 use Rattle.stun_auth.specs.ServerSigning.{protected_for, server_signed, signed_at}
 use Rattle.stun_auth.specs.Signed.{Added, added_at, added_by_client, added_by_server}
 use Rattle.stun_auth.specs.Signed.{added_for, added_under, added_under_key}
 use Rattle.stun_auth.specs.Signed.{added_without_client, additions_of, nothing}
+use Rattle.stun_auth.proofs.AdditionLemmas.{added_all-append}
 
 challenge_parts : (request : Bool) (naming : Naming) (realm nonce : List ℕ)
     (algorithms : List IntegrityAlgorithm) (algorithm : IntegrityAlgorithm) (key : List ℕ)
@@ -62,17 +63,6 @@ client_same request (authenticating c) =
 client_same request (authenticated c) =
     challenge_parts request c.naming c.realm c.nonce c.algorithms c.algorithm c.key
 
--- additions in two steps
-added_all-append : (xs ys : List Addition) (page : Page)
-    → added_all (xs ++ ys) page ≡ after (added_all xs page) (added_all ys)
-added_all-append [] ys page = refl
-added_all-append (x ∷ xs) ys page =
-    elim (added_one x page) as (λ (r : Result Page StunWriteError). after r (added_all (xs ++ ys))
-    ≡ after (after r (added_all xs)) (added_all ys)) [
-      | Ok next ↦ added_all-append xs ys next
-      | Err reason ↦ refl
-    ]
-
 after_nothing : (r : Result Page StunWriteError) → after r (λ page. Ok page) ≡ r
 after_nothing (Ok page) = refl
 after_nothing (Err reason) = refl
@@ -111,7 +101,7 @@ for_client response users nonce (Some c) page a is =
     elim (key_at users c.name c.algorithm) as (λ (key : Option (List ℕ)).
     option_map (added_under_key response users nonce c.algorithm) key ≡ Some a
     → after (added_all (attributes_for response users nonce (Some c)) page)
-    (protected c.algorithm key) ≡ added_all (additions_of a) page) [
+    (signed_under_key c.algorithm key) ≡ added_all (additions_of a) page) [
       | None ↦ λ is. absurd (cc)
       | Some key ↦ λ is.
           sym (added_all-append (attributes_for response users nonce (Some c))
@@ -136,7 +126,7 @@ pub server_same : (s : Sight) (response : Bool) (page : Page) (a : Added)
 server_same s response page a is = at_place response s.registered s.place page a is
 
 refused_last : {X : Type 0} (algorithm : IntegrityAlgorithm) (r : Result Page StunWriteError)
-    → IsOk (after r (protected algorithm None)) → X
+    → IsOk (after r (signed_under_key algorithm None)) → X
 refused_last algorithm (Ok page) ok = absurd (cc)
 refused_last algorithm (Err reason) ok = absurd (cc)
 
@@ -149,7 +139,7 @@ client_there response users nonce None page ok = refl
 client_there response users nonce (Some c) page ok =
     elim (key_at users c.name c.algorithm) as (λ (key : Option (List ℕ)).
     IsOk (after (added_all (attributes_for response users nonce (Some c)) page)
-    (protected c.algorithm key))
+    (signed_under_key c.algorithm key))
     → IsSome (option_map (added_under_key response users nonce c.algorithm) key)) [
       | None ↦ λ ok. refused_last c.algorithm
           (added_all (attributes_for response users nonce (Some c)) page) ok

@@ -3,11 +3,13 @@
 use Rattle.std.proofs.Common.{◌≡◌, ◌<◌, ◌+◌, ◌-◌, ℕ, zero, suc, List, [], ◌∷◌, Bool, true, false}
 use Rattle.std.proofs.Common.{Option, Some, None, refl, sym, ◌∙◌, ap, subst, true≢false, arith}
 use Rattle.std.specs.Prelude.{cond, not, ◌&&◌, ◌||◌}
-use Rattle.std.specs.Option.{is_some, option_and_then, option_map, option_map_or, IsSome}
+use Rattle.std.specs.Option.{is_some, option_and_then, option_map, option_map_or, IfSome}
+use Rattle.std.specs.Option.{IsSome}
+use Rattle.std.proofs.Math.Bool.{and-false, and-true}
 use Rattle.std.specs.declared.cmp.Ordering.{Ordering}
 use Rattle.std.specs.declared.cmp.Ordering.TheVariants.{Less, Equal, Greater}
 use Rattle.std.specs.Ordering.{eq_by_cmp, is_eq, is_gt, is_le, is_lt, ordering_reverse}
-use Rattle.std.specs.Cmp.{Equal-is, eq_by_cmp_equiv}
+use Rattle.std.specs.Cmp.{Equal-is}
 use Rattle.std.specs.FinMap as fin
 use Rattle.std.specs.FinMap.{contains_key-keys, entries_sorted}
 use Rattle.std.specs.List.{find, list_any}
@@ -18,18 +20,19 @@ use Rattle.std.specs.declared.ops.Bound.{Bound}
 use Rattle.std.specs.declared.ops.Bound.TheVariants.{Included, Excluded, Unbounded}
 use Rattle.std.specs.declared.net.socket_addr.SocketAddr.{SocketAddr}
 use Rattle.stun_base.specs.Address.{address_cmp, same_address}
-use Rattle.stun_auth.specs.Forgetting.{after_forgetting, is_forgotten, place_kept, places_kept}
-use Rattle.stun_auth.specs.ForgettingSteps.{after_step, after_steps, first_from}
+use Rattle.stun_auth.specs.Forgetting.{after_forgetting, place_kept}
+use Rattle.stun_auth.specs.ForgettingSteps.{after_step, after_steps, first_address_from}
 use Rattle.stun_auth.specs.ForgettingSteps.{is_before, is_looked_at, next_address}
-use Rattle.stun_auth.specs.ForgettingSteps.{next_from, places_kept_where, start_of}
+use Rattle.stun_auth.specs.ForgettingSteps.{next_address_from, places_kept_where, start_of}
 use Rattle.stun_auth.specs.Places.{PlacesSeen}
-use Rattle.stun_auth.specs.Seen.{PlaceSeen}
 use Rattle.stun_auth.specs.Validation.{ServerSeen}
 use Rattle.stun_auth.specs.code.Places.{IsFirstFrom, place_seen, places_seen}
 use Rattle.stun_auth.specs.declared.server.places.Place.{Place}
-use Rattle.stun_auth.proofs.Addresses.{address_total, address_exact}
-use Rattle.stun_auth.proofs.Forgotten.{get-places_kept}
+use Rattle.stun_base.proofs.Addresses.{address_total, address_exact}
+use Rattle.stun_auth.proofs.KeptPlaces.{get-kept_where, kept_where-all, kept_where-none}
+use Rattle.stun_auth.proofs.KeptPlaces.{kept_where-same, kept_where-twice}
 use Rattle.stun_auth.proofs.LeastNames.{find-least, find-none}
+use Rattle.stun_auth.proofs.ListSteps.{find-passes}
 use Rattle.stun_auth.proofs.Maps.{get-seen}
 use Rattle.stun_auth.proofs.PlaceMaps.{derived, derived_is}
 
@@ -54,7 +57,7 @@ from_start-later (Included s) a q h later = by (address_cmp s a) refl h
     by Equal is h = ap is_le (address_total.congr s a q is ∙ later)
     by Greater is h = absurd (true≢false (sym h))
 
--- an address is before another exactly where that one is not at it or before it
+-- an address is before another if and only if that one is not at it or before it
 turned : (r : Ordering) → is_lt (ordering_reverse r) ≡ not (is_le r)
 turned Less = refl
 turned Equal = refl
@@ -74,127 +77,6 @@ apart a q up other = by (address_cmp a q) up other
     by Equal up other = absurd (true≢false other)
     by Greater up other = absurd (true≢false up)
 
--- ---- places that are kept where a test holds
-
-chosen_place : (b : Bool) (now : ℕ) (o : Option PlaceSeen)
-    → cond (not b || is_some (place_kept now o)) o None ≡ cond b (place_kept now o) o
-chosen_place false now o = refl
-chosen_place true now None = refl
-chosen_place true now (Some place) = by (is_forgotten now place)
-  where
-    by : (b : Bool)
-        → cond (is_some (cond b None (Some place))) (Some place) None ≡ cond b None (Some place)
-    by true = refl
-    by false = refl
-
-pub get-kept_where : (chosen : SocketAddr → Bool) (now : ℕ) (places : PlacesSeen) (q : SocketAddr)
-    → fin.get (places_kept_where chosen now places) q
-    ≡ cond (chosen q) (place_kept now (fin.get places q)) (fin.get places q)
-get-kept_where chosen now places q =
-    fin.get-retain_keys places
-    (λ a. not (chosen a) || is_some (place_kept now (fin.get places a))) q
-    (λ x tied. ap (λ a. not (chosen a) || is_some (place_kept now (fin.get places a)))
-    (sym (address_exact q x tied)))
-    ∙ chosen_place (chosen q) now (fin.get places q)
-
--- tests that agree wherever there is a place keep the same places
-same_chosen : (now : ℕ) (o : Option PlaceSeen) (b c : Bool) → (IsSome o → b ≡ c)
-    → cond b (place_kept now o) o ≡ cond c (place_kept now o) o
-same_chosen now None true true h = refl
-same_chosen now None true false h = refl
-same_chosen now None false true h = refl
-same_chosen now None false false h = refl
-same_chosen now (Some place) b c h =
-    ap (λ t. cond t (place_kept now (Some place)) (Some place)) (h refl)
-
-pub kept_where-same : (chosen others : SocketAddr → Bool) (now : ℕ) (places : PlacesSeen)
-    → ((q : SocketAddr) → IsSome (fin.get places q) → chosen q ≡ others q)
-    → places_kept_where chosen now places ≡ places_kept_where others now places
-kept_where-same chosen others now places same = fin.same_map address_total address_exact _ _ (λ q.
-    get-kept_where chosen now places q
-    ∙ same_chosen now (fin.get places q) (chosen q) (others q) (same q)
-    ∙ sym (get-kept_where others now places q))
-
--- what was kept once is kept again
-kept_again : (now : ℕ) (o : Option PlaceSeen) → place_kept now (place_kept now o) ≡ place_kept now o
-kept_again now None = refl
-kept_again now (Some place) = by (is_forgotten now place) refl
-  where
-    by : (b : Bool) → is_forgotten now place ≡ b
-        → place_kept now (cond b None (Some place)) ≡ cond b None (Some place)
-    by true is = refl
-    by false is = ap (λ b. cond b None (Some place)) is
-
--- one test after another chooses what either does
-twice : (now : ℕ) (o : Option PlaceSeen) (b c : Bool)
-    → cond c (place_kept now (cond b (place_kept now o) o)) (cond b (place_kept now o) o)
-    ≡ cond (b || c) (place_kept now o) o
-twice now o true true = kept_again now o
-twice now o true false = refl
-twice now o false true = refl
-twice now o false false = refl
-
-pub kept_where-twice : (chosen others : SocketAddr → Bool) (now : ℕ) (places : PlacesSeen)
-    → places_kept_where others now (places_kept_where chosen now places)
-    ≡ places_kept_where (λ a. chosen a || others a) now places
-kept_where-twice chosen others now places = fin.same_map address_total address_exact _ _ (λ q.
-    get-kept_where others now (places_kept_where chosen now places) q
-    ∙ ap (λ o. cond (others q) (place_kept now o) o) (get-kept_where chosen now places q)
-    ∙ twice now (fin.get places q) (chosen q) (others q)
-    ∙ sym (get-kept_where (λ a. chosen a || others a) now places q))
-
--- where one address alone is chosen, it is forgotten or nothing changes
-pub kept_if_expired : (a : SocketAddr) (now : ℕ) (places : PlacesSeen)
-    → option_map_or (is_forgotten now) (fin.get places a) false ≡ true
-    → fin.remove places a ≡ places_kept_where (same_address a) now places
-kept_if_expired a now places expired = fin.same_map address_total address_exact _ _ (λ q.
-    fin.get-remove address_total places a q
-    ∙ ap (λ b. cond b None (fin.get places q)) ((eq_by_cmp_equiv address_total).symm q a)
-    ∙ (elim (same_address a q) as (λ b. same_address a q ≡ b → cond b None (fin.get places q)
-    ≡ cond b (place_kept now (fin.get places q)) (fin.get places q)) [
-      | true ↦ λ same.
-          gone (fin.get places q)
-          (ap (λ x. option_map_or (is_forgotten now) (fin.get places x) false)
-          (sym (address_exact a q ((Equal-is (address_cmp a q)).0 same))) ∙ expired)
-      | false ↦ λ _. refl
-    ] refl)
-    ∙ sym (get-kept_where (same_address a) now places q))
-  where
-    gone : (o : Option PlaceSeen) → option_map_or (is_forgotten now) o false ≡ true
-        → None ≡ place_kept now o
-    gone None h = refl
-    gone (Some place) h = sym (ap (λ b. cond b None (Some place)) h)
-
-pub kept_if_current : (a : SocketAddr) (now : ℕ) (places : PlacesSeen)
-    → option_map_or (is_forgotten now) (fin.get places a) false ≡ false
-    → places ≡ places_kept_where (same_address a) now places
-kept_if_current a now places current = fin.same_map address_total address_exact _ _ (λ q.
-    (elim (same_address a q) as (λ b. same_address a q ≡ b
-    → fin.get places q ≡ cond b (place_kept now (fin.get places q)) (fin.get places q)) [
-      | true ↦ λ same.
-          stays (fin.get places q)
-          (ap (λ x. option_map_or (is_forgotten now) (fin.get places x) false)
-          (sym (address_exact a q ((Equal-is (address_cmp a q)).0 same))) ∙ current)
-      | false ↦ λ _. refl
-    ] refl)
-    ∙ sym (get-kept_where (same_address a) now places q))
-  where
-    stays : (o : Option PlaceSeen) → option_map_or (is_forgotten now) o false ≡ false
-        → o ≡ place_kept now o
-    stays None h = refl
-    stays (Some place) h = sym (ap (λ b. cond b None (Some place)) h)
-
--- where nothing is chosen all stay, and where all are chosen it is forgetting at once
-pub kept_where-none : (now : ℕ) (places : PlacesSeen)
-    → places_kept_where (λ a. false) now places ≡ places
-kept_where-none now places =
-    fin.same_map address_total address_exact _ _ (λ q. get-kept_where (λ a. false) now places q)
-
-pub kept_where-all : (now : ℕ) (places : PlacesSeen)
-    → places_kept_where (λ a. true) now places ≡ places_kept now places
-kept_where-all now places = fin.same_map address_total address_exact _ _ (λ q.
-    get-kept_where (λ a. true) now places q ∙ sym (get-places_kept now places q))
-
 -- ---- the first address from a start on
 
 there : (places : PlacesSeen) (q : SocketAddr)
@@ -202,7 +84,7 @@ there : (places : PlacesSeen) (q : SocketAddr)
 there places q among = contains_key-keys places q ∙ among
 
 pub first_is : (places : PlacesSeen) (start : Bound SocketAddr) (o : Option SocketAddr)
-    → IsFirstFrom places start o → first_from places start ≡ o
+    → IsFirstFrom places start o → first_address_from places start ≡ o
 first_is places start None none =
     find-none address_total address_exact (is_from_start address_cmp start) (fin.entries places)
     (λ q among.
@@ -276,10 +158,6 @@ module _ {A : Type 0} (m : BTreeMap SocketAddr (Place A)) (start : Bound SocketA
 abbrev pub is_passed : Bound SocketAddr → Bound SocketAddr → SocketAddr → Bool
 is_passed start next a = is_from_start address_cmp start a && not (is_from_start address_cmp next a)
 
-unpassed : (b : Bool) → (b && false) ≡ false
-unpassed true = refl
-unpassed false = refl
-
 nothing_passed : (b : Bool) → (b && not b) ≡ false
 nothing_passed true = refl
 nothing_passed false = refl
@@ -298,7 +176,7 @@ get-passed start next now places q within =
     get-kept_where (is_passed start next) now places q
     ∙ ap (λ b. cond b (place_kept now (fin.get places q)) (fin.get places q))
     (ap (λ b. is_from_start address_cmp start q && not b) within
-    ∙ unpassed (is_from_start address_cmp start q))
+    ∙ and-false (is_from_start address_cmp start q))
 
 -- so what comes first there is what came first
 pub first_as_before : (start next : Bound SocketAddr) (now : ℕ) (places left : PlacesSeen)
@@ -422,11 +300,11 @@ begun_within from start is q h =
 
 pub begun_next : (from : Option SocketAddr) (start : Bound SocketAddr) (most : ℕ)
     (places : PlacesSeen) → start ≡ start_of from
-    → next_from places (start_of from) most ≡ next_from places start (most - 0)
+    → next_address_from places (start_of from) most ≡ next_address_from places start (most - 0)
 begun_next from start most places is =
     let all : most ≡ most - 0 = omega arith in
-    ap (λ (s : Bound SocketAddr). next_from places s most) (sym is)
-    ∙ ap (next_from places start) all
+    ap (λ (s : Bound SocketAddr). next_address_from places s most) (sym is)
+    ∙ ap (next_address_from places start) all
 
 -- an address is forgotten if it has expired, and the next start comes after it
 pub left_more : (start next : Bound SocketAddr) (now : ℕ) (places left after : PlacesSeen)
@@ -444,35 +322,35 @@ left_more start next now places left after a is within first after_is =
 pub next_more : (start next : Bound SocketAddr) (now : ℕ) (places left : PlacesSeen)
     (a : SocketAddr) (goal : Option SocketAddr) (most looked : ℕ) → looked < most
     → left ≡ places_kept_where (is_passed start next) now places → IsFirstFrom left next (Some a)
-    → goal ≡ next_from places next (most - looked)
-    → goal ≡ next_from places (Excluded a) (most - (looked + 1))
+    → goal ≡ next_address_from places next (most - looked)
+    → goal ≡ next_address_from places (Excluded a) (most - (looked + 1))
 next_more start next now places left a goal most looked few is first next_is =
     let rest : most - looked ≡ suc (most - (looked + 1)) = omega arith in
-    next_is ∙ ap (next_from places next) rest
-    ∙ ap (option_and_then (λ x. next_from places (Excluded x) (most - (looked + 1))))
+    next_is ∙ ap (next_address_from places next) rest
+    ∙ ap (option_and_then (λ x. next_address_from places (Excluded x) (most - (looked + 1))))
     (first_is places next (Some a) (first_as_before start next now places left (Some a) is first))
 
 -- where no address is left there is none to go on at
 pub next_none : (start next : Bound SocketAddr) (now : ℕ) (places left : PlacesSeen)
     (goal : Option SocketAddr) (most looked : ℕ) → looked < most
     → left ≡ places_kept_where (is_passed start next) now places → IsFirstFrom left next None
-    → goal ≡ next_from places next (most - looked)
+    → goal ≡ next_address_from places next (most - looked)
     → None ≡ goal
 next_none start next now places left goal most looked few is none next_is =
     let rest : most - looked ≡ suc (most - (looked + 1)) = omega arith in
-    sym (next_is ∙ ap (next_from places next) rest
-    ∙ ap (option_and_then (λ x. next_from places (Excluded x) (most - (looked + 1))))
+    sym (next_is ∙ ap (next_address_from places next) rest
+    ∙ ap (option_and_then (λ x. next_address_from places (Excluded x) (most - (looked + 1))))
     (first_is places next None (first_as_before start next now places left None is none)))
 
 -- after the last turn it is the first that is left
 pub next_last : (start next : Bound SocketAddr) (now : ℕ) (places left : PlacesSeen)
     (o goal : Option SocketAddr) (most looked : ℕ) → looked ≡ most
     → left ≡ places_kept_where (is_passed start next) now places → IsFirstFrom left next o
-    → goal ≡ next_from places next (most - looked)
+    → goal ≡ next_address_from places next (most - looked)
     → o ≡ goal
 next_last start next now places left o goal most looked all is first next_is =
     let rest : most - looked ≡ 0 = omega arith in
-    sym (next_is ∙ ap (next_from places next) rest
+    sym (next_is ∙ ap (next_address_from places next) rest
     ∙ first_is places next o (first_as_before start next now places left o is first))
 
 -- and what was passed is what lies before it
@@ -488,21 +366,17 @@ left_last from next now places left o is first =
 
 found_passes : (test : SocketAddr → Bool) (list : List SocketAddr) (a : SocketAddr)
     → find test list ≡ Some a → test a ≡ true
-found_passes test [] a found = cc
-found_passes test (x ∷ list) a found =
-    elim (test x) as (λ b. test x ≡ b → cond b (Some x) (find test list) ≡ Some a → test a ≡ true) [
-      | true ↦ λ passes is. let same : x ≡ a = cc in subst (λ y. test y ≡ true) same passes
-      | false ↦ λ fails is. found_passes test list a is
-    ] refl found
+found_passes test list a found =
+    subst (λ (o : Option SocketAddr). IfSome o (λ x. test x ≡ true)) found (find-passes test list)
 
 -- the next address comes from the start on
 pub next-within : (places : PlacesSeen) (start : Bound SocketAddr) (most : ℕ) (b : SocketAddr)
-    → next_from places start most ≡ Some b → is_from_start address_cmp start b ≡ true
+    → next_address_from places start most ≡ Some b → is_from_start address_cmp start b ≡ true
 next-within places start zero b is =
     found_passes (is_from_start address_cmp start) (fin.keys places) b is
 next-within places start (suc more) b is =
-    elim (first_from places start) as (λ o. first_from places start ≡ o
-    → option_and_then (λ a. next_from places (Excluded a) more) o ≡ Some b
+    elim (first_address_from places start) as (λ o. first_address_from places start ≡ o
+    → option_and_then (λ a. next_address_from places (Excluded a) more) o ≡ Some b
     → is_from_start address_cmp start b ≡ true) [
       | None ↦ λ none is. cc
       | Some a ↦ λ first is.
@@ -510,10 +384,6 @@ next-within places start (suc more) b is =
           (found_passes (is_from_start address_cmp start) (fin.keys places) a first)
           (is_less (address_cmp a b) (next-within places (Excluded a) more b is))
     ] refl is
-
-alone : (b : Bool) → (b && true) ≡ b
-alone true = refl
-alone false = refl
 
 -- what comes before an address and what comes from it on is all
 joined : (lo from : Bool) → (from ≡ true → lo ≡ true) → ((lo && not from) || from) ≡ lo
@@ -559,7 +429,7 @@ all_steps s now from (most ∷ sizes) left is =
           record s { places = places_kept_where (is_looked_at from o) now s.places }) none
           ∙ ap (λ (m : PlacesSeen). record s { places = m })
           (kept_where-same (is_looked_at from None) (is_from_start address_cmp (start_of from)) now
-          s.places (λ q there. alone (is_from_start address_cmp (start_of from) q)))
+          s.places (λ q there. and-true (is_from_start address_cmp (start_of from) q)))
       | Some b ↦ λ next is.
           all_steps (after_step s now from most) now (Some b) sizes left is
           ∙ ap (λ (m : PlacesSeen). record s { places = m })

@@ -13,7 +13,7 @@ use Rattle.stun_base.specs.declared.keys.algorithm.IntegrityAlgorithm.{Integrity
 use Rattle.stun_types.specs.Attribute.{TypedValue}
 use Rattle.stun_types.specs.ErrorCode.{CodeAndReason, error_of}
 use Rattle.stun_types.specs.Integrity.{integrity_refusal, is_integrity}
-use Rattle.stun_types.specs.Integrity.{is_well_formed, refusal_of, verified_by}
+use Rattle.stun_types.specs.Integrity.{is_well_formed, deciding_refusal, verified_by}
 use Rattle.stun_types.specs.PasswordAlgorithms.{password_algorithm_in}
 use Rattle.stun_types.specs.PasswordAlgorithms.{password_algorithms_in, integrity_of}
 use Rattle.stun_types.specs.Tail.{AgreeUpToIntegrity, besides_fingerprint}
@@ -22,7 +22,7 @@ use Rattle.stun_types.specs.Userhash.{hash_of}
 use Rattle.stun_types.specs.Visible.{visible}
 use Rattle.stun_types.specs.Walk.{Member}
 use Rattle.stun_auth.specs.Reading.{has_visible_integrity, last, last_of, reading_of}
-use Rattle.stun_auth.specs.ShortTerm.{Secret, short_term_answer, verdict_of}
+use Rattle.stun_auth.specs.ShortTerm.{Secret, short_term_answer, algorithm_or_refusal}
 use Rattle.stun_auth.proofs.JoinedReading.{or_nothing}
 use Rattle.stun_auth.proofs.ReadingLemmas.{last_of-cons}
 
@@ -123,5 +123,5 @@ pub short_term-alike : (secret : Option Secret) (bytes others : List ℕ)
 short_term-alike None bytes others agree alike = refl
 short_term-alike (Some secret) bytes others agree alike =
     let refused : integrity_refusal bytes ≡ integrity_refusal others =
-    ap refusal_of (agree.decides ∙ sym agree.decides_other) in
-    λ i. verdict_of (alike.verdict (λ _. secret.password) i) (refused i)
+    ap deciding_refusal (agree.decides ∙ sym agree.decides_other) in
+    λ i. algorithm_or_refusal (alike.verdict (λ _. secret.password) i) (refused i)

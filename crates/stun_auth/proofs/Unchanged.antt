@@ -9,14 +9,14 @@ use Rattle.std.specs.FinMap as fin
 use Rattle.std.specs.FinMap.{same_map, get-insert, get_tied}
 use Rattle.std.specs.declared.net.socket_addr.SocketAddr.{SocketAddr}
 use Rattle.stun_base.specs.Address.{address_cmp}
-use Rattle.stun_auth.specs.Seen.{ClientSeen, PlaceSeen, renewed}
+use Rattle.stun_auth.specs.Seen.{ClientSeen, PlaceSeen, renewed_place}
 use Rattle.stun_auth.specs.Places.{at_place}
 use Rattle.stun_auth.specs.Reading.{Reading}
-use Rattle.stun_auth.specs.Reasons.{OrMemory, ServerRefusal}
+use Rattle.stun_auth.specs.Reasons.{ServerOrMemory, ServerRefusal}
 use Rattle.stun_base.specs.Moments.{moment_after}
-use Rattle.stun_auth.specs.Server.{Sight, standing, standing_of, stands_at}
+use Rattle.stun_auth.specs.Server.{Sight, current_place, current_place_of, has_current_nonce}
 use Rattle.stun_auth.specs.Validation.{ChangesNothing, ServerSeen, sight, with_accepted}
-use Rattle.stun_auth.specs.Validation.{put_place, needs_nonce, after_message, verdict_at}
+use Rattle.stun_auth.specs.Validation.{put_place, needs_nonce, after_validation, verdict_at}
 use Rattle.stun_auth.specs.declared.server.reason.LongTermServerAuthErrorReason.{
   LongTermServerAuthErrorReason,
 }
@@ -31,7 +31,7 @@ use Rattle.stun_auth.specs.declared.server.reason.LongTermServerAuthErrorReason.
 use Rattle.stun_auth.specs.Nonces.{nonce_of}
 use Rattle.std.specs.declared.result.Result.{Result}
 use Rattle.std.specs.declared.result.Result.TheVariants.{Ok, Err}
-use Rattle.stun_auth.proofs.Addresses.{address_total, address_exact}
+use Rattle.stun_base.proofs.Addresses.{address_total, address_exact}
 
 equal_or : (o : Ordering) (x : Option PlaceSeen) (y : Option PlaceSeen) → (o ≡ Equal → x ≡ y)
     → cond (is_eq o) x y ≡ y
@@ -56,9 +56,9 @@ at_place-same places a change same =
       | Some p ↦ λ e. ap (fin.insert places a) (same p) ∙ insert-same places a p e
     ] refl
 
--- what holds in ample memory holds or memory ran out
+-- what holds while no allocation fails, holds or an allocation fails
 pub or_memory : {V P Q : Type 0} (r : Result V LongTermServerAuthErrorReason) → P → Q
-    → OrMemory r P Q
+    → ServerOrMemory r P Q
 or_memory (Ok v) p q = p
 or_memory (Err Unauthorized) p q = p
 or_memory (Err IntegrityFailed) p q = p
@@ -68,7 +68,7 @@ or_memory (Err StaleNonce) p q = p
 or_memory (Err OutOfMemory) p q = q
 
 pub or_memory_map : {V P P' : Type 0} (Q : Type 0) (r : Result V LongTermServerAuthErrorReason)
-    → (P → P') → OrMemory r P Q → OrMemory r P' Q
+    → (P → P') → ServerOrMemory r P Q → ServerOrMemory r P' Q
 or_memory_map Q (Ok v) f h = f h
 or_memory_map Q (Err Unauthorized) f h = f h
 or_memory_map Q (Err IntegrityFailed) f h = f h
@@ -85,11 +85,11 @@ put_place-same places a =
 
 -- a message that needs no nonce leaves the server as it was
 pub after_needless : (s : ServerSeen) (from : SocketAddr) (now : ℕ) (words : List ℕ) (r : Reading)
-    → needs_nonce r ≡ false → s ≡ after_message s from now words r
+    → needs_nonce r ≡ false → s ≡ after_validation s from now words r
 after_needless s from now words r h =
     let left : PlaceSeen =
-    with_accepted (standing (sight s from) now words)
-    (verdict_at (sight s from) (standing (sight s from) now words) r) in
+    with_accepted (current_place (sight s from) now words)
+    (verdict_at (sight s from) (current_place (sight s from) now words) r) in
     ap (λ m. record s { places = m }) (sym (put_place-same s.places from))
     ∙ ap (λ b.
     record s { places = put_place s.places from (cond b (Some left) (fin.get s.places from)) })
@@ -108,42 +108,44 @@ if-same false x y is = refl
 pub needless-unchanged : (s : Sight) (now : ℕ) (words : List ℕ) (r : Reading)
     → needs_nonce r ≡ false → ChangesNothing s now words r
 needless-unchanged s now words r needless = record {
-  no_nonce = ap (λ b. b && not (stands_at now s.place)) needless;
+  no_nonce = ap (λ b. b && not (has_current_nonce now s.place)) needless;
   same_place =
       ap (λ b.
-      cond b (Some (with_accepted (standing s now words) (verdict_at s (standing s now words) r)))
+      cond b (Some (with_accepted (current_place s now words)
+      (verdict_at s (current_place s now words) r)))
       s.place) needless;
 }
 
 -- where a nonce is current, a verdict that leaves its place
 pub kept-unchanged : (s : Sight) (now : ℕ) (words : List ℕ) (r : Reading) (place : PlaceSeen)
-    → s.place ≡ Some place → stands_at now (Some place) ≡ true
+    → s.place ≡ Some place → has_current_nonce now (Some place) ≡ true
     → with_accepted place (verdict_at s place r) ≡ place → ChangesNothing s now words r
 kept-unchanged s now words r place there stands same =
-    let stays : standing s now words ≡ place =
-    ap (λ o. standing_of o (nonce_of s.registered.algorithms s.feature words) now
+    let stays : current_place s now words ≡ place =
+    ap (λ o. current_place_of o (nonce_of s.registered.algorithms s.feature words) now
     (moment_after now s.expiry)) there
     ∙ ap (λ b.
     cond b place
-    (renewed (Some place) (nonce_of s.registered.algorithms s.feature words)
+    (renewed_place (Some place) (nonce_of s.registered.algorithms s.feature words)
     (moment_after now s.expiry))) stands in record {
-      no_nonce = ap (λ o. needs_nonce r && not (stands_at now o)) there
+      no_nonce = ap (λ o. needs_nonce r && not (has_current_nonce now o)) there
           ∙ ap (λ b. needs_nonce r && not b) stands ∙ needed-false (needs_nonce r);
       same_place =
           if-same (needs_nonce r)
-          (Some (with_accepted (standing s now words) (verdict_at s (standing s now words) r)))
+          (Some (with_accepted (current_place s now words)
+          (verdict_at s (current_place s now words) r)))
           s.place
           (ap (λ p. Some (with_accepted p (verdict_at s p r))) stays ∙ ap Some same ∙ sym there);
     }
 
 pub refused-unchanged : (s : Sight) (now : ℕ) (words : List ℕ) (r : Reading) (place : PlaceSeen)
-    (e : ServerRefusal) → s.place ≡ Some place → stands_at now (Some place) ≡ true
+    (e : ServerRefusal) → s.place ≡ Some place → has_current_nonce now (Some place) ≡ true
     → verdict_at s place r ≡ Err e → ChangesNothing s now words r
 refused-unchanged s now words r place e there stands refused =
     kept-unchanged s now words r place there stands (ap (with_accepted place) refused)
 
 pub repeated-unchanged : (s : Sight) (now : ℕ) (words : List ℕ) (r : Reading) (place : PlaceSeen)
-    (client : ClientSeen) → s.place ≡ Some place → stands_at now (Some place) ≡ true
+    (client : ClientSeen) → s.place ≡ Some place → has_current_nonce now (Some place) ≡ true
     → verdict_at s place r ≡ Ok client → place.client ≡ Some client → ChangesNothing s now words r
 repeated-unchanged s now words r place client there stands accepted known =
     kept-unchanged s now words r place there stands

@@ -1,4 +1,4 @@
--- The verdict that the code comes to step by step is the one of the table.
+-- The verdict that the code finds step by step is the one of the table.
 use Rattle.std.proofs.Common.{◌≡◌, ◌↔◌, ℕ, List, [], ◌∷◌, map, Option, Some, None}
 use Rattle.std.proofs.Common.{Bool, true, false, refl, sym, ◌∙◌, ap, Ok, Err}
 use Rattle.std.specs.Prelude.{cond, not, ◌||◌, ◌&&◌, IsTrue}
@@ -21,16 +21,17 @@ use Rattle.stun_types.specs.declared.attribute.password_algorithm.PasswordAlgori
 }
 use Rattle.stun_auth.specs.declared.algorithm_set.AlgorithmSet.{AlgorithmSet}
 use Rattle.stun_auth.specs.declared.feature.Feature.{Feature}
-use Rattle.stun_auth.specs.declared.server.reason.Refusal.{Refusal}
-use Rattle.stun_auth.specs.declared.server.reason.Refusal.TheVariants.{Unauthorized, BadRequest}
+use Rattle.stun_auth.specs.declared.server.reason.VerdictRefusal.{VerdictRefusal}
+use Rattle.stun_auth.specs.declared.server.reason.VerdictRefusal.TheVariants.{Unauthorized}
+use Rattle.stun_auth.specs.declared.server.reason.VerdictRefusal.TheVariants.{BadRequest}
 use Rattle.stun_auth.specs.Algorithms.{same_list}
 use Rattle.stun_auth.specs.Feature.{is_possible}
 use Rattle.stun_auth.specs.Reading.{Reading, verified_under}
 use Rattle.stun_auth.specs.Registered.{Registered, RegisteredUser, UserSecret, key_of}
 use Rattle.stun_auth.specs.Registered.{name_with_hash, user_named, user_with_hash}
 use Rattle.stun_auth.specs.Seen.{ClientSeen}
-use Rattle.stun_auth.specs.Server.{agreed, client_of, named, named_by, nonce_refusal}
-use Rattle.stun_auth.specs.Server.{or_refused, proven, verified_for, their_nonce, verdict}
+use Rattle.stun_auth.specs.Server.{agreement, client_of, named_user, named_by, nonce_refusal}
+use Rattle.stun_auth.specs.Server.{or_refused, verified_named, verified_for, their_nonce, verdict}
 use Rattle.stun_auth.specs.code.Judging.{name_by, name_in}
 use Rattle.stun_auth.proofs.VerdictSteps.{by_attributes, by_choice, by_name, by_steps}
 
@@ -88,8 +89,8 @@ bytes_eq-tested false xs ys decides =
 -- ---- the table
 
 -- the rows of the table, as tests and what is left where none of them holds
-abbrev pub by_rows : Bool → Bool → Bool → Bool → Bool → Bool → Refusal → ClientSeen
-    → Result ClientSeen Refusal
+abbrev pub by_rows : Bool → Bool → Bool → Bool → Bool → Bool → VerdictRefusal → ClientSeen
+    → Result ClientSeen VerdictRefusal
 by_rows unprotected incomplete nameless disagreed other unproven other_nonce client =
     cond unprotected (Err Unauthorized)
     (cond incomplete (Err BadRequest) (cond nameless (Err BadRequest)
@@ -101,20 +102,20 @@ pub verdict-rows : (users : Registered) (feature : Feature) (ours : List ℕ)
     → verdict users feature ours offered r
     ≡ by_rows (is_none r.integrity) (is_none r.realm || is_none r.nonce)
     (is_none r.userhash && is_none r.username)
-    (is_none (agreed r (their_nonce r) offered)) (not (bytes_eq (their_nonce r) ours))
-    (is_none (proven users feature r (agreed r (their_nonce r) offered)))
+    (is_none (agreement r (their_nonce r) offered)) (not (bytes_eq (their_nonce r) ours))
+    (is_none (verified_named users feature r (agreement r (their_nonce r) offered)))
     (nonce_refusal ours (their_nonce r)) (client_of users feature ours offered r)
 verdict-rows users feature ours offered r =
     rows (is_none r.integrity) (is_none r.realm || is_none r.nonce)
     (is_none r.userhash && is_none r.username)
-    (is_none (agreed r (their_nonce r) offered)) (not (bytes_eq (their_nonce r) ours))
-    (is_none (proven users feature r (agreed r (their_nonce r) offered)))
+    (is_none (agreement r (their_nonce r) offered)) (not (bytes_eq (their_nonce r) ours))
+    (is_none (verified_named users feature r (agreement r (their_nonce r) offered)))
     (nonce_refusal ours (their_nonce r)) (client_of users feature ours offered r)
   where
-    rows : (a b c d e f : Bool) (n : Refusal) (client : ClientSeen)
+    rows : (a b c d e f : Bool) (n : VerdictRefusal) (client : ClientSeen)
         → or_refused
-        (option_map_or (λ (row : Bool × Refusal). Some row.1)
-        (find (λ (row : Bool × Refusal). row.0)
+        (option_map_or (λ (row : Bool × VerdictRefusal). Some row.1)
+        (find (λ (row : Bool × VerdictRefusal). row.0)
         ((a, Unauthorized) ∷ (b, BadRequest) ∷ (c, BadRequest) ∷ (d, BadRequest) ∷ (e, n)
         ∷ (f, Unauthorized) ∷ [])) None) client
         ≡ by_rows a b c d e f n client
@@ -140,7 +141,7 @@ user_of users feature (Some hash) username = by (is_possible feature)
     by false = refl
 
 -- a client, unless the digest is not there
-abbrev unless : Bool → ClientSeen → Result ClientSeen Refusal
+abbrev unless : Bool → ClientSeen → Result ClientSeen VerdictRefusal
 unless true client = Err Unauthorized
 unless false client = Ok client
 
@@ -190,12 +191,15 @@ last_steps users r a (Some name) = of_secret (fin.get users.secrets name)
 
 -- the rows from the fourth on, where a nonce is named
 abbrev rows_from : Registered → Feature → List ℕ → Option AlgorithmSet → Reading → List ℕ
-    → Option IntegrityAlgorithm → Result ClientSeen Refusal
+    → Option IntegrityAlgorithm → Result ClientSeen VerdictRefusal
 rows_from users feature ours offered r theirs chosen =
     cond (is_none chosen) (Err BadRequest)
     (cond (not (bytes_eq theirs ours)) (Err (nonce_refusal ours theirs))
-    (cond (is_none (proven users feature r chosen)) (Err Unauthorized)
-    (Ok (record { name = name_or (named users feature r); algorithm = unwrap_or chosen Sha1 }))))
+    (cond (is_none (verified_named users feature r chosen)) (Err Unauthorized)
+    (Ok (record {
+      name = name_or (named_user users feature r);
+      algorithm = unwrap_or chosen Sha1;
+    }))))
 
 by_choice-rows : (users : Registered) (feature : Feature) (ours : List ℕ)
     (offered : Option AlgorithmSet) (r : Reading) (theirs : List ℕ)
@@ -206,23 +210,25 @@ by_choice-rows users feature ours offered r theirs None = refl
 by_choice-rows users feature ours offered r theirs (Some a) = by (bytes_eq theirs ours)
   where
     judged : by_name users r (name_in users feature r) a
-        ≡ cond (is_none (option_and_then (verified_for users r a) (named users feature r)))
-        (Err Unauthorized) (Ok (record { name = name_or (named users feature r); algorithm = a }))
+        ≡ cond (is_none (option_and_then (verified_for users r a) (named_user users feature r)))
+        (Err Unauthorized)
+        (Ok (record { name = name_or (named_user users feature r); algorithm = a }))
     judged =
         last_steps users r a (name_in users feature r)
         ∙ ap (λ (user : Option RegisteredUser).
         unless (is_none (option_and_then (verified_for users r a) user))
         (record { name = name_or user; algorithm = a }))
         (sym (user_of users feature r.userhash r.username))
-        ∙ unless-cond (is_none (option_and_then (verified_for users r a) (named users feature r)))
-        (record { name = name_or (named users feature r); algorithm = a })
+        ∙ unless-cond
+        (is_none (option_and_then (verified_for users r a) (named_user users feature r)))
+        (record { name = name_or (named_user users feature r); algorithm = a })
 
     by : (b : Bool)
         → cond b (by_name users r (name_in users feature r) a) (Err (nonce_refusal ours theirs))
         ≡ cond (not b) (Err (nonce_refusal ours theirs))
-        (cond (is_none (option_and_then (verified_for users r a) (named users feature r)))
+        (cond (is_none (option_and_then (verified_for users r a) (named_user users feature r)))
         (Err Unauthorized)
-        (Ok (record { name = name_or (named users feature r); algorithm = a })))
+        (Ok (record { name = name_or (named_user users feature r); algorithm = a })))
     by true = judged
     by false = refl
 
@@ -239,19 +245,19 @@ first_rows : (users : Registered) (feature : Feature) (ours : List ℕ)
     (cond (is_none realm || is_none nonce) (Err BadRequest)
     (cond (is_none hash && is_none username) (Err BadRequest)
     (rows_from users feature ours offered r (unwrap_or nonce [])
-    (agreed r (unwrap_or nonce []) offered))))
+    (agreement r (unwrap_or nonce []) offered))))
 first_rows users feature ours offered r None realm nonce hash username = refl
 first_rows users feature ours offered r (Some verify) None nonce hash username = refl
 first_rows users feature ours offered r (Some verify) (Some realm) None hash username = refl
 first_rows users feature ours offered r (Some verify) (Some realm) (Some nonce) None None = refl
 first_rows users feature ours offered r (Some verify) (Some realm) (Some nonce) (Some hash)
     username =
-    by_choice-rows users feature ours offered r nonce (agreed r nonce offered)
+    by_choice-rows users feature ours offered r nonce (agreement r nonce offered)
 first_rows users feature ours offered r (Some verify) (Some realm) (Some nonce) None
     (Some username) =
-    by_choice-rows users feature ours offered r nonce (agreed r nonce offered)
+    by_choice-rows users feature ours offered r nonce (agreement r nonce offered)
 
--- the steps come to the verdict of the table
+-- the steps give the verdict of the table
 pub by_steps-verdict : (users : Registered) (feature : Feature) (ours : List ℕ)
     (offered : Option AlgorithmSet) (r : Reading)
     → by_steps users feature ours offered r ≡ verdict users feature ours offered r

@@ -1,4 +1,4 @@
--- The verdict of a server as the code comes to it, exit by exit.
+-- The verdict of a server as the code finds it, exit by exit.
 use Rattle.std.specs.Prelude.{ℕ, List, not, if◌then◌else◌, Option, Some, None}
 use Rattle.std.specs.Option.{is_some, option_and_then}
 use Rattle.std.specs.Str.{bytes_eq}
@@ -7,46 +7,47 @@ use Rattle.std.specs.declared.result.Result.TheVariants.{Ok, Err}
 use Rattle.stun_base.specs.declared.keys.algorithm.IntegrityAlgorithm.{IntegrityAlgorithm}
 use Rattle.stun_auth.specs.declared.algorithm_set.AlgorithmSet.{AlgorithmSet}
 use Rattle.stun_auth.specs.declared.feature.Feature.{Feature}
-use Rattle.stun_auth.specs.declared.server.reason.Refusal.{Refusal}
-use Rattle.stun_auth.specs.declared.server.reason.Refusal.TheVariants.{Unauthorized, BadRequest}
+use Rattle.stun_auth.specs.declared.server.reason.VerdictRefusal.{VerdictRefusal}
+use Rattle.stun_auth.specs.declared.server.reason.VerdictRefusal.TheVariants.{Unauthorized}
+use Rattle.stun_auth.specs.declared.server.reason.VerdictRefusal.TheVariants.{BadRequest}
 use Rattle.stun_auth.specs.code.Judging.{name_in}
 use Rattle.stun_auth.specs.Reading.{Reading, verified_under}
 use Rattle.stun_auth.specs.Registered.{Registered, key_at}
 use Rattle.stun_auth.specs.Seen.{ClientSeen}
-use Rattle.stun_auth.specs.Server.{agreed, nonce_refusal}
+use Rattle.stun_auth.specs.Server.{agreement, nonce_refusal}
 use Rattle.stun_auth.specs.Validation.{is_complete}
 
 abbrev pub by_digest : Registered → Reading → List ℕ → IntegrityAlgorithm
-    → Result ClientSeen Refusal
+    → Result ClientSeen VerdictRefusal
 by_digest users r name a =
     if is_some (option_and_then (verified_under r) (key_at users name a))
     then Ok (record { name = name; algorithm = a })
     else Err Unauthorized
 
 abbrev pub by_name : Registered → Reading → Option (List ℕ) → IntegrityAlgorithm
-    → Result ClientSeen Refusal
+    → Result ClientSeen VerdictRefusal
 by_name users r None a = Err Unauthorized
 by_name users r (Some name) a = by_digest users r name a
 
 abbrev pub by_nonce : Registered → Feature → List ℕ → Reading → List ℕ → IntegrityAlgorithm
-    → Result ClientSeen Refusal
+    → Result ClientSeen VerdictRefusal
 by_nonce users feature ours r theirs a =
     if bytes_eq theirs ours then by_name users r (name_in users feature r) a
     else Err (nonce_refusal ours theirs)
 
 abbrev pub by_choice : Registered → Feature → List ℕ → Reading → List ℕ → Option IntegrityAlgorithm
-    → Result ClientSeen Refusal
+    → Result ClientSeen VerdictRefusal
 by_choice users feature ours r theirs None = Err BadRequest
 by_choice users feature ours r theirs (Some a) = by_nonce users feature ours r theirs a
 
 abbrev pub by_attributes : Registered → Feature → List ℕ → Option AlgorithmSet → Reading
-    → Option (List ℕ) → Result ClientSeen Refusal
+    → Option (List ℕ) → Result ClientSeen VerdictRefusal
 by_attributes users feature ours offered r None = Err BadRequest
 by_attributes users feature ours offered r (Some theirs) =
-    by_choice users feature ours r theirs (agreed r theirs offered)
+    by_choice users feature ours r theirs (agreement r theirs offered)
 
 abbrev pub by_steps : Registered → Feature → List ℕ → Option AlgorithmSet → Reading
-    → Result ClientSeen Refusal
+    → Result ClientSeen VerdictRefusal
 by_steps users feature ours offered r =
     if not (is_some r.integrity) then Err Unauthorized
     else (if not (is_complete r) then Err BadRequest

@@ -1,4 +1,4 @@
--- Want of memory for one addition and for one list after another.
+-- Where memory is missing for one addition, and for one list after another.
 use Rattle.std.proofs.Common.{◌≡◌, ℕ, ◌+◌, ◌<◌, ◌≤◌, Bool, true, false, true≢false}
 use Rattle.std.proofs.Common.{List, [], ◌∷◌, ◌++◌, Option, Some, None, Result, Ok, Err}
 use Rattle.std.proofs.Common.{refl, sym, ◌∙◌, ap, subst, arith, append_assoc, inl, inr}
@@ -28,24 +28,12 @@ use Rattle.stun_auth.specs.AddedAttribute.{password_algorithm, password_algorith
 use Rattle.stun_auth.specs.ClientSigning.{algorithm_choice}
 use Rattle.stun_auth.specs.Additions.{Addition, Page, UnlessMemory, WantsMemory}
 use Rattle.stun_auth.specs.Additions.{added_all, added_one, after, growth, attribute}
-use Rattle.stun_auth.specs.Additions.{growth_of, integrity, is_too_long, page_in}
-use Rattle.stun_auth.specs.Additions.{refusal_of, unless_refused, with_addition}
+use Rattle.stun_auth.specs.Additions.{growth_of, integrity, is_text_too_long, page_in}
+use Rattle.stun_auth.specs.Additions.{addition_refusal, page_unless_refused, with_addition}
 use Rattle.stun_auth.specs.code.Additions.{IsAdded, IsOutcome, outcome_of}
-use Rattle.stun_auth.proofs.AdditionLemmas.{growth-append}
+use Rattle.stun_auth.proofs.AdditionLemmas.{added_all-append, growth-append}
 
--- what one list leaves is what the next begins on
-after_all : (xs ys : List Addition) (page : Page)
-    → added_all (xs ++ ys) page ≡ after (added_all xs page) (added_all ys)
-after_all [] ys page = refl
-after_all (x ∷ xs) ys page = step (after_all xs ys) (added_one x page)
-  where
-    step : ((next : Page) → added_all (xs ++ ys) next ≡ after (added_all xs next) (added_all ys))
-        → (first : Result Page StunWriteError)
-        → after first (added_all (xs ++ ys)) ≡ after (after first (added_all xs)) (added_all ys)
-    step rest (Err reason) = refl
-    step rest (Ok next) = rest next
-
--- memory that is wanting for a list is wanting for a longer one
+-- memory that is missing for a list is missing for a longer one
 pub wants_longer : (xs ys : List Addition) (page : Page) (reserved : ℕ)
     → WantsMemory xs page reserved → WantsMemory (xs ++ ys) page reserved
 wants_longer xs ys page reserved w = record {
@@ -56,7 +44,7 @@ wants_longer xs ys page reserved w = record {
   not_reserved = w.not_reserved;
 }
 
--- memory that is wanting after a list is wanting for both
+-- memory that is missing after a list is missing for both
 pub wants_later : (xs ys : List Addition) (page next : Page) (reserved left : ℕ)
     → Ok next ≡ added_all xs page → reserved ≤ left + growth xs
     → WantsMemory ys next left → WantsMemory (xs ++ ys) page reserved
@@ -67,7 +55,7 @@ wants_later xs ys page next reserved left done kept w = record {
   not_refused =
       subst IsOk
       (ap (λ (r : Result Page StunWriteError). after r (added_all w.first)) done
-      ∙ sym (after_all xs w.first page)) w.not_refused;
+      ∙ sym (added_all-append xs w.first page)) w.not_refused;
   not_reserved = omega (arith, growth-append xs w.first, kept, w.not_reserved);
 }
 
@@ -84,53 +72,39 @@ wants_one x page next reserved accepted short = record {
   not_reserved = omega (arith, sum_by-cons growth_of x [], short);
 }
 
+-- what follows where an answer is as one says, and where an allocation fails
+mapped : {V : Type 0} (result : Result V StunWriteError) {P Q R S : Type 0} → (P → R) → (Q → S)
+    → UnlessMemory result P Q → UnlessMemory result R S
+mapped (Ok value) f g h = f h
+mapped (Err NotAllowed) f g h = f h
+mapped (Err MessageIntegrityExists) f g h = f h
+mapped (Err (AttributeExists kind)) f g h = f h
+mapped (Err TooLarge) f g h = f h
+mapped (Err TooSmall) f g h = f h
+mapped (Err IntegrityFailed) f g h = f h
+mapped (Err OutOfMemory) f g h = g h
+
 -- where a list is refused, a longer one is
 pub refused_first : (xs ys : List Addition) (page now end : Page) (reserved : ℕ)
     (reason : StunWriteError)
     → IsOutcome xs page reserved (Err reason) now
     → IsOutcome (xs ++ ys) page reserved (Err reason) end
-refused_first xs ys page now end reserved NotAllowed h =
-    ap (λ (r : Result Page StunWriteError). after r (added_all ys)) h ∙ sym (after_all xs ys page)
-refused_first xs ys page now end reserved MessageIntegrityExists h =
-    ap (λ (r : Result Page StunWriteError). after r (added_all ys)) h ∙ sym (after_all xs ys page)
-refused_first xs ys page now end reserved (AttributeExists kind) h =
-    ap (λ (r : Result Page StunWriteError). after r (added_all ys)) h ∙ sym (after_all xs ys page)
-refused_first xs ys page now end reserved TooLarge h =
-    ap (λ (r : Result Page StunWriteError). after r (added_all ys)) h ∙ sym (after_all xs ys page)
-refused_first xs ys page now end reserved TooSmall h =
-    ap (λ (r : Result Page StunWriteError). after r (added_all ys)) h ∙ sym (after_all xs ys page)
-refused_first xs ys page now end reserved IntegrityFailed h =
-    ap (λ (r : Result Page StunWriteError). after r (added_all ys)) h ∙ sym (after_all xs ys page)
-refused_first xs ys page now end reserved OutOfMemory h = wants_longer xs ys page reserved h
+refused_first xs ys page now end reserved reason h =
+    mapped {V = Unit {0}} (Err reason)
+    (λ is. ap (λ (r : Result Page StunWriteError). after r (added_all ys)) is
+    ∙ sym (added_all-append xs ys page))
+    (wants_longer xs ys page reserved) h
 
 -- what comes after a list that was added
 pub outcome_after : (xs ys : List Addition) (page next end : Page) (reserved left : ℕ)
     (result : Result (Unit {0}) StunWriteError)
     → Ok next ≡ added_all xs page → reserved ≤ left + growth xs → IsOutcome ys next left result end
     → IsOutcome (xs ++ ys) page reserved result end
-outcome_after xs ys page next end reserved left (Ok value) done kept h =
-    h ∙ (ap (λ (r : Result Page StunWriteError). after r (added_all ys)) done
-    ∙ sym (after_all xs ys page))
-outcome_after xs ys page next end reserved left (Err NotAllowed) done kept h =
-    h ∙ (ap (λ (r : Result Page StunWriteError). after r (added_all ys)) done
-    ∙ sym (after_all xs ys page))
-outcome_after xs ys page next end reserved left (Err MessageIntegrityExists) done kept h =
-    h ∙ (ap (λ (r : Result Page StunWriteError). after r (added_all ys)) done
-    ∙ sym (after_all xs ys page))
-outcome_after xs ys page next end reserved left (Err (AttributeExists kind)) done kept h =
-    h ∙ (ap (λ (r : Result Page StunWriteError). after r (added_all ys)) done
-    ∙ sym (after_all xs ys page))
-outcome_after xs ys page next end reserved left (Err TooLarge) done kept h =
-    h ∙ (ap (λ (r : Result Page StunWriteError). after r (added_all ys)) done
-    ∙ sym (after_all xs ys page))
-outcome_after xs ys page next end reserved left (Err TooSmall) done kept h =
-    h ∙ (ap (λ (r : Result Page StunWriteError). after r (added_all ys)) done
-    ∙ sym (after_all xs ys page))
-outcome_after xs ys page next end reserved left (Err IntegrityFailed) done kept h =
-    h ∙ (ap (λ (r : Result Page StunWriteError). after r (added_all ys)) done
-    ∙ sym (after_all xs ys page))
-outcome_after xs ys page next end reserved left (Err OutOfMemory) done kept h =
-    wants_later xs ys page next reserved left done kept h
+outcome_after xs ys page next end reserved left result done kept h =
+    mapped result
+    (λ is. is ∙ (ap (λ (r : Result Page StunWriteError). after r (added_all ys)) done
+    ∙ sym (added_all-append xs ys page)))
+    (wants_later xs ys page next reserved left done kept) h
 
 -- so it is of lists that say what they leave reserved
 pub added_after : (xs ys : List Addition) (page next end : Page) (reserved left last : ℕ)
@@ -162,7 +136,7 @@ if_not : (b : Bool) (reason : StunWriteError) (rest : Option StunWriteError)
 if_not true reason rest not others is = not (let h : Some reason ≡ Some OutOfMemory = is in cc)
 if_not false reason rest not others is = others is
 
--- no refusal of an addition is want of memory
+-- no refusal of an addition is a failed allocation
 size_not_memory : (message : List ℕ) (room n : ℕ)
     → size_refusal message room n ≡ Some OutOfMemory → ⊥
 size_not_memory message room n =
@@ -183,9 +157,9 @@ attribute_not_memory message room kind n =
     (if_not (has_kind kind (walk message)) (AttributeExists (record { 0 = kind })) _ (λ is. cc)
     (size_not_memory message room n)))
 
-refusal_not_memory : (x : Addition) (page : Page) → refusal_of x page ≡ Some OutOfMemory → ⊥
+refusal_not_memory : (x : Addition) (page : Page) → addition_refusal x page ≡ Some OutOfMemory → ⊥
 refusal_not_memory (attribute a) page =
-    if_not (is_too_long a) TooLarge _ (λ is. cc)
+    if_not (is_text_too_long a) TooLarge _ (λ is. cc)
     (attribute_not_memory page.bytes page.room a.kind (length a.value))
 refusal_not_memory (integrity algorithm key) page =
     signing_not_memory page.bytes page.room algorithm
@@ -195,29 +169,29 @@ abbrev left_by : Addition → Page → Page
 left_by x page = record { bytes = with_addition x page.bytes; room = page.room - growth_of x }
 
 refused_by : (x : Addition) (page now : Page) (reserved : ℕ) (reason : StunWriteError)
-    → refusal_of x page ≡ Some reason → IsOutcome (x ∷ []) page reserved (Err reason) now
+    → addition_refusal x page ≡ Some reason → IsOutcome (x ∷ []) page reserved (Err reason) now
 unfolding added_one
 refused_by x page now reserved NotAllowed is =
-    sym (ap (λ o. after (unless_refused o (left_by x page)) (added_all [])) is)
+    sym (ap (λ o. after (page_unless_refused o (left_by x page)) (added_all [])) is)
 refused_by x page now reserved MessageIntegrityExists is =
-    sym (ap (λ o. after (unless_refused o (left_by x page)) (added_all [])) is)
+    sym (ap (λ o. after (page_unless_refused o (left_by x page)) (added_all [])) is)
 refused_by x page now reserved (AttributeExists kind) is =
-    sym (ap (λ o. after (unless_refused o (left_by x page)) (added_all [])) is)
+    sym (ap (λ o. after (page_unless_refused o (left_by x page)) (added_all [])) is)
 refused_by x page now reserved TooLarge is =
-    sym (ap (λ o. after (unless_refused o (left_by x page)) (added_all [])) is)
+    sym (ap (λ o. after (page_unless_refused o (left_by x page)) (added_all [])) is)
 refused_by x page now reserved TooSmall is =
-    sym (ap (λ o. after (unless_refused o (left_by x page)) (added_all [])) is)
+    sym (ap (λ o. after (page_unless_refused o (left_by x page)) (added_all [])) is)
 refused_by x page now reserved IntegrityFailed is =
-    sym (ap (λ o. after (unless_refused o (left_by x page)) (added_all [])) is)
+    sym (ap (λ o. after (page_unless_refused o (left_by x page)) (added_all [])) is)
 refused_by x page now reserved OutOfMemory is = absurd (refusal_not_memory x page is)
 
--- want of memory alone, where less than it takes is reserved
-wanting : (x : Addition) (page now : Page) (reserved : ℕ) → refusal_of x page ≡ None
+-- only an allocation fails, where less than it takes is reserved
+wanting : (x : Addition) (page now : Page) (reserved : ℕ) → addition_refusal x page ≡ None
     → reserved < growth_of x → IsOutcome (x ∷ []) page reserved (Err OutOfMemory) now
 unfolding added_one
 wanting x page now reserved is short =
     wants_one x page (left_by x page) reserved
-    (ap (λ o. unless_refused o (left_by x page)) is) short
+    (ap (λ o. page_unless_refused o (left_by x page)) is) short
 
 not_reserved : (n reserved : ℕ) (reason : StunWriteError)
     → (n ≤ reserved → IsOk {T = Unit {0}} (Err reason)) → reserved < n
@@ -226,11 +200,12 @@ not_reserved n reserved reason reserves = elim (cases_lt reserved n) as (λ _. r
   | inr enough ↦ absurd (true≢false (sym (reserves enough)))
 ]
 
--- an answer that is the refusal, if there is one, and else want of memory alone where less than it
+-- an answer that is the refusal, if there is one; else only an allocation fails, where less than it
 -- takes is reserved
 pub by_refusal : (x : Addition) (page now : Page) (reserved : ℕ)
     (result : Result (Unit {0}) StunWriteError) (refusal : Option StunWriteError)
-    → refusal_of x page ≡ refusal → RefusedBy refusal result → OnOk result (now ≡ left_by x page)
+    → addition_refusal x page ≡ refusal → RefusedBy refusal result
+    → OnOk result (now ≡ left_by x page)
     → (refusal ≡ None → growth_of x ≤ reserved → IsOk result)
     → IsOutcome (x ∷ []) page reserved result now
 unfolding added_one
@@ -238,7 +213,7 @@ by_refusal x page now reserved (Ok value) (Some reason) is refused done reserves
     absurd (let h : Ok value ≡ Err reason = refused in cc)
 by_refusal x page now reserved (Ok value) None is refused done reserves =
     ap (λ (p : Page). Ok p) done
-    ∙ sym (ap (λ o. after (unless_refused o (left_by x page)) (added_all [])) is)
+    ∙ sym (ap (λ o. after (page_unless_refused o (left_by x page)) (added_all [])) is)
 by_refusal x page now reserved (Err reason) (Some other) is refused done reserves =
     let same : reason ≡ other = let h : Err reason ≡ Err other = refused in cc in
     refused_by x page now reserved reason (is ∙ ap (λ r. Some r) (sym same))
@@ -246,10 +221,21 @@ by_refusal x page now reserved (Err reason) None is refused done reserves =
     subst (λ r. IsOutcome (x ∷ []) page reserved (Err r) now) (sym refused)
     (wanting x page now reserved is (not_reserved (growth_of x) reserved reason (reserves refl)))
 
--- what adding an attribute within its limit comes to
+-- the page that a success leaves
+page_is : {W : Type 0} (bytes : W → List ℕ) (room : W → ℕ) (x : Addition) (before now : W)
+    (result : Result (Unit {0}) StunWriteError)
+    → OnOk result (bytes now ≡ with_addition x (bytes before))
+    → OnOk result (room now + growth_of x ≡ room before)
+    → OnOk result (page_in bytes room now ≡ left_by x (page_in bytes room before))
+page_is bytes room x before now (Ok value) written rooms =
+    let n : room now ≡ room before - growth_of x = omega (arith, rooms) in
+    λ i. record { bytes = written i; room = n i }
+page_is bytes room x before now (Err reason) written rooms = tt
+
+-- the outcome of adding an attribute within its limit
 pub added_by : {W : Type 0} (bytes : W → List ℕ) (room : W → ℕ) (a : TypedValue) (before now : W)
     (reserved left : ℕ) (result : Result (Unit {0}) StunWriteError)
-    → is_too_long a ≡ false
+    → is_text_too_long a ≡ false
     → RefusedBy (attribute_refusal (bytes before) (room before) a.kind (length a.value)) result
     → OnOk result (bytes now ≡ with_attribute (bytes before) a)
     → OnOk result (room now + attribute_length (length a.value) ≡ room before)
@@ -266,20 +252,10 @@ added_by bytes room a before now reserved left result short refused written room
           (ap (λ b. if b then Some TooLarge
           else attribute_refusal (bytes before) (room before) a.kind (length a.value)) short)
           refused
-          (page_is bytes room a before now result written rooms) reserves;
+          (page_is bytes room (attribute a) before now result written rooms) reserves;
       kept = kept_is a reserved left result kept;
     }
   where
-    page_is : {W : Type 0} (bytes : W → List ℕ) (room : W → ℕ) (a : TypedValue) (before now : W)
-        (result : Result (Unit {0}) StunWriteError)
-        → OnOk result (bytes now ≡ with_attribute (bytes before) a)
-        → OnOk result (room now + attribute_length (length a.value) ≡ room before)
-        → OnOk result (page_in bytes room now ≡ left_by (attribute a) (page_in bytes room before))
-    page_is bytes room a before now (Ok value) written rooms =
-        let n : room now ≡ room before - attribute_length (length a.value) = omega (arith, rooms) in
-        λ i. record { bytes = written i; room = n i }
-    page_is bytes room a before now (Err reason) written rooms = tt
-
     kept_is : (a : TypedValue) (reserved left : ℕ) (result : Result (Unit {0}) StunWriteError)
         → OnOk result (reserved ≤ left + attribute_length (length a.value))
         → OnOk result (reserved ≤ left + growth (attribute a ∷ []))
@@ -299,7 +275,7 @@ refused_at_first list xs ys page now end reserved left last result reason is sam
     (subst (λ all. IsAdded all page reserved (Err reason) end last) (sym same)
     (added_refused xs ys page now end reserved left last reason h))
 
--- the first list is added, and then the second comes to something
+-- the first list is added, and then the second has an outcome
 pub then_added : (list xs ys : List Addition) (page next end : Page) (reserved left last : ℕ)
     (value : Unit {0}) (result : Result (Unit {0}) StunWriteError)
     → list ≡ xs ++ ys → IsAdded xs page reserved (Ok value) next left
@@ -326,7 +302,7 @@ then_outcome list xs ys page next end reserved left value result same first h =
     subst (λ all. IsOutcome all page reserved result end) (sym same)
     (outcome_after xs ys page next end reserved left result first.outcome first.kept h)
 
--- what adding the integrity attribute comes to
+-- the outcome of adding the integrity attribute
 pub signed_by : {W : Type 0} (bytes : W → List ℕ) (room : W → ℕ) (algorithm : IntegrityAlgorithm)
     (key : List ℕ) (before now : W) (reserved : ℕ) (result : Result (Unit {0}) StunWriteError)
     → RefusedBy (signing_refusal (bytes before) (room before) algorithm) result
@@ -339,19 +315,7 @@ pub signed_by : {W : Type 0} (bytes : W → List ℕ) (room : W → ℕ) (algori
 signed_by bytes room algorithm key before now reserved result refused written rooms reserves =
     by_refusal (integrity algorithm key) (page_in bytes room before) (page_in bytes room now)
     reserved result (signing_refusal (bytes before) (room before) algorithm) refl refused
-    (page_is bytes room algorithm key before now result written rooms) reserves
-  where
-    page_is : {W : Type 0} (bytes : W → List ℕ) (room : W → ℕ) (algorithm : IntegrityAlgorithm)
-        (key : List ℕ) (before now : W) (result : Result (Unit {0}) StunWriteError)
-        → OnOk result (bytes now ≡ with_integrity (bytes before) algorithm key)
-        → OnOk result (room now + attribute_length (digest_length algorithm) ≡ room before)
-        → OnOk result
-        (page_in bytes room now ≡ left_by (integrity algorithm key) (page_in bytes room before))
-    page_is bytes room algorithm key before now (Ok value) written rooms =
-        let n : room now ≡ room before - attribute_length (digest_length algorithm) =
-        omega (arith, rooms) in
-        λ i. record { bytes = written i; room = n i }
-    page_is bytes room algorithm key before now (Err reason) written rooms = tt
+    (page_is bytes room (integrity algorithm key) before now result written rooms) reserves
 
 -- ---- additions, and then what is no addition
 
@@ -362,19 +326,10 @@ refused_then : (xs ys : List Addition) (page now end : Page) (reserved : ℕ)
     → UnlessMemory {V = Unit {0}} (Err reason)
     (outcome_of {V = Unit {0}} (Err reason) end ≡ after (added_all xs page) next)
     (WantsMemory (xs ++ ys) page reserved)
-refused_then xs ys page now end reserved NotAllowed next h =
-    ap (λ (r : Result Page StunWriteError). after r next) h
-refused_then xs ys page now end reserved MessageIntegrityExists next h =
-    ap (λ (r : Result Page StunWriteError). after r next) h
-refused_then xs ys page now end reserved (AttributeExists kind) next h =
-    ap (λ (r : Result Page StunWriteError). after r next) h
-refused_then xs ys page now end reserved TooLarge next h =
-    ap (λ (r : Result Page StunWriteError). after r next) h
-refused_then xs ys page now end reserved TooSmall next h =
-    ap (λ (r : Result Page StunWriteError). after r next) h
-refused_then xs ys page now end reserved IntegrityFailed next h =
-    ap (λ (r : Result Page StunWriteError). after r next) h
-refused_then xs ys page now end reserved OutOfMemory next h = wants_longer xs ys page reserved h
+refused_then xs ys page now end reserved reason next h =
+    mapped {V = Unit {0}} (Err reason)
+    (λ is. ap (λ (r : Result Page StunWriteError). after r next) is)
+    (wants_longer xs ys page reserved) h
 
 pub refused_before : (xs ys : List Addition) (page now end : Page) (reserved left : ℕ)
     (result : Result (Unit {0}) StunWriteError) (reason : StunWriteError)
@@ -387,29 +342,17 @@ refused_before xs ys page now end reserved left result reason next is h =
     (WantsMemory (xs ++ ys) page reserved)) (sym is)
     (refused_then xs ys page now end reserved reason next h.outcome)
 
--- they are added, and then something comes
+-- they are added, and then there is an outcome
 pub followed : (xs ys : List Addition) (page p end : Page) (reserved left : ℕ) (value : Unit {0})
     (result : Result (Unit {0}) StunWriteError) (next : Page → Result Page StunWriteError)
     → IsAdded xs page reserved (Ok value) p left
     → UnlessMemory result (outcome_of result end ≡ next p) (WantsMemory ys p left)
     → UnlessMemory result (outcome_of result end ≡ after (added_all xs page) next)
     (WantsMemory (xs ++ ys) page reserved)
-followed xs ys page p end reserved left value (Ok v) next first h =
-    h ∙ ap (λ (r : Result Page StunWriteError). after r next) first.outcome
-followed xs ys page p end reserved left value (Err NotAllowed) next first h =
-    h ∙ ap (λ (r : Result Page StunWriteError). after r next) first.outcome
-followed xs ys page p end reserved left value (Err MessageIntegrityExists) next first h =
-    h ∙ ap (λ (r : Result Page StunWriteError). after r next) first.outcome
-followed xs ys page p end reserved left value (Err (AttributeExists kind)) next first h =
-    h ∙ ap (λ (r : Result Page StunWriteError). after r next) first.outcome
-followed xs ys page p end reserved left value (Err TooLarge) next first h =
-    h ∙ ap (λ (r : Result Page StunWriteError). after r next) first.outcome
-followed xs ys page p end reserved left value (Err TooSmall) next first h =
-    h ∙ ap (λ (r : Result Page StunWriteError). after r next) first.outcome
-followed xs ys page p end reserved left value (Err IntegrityFailed) next first h =
-    h ∙ ap (λ (r : Result Page StunWriteError). after r next) first.outcome
-followed xs ys page p end reserved left value (Err OutOfMemory) next first h =
-    wants_later xs ys page p reserved left first.outcome first.kept h
+followed xs ys page p end reserved left value result next first h =
+    mapped result
+    (λ is. is ∙ ap (λ (r : Result Page StunWriteError). after r next) first.outcome)
+    (wants_later xs ys page p reserved left first.outcome first.kept) h
 
 -- a list of algorithms is added with the choice from it
 pub choice_of_list : (list : List PasswordAlgorithmValue) (algorithm : IntegrityAlgorithm)

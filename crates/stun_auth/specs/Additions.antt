@@ -43,31 +43,32 @@ abbrev pub growth : List Addition → ℕ
 growth list = sum_by growth_of list
 
 -- whether a text has more bytes than its attribute takes (sections 14.3, 14.9 and 14.10)
-abbrev pub is_too_long : TypedValue → Bool
-is_too_long a =
+abbrev pub is_text_too_long : TypedValue → Bool
+is_text_too_long a =
     (a.kind == USERNAME && nat_lt USERNAME_LIMIT (length a.value))
     || ((a.kind == REALM || (a.kind == NONCE)) && nat_lt TEXT_LIMIT (length a.value))
 
--- why an addition is refused: an attribute is made before it is added
-abbrev pub refusal_of : Addition → Page → Option StunWriteError
-refusal_of (attribute a) page =
-    if is_too_long a then Some TooLarge
+-- why an addition is refused. An attribute is made before it is added, so its length comes first
+abbrev pub addition_refusal : Addition → Page → Option StunWriteError
+addition_refusal (attribute a) page =
+    if is_text_too_long a then Some TooLarge
     else attribute_refusal page.bytes page.room a.kind (length a.value)
-refusal_of (integrity algorithm key) page = signing_refusal page.bytes page.room algorithm
+addition_refusal (integrity algorithm key) page = signing_refusal page.bytes page.room algorithm
 
 -- a message with an addition
 abbrev pub with_addition : Addition → List ℕ → List ℕ
 with_addition (attribute a) message = with_attribute message a
 with_addition (integrity algorithm key) message = with_integrity message algorithm key
 
-abbrev pub unless_refused : Option StunWriteError → Page → Result Page StunWriteError
-unless_refused None page = Ok page
-unless_refused (Some reason) page = Err reason
+-- the page, or the refusal if there is one
+abbrev pub page_unless_refused : Option StunWriteError → Page → Result Page StunWriteError
+page_unless_refused None page = Ok page
+page_unless_refused (Some reason) page = Err reason
 
 -- what one addition leaves, or why it is refused
 unfoldable pub added_one : Addition → Page → Result Page StunWriteError
 added_one addition page =
-    unless_refused (refusal_of addition page)
+    page_unless_refused (addition_refusal addition page)
     (record { bytes = with_addition addition page.bytes; room = page.room - growth_of addition })
 
 -- the next step, unless the one before it is refused
@@ -81,7 +82,7 @@ abbrev pub added_all : List Addition → Page → Result Page StunWriteError
 added_all [] page = Ok page
 added_all (addition ∷ others) page = after (added_one addition page) (added_all others)
 
--- an allocation fails for additions of which so many bytes are reserved: nothing refuses the first
+-- an allocation fails for additions of which so many bytes are reserved. Nothing refuses the first
 -- of them, up to one, and these take more than is reserved
 pub record WantsMemory (list : List Addition) (page : Page) (reserved : ℕ) : Type 0 where
   pub first : List Addition
@@ -106,7 +107,7 @@ abbrev pub page_in : {W : Type 0} → (W → List ℕ) → (W → ℕ) → W →
 page_in bytes room writer = record { bytes = bytes writer; room = room writer }
 
 -- the answer of a call that takes and gives a writer, with the page that success leaves
-abbrev pub written : {W : Type 0} → (W → List ℕ) → (W → ℕ) → Result W StunWriteError
+abbrev pub written_page : {W : Type 0} → (W → List ℕ) → (W → ℕ) → Result W StunWriteError
     → Result Page StunWriteError
-written bytes room (Ok writer) = Ok (page_in bytes room writer)
-written bytes room (Err reason) = Err reason
+written_page bytes room (Ok writer) = Ok (page_in bytes room writer)
+written_page bytes room (Err reason) = Err reason

@@ -25,19 +25,19 @@ same_list [] (y ∷ ys) = false
 same_list (x ∷ xs) [] = false
 
 -- the algorithms of a set, the strongest first
-abbrev pub listed : AlgorithmSet → List IntegrityAlgorithm
-listed OnlySha1 = Sha1 ∷ []
-listed OnlySha256 = Sha256 ∷ []
-listed Both = Sha256 ∷ Sha1 ∷ []
+abbrev pub algorithms_of : AlgorithmSet → List IntegrityAlgorithm
+algorithms_of OnlySha1 = Sha1 ∷ []
+algorithms_of OnlySha256 = Sha256 ∷ []
+algorithms_of Both = Sha256 ∷ Sha1 ∷ []
 
 -- the algorithms that were offered: none before the first offer
 abbrev pub offered_list : Option AlgorithmSet → List IntegrityAlgorithm
 offered_list None = []
-offered_list (Some set) = listed set
+offered_list (Some set) = algorithms_of set
 
 -- whether the algorithm is in the set
 abbrev pub contains : IntegrityAlgorithm → AlgorithmSet → Bool
-contains a set = has a (listed set)
+contains a set = has a (algorithms_of set)
 
 -- the set of one algorithm
 abbrev pub only : IntegrityAlgorithm → AlgorithmSet

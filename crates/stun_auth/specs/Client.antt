@@ -1,5 +1,4 @@
--- The client's side of long-term authentication (RFC 8489, section 9.2): what it is set to, and
--- what it keeps.
+-- A client: its settings, and what it keeps (RFC 8489, section 9.2).
 use Rattle.std.specs.Prelude.{ℕ, List, [], ◌∷◌, Option, None}
 use Rattle.stun_base.specs.Credentials.{NameAndPassword}
 use Rattle.stun_base.specs.declared.keys.algorithm.IntegrityAlgorithm.{IntegrityAlgorithm}
@@ -7,7 +6,7 @@ use Rattle.stun_base.specs.declared.keys.algorithm.IntegrityAlgorithm.TheVariant
 use Rattle.stun_auth.specs.declared.feature.Feature.{Feature}
 use Rattle.stun_auth.specs.declared.feature.Feature.TheVariants.{Auto}
 
--- the algorithms in the order of their adding, whether names may or must be hashed, and the user
+-- the algorithms in the order in which they were added, whether names are hashed, and the user
 pub record ClientSettings : Type 0 where
   pub supported : List IntegrityAlgorithm
   pub feature : Feature
@@ -18,8 +17,8 @@ pub data Naming : Type 0 where
   plain : List ℕ → Naming
   hashed : List ℕ → Naming
 
--- what a client keeps of a server's challenge: it is what later requests carry, and the key that
--- they are signed under
+-- what a client keeps of a server's challenge: what later requests carry, and the key that they are
+-- signed under
 pub record Challenge : Type 0 where
   pub naming : Naming
   pub realm : List ℕ
@@ -40,7 +39,7 @@ pub record ClientSide : Type 0 where
   pub settings : ClientSettings
   pub state : ClientState
 
--- a new client: HMAC-SHA1 alone, names as the server allows, no credentials
+-- a new client: HMAC-SHA1 alone, hashed names as the server allows, no credentials
 abbrev pub new_client : ClientSide
 new_client =
     record {

@@ -1,7 +1,7 @@
--- What a client's signing adds to a message, one addition after another (RFC 8489, section 9.2.5):
--- the order in which it is written, and in which it may be refused. `added_by_client` in
--- Signed.antt says it by attribute, which is what a reader finds. `laws::sides_add_by_attribute`
--- says that both add the same.
+-- What a client's signing adds to a message, one addition after another (RFC 8489, section 9.2.5).
+-- Additions are written in this order, and refused in it. `added_by_client` in Signed.antt says
+-- what is added by attribute, which is what a reader finds. `laws::sides_add_by_attribute` says
+-- that both add the same.
 use Rattle.std.specs.Prelude.{List, [], ◌∷◌, ◌++◌, Bool, if◌then◌else◌, Option, Some, None}
 use Rattle.std.specs.Option.{option_map}
 use Rattle.stun_base.specs.declared.keys.algorithm.IntegrityAlgorithm.{IntegrityAlgorithm}
@@ -52,7 +52,7 @@ kept_challenge (authenticated c) = Some c
 abbrev pub signing_algorithm : ClientState → Option IntegrityAlgorithm
 signing_algorithm state = option_map (λ (c : Challenge). c.algorithm) (kept_challenge state)
 
--- without a key nothing is added
+-- without a challenge nothing is added
 abbrev pub kept_additions : Bool → Option Challenge → List Addition
 kept_additions request None = []
 kept_additions request (Some c) = challenge_additions request c

@@ -1,10 +1,10 @@
--- What a client answers to a message and keeps after it (RFC 8489, section 9.2.5), as a function of
--- its settings, its state and what is read of the message.
+-- What a client answers to a message and keeps after it (RFC 8489, section 9.2.5). It is a function
+-- of the client's settings, its state and what is read of the message.
 use Rattle.std.specs.Prelude.{ℕ, ◌==◌, List, [], find, Bool, true, false, not, ◌&&◌}
 use Rattle.std.specs.Prelude.{if◌then◌else◌, Option, Some, None, Result, Ok, Err, is_some, ⊤}
 use Rattle.std.specs.Str.{bytes_eq}
 use Rattle.stun_base.specs.Credentials.{NameAndPassword}
-use Rattle.stun_base.specs.Keys.{long_term_key, userhash}
+use Rattle.stun_base.specs.Keys.{long_term_key, userhash_of}
 use Rattle.stun_base.specs.declared.keys.algorithm.IntegrityAlgorithm.{IntegrityAlgorithm}
 use Rattle.stun_base.specs.declared.keys.algorithm.IntegrityAlgorithm.TheVariants.{Sha1}
 use Rattle.stun_auth.specs.Algorithms.{has}
@@ -16,8 +16,8 @@ use Rattle.stun_base.specs.MessageType.{is_success}
 use Rattle.stun_auth.specs.Reading.{Reading, verified_under}
 use Rattle.stun_auth.specs.declared.feature.Feature.{Feature}
 use Rattle.stun_auth.specs.declared.feature.Feature.TheVariants.{Auto, Required, Disabled}
-use Rattle.stun_auth.specs.declared.client.challenge.Refusal.{Refusal}
-use Rattle.stun_auth.specs.declared.client.challenge.Refusal.TheVariants as Refused
+use Rattle.stun_auth.specs.declared.client.challenge.ChallengeRefusal.{ChallengeRefusal}
+use Rattle.stun_auth.specs.declared.client.challenge.ChallengeRefusal.TheVariants as Refused
 use Rattle.stun_auth.specs.declared.client.answer.LongTermClientAuthErrorReason.{
   LongTermClientAuthErrorReason,
 }
@@ -49,49 +49,49 @@ abbrev pub first_supported : List IntegrityAlgorithm → List IntegrityAlgorithm
     → Option IntegrityAlgorithm
 first_supported supported list = find (λ a. has a supported) list
 
--- a choice, and where there is none a feature is not supported
-abbrev pub or_unsupported : Option IntegrityAlgorithm → Result IntegrityAlgorithm Refusal
+-- a choice, or `UnsupportedFeature` where there is none
+abbrev pub or_unsupported : Option IntegrityAlgorithm → Result IntegrityAlgorithm ChallengeRefusal
 or_unsupported None = Err Refused.UnsupportedFeature
 or_unsupported (Some algorithm) = Ok algorithm
 
--- by the server's list; where there is none, the nonce must not ask for a choice, and HMAC-SHA1 is
--- meant
+-- by the server's list. Without one, the nonce must not ask for a choice, and it is HMAC-SHA1
 abbrev pub choose_by_list : List IntegrityAlgorithm → Bool → Option (List IntegrityAlgorithm)
-    → Result IntegrityAlgorithm Refusal
+    → Result IntegrityAlgorithm ChallengeRefusal
 choose_by_list supported asks (Some list) = or_unsupported (first_supported supported list)
 choose_by_list supported asks None = if asks then Err Refused.Unauthorized else Ok Sha1
 
--- whether hashed names are asked for in any case
+-- whether names must be hashed
 abbrev pub is_required : Feature → Bool
 is_required Auto = false
 is_required Required = true
 is_required Disabled = false
 
 -- a choice, unless a required feature is missing
-abbrev pub unless : Bool → Result IntegrityAlgorithm Refusal → Result IntegrityAlgorithm Refusal
-unless missing (Err refusal) = Err refusal
-unless missing (Ok algorithm) = if missing then Err Refused.UnsupportedFeature else Ok algorithm
+abbrev pub unless_missing : Bool → Result IntegrityAlgorithm ChallengeRefusal
+    → Result IntegrityAlgorithm ChallengeRefusal
+unless_missing missing (Err refusal) = Err refusal
+unless_missing missing (Ok algorithm) =
+    if missing then Err Refused.UnsupportedFeature else Ok algorithm
 
--- without security bits names are not hashed and HMAC-SHA1 is meant
+-- without security bits names are not hashed, and it is HMAC-SHA1
 abbrev pub choose_without_bits : List IntegrityAlgorithm → Feature
-    → Result IntegrityAlgorithm Refusal
+    → Result IntegrityAlgorithm ChallengeRefusal
 choose_without_bits supported feature =
     if is_required feature then Err Refused.UnsupportedFeature
     else if has Sha1 supported then Ok Sha1 else Err Refused.UnsupportedFeature
 
--- the algorithm by the nonce's security bits, if it has them, and by the server's list, if there is
--- one
+-- the algorithm, by the nonce's security bits and by the server's list, if there are any
 abbrev pub choose : List IntegrityAlgorithm → Feature → List ℕ → Option (List IntegrityAlgorithm)
-    → Result IntegrityAlgorithm Refusal
+    → Result IntegrityAlgorithm ChallengeRefusal
 choose supported feature nonce list =
     if is_some (security_bits nonce) then
-    unless (is_required feature && not (asks_for_userhash nonce))
+    unless_missing (is_required feature && not (asks_for_userhash nonce))
     (choose_by_list supported (asks_for_algorithms nonce) list)
     else choose_without_bits supported feature
 
 -- a user by name, or by the hash of it
 abbrev pub naming_of : Bool → List ℕ → List ℕ → Naming
-naming_of true username realm = hashed (userhash username realm)
+naming_of true username realm = hashed (userhash_of username realm)
 naming_of false username realm = plain username
 
 abbrev pub list_or_none : Option (List IntegrityAlgorithm) → List IntegrityAlgorithm
@@ -99,9 +99,10 @@ list_or_none None = []
 list_or_none (Some list) = list
 
 -- a name is hashed where the nonce allows it and the client does it
-abbrev pub kept : Feature → NameAndPassword → List ℕ → List ℕ → Option (List IntegrityAlgorithm)
+abbrev pub new_challenge : Feature → NameAndPassword → List ℕ → List ℕ
+    → Option (List IntegrityAlgorithm)
     → IntegrityAlgorithm → Challenge
-kept feature user realm nonce list algorithm = record {
+new_challenge feature user realm nonce list algorithm = record {
   naming = naming_of (asks_for_userhash nonce && is_possible feature) user.username realm;
   realm = realm;
   nonce = nonce;
@@ -110,11 +111,12 @@ kept feature user realm nonce list algorithm = record {
   key = long_term_key algorithm user.username realm user.password;
 }
 
-abbrev pub kept_if : Feature → NameAndPassword → List ℕ → List ℕ → Option (List IntegrityAlgorithm)
-    → Result IntegrityAlgorithm Refusal → Result Challenge Refusal
-kept_if feature user realm nonce list (Err refusal) = Err refusal
-kept_if feature user realm nonce list (Ok algorithm) =
-    Ok (kept feature user realm nonce list algorithm)
+abbrev pub new_challenge_if : Feature → NameAndPassword → List ℕ → List ℕ
+    → Option (List IntegrityAlgorithm)
+    → Result IntegrityAlgorithm ChallengeRefusal → Result Challenge ChallengeRefusal
+new_challenge_if feature user realm nonce list (Err refusal) = Err refusal
+new_challenge_if feature user realm nonce list (Ok algorithm) =
+    Ok (new_challenge feature user realm nonce list algorithm)
 
 -- the challenge that a client is answering already
 abbrev pub is_repeated : ClientState → List ℕ → List ℕ → Bool
@@ -124,18 +126,18 @@ is_repeated (authenticated c) realm nonce = false
 
 -- what is kept of a challenge with this realm, nonce and list, or why it is refused
 abbrev pub taken_up : ClientSettings → ClientState → Option NameAndPassword → Option (List ℕ)
-    → Option (List ℕ) → Option (List IntegrityAlgorithm) → Result Challenge Refusal
+    → Option (List ℕ) → Option (List IntegrityAlgorithm) → Result Challenge ChallengeRefusal
 taken_up s state None _ _ list = Err Refused.Unauthorized
 taken_up s state (Some user) None _ list = Err Refused.Unauthorized
 taken_up s state (Some user) (Some realm) None list = Err Refused.Unauthorized
 taken_up s state (Some user) (Some realm) (Some nonce) list =
     if is_repeated state realm nonce then Err Refused.Unauthorized
-    else kept_if s.feature user realm nonce list (choose s.supported s.feature nonce list)
+    else new_challenge_if s.feature user realm nonce list (choose s.supported s.feature nonce list)
 
 -- the reason of a refusal
-abbrev pub reason_of : Refusal → LongTermClientAuthErrorReason
-reason_of Refused.Unauthorized = Unauthorized
-reason_of Refused.UnsupportedFeature = UnsupportedFeature
+abbrev pub client_reason : ChallengeRefusal → LongTermClientAuthErrorReason
+client_reason Refused.Unauthorized = Unauthorized
+client_reason Refused.UnsupportedFeature = UnsupportedFeature
 
 -- the algorithm whose digest verifies under the kept key
 abbrev pub verified_under_kept : ClientState → Reading → Option IntegrityAlgorithm
@@ -143,10 +145,11 @@ verified_under_kept initial r = None
 verified_under_kept (authenticating c) r = verified_under r c.key
 verified_under_kept (authenticated c) r = verified_under r c.key
 
-abbrev pub after_challenge : ClientState → Option IntegrityAlgorithm → Result Challenge Refusal
+abbrev pub after_challenge : ClientState → Option IntegrityAlgorithm
+    → Result Challenge ChallengeRefusal
     → ClientStep
 after_challenge state digest (Err refusal) =
-    record { answer = Err (reason_of refusal); state = state }
+    record { answer = Err (client_reason refusal); state = state }
 after_challenge state digest (Ok c) =
     record { answer = Ok (ResendRequest digest); state = authenticating c }
 
@@ -155,17 +158,20 @@ is_authenticated initial = false
 is_authenticated (authenticating c) = false
 is_authenticated (authenticated c) = true
 
--- the server is known to have the key
-abbrev pub confirmed : ClientState → ClientState
-confirmed initial = initial
-confirmed (authenticating c) = authenticated c
-confirmed (authenticated c) = authenticated c
+-- the same state, in which the server is known to have the key
+abbrev pub after_confirmation : ClientState → ClientState
+after_confirmation initial = initial
+after_confirmation (authenticating c) = authenticated c
+after_confirmation (authenticated c) = authenticated c
 
--- a message is as good as its digest, and a success confirms the challenge that is being answered
+-- an answer by the digest alone; a success confirms the challenge that is being answered
 abbrev pub after_digest : ClientState → Bool → Option IntegrityAlgorithm → ClientStep
 after_digest state success None = record { answer = Err IntegrityFailed; state = state }
 after_digest state success (Some algorithm) =
-    record { answer = Ok (Validated algorithm); state = if success then confirmed state else state }
+    record {
+      answer = Ok (Validated algorithm);
+      state = if success then after_confirmation state else state;
+    }
 
 -- the kept challenge with another realm and nonce, and the same key
 abbrev pub with_realm_and_nonce : ClientState → List ℕ → List ℕ → ClientState
@@ -175,7 +181,7 @@ with_realm_and_nonce (authenticating c) realm nonce =
 with_realm_and_nonce (authenticated c) realm nonce =
     authenticated (record c { realm = realm; nonce = nonce })
 
--- a stale nonce, which brings the next one
+-- a stale nonce, with which the next one comes
 abbrev pub after_stale : ClientState → Option IntegrityAlgorithm → Option (List ℕ) → Option (List ℕ)
     → ClientStep
 after_stale state digest (Some realm) (Some nonce) =
@@ -206,21 +212,21 @@ client_step s state r =
     then after_stale state (verified_under_kept state r) r.realm r.nonce
     else after_digest state (is_success r.class) (verified_under_kept state r)
 
--- the request is to be sent again: these answers alone keep something new
+-- the request is to be sent again: only these answers keep something new
 abbrev pub IsResend : ClientAnswer → Type 0
 IsResend (Ok (ResendRequest algorithm)) = ⊤
 IsResend (Ok (Validated algorithm)) = ⊥
 IsResend (Err reason) = ⊥
 
 -- the first fact holds, or the second where an allocation fails
-abbrev pub ForReason : LongTermClientAuthErrorReason → Type 0 → Type 0 → Type 0
-ForReason Unauthorized P Q = P
-ForReason IntegrityFailed P Q = P
-ForReason UnsupportedFeature P Q = P
-ForReason OutOfMemory P Q = Q
+abbrev pub ForClientReason : LongTermClientAuthErrorReason → Type 0 → Type 0 → Type 0
+ForClientReason Unauthorized P Q = P
+ForClientReason IntegrityFailed P Q = P
+ForClientReason UnsupportedFeature P Q = P
+ForClientReason OutOfMemory P Q = Q
 
 -- the first fact holds, or the second where the answer is that an allocation failed
-abbrev pub OrMemory : {V : Type 0} → Result V LongTermClientAuthErrorReason → Type 0 → Type 0
+abbrev pub ClientOrMemory : {V : Type 0} → Result V LongTermClientAuthErrorReason → Type 0 → Type 0
     → Type 0
-OrMemory (Ok value) P Q = P
-OrMemory (Err reason) P Q = ForReason reason P Q
+ClientOrMemory (Ok value) P Q = P
+ClientOrMemory (Err reason) P Q = ForClientReason reason P Q

@@ -7,12 +7,12 @@ use Rattle.stun_base.specs.Address.{address_cmp}
 use Rattle.stun_auth.specs.Seen.{PlaceSeen}
 use Rattle.stun_auth.specs.Validation.{ServerSeen}
 
--- whether a place is forgotten at a moment: it has no client, and its nonce ended before
+-- whether a place is forgotten at a moment: it has no client, and its nonce expired before
 abbrev pub is_forgotten : ℕ → PlaceSeen → Bool
 is_forgotten now place = is_none place.client && nat_lt place.expires now
 
--- what an address's place becomes: a forgotten one is gone whole, its offered algorithms with it,
--- and any other stays
+-- what becomes of an address's place: a forgotten one is gone, its offered algorithms with it. Any
+-- other stays
 abbrev pub place_kept : ℕ → Option PlaceSeen → Option PlaceSeen
 place_kept now None = None
 place_kept now (Some place) = if is_forgotten now place then None else Some place
@@ -22,10 +22,10 @@ abbrev pub places_kept : ℕ → map.FinMap address_cmp PlaceSeen → map.FinMap
 places_kept now places =
     map.retain_keys places (λ address. is_some (place_kept now (map.get places address)))
 
--- the server that is left
+-- the server after forgetting
 abbrev pub after_forgetting : ServerSeen → ℕ → ServerSeen
 after_forgetting s now = record s { places = places_kept now s.places }
 
--- the server that keeps nothing of an address, and of all others what it kept
+-- the server that keeps nothing of an address; of all others it keeps what it kept
 abbrev pub without_place : ServerSeen → SocketAddr → ServerSeen
 without_place s address = record s { places = map.remove s.places address }

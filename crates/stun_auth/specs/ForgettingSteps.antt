@@ -16,14 +16,15 @@ use Rattle.stun_auth.specs.Places.{PlacesSeen}
 use Rattle.stun_auth.specs.Validation.{ServerSeen}
 
 -- the first address that has a place, from a start on
-abbrev pub first_from : PlacesSeen → Bound SocketAddr → Option SocketAddr
-first_from places start = find (is_from_start address_cmp start) (map.keys places)
+abbrev pub first_address_from : PlacesSeen → Bound SocketAddr → Option SocketAddr
+first_address_from places start = find (is_from_start address_cmp start) (map.keys places)
 
 -- the one that so many others come before
-abbrev pub next_from : PlacesSeen → Bound SocketAddr → ℕ → Option SocketAddr
-next_from places start zero = first_from places start
-next_from places start (suc more) =
-    option_and_then (λ a. next_from places (Excluded a) more) (first_from places start)
+abbrev pub next_address_from : PlacesSeen → Bound SocketAddr → ℕ → Option SocketAddr
+next_address_from places start zero = first_address_from places start
+next_address_from places start (suc more) =
+    option_and_then (λ a. next_address_from places (Excluded a) more)
+    (first_address_from places start)
 
 -- a step begins at an address, or at the first of all
 abbrev pub start_of : Option SocketAddr → Bound SocketAddr
@@ -47,16 +48,16 @@ places_kept_where chosen now places =
 
 -- the address at which the next step begins: that of the first place that this one does not look at
 abbrev pub next_address : ServerSeen → Option SocketAddr → ℕ → Option SocketAddr
-next_address s from most = next_from s.places (start_of from) most
+next_address s from most = next_address_from s.places (start_of from) most
 
--- the server that a step leaves
+-- the server after a step
 abbrev pub after_step : ServerSeen → ℕ → Option SocketAddr → ℕ → ServerSeen
 after_step s now from most =
     record s
     { places = places_kept_where (is_looked_at from (next_address s from most)) now s.places }
 
--- the server after steps of these sizes, each of which begins where the one before ended; none
--- where they do not come to the end
+-- the server after steps of these sizes, each of which begins where the one before ended. There is
+-- none where they do not come to the end
 abbrev pub after_steps : ServerSeen → ℕ → Option SocketAddr → List ℕ → Option ServerSeen
 after_steps s now from [] = None
 after_steps s now from (most ∷ sizes) =

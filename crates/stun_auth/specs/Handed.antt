@@ -44,20 +44,20 @@ named_at place =
     option_map (λ (c : ClientSeen). by_name c.name)
     (option_and_then (λ (p : PlaceSeen). p.client) place)
 
--- by whose key a message is judged: of a response the client of its address, of all others the one
+-- by whose key a message is judged: of a response the client of its address, of all others the user
 -- whom it names
 abbrev pub judged_by : Sight → Reading → Option Named
 judged_by s r =
     if is_response r.class then named_at s.place else named_in r.userhash r.username s.feature
 
--- the present user who is meant
+-- the registered user who is meant
 abbrev pub user_of : Registered → Named → Option RegisteredUser
 user_of users (by_name name) = user_named users name
 user_of users (by_hash hash) = user_with_hash users hash
 
--- the one user whom a message means, if present
-abbrev pub meant : ServerSeen → SocketAddr → Reading → Option RegisteredUser
-meant s from r = option_and_then (user_of s.registered) (judged_by (sight s from) r)
+-- the one user whom a message means, if registered
+abbrev pub meant_user : ServerSeen → SocketAddr → Reading → Option RegisteredUser
+meant_user s from r = option_and_then (user_of s.registered) (judged_by (sight s from) r)
 
 -- ---- a server with other users
 
@@ -66,7 +66,7 @@ abbrev pub only_user : Option RegisteredUser → map.FinMap name_cmp UserSecret
 only_user None = map.empty
 only_user (Some user) = map.insert map.empty user.username user.secret
 
--- the realm with its algorithms, where this user alone is present, or nobody
+-- the realm with its algorithms and this user alone, or nobody
 abbrev pub just : Registered → Option RegisteredUser → Registered
 just users user = record users { secrets = only_user user }
 

@@ -1,5 +1,5 @@
--- What a message says after additions (RFC 8489, sections 14.5, 14.6 and 9.2): the attributes that
--- count, and whose digest verifies.
+-- What a message says after additions (RFC 8489, sections 14.5, 14.6 and 9.2): which attributes are
+-- visible, and whose digest verifies.
 use Rattle.std.specs.Prelude.{◌≡◌, ℕ, ◌-◌, ◌<◌, ◌^◌, ◌==◌, false, if◌then◌else◌}
 use Rattle.std.specs.Prelude.{List, [], ◌∷◌, ◌++◌, length, Option, Some, None}
 use Rattle.std.specs.Option.{is_some, option_map, option_or}
@@ -39,7 +39,7 @@ added_last kind (attribute a ∷ others) =
     option_or (added_last kind others) (if a.kind == kind then Some a else None)
 added_last kind (integrity algorithm key ∷ others) = added_last kind others
 
--- the last attribute of a type that counts in a message
+-- the last visible attribute of a type
 abbrev pub last_value : ℕ → List ℕ → Option TypedValue
 last_value kind bytes = option_map (λ m. m.1) (last_of kind (visible bytes))
 
@@ -55,8 +55,8 @@ protection_in (attribute a ∷ others) = protection_in others
 protection_in (integrity algorithm key ∷ others) =
     Some (record { algorithm = algorithm; key = key })
 
--- a message with additions: type and id are as before, what counted counts still, and then the
--- additions do, in their order
+-- a message with additions. Its type and id are as before. What was visible still is, and after it
+-- the additions are, in their order
 pub record HasAdded (before : List ℕ) (list : List Addition) (after : List ℕ) : Type 0 where
   pub is_message : IsMessage after
   pub type_is : type_field after ≡ type_field before
@@ -67,7 +67,7 @@ pub record HasAdded (before : List ℕ) (list : List Addition) (after : List ℕ
   -- without a digest more can be added
   pub is_open : protection_in list ≡ None → IsOpen after
   -- with one, it verifies under its key
-  pub digest_stands : (p : Protection) → protection_in list ≡ Some p
+  pub digest_verifies : (p : Protection) → protection_in list ≡ Some p
       → verified_algorithm after p.key ≡ Some p.algorithm
 
 -- of each type, the attribute that was added is read, or else the one that was there

@@ -46,5 +46,5 @@ pub mod ShortTerm
 pub mod Joined
 -- laws: what is read of a message that was signed
 pub mod Signed
--- what no clause of a public call says: codings of models, views of structs, steps of the code
+-- what no clause of a public call cites: codings of models, views of structs, steps of the code
 pub mod code

@@ -24,7 +24,7 @@ with_change places address change = at_place (fin.get places address) places add
 abbrev pub with_client : Option ClientSeen → PlaceSeen → PlaceSeen
 with_client client place = record place { client = client }
 
--- a place to which a set of algorithms was offered: where a client is known nothing is offered
+-- a place to which a set of algorithms was offered: nothing is offered to a client
 abbrev pub with_offer : AlgorithmSet → PlaceSeen → PlaceSeen
 with_offer supported place =
     if is_some place.client then place else record place { offered = Some supported }

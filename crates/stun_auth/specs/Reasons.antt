@@ -1,9 +1,9 @@
--- Why a server refuses a message, and answers that a failed allocation may take the place of (RFC
--- 8489, section 9.2.4).
+-- Why a server refuses a message (RFC 8489, section 9.2.4), and which answers a failed allocation
+-- may replace.
 use Rattle.std.specs.declared.result.Result.{Result}
 use Rattle.std.specs.declared.result.Result.TheVariants.{Ok, Err}
-use Rattle.stun_auth.specs.declared.server.reason.Refusal.{Refusal}
-use Rattle.stun_auth.specs.declared.server.reason.Refusal.TheVariants as Refused
+use Rattle.stun_auth.specs.declared.server.reason.VerdictRefusal.{VerdictRefusal}
+use Rattle.stun_auth.specs.declared.server.reason.VerdictRefusal.TheVariants as Refused
 use Rattle.stun_auth.specs.declared.server.reason.LongTermServerAuthErrorReason.{
   LongTermServerAuthErrorReason,
 }
@@ -18,25 +18,25 @@ use Rattle.stun_auth.specs.declared.server.reason.LongTermServerAuthErrorReason.
 
 -- the refusals by their names
 abbrev pub ServerRefusal : Type 0
-ServerRefusal = Refusal
+ServerRefusal = VerdictRefusal
 
 -- the reason of a refusal
-abbrev pub reason_of : Refusal → LongTermServerAuthErrorReason
-reason_of Refused.Unauthorized = Unauthorized
-reason_of Refused.BadRequest = BadRequest
-reason_of Refused.StaleNonce = StaleNonce
+abbrev pub server_reason : VerdictRefusal → LongTermServerAuthErrorReason
+server_reason Refused.Unauthorized = Unauthorized
+server_reason Refused.BadRequest = BadRequest
+server_reason Refused.StaleNonce = StaleNonce
 
 -- the first fact holds, or the second where the reason is a failed allocation
-abbrev pub ForReason : LongTermServerAuthErrorReason → Type 0 → Type 0 → Type 0
-ForReason Unauthorized P Q = P
-ForReason IntegrityFailed P Q = P
-ForReason UnsupportedFeature P Q = P
-ForReason BadRequest P Q = P
-ForReason StaleNonce P Q = P
-ForReason OutOfMemory P Q = Q
+abbrev pub ForServerReason : LongTermServerAuthErrorReason → Type 0 → Type 0 → Type 0
+ForServerReason Unauthorized P Q = P
+ForServerReason IntegrityFailed P Q = P
+ForServerReason UnsupportedFeature P Q = P
+ForServerReason BadRequest P Q = P
+ForServerReason StaleNonce P Q = P
+ForServerReason OutOfMemory P Q = Q
 
 -- the first fact holds, or the second where an allocation failed
-abbrev pub OrMemory : {V : Type 0} → Result V LongTermServerAuthErrorReason → Type 0 → Type 0
+abbrev pub ServerOrMemory : {V : Type 0} → Result V LongTermServerAuthErrorReason → Type 0 → Type 0
     → Type 0
-OrMemory (Ok v) P Q = P
-OrMemory (Err reason) P Q = ForReason reason P Q
+ServerOrMemory (Ok v) P Q = P
+ServerOrMemory (Err reason) P Q = ForServerReason reason P Q

@@ -10,7 +10,7 @@ use Rattle.std.specs.FinMap as map
 use Rattle.stun_base.specs.declared.keys.algorithm.IntegrityAlgorithm.{IntegrityAlgorithm}
 use Rattle.stun_base.specs.declared.keys.algorithm.IntegrityAlgorithm.TheVariants.{Sha1, Sha256}
 use Rattle.stun_base.specs.Credentials.{NameAndPassword}
-use Rattle.stun_base.specs.Keys.{long_term_key, userhash}
+use Rattle.stun_base.specs.Keys.{long_term_key, userhash_of}
 use Rattle.stun_auth.specs.declared.algorithm_set.AlgorithmSet.{AlgorithmSet}
 use Rattle.stun_auth.specs.declared.server.stored_keys.StoredKeys.{StoredKeys}
 use Rattle.stun_auth.specs.Algorithms.{contains, only}
@@ -24,7 +24,7 @@ pub data UserSecret : Type 0 where
   of_password : List ℕ → UserSecret
   of_keys : StoredKeys → UserSecret
 
--- a present user
+-- a registered user
 pub record RegisteredUser : Type 0 where
   pub username : List ℕ
   pub secret : UserSecret
@@ -37,35 +37,35 @@ user_by_password user = record { username = user.username; secret = of_password 
 abbrev pub user_by_keys : List ℕ → StoredKeys → RegisteredUser
 user_by_keys name keys = record { username = name; secret = of_keys keys }
 
--- the realm, the supported algorithms, and what each present user is known by
+-- the realm, the supported algorithms, and what each registered user is known by
 pub record Registered : Type 0 where
   pub realm : List ℕ
   pub algorithms : AlgorithmSet
   pub secrets : map.FinMap name_cmp UserSecret
 
--- a realm where nobody is present yet, with HMAC-SHA1 alone
+-- a realm without users, with HMAC-SHA1 alone
 abbrev pub new_registered : List ℕ → Registered
 new_registered realm = record { realm = realm; algorithms = only Sha1; secrets = map.empty }
 
--- a user who is present from here on, or has another password from here on
+-- the users with one more, or with another password for one of them
 abbrev pub with_user : Registered → NameAndPassword → Registered
 with_user r user =
     record r { secrets = map.insert r.secrets user.username (of_password user.password) }
 
--- a user who is present no more
+-- the users without the one of a name
 abbrev pub without_user : Registered → List ℕ → Registered
 without_user r name = record r { secrets = map.remove r.secrets name }
 
--- the present user of a name
+-- the registered user of a name
 abbrev pub user_named : Registered → List ℕ → Option RegisteredUser
 user_named r name =
     option_map (λ secret. record { username = name; secret = secret }) (map.get r.secrets name)
 
--- the name of the first present user, in the order of names, that has this hash
+-- the name of the first registered user, in the order of names, that has this hash
 abbrev pub name_with_hash : Registered → List ℕ → Option (List ℕ)
-name_with_hash r hash = find (λ name. bytes_eq (userhash name r.realm) hash) (map.keys r.secrets)
+name_with_hash r hash = find (λ name. bytes_eq (userhash_of name r.realm) hash) (map.keys r.secrets)
 
--- the first present user, in the order of names, that has this hash
+-- the first registered user, in the order of names, that has this hash
 abbrev pub user_with_hash : Registered → List ℕ → Option RegisteredUser
 user_with_hash r hash = option_and_then (user_named r) (name_with_hash r hash)
 
@@ -89,6 +89,6 @@ key_if supported a name realm secret = if supported then key_from a name realm s
 abbrev pub key_of : Registered → RegisteredUser → IntegrityAlgorithm → Option (List ℕ)
 key_of r user a = key_if (contains a r.algorithms) a user.username r.realm user.secret
 
--- the key that the present user of a name has for an algorithm
+-- the key that the registered user of a name has for an algorithm
 abbrev pub key_at : Registered → List ℕ → IntegrityAlgorithm → Option (List ℕ)
 key_at r name a = option_and_then (λ user. key_of r user a) (user_named r name)

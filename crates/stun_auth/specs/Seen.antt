@@ -16,7 +16,7 @@ pub record PlaceSeen : Type 0 where
   pub client : Option ClientSeen
 
 -- a place with a new nonce: what was offered and who is known stay
-abbrev pub renewed : Option PlaceSeen → List ℕ → ℕ → PlaceSeen
-renewed None nonce expires =
+abbrev pub renewed_place : Option PlaceSeen → List ℕ → ℕ → PlaceSeen
+renewed_place None nonce expires =
     record { nonce = nonce; expires = expires; offered = None; client = None }
-renewed (Some place) nonce expires = record place { nonce = nonce; expires = expires }
+renewed_place (Some place) nonce expires = record place { nonce = nonce; expires = expires }

@@ -13,16 +13,17 @@ use Rattle.stun_base.specs.declared.keys.algorithm.IntegrityAlgorithm.TheVariant
 use Rattle.stun_base.specs.Moments.{moment_after}
 use Rattle.stun_auth.specs.declared.algorithm_set.AlgorithmSet.{AlgorithmSet}
 use Rattle.stun_auth.specs.declared.feature.Feature.{Feature}
-use Rattle.stun_auth.specs.declared.server.reason.Refusal.{Refusal}
-use Rattle.stun_auth.specs.declared.server.reason.Refusal.TheVariants.{Unauthorized}
-use Rattle.stun_auth.specs.declared.server.reason.Refusal.TheVariants.{BadRequest, StaleNonce}
+use Rattle.stun_auth.specs.declared.server.reason.VerdictRefusal.{VerdictRefusal}
+use Rattle.stun_auth.specs.declared.server.reason.VerdictRefusal.TheVariants.{Unauthorized}
+use Rattle.stun_auth.specs.declared.server.reason.VerdictRefusal.TheVariants.{BadRequest}
+use Rattle.stun_auth.specs.declared.server.reason.VerdictRefusal.TheVariants.{StaleNonce}
 use Rattle.stun_auth.specs.Algorithms.{contains, has, offered_list, same_list}
 use Rattle.stun_auth.specs.Feature.{is_possible}
 use Rattle.stun_auth.specs.Nonces.{asks_for_algorithms, nonce_of, security_bits}
 use Rattle.stun_auth.specs.Reading.{Reading, verified_under}
 use Rattle.stun_auth.specs.Registered.{Registered, RegisteredUser, UserSecret}
 use Rattle.stun_auth.specs.Registered.{key_from, key_of, user_named, user_with_hash}
-use Rattle.stun_auth.specs.Seen.{ClientSeen, PlaceSeen, renewed}
+use Rattle.stun_auth.specs.Seen.{ClientSeen, PlaceSeen, renewed_place}
 
 -- what one address can tell of a server
 pub record Sight : Type 0 where
@@ -33,28 +34,27 @@ pub record Sight : Type 0 where
 
 -- ---- nonces
 
--- whether a nonce is current at a moment: a nonce is kept up to its end
-abbrev pub stands_at : ℕ → Option PlaceSeen → Bool
-stands_at now None = false
-stands_at now (Some place) = nat_le now place.expires
+-- whether a nonce is current at a moment: it is until it expires, that moment included
+abbrev pub has_current_nonce : ℕ → Option PlaceSeen → Bool
+has_current_nonce now None = false
+has_current_nonce now (Some place) = nat_le now place.expires
 
 -- the place where a nonce is current, or else the place with a new nonce
-abbrev pub standing_of : Option PlaceSeen → List ℕ → ℕ → ℕ → PlaceSeen
-standing_of None nonce now end = renewed None nonce end
-standing_of (Some place) nonce now end =
-    if nat_le now place.expires then place else renewed (Some place) nonce end
+abbrev pub current_place_of : Option PlaceSeen → List ℕ → ℕ → ℕ → PlaceSeen
+current_place_of None nonce now end = renewed_place None nonce end
+current_place_of (Some place) nonce now end =
+    if nat_le now place.expires then place else renewed_place (Some place) nonce end
 
 -- the place once a nonce is needed: the current one stays, else one is made of the random words
-abbrev pub standing : Sight → ℕ → List ℕ → PlaceSeen
-standing s now words =
-    standing_of s.place (nonce_of s.registered.algorithms s.feature words) now
+abbrev pub current_place : Sight → ℕ → List ℕ → PlaceSeen
+current_place s now words =
+    current_place_of s.place (nonce_of s.registered.algorithms s.feature words) now
     (moment_after now s.expiry)
 
 -- ---- what a message says
 
--- what is meant where the nonce asks for a choice: HMAC-SHA1 where the message has neither the list
--- nor the choice, and else the choice, where the list is the one that was offered and the choice is
--- in it
+-- the algorithm where the nonce asks for a choice. It is HMAC-SHA1 where the message has neither
+-- list nor choice. Else it is the choice, if the list is the offered one and the choice is in it
 abbrev pub choice : Option (List IntegrityAlgorithm) → Option IntegrityAlgorithm
     → List IntegrityAlgorithm → Option IntegrityAlgorithm
 choice None None offered = Some Sha1
@@ -63,14 +63,14 @@ choice (Some list) (Some a) offered =
 choice (Some list) None offered = None
 choice None (Some a) offered = None
 
--- the algorithm that both sides mean: by that choice, and HMAC-SHA1 where the message's nonce asks
--- for none
-abbrev pub agreed : Reading → List ℕ → Option AlgorithmSet → Option IntegrityAlgorithm
-agreed r nonce offered =
+-- the algorithm that both sides agree on: by that choice, or HMAC-SHA1 where the message's nonce
+-- asks for none
+abbrev pub agreement : Reading → List ℕ → Option AlgorithmSet → Option IntegrityAlgorithm
+agreement r nonce offered =
     if asks_for_algorithms nonce then choice r.algorithms r.algorithm (offered_list offered)
     else Some Sha1
 
--- the present user whom a message names: by a hash, where that is possible, or else by name
+-- the registered user whom a message names: by a hash, where that is possible, or else by name
 abbrev pub named_by : Option (List ℕ) → Option (List ℕ) → Registered → Feature
     → Option RegisteredUser
 named_by (Some hash) username users feature =
@@ -78,21 +78,21 @@ named_by (Some hash) username users feature =
 named_by None username users feature = option_and_then (user_named users) username
 
 -- the same by what is read of a message
-abbrev pub named : Registered → Feature → Reading → Option RegisteredUser
-named users feature r = named_by r.userhash r.username users feature
+abbrev pub named_user : Registered → Feature → Reading → Option RegisteredUser
+named_user users feature r = named_by r.userhash r.username users feature
 
 -- ---- acceptance, in one conjunction
 
--- a realm, our nonce, algorithms that agree, a present user who is named, and the digest under that
--- user's key
+-- a realm, our nonce, algorithms that agree, a registered user who is named, and the digest under
+-- that user's key
 pub record IsAccepted (users : Registered) (feature : Feature) (ours : List ℕ)
     (offered : Option AlgorithmSet) (r : Reading) (client : ClientSeen) : Type 0 where
   pub secret : UserSecret
   pub key : List ℕ
   pub realm : IsSome r.realm
   pub nonce : r.nonce ≡ Some ours
-  pub algorithm : agreed r ours offered ≡ Some client.algorithm
-  pub named : named users feature r ≡ Some (record { username = client.name; secret = secret })
+  pub algorithm : agreement r ours offered ≡ Some client.algorithm
+  pub named : named_user users feature r ≡ Some (record { username = client.name; secret = secret })
   pub present : map.get users.secrets client.name ≡ Some secret
   pub supported : contains client.algorithm users.algorithms ≡ true
   -- the key that the user's password makes, or that is stored
@@ -112,8 +112,8 @@ bits_differ None theirs = false
 bits_differ (Some ours) None = false
 bits_differ (Some ours) (Some theirs) = not (bytes_eq ours theirs)
 
--- how a nonce that is not the current one is refused: forged security bits are not stale
-abbrev pub nonce_refusal : List ℕ → List ℕ → Refusal
+-- how a nonce that is not the current one is refused: one with forged security bits is not stale
+abbrev pub nonce_refusal : List ℕ → List ℕ → VerdictRefusal
 nonce_refusal ours theirs =
     if bits_differ (security_bits ours) (security_bits theirs) then Unauthorized else StaleNonce
 
@@ -124,46 +124,49 @@ verified_for users r a user = option_and_then (verified_under r) (key_of users u
 
 -- the algorithm whose digest verifies, of the user who is named and the algorithm that both sides
 -- mean
-abbrev pub proven : Registered → Feature → Reading → Option IntegrityAlgorithm
+abbrev pub verified_named : Registered → Feature → Reading → Option IntegrityAlgorithm
     → Option IntegrityAlgorithm
-proven users feature r chosen =
-    option_and_then (λ a. option_and_then (verified_for users r a) (named users feature r)) chosen
+verified_named users feature r chosen =
+    option_and_then (λ a. option_and_then (verified_for users r a) (named_user users feature r))
+    chosen
 
 -- the refusals, in the order in which they are looked for
 abbrev pub refusals : Registered → Feature → List ℕ → Option AlgorithmSet → Reading
-    → List (Bool × Refusal)
+    → List (Bool × VerdictRefusal)
 refusals users feature ours offered r =
     (is_none r.integrity, Unauthorized)
     ∷ (is_none r.realm || is_none r.nonce, BadRequest)
     ∷ (is_none r.userhash && is_none r.username, BadRequest)
-    ∷ (is_none (agreed r (their_nonce r) offered), BadRequest)
+    ∷ (is_none (agreement r (their_nonce r) offered), BadRequest)
     ∷ (not (bytes_eq (their_nonce r) ours), nonce_refusal ours (their_nonce r))
-    ∷ (is_none (proven users feature r (agreed r (their_nonce r) offered)), Unauthorized)
+    ∷ (is_none (verified_named users feature r (agreement r (their_nonce r) offered)), Unauthorized)
     ∷ []
 
 -- the first that holds, if any
-abbrev pub refusal : Registered → Feature → List ℕ → Option AlgorithmSet → Reading → Option Refusal
-refusal users feature ours offered r =
-    option_map_or (λ (row : Bool × Refusal). Some row.1)
-    (find (λ (row : Bool × Refusal). row.0) (refusals users feature ours offered r)) None
+abbrev pub verdict_refusal : Registered → Feature → List ℕ → Option AlgorithmSet → Reading
+    → Option VerdictRefusal
+verdict_refusal users feature ours offered r =
+    option_map_or (λ (row : Bool × VerdictRefusal). Some row.1)
+    (find (λ (row : Bool × VerdictRefusal). row.0) (refusals users feature ours offered r)) None
 
 -- ---- the verdict
 
 -- the client that an accepted message makes: the named user with the agreed algorithm
 abbrev pub client_of : Registered → Feature → List ℕ → Option AlgorithmSet → Reading → ClientSeen
 client_of users feature ours offered r = record {
-  name = option_map_or (λ (user : RegisteredUser). user.username) (named users feature r) [];
-  algorithm = unwrap_or (agreed r (their_nonce r) offered) Sha1;
+  name = option_map_or (λ (user : RegisteredUser). user.username) (named_user users feature r) [];
+  algorithm = unwrap_or (agreement r (their_nonce r) offered) Sha1;
 }
 
 -- a client, or a refusal
-abbrev pub or_refused : Option Refusal → ClientSeen → Result ClientSeen Refusal
+abbrev pub or_refused : Option VerdictRefusal → ClientSeen → Result ClientSeen VerdictRefusal
 or_refused None client = Ok client
 or_refused (Some refusal) client = Err refusal
 
 -- who is accepted where this nonce is current and these algorithms were offered, or the first
 -- refusal that holds
 abbrev pub verdict : Registered → Feature → List ℕ → Option AlgorithmSet → Reading
-    → Result ClientSeen Refusal
+    → Result ClientSeen VerdictRefusal
 verdict users feature ours offered r =
-    or_refused (refusal users feature ours offered r) (client_of users feature ours offered r)
+    or_refused (verdict_refusal users feature ours offered r)
+    (client_of users feature ours offered r)

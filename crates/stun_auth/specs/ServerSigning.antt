@@ -1,7 +1,7 @@
--- What a server's signing adds to a message, one addition after another (RFC 8489, section 9.2.4):
--- the order in which it is written, and in which it may be refused, also where the client's user is
--- gone and nothing but the digest fails. `added_by_server` in Signed.antt says it by attribute,
--- which is what a reader finds. `laws::sides_add_by_attribute` says that both add the same.
+-- What a server's signing adds to a message, one addition after another (RFC 8489, section 9.2.4).
+-- Additions are written in this order, and refused in it. Where the client's user is gone, only the
+-- digest fails. `added_by_server` in Signed.antt says what is added by attribute, which is what a
+-- reader finds. `laws::sides_add_by_attribute` says that both add the same.
 use Rattle.std.specs.Prelude.{ℕ, ◌+◌, List, [], ◌∷◌, ◌++◌, Bool, if◌then◌else◌}
 use Rattle.std.specs.Prelude.{Option, Some, None, Result, Ok, Err}
 use Rattle.std.specs.declared.net.socket_addr.SocketAddr.{SocketAddr}
@@ -13,7 +13,7 @@ use Rattle.stun_types.specs.Attribute.{attribute_length}
 use Rattle.stun_auth.specs.Additions.{Addition, Page, added_all, after}
 use Rattle.stun_auth.specs.Additions.{attribute, growth, integrity}
 use Rattle.stun_auth.specs.AddedAttribute as added
-use Rattle.stun_auth.specs.Algorithms.{is_sha256, listed}
+use Rattle.stun_auth.specs.Algorithms.{is_sha256, algorithms_of}
 use Rattle.stun_auth.specs.Places.{with_change, with_offer}
 use Rattle.stun_auth.specs.Registered.{Registered, key_at}
 use Rattle.stun_auth.specs.Seen.{ClientSeen, PlaceSeen}
@@ -29,7 +29,8 @@ challenge response users nonce =
 -- the algorithms that a response offers where no client is known, the strongest first
 abbrev pub offer : Bool → Registered → List Addition
 offer response users =
-    if response then attribute (added.password_algorithms (listed users.algorithms)) ∷ [] else []
+    if response then attribute (added.password_algorithms (algorithms_of users.algorithms)) ∷ []
+    else []
 
 -- the algorithm of a client, which is named where it is not HMAC-SHA1
 abbrev pub named_algorithm : IntegrityAlgorithm → List Addition
@@ -46,14 +47,16 @@ attributes_for response users nonce client =
     challenge response users nonce ++ algorithms_for response users client
 
 -- the digest under the key of a user, or the refusal where user or key is gone
-abbrev pub protected : IntegrityAlgorithm → Option (List ℕ) → Page → Result Page StunWriteError
-protected a None page = Err IntegrityFailed
-protected a (Some key) page = added_all (integrity a key ∷ []) page
+abbrev pub signed_under_key : IntegrityAlgorithm → Option (List ℕ) → Page
+    → Result Page StunWriteError
+signed_under_key a None page = Err IntegrityFailed
+signed_under_key a (Some key) page = added_all (integrity a key ∷ []) page
 
 -- the digest to a client; without a client there is none
 abbrev pub protected_for : Registered → Option ClientSeen → Page → Result Page StunWriteError
 protected_for users None page = Ok page
-protected_for users (Some c) page = protected c.algorithm (key_at users c.name c.algorithm) page
+protected_for users (Some c) page =
+    signed_under_key c.algorithm (key_at users c.name c.algorithm) page
 
 -- what signing a message to an address leaves, or the first refusal in the order of the attributes:
 -- without a nonce the message stays as it is

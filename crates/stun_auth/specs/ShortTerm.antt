@@ -39,20 +39,20 @@ pub record HasRoomForDigest (algorithm : IntegrityAlgorithm) (message : List ℕ
   pub fits : attribute_length (digest_length algorithm) ≤ room
 
 -- nothing refuses the signing of a message in a writer with so much room
-abbrev pub ShortTermMaySign : Option Secret → List ℕ → ℕ → Type 0
-ShortTermMaySign None message room = ⊤
-ShortTermMaySign (Some secret) message room = HasRoomForDigest secret.algorithm message room
+abbrev pub IsSignableShortTerm : Option Secret → List ℕ → ℕ → Type 0
+IsSignableShortTerm None message room = ⊤
+IsSignableShortTerm (Some secret) message room = HasRoomForDigest secret.algorithm message room
 
 -- the algorithm whose digest verifies, or why none does
-abbrev pub verdict_of : Option IntegrityAlgorithm → ValidateError
+abbrev pub algorithm_or_refusal : Option IntegrityAlgorithm → ValidateError
     → Result (Option IntegrityAlgorithm) ValidateError
-verdict_of None refusal = Err refusal
-verdict_of (Some algorithm) refusal = Ok (Some algorithm)
+algorithm_or_refusal None refusal = Err refusal
+algorithm_or_refusal (Some algorithm) refusal = Ok (Some algorithm)
 
--- what a message is answered: its digest is checked under the password (section 9.1.3), and without
--- credentials nothing is
+-- the answer to a message. Its digest is checked under the password (section 9.1.3), and without
+-- credentials it is not
 abbrev pub short_term_answer : Option Secret → List ℕ
     → Result (Option IntegrityAlgorithm) ValidateError
 short_term_answer None message = Ok None
 short_term_answer (Some secret) message =
-    verdict_of (verified_algorithm message secret.password) (integrity_refusal message)
+    algorithm_or_refusal (verified_algorithm message secret.password) (integrity_refusal message)

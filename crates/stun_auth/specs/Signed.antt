@@ -1,7 +1,7 @@
--- What signing adds to a message, by attribute, and what is read of a message that was signed (RFC
--- 8489, sections 9.2.3 to 9.2.5). ClientSigning.antt and ServerSigning.antt say what is added as a
--- list, in the order in which it is written or refused; here it is a record, so that each field is
--- what a reader finds of its type. `laws::sides_add_by_attribute` says that both add the same.
+-- What signing adds to a message, by attribute, and what is read of a signed message (RFC 8489,
+-- sections 9.2.3 to 9.2.5). ClientSigning.antt and ServerSigning.antt list what is added, in the
+-- order in which it is written or refused. Here it is a record: each field is what a reader finds
+-- of its type. `laws::sides_add_by_attribute` says that both add the same.
 use Rattle.std.specs.Prelude.{◌≡◌, ℕ, ◌+◌, ◌-◌, ◌≤◌, Bool, true, false, ◌||◌, if◌then◌else◌}
 use Rattle.std.specs.Prelude.{List, [], ◌∷◌, length, Option, Some, None, IsUtf8}
 use Rattle.std.specs.List.{AllByRecursion}
@@ -19,7 +19,7 @@ use Rattle.stun_types.specs.Walk.{walk}
 use Rattle.stun_types.specs.Writing.{IsOpen}
 use Rattle.stun_auth.specs.AddedAttribute as attributes
 use Rattle.stun_auth.specs.Additions.{Addition, attribute, growth, integrity}
-use Rattle.stun_auth.specs.Algorithms.{is_sha256, listed}
+use Rattle.stun_auth.specs.Algorithms.{is_sha256, algorithms_of}
 use Rattle.stun_auth.specs.Client.{Naming, plain, hashed, Challenge, ClientState}
 use Rattle.stun_auth.specs.ClientSigning.{kept_challenge}
 use Rattle.stun_auth.specs.Joined.{Protection}
@@ -90,7 +90,7 @@ pub record IsSmall (a : Added) : Type 0 where
 abbrev pub added_kinds : List ℕ
 added_kinds = NONCE ∷ REALM ∷ USERNAME ∷ USERHASH ∷ PASSWORD_ALGORITHMS ∷ PASSWORD_ALGORITHM ∷ []
 
--- a message that can be added to, and has none of them yet
+-- an open message that has none of them
 pub record IsUnsigned (message : List ℕ) : Type 0 where
   pub is_open : IsOpen message
   pub none : AllByRecursion (λ kind. has_kind kind (walk message) ≡ false) added_kinds
@@ -119,9 +119,9 @@ kinds_in [] = []
 kinds_in (attribute a ∷ others) = a.kind ∷ kinds_in others
 kinds_in (integrity algorithm key ∷ others) = kinds_in others
 
--- nothing but a failed allocation refuses additions to a message in a writer with so much room: it
--- has no integrity attribute and no FINGERPRINT, and none of the attributes that are added; texts
--- are within their limits; and length field and writer have room for all of them
+-- a message in a writer with so much room is signable: only a failed allocation refuses these
+-- additions. It has no integrity attribute, no FINGERPRINT, and none of the attributes that are
+-- added. Texts are within their limits. Length field and writer have room for all of them
 pub record IsSignable (a : Added) (message : List ℕ) (room : ℕ) : Type 0 where
   pub is_open : IsOpen message
   pub none_there : AllByRecursion (λ kind. has_kind kind (walk message) ≡ false)
@@ -141,7 +141,7 @@ pub record ReadsAs (class : MessageClass) (error : Option ℕ) (a : Added) (r : 
   pub algorithms_are : r.algorithms ≡ a.algorithms
   pub algorithm_is : r.algorithm ≡ a.algorithm
   pub integrity_is : is_some r.integrity ≡ is_some a.integrity
-  pub digest_stands : (p : Protection) → a.integrity ≡ Some p
+  pub digest_verifies : (p : Protection) → a.integrity ≡ Some p
       → verified_under r p.key ≡ Some p.algorithm
 
 abbrev pub only_if : {A : Type 0} → Bool → A → Option A
@@ -192,7 +192,7 @@ added_without_client response users nonce = record {
   realm = only_if response users.realm;
   username = None;
   userhash = None;
-  algorithms = only_if response (listed users.algorithms);
+  algorithms = only_if response (algorithms_of users.algorithms);
   algorithm = None;
   integrity = None;
 }
@@ -226,8 +226,8 @@ added_by_server s response = added_at response s.registered s.place
 
 -- ---- unchecked signings
 
--- as `IsSignable`, where a client adds: nonce and realm, which it read from a message, are within
--- their limits at every client
+-- as `IsSignable`, for what a client adds. Its nonce and realm were read of a message, so they are
+-- within their limits at every client
 pub record IsSignableByClient (a : Added) (message : List ℕ) (room : ℕ) : Type 0 where
   pub is_open : IsOpen message
   pub none_there : AllByRecursion (λ kind. has_kind kind (walk message) ≡ false)
@@ -235,8 +235,8 @@ pub record IsSignableByClient (a : Added) (message : List ℕ) (room : ℕ) : Ty
   pub username : IfSome a.username (λ text. length text ≤ USERNAME_LIMIT)
   pub has_room : HasRoomFor a message room
 
--- as `IsSignable`, where a server adds: its nonces, which it made, are within their limit at every
--- server, and it names no user
+-- as `IsSignable`, for what a server adds. It made its nonces, so they are within their limit at
+-- every server, and it names no user
 pub record IsSignableByServer (a : Added) (message : List ℕ) (room : ℕ) : Type 0 where
   pub is_open : IsOpen message
   pub none_there : AllByRecursion (λ kind. has_kind kind (walk message) ≡ false)
@@ -245,11 +245,11 @@ pub record IsSignableByServer (a : Added) (message : List ℕ) (room : ℕ) : Ty
   pub has_room : HasRoomFor a message room
 
 -- the caller of an unchecked signing at a client knows this
-abbrev pub ClientMaySign : Bool → ClientState → List ℕ → ℕ → Type 0
-ClientMaySign request state message room =
+abbrev pub IsSignableAtClient : Bool → ClientState → List ℕ → ℕ → Type 0
+IsSignableAtClient request state message room =
     IsSignableByClient (added_by_client request state) message room
 
 -- and at a server this, where the client's user and key are still there
-abbrev pub ServerMaySign : Sight → Bool → List ℕ → ℕ → Type 0
-ServerMaySign s response message room =
+abbrev pub IsSignableAtServer : Sight → Bool → List ℕ → ℕ → Type 0
+IsSignableAtServer s response message room =
     IsSomeAnd (added_by_server s response) (λ a. IsSignableByServer a message room)

@@ -4,5 +4,5 @@ use Rattle.stun_base.specs.declared.keys.algorithm.IntegrityAlgorithm.{Integrity
 use Rattle.stun_auth.specs.Algorithms.{has}
 
 -- the list with one more algorithm at its end, where it is not among them
-abbrev pub added : IntegrityAlgorithm → List IntegrityAlgorithm → List IntegrityAlgorithm
-added algorithm list = if has algorithm list then list else list ++ algorithm ∷ []
+abbrev pub with_supported : IntegrityAlgorithm → List IntegrityAlgorithm → List IntegrityAlgorithm
+with_supported algorithm list = if has algorithm list then list else list ++ algorithm ∷ []

@@ -10,7 +10,7 @@ use Rattle.stun_base.specs.Address.{address_cmp}
 use Rattle.stun_base.specs.declared.keys.algorithm.IntegrityAlgorithm.{IntegrityAlgorithm}
 use Rattle.stun_auth.specs.declared.feature.Feature.{Feature}
 use Rattle.stun_auth.specs.declared.feature.Feature.TheVariants.{Auto}
-use Rattle.stun_auth.specs.declared.server.reason.Refusal.{Refusal}
+use Rattle.stun_auth.specs.declared.server.reason.VerdictRefusal.{VerdictRefusal}
 use Rattle.stun_auth.specs.declared.server.reason.LongTermServerAuthErrorReason.{
   LongTermServerAuthErrorReason,
 }
@@ -23,10 +23,10 @@ use Rattle.stun_auth.specs.declared.server.reason.LongTermServerValidation.{
 use Rattle.stun_auth.specs.declared.server.reason.LongTermServerValidation.TheVariants.{Validated}
 use Rattle.stun_base.specs.MessageType.{is_response}
 use Rattle.stun_auth.specs.Reading.{Reading, verified_under}
-use Rattle.stun_auth.specs.Reasons.{reason_of}
+use Rattle.stun_auth.specs.Reasons.{server_reason}
 use Rattle.stun_auth.specs.Registered.{Registered, key_at, new_registered}
 use Rattle.stun_auth.specs.Seen.{ClientSeen, PlaceSeen}
-use Rattle.stun_auth.specs.Server.{Sight, IsAccepted, stands_at, standing, verdict}
+use Rattle.stun_auth.specs.Server.{Sight, IsAccepted, has_current_nonce, current_place, verdict}
 
 -- the users with the realm and the supported algorithms, the settings, and the place of each
 -- address that has one
@@ -36,8 +36,8 @@ pub record ServerSeen : Type 0 where
   pub expiry : ℕ
   pub places : map.FinMap address_cmp PlaceSeen
 
--- HMAC-SHA1 alone, hashed names where the client wants them, nonces of an hour, nobody present and
--- no place
+-- HMAC-SHA1 alone, hashed names where the client wants them, nonces of an hour, no users and no
+-- places
 abbrev pub new_server : List ℕ → ServerSeen
 new_server realm =
     record {
@@ -61,12 +61,12 @@ sight s a =
 abbrev pub Answer : Type 0
 Answer = Result LongTermServerValidation LongTermServerAuthErrorReason
 
--- the algorithm whose digest verifies under the key that the present user of a client has for the
--- client's algorithm
+-- the algorithm whose digest verifies under the key that the registered user of a client has for
+-- the client's algorithm
 abbrev pub verified_for_client : Registered → Reading → ClientSeen → Option IntegrityAlgorithm
 verified_for_client users r c = option_and_then (verified_under r) (key_at users c.name c.algorithm)
 
--- the same of the client of a place, if there is one
+-- the same for the client of a place, if there is one
 abbrev pub client_verified : Registered → Reading → Option PlaceSeen → Option IntegrityAlgorithm
 client_verified users r place =
     option_and_then (verified_for_client users r)
@@ -81,8 +81,8 @@ validated_or_failed (Some a) = Ok (Validated a)
 abbrev pub is_complete : Reading → Bool
 is_complete r = is_some r.realm && is_some r.nonce && (is_some r.userhash || is_some r.username)
 
--- whether integrity is there and one of these is not, which is refused whatever nonce is current:
--- none is made for it
+-- whether integrity is there and one of these is not. It is refused whichever nonce is current, and
+-- no nonce is made for it
 abbrev pub is_malformed : Reading → Bool
 is_malformed r = is_some r.integrity && not (is_complete r)
 
@@ -91,35 +91,36 @@ abbrev pub needs_nonce : Reading → Bool
 needs_nonce r = not (is_response r.class || is_malformed r)
 
 -- a verdict as an answer
-abbrev pub answer_to : Result ClientSeen Refusal → Answer
+abbrev pub answer_to : Result ClientSeen VerdictRefusal → Answer
 answer_to (Ok client) = Ok (Validated client.algorithm)
-answer_to (Err refusal) = Err (reason_of refusal)
+answer_to (Err refusal) = Err (server_reason refusal)
 
 -- the place with the client that is accepted, if one is
-abbrev pub with_accepted : PlaceSeen → Result ClientSeen Refusal → PlaceSeen
+abbrev pub with_accepted : PlaceSeen → Result ClientSeen VerdictRefusal → PlaceSeen
 with_accepted place (Ok client) = record place { client = Some client }
 with_accepted place (Err refusal) = place
 
 -- the verdict at a place
-abbrev pub verdict_at : Sight → PlaceSeen → Reading → Result ClientSeen Refusal
+abbrev pub verdict_at : Sight → PlaceSeen → Reading → Result ClientSeen VerdictRefusal
 verdict_at s place r = verdict s.registered s.feature place.nonce place.offered r
 
 -- the answer at a moment with random words
 abbrev pub answer : Sight → ℕ → List ℕ → Reading → Answer
 answer s now words r =
     if is_response r.class then validated_or_failed (client_verified s.registered r s.place)
-    else answer_to (verdict_at s (standing s now words) r)
+    else answer_to (verdict_at s (current_place s now words) r)
 
 -- the place that is left
 abbrev pub place_after : Sight → ℕ → List ℕ → Reading → Option PlaceSeen
 place_after s now words r =
     if needs_nonce r
-    then Some (with_accepted (standing s now words) (verdict_at s (standing s now words) r))
+    then Some (with_accepted (current_place s now words)
+    (verdict_at s (current_place s now words) r))
     else s.place
 
--- whether the words are drawn: where a nonce is needed and none is current
+-- whether random words are drawn: where a nonce is needed and none is current
 abbrev pub draws : Sight → ℕ → Reading → Bool
-draws s now r = needs_nonce r && not (stands_at now s.place)
+draws s now r = needs_nonce r && not (has_current_nonce now s.place)
 
 -- a message changes nothing at its address: no nonce is made for it, and the place stays as it is
 pub record ChangesNothing (s : Sight) (now : ℕ) (words : List ℕ) (r : Reading) : Type 0 where
@@ -133,8 +134,8 @@ put_place places a None = places
 put_place places a (Some place) = map.insert places a place
 
 -- the server that is left
-abbrev pub after_message : ServerSeen → SocketAddr → ℕ → List ℕ → Reading → ServerSeen
-after_message s from now words r =
+abbrev pub after_validation : ServerSeen → SocketAddr → ℕ → List ℕ → Reading → ServerSeen
+after_validation s from now words r =
     record s { places = put_place s.places from (place_after (sight s from) now words r) }
 
 -- a message is accepted with an algorithm: someone is accepted with it at the place where a nonce
@@ -142,10 +143,11 @@ after_message s from now words r =
 abbrev pub AcceptedWith : Sight → ℕ → List ℕ → Reading → IntegrityAlgorithm → Type 0
 AcceptedWith s now words r a =
     (name : List ℕ)
-    × IsAccepted s.registered s.feature (standing s now words).nonce (standing s now words).offered
+    × IsAccepted s.registered s.feature (current_place s now words).nonce
+    (current_place s now words).offered
     r (record { name = name; algorithm = a })
 
--- a request or an indication is validated exactly where it is accepted
+-- a request or an indication is validated if and only if it is accepted
 abbrev pub ValidatesAccepted : Sight → ℕ → List ℕ → Reading → Answer → Type 0
 ValidatesAccepted s now words r given =
     (is_response r.class ≡ false) → (a : IntegrityAlgorithm)

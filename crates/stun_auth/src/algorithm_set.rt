@@ -1,12 +1,12 @@
 //! The integrity algorithms that a server supports or has offered.
 ghost use Rattle.std.specs.Prelude.{◌≡◌, map};
 ghost use Rattle.stun_types.specs.PasswordAlgorithms.{integrity_of};
-ghost use Rattle.stun_auth.specs.Algorithms.{listed};
+ghost use Rattle.stun_auth.specs.Algorithms.{algorithms_of};
 
 use stun_base::algorithm::IntegrityAlgorithm;
 use stun_types::attribute::PasswordAlgorithmValue;
 
-/// One algorithm or both: a server supports one at least.
+/// One algorithm or both. A server supports at least one.
 #[derive(Clone, Copy, Debug, PartialEq, Eq)]
 pub(crate) enum AlgorithmSet {
     OnlySha1,
@@ -50,7 +50,7 @@ impl AlgorithmSet {
 
     /// The password algorithms that make the keys, the strongest first.
     pub(crate) fn password_algorithms(self) -> &'static [PasswordAlgorithmValue]
-        ensures { map integrity_of result.now ≡ listed self }
+        ensures { map integrity_of result.now ≡ algorithms_of self }
     {
         match self {
             AlgorithmSet::OnlySha1 => &[PasswordAlgorithmValue::MD5],
@@ -61,7 +61,7 @@ impl AlgorithmSet {
 
     /// The algorithms, the strongest first.
     pub(crate) fn as_slice(self) -> &'static [IntegrityAlgorithm]
-        ensures { result.now ≡ listed self }
+        ensures { result.now ≡ algorithms_of self }
     {
         match self {
             AlgorithmSet::OnlySha1 => &[IntegrityAlgorithm::Sha1],

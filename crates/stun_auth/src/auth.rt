@@ -1,4 +1,4 @@
-//! The authenticators and what they share.
+//! The authenticators, and the types of what they take and return.
 pub use crate::client::LongTermClientAuth;
 pub use crate::client::answer::{
     LongTermClientAuthError, LongTermClientAuthErrorReason, LongTermClientValidation,

@@ -1,4 +1,4 @@
-//! What derived impls and defaults of authenticators do: comparisons, copies and first values.
+//! What derived impls and defaults of the authenticators do: comparisons, copies and first values.
 ghost use Rattle.std.specs.Prelude.{◌≡◌, ◌<◌, [], ◌∷◌, Ok, IsTrue, ◌↔◌};
 
 use crate::client::answer::{
@@ -11,14 +11,14 @@ use crate::server::reason::{
 };
 use std::alloc::AllocError;
 
-/// Where nothing else is said user names are sent as their hash where the peer can do it too.
+/// The default is `Auto`: user names are hashed where the peer supports it too.
 pub fn default_feature() -> Feature
     ensures { result ≡ Feature.Auto }
 {
     Feature::default()
 }
 
-/// Where nothing else is said no security bit is set.
+/// By default no security bit is set.
 pub fn default_security_bits() -> NonceSecurityBits
     ensures { result ≡ 0 ∷ 0 ∷ 0 ∷ [] }
 {

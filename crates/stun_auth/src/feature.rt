@@ -1,13 +1,14 @@
 //! Whether user names are sent as their hash.
 ghost use Rattle.std.specs.Prelude.{◌≡◌};
 
-/// Whether user names are sent as their hash (RFC 8489, section 9.2).
+/// Whether user names are sent as their hash (RFC 8489, sections 9.2 and 14.4).
 #[derive(Clone, Copy, Debug, Default, PartialEq, Eq, Hash)]
 pub enum Feature {
-    /// Where the peer can do it too.
+    /// Where the peer supports it too.
     #[default]
     Auto,
-    /// At a client: a server that cannot do it is refused. A server takes it as `Auto`.
+    /// Always. A client refuses a challenge whose nonce does not allow it. A server takes it as
+    /// `Auto`.
     Required,
     /// Never.
     Disabled,

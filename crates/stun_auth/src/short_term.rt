@@ -4,7 +4,8 @@ ghost use Rattle.std.specs.Prelude.{◌≡◌, ◌≤◌, ◌+◌, length, IfOk,
 ghost use Rattle.std.specs.Prelude.{IsOkUnless, MatchOption, Some, None, codes};
 ghost use Rattle.std.specs.Fmt.{WritesOnOk, WritesStyledOnOk};
 ghost use Rattle.std.specs.Option.{option_copied, option_map};
-ghost use Rattle.stun_auth.specs.ShortTerm.{ShortTermMaySign, short_term_answer, short_term_growth};
+ghost use Rattle.stun_auth.specs.ShortTerm.{IsSignableShortTerm, short_term_answer};
+ghost use Rattle.stun_auth.specs.ShortTerm.{short_term_growth};
 ghost use Rattle.stun_auth.specs.ShortTerm.{short_term_refusal, short_term_signed};
 
 use std::alloc::{AllocError, Allocator, Global};
@@ -16,16 +17,16 @@ use stun_types::message::{
 };
 use stun_types::prelude::*;
 
-/// Signs messages with a password that both sides know, and checks theirs.
+/// Signs messages under a password that both sides know, and checks theirs (RFC 8489, section 9.1).
 ///
-/// Contracts see the bytes of the password and the algorithm, once both are set. `Debug` shows
-/// neither.
+/// It adds and reads no USERNAME: that is the caller's. Contracts see the bytes of the password and
+/// the algorithm, once both are set. `Debug` shows neither.
 #[derive(Drop)]
 pub struct ShortTermAuth<A: Allocator = Global> {
     kept: Option<KeptPassword<A>>,
 }
 
-/// Credentials with the key that they give, prepared for the algorithm to sign with.
+/// Credentials with their key, prepared for the algorithm to sign with.
 #[derive(Drop)]
 struct KeptPassword<A: Allocator> {
     credentials: ShortTermCredentials<A>,
@@ -39,9 +40,9 @@ impl<A: Allocator> Model for ShortTermAuth<A> {
 
     ghost Value = { Option Secret };
 
-    ghost use Rattle.stun_auth.specs.code.ShortTermKept.{secret_of, KeyIsPassword};
+    ghost use Rattle.stun_auth.specs.code.ShortTermKept.{short_term_secret, KeyIsPassword};
 
-    ghost view = { λ auth. secret_of auth.kept };
+    ghost view = { λ auth. short_term_secret auth.kept };
 
     ghost invariant = { λ auth. KeyIsPassword auth.kept };
 }
@@ -62,8 +63,8 @@ impl<A: Allocator> fmt::Debug for ShortTermAuth<A> {
 }
 
 impl<A: Allocator> ShortTermAuth<A> {
-    /// Without credentials. It does not allocate, and does not keep the allocator: the key uses
-    /// that of the password.
+    /// An authenticator without credentials. It does not allocate, and does not keep the allocator:
+    /// the key uses that of the password.
     pub fn new(_alloc: A) -> Self
         ensures { result ≡ None }
     {
@@ -80,7 +81,7 @@ impl<A: Allocator> ShortTermAuth<A> {
             .map(|kept| (&kept.credentials, kept.algorithm))
     }
 
-    /// The key of the credentials.
+    /// The key of the credentials: the bytes of the password (RFC 8489, section 9.1.1).
     pub fn integrity_key(&self) -> Option<&IntegrityKey<A>>
         ensures { option_copied result ≡ option_map (λ secret. secret.password) self.now }
     {
@@ -101,11 +102,17 @@ impl<A: Allocator> ShortTermAuth<A> {
         }
     }
 
-    /// Adds the integrity attribute to a message, under the password.
+    /// Adds the integrity attribute to a message, under the password (RFC 8489, section 9.1.2).
+    /// Without credentials the message stays as it is.
     ///
-    /// Without credentials the message stays as it is. A refusal is the first of
-    /// `MessageIntegrityExists`, `TooLarge`, `TooSmall` and `OutOfMemory` that holds, and drops the
-    /// writer. The writer holds a message without FINGERPRINT.
+    /// The writer must hold a message without FINGERPRINT. It fails with the first that holds:
+    ///
+    /// - `MessageIntegrityExists`: the message has an integrity attribute.
+    /// - `TooLarge`: the message would get too long.
+    /// - `TooSmall`: the writer has no room.
+    /// - `OutOfMemory`: an allocation failed.
+    ///
+    /// A failure drops the writer.
     #[tactic(auto, using(crate::proofs::Growth::length_of_signed))]
     pub fn sign_outgoing_message<W: MessageWrite>(&mut self, writer: W) -> Result<W, StunWriteError>
         requires { 20 ≤ length (W.bytes writer) }
@@ -130,17 +137,21 @@ impl<A: Allocator> ShortTermAuth<A> {
         Ok(writer)
     }
 
-    /// Adds the integrity attribute to a message of which the caller knows that nothing but a
-    /// failed allocation refuses it: where credentials are set, it has no integrity attribute, and
-    /// length field and writer have room for one: 24 bytes for HMAC-SHA1, 36 for HMAC-SHA256. The
-    /// message is the one that `sign_outgoing_message` gives.
+    /// Adds the integrity attribute to a message that the caller knows to be signable. The message
+    /// is the one that `sign_outgoing_message` gives.
+    ///
+    /// Without credentials every message is signable. With them, a signable message has no
+    /// integrity attribute. Its writer and its length field have room for one: 24 bytes for
+    /// HMAC-SHA1, 36 for HMAC-SHA256.
+    ///
+    /// Fails if an allocation fails.
     #[tactic(auto, using(crate::proofs::Growth::length_of_signed))]
     pub fn sign_outgoing_message_unchecked<W: MessageWrite>(
         &mut self,
         writer: W,
     ) -> Result<W, AllocError>
         requires header { 20 ≤ length (W.bytes writer) }
-        requires signable { ShortTermMaySign self.old (W.bytes writer) (W.room writer) }
+        requires signable { IsSignableShortTerm self.old (W.bytes writer) (W.room writer) }
         ensures signed { IfOk result (λ signed. W.bytes signed
             ≡ short_term_signed self.old (W.bytes writer)) }
         ensures grows { IfOk result (λ signed. length (W.bytes signed)
@@ -157,10 +168,10 @@ impl<A: Allocator> ShortTermAuth<A> {
         Ok(writer)
     }
 
-    /// The algorithm whose digest verifies under the password's bytes, or the refusal of
-    /// `Message::validate_integrity`.
+    /// The algorithm whose digest verifies under the password, or the error of
+    /// `Message::validate_integrity` (RFC 8489, section 9.1.3).
     ///
-    /// Without credentials nothing is checked and the answer is `None`. It does not allocate.
+    /// Without credentials it checks nothing and returns `None`. It does not allocate.
     pub fn validate_incoming_message(
         &mut self,
         message: &Message,
@@ -178,8 +189,8 @@ impl<A: Allocator> ShortTermAuth<A> {
 impl<A: Allocator + Copy> ShortTermAuth<A> {
     /// Sets the password and the algorithm to sign with.
     ///
-    /// The key is made first, so that where its allocation fails both stay as they were. For a
-    /// password of up to 32 bytes nothing is allocated.
+    /// Fails if an allocation fails: both are then as they were. For a password of up to 32 bytes
+    /// nothing is allocated.
     pub fn set_credentials(
         &mut self,
         credentials: ShortTermCredentials<A>,

@@ -1,12 +1,12 @@
 //! The algorithms that a client supports.
 ghost use Rattle.std.specs.Prelude.{◌≡◌, ◌∷◌, []};
 ghost use Rattle.stun_auth.specs.Algorithms.{has};
-ghost use Rattle.stun_auth.specs.Supported.{added};
+ghost use Rattle.stun_auth.specs.Supported.{with_supported};
 ghost use Rattle.stun_auth.specs.code.Supported.{in_order};
 
 use stun_base::algorithm::IntegrityAlgorithm;
 
-/// One algorithm, or both in the order of their adding.
+/// One algorithm, or both in the order in which they were added.
 #[derive(Clone, Copy, Debug, PartialEq, Eq)]
 pub(crate) enum Supported {
     Only(IntegrityAlgorithm),
@@ -21,9 +21,9 @@ impl Supported {
         Supported::Only(algorithm)
     }
 
-    /// These, with one more at the end where it is not among them.
+    /// These, with one more at the end unless it is among them.
     pub(crate) fn with(self, algorithm: IntegrityAlgorithm) -> Self
-        ensures { in_order result ≡ added algorithm (in_order self) }
+        ensures { in_order result ≡ with_supported algorithm (in_order self) }
     {
         match (self, algorithm) {
             (Supported::Only(IntegrityAlgorithm::Sha1), IntegrityAlgorithm::Sha256) => {
@@ -55,7 +55,7 @@ impl Supported {
         }
     }
 
-    /// These in the order of their adding.
+    /// These, in the order in which they were added.
     pub(crate) fn as_slice(&self) -> &'static [IntegrityAlgorithm]
         ensures { result.now ≡ in_order self.now }
     {

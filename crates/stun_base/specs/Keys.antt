@@ -32,5 +32,5 @@ abbrev pub short_term_key : List ℕ → IntegrityAlgorithm → List ℕ
 short_term_key password algorithm = password
 
 -- the hash that names a user at a realm (section 14.4)
-abbrev pub userhash : List ℕ → List ℕ → List ℕ
-userhash username realm = sha256 (with_colon username realm)
+abbrev pub userhash_of : List ℕ → List ℕ → List ℕ
+userhash_of username realm = sha256 (with_colon username realm)

@@ -28,5 +28,5 @@ pub mod Transport
 pub mod Address
 -- bytes that are borrowed or owned
 pub mod Data
--- what no clause of a public call says: codings of models, views of structs, steps of the code
+-- what no clause of a public call cites: codings of models, views of structs, steps of the code
 pub mod code

@@ -15,15 +15,15 @@ use Rattle.stun_types.specs.Attribute.{attribute_length}
 use Rattle.stun_types.specs.Writing.{length_with, max_length, size_refusal}
 use Rattle.stun_extra.specs.Fingerprint.{fingerprint_attribute}
 use Rattle.stun_extra.specs.Fingerprint.{fingerprint_refusal, with_fingerprint}
-use Rattle.stun_c.proofs.Lengths.{length-with_attribute}
 use Rattle.stun_types.specs.Message.{with_length}
 use Rattle.stun_types.specs.Visible.{has_kind, visible}
 use Rattle.stun_types.specs.Walk.{Member, walk}
-use Rattle.stun_c.specs.declared.codes.Refusal.TheVariants.{AttributeExists}
-use Rattle.stun_c.specs.declared.codes.Refusal.TheVariants.{BufferTooSmall, MessageTooLong}
-use Rattle.stun_c.specs.code.Ended.{ended, fingerprint_after, fingerprint_value}
-use Rattle.stun_c.specs.Extra.{refusal_of_write}
-use Rattle.stun_c.specs.Walking.{is_shown, rank, shown}
+use Rattle.stun_numbers.specs.declared.refusal.Refusal.TheVariants.{AttributeExists, BufferTooSmall}
+use Rattle.stun_numbers.specs.declared.refusal.Refusal.TheVariants.{MessageTooLong}
+use Rattle.stun_numbers.specs.Refusals.{refusal_of_write}
+use Rattle.stun_c.proofs.Lengths.{length-with_attribute}
+use Rattle.stun_c.specs.code.Ended.{ended_message, fingerprint_after, fingerprint_value}
+use Rattle.stun_c.specs.Walking.{is_shown, rank, visible_after}
 use Rattle.stun_c.specs.Writing.{fit_refusal, shows_kind}
 use Rattle.stun_c.proofs.Walking.{shown_visible}
 
@@ -50,16 +50,16 @@ leaves : (hidden kind : ℕ) → nat_lt hidden 3 ≡ true → (kind == FINGERPRI
 leaves hidden kind low other = grind arith
 
 -- one is shown where there is one
-shown-fingerprint : (hidden : ℕ) (members : List Member) → nat_lt hidden 3 ≡ true
-    → has_kind FINGERPRINT (shown hidden members) ≡ has_kind FINGERPRINT members
-unfolding shown
-shown-fingerprint hidden [] low = refl
-shown-fingerprint hidden (m ∷ members) low =
-    by (λ low'. shown-fingerprint (max hidden (rank m.1.kind)) members low')
+visible_after-fingerprint : (hidden : ℕ) (members : List Member) → nat_lt hidden 3 ≡ true
+    → has_kind FINGERPRINT (visible_after hidden members) ≡ has_kind FINGERPRINT members
+unfolding visible_after
+visible_after-fingerprint hidden [] low = refl
+visible_after-fingerprint hidden (m ∷ members) low =
+    by (λ low'. visible_after-fingerprint (max hidden (rank m.1.kind)) members low')
     (m.1.kind == FINGERPRINT) refl
   where
     rest : List Member
-    rest = shown (max hidden (rank m.1.kind)) members
+    rest = visible_after (max hidden (rank m.1.kind)) members
 
     by : (nat_lt (max hidden (rank m.1.kind)) 3 ≡ true
         → has_kind FINGERPRINT rest ≡ has_kind FINGERPRINT members)
@@ -81,17 +81,17 @@ shows_fingerprint : (bytes : List ℕ)
 shows_fingerprint bytes =
     found FINGERPRINT (visible bytes)
     ∙ (ap (has_kind FINGERPRINT) (sym (shown_visible bytes))
-    ∙ shown-fingerprint 0 (walk bytes) refl)
+    ∙ visible_after-fingerprint 0 (walk bytes) refl)
 
 -- what is written is the message with its FINGERPRINT, which takes 8 bytes
-pub ended_fingerprint : (message : List ℕ) → ended message ≡ with_fingerprint message
+pub ended_fingerprint : (message : List ℕ) → ended_message message ≡ with_fingerprint message
 unfolding fingerprint_value
 ended_fingerprint message = refl
 
 pub ended_written : (count : ℕ) (buffer raised written : List ℕ)
     → raised ≡ with_length (take count buffer) (length_with (take count buffer) 4)
     → written ≡ fingerprint_after raised ++ drop 8 (drop count buffer)
-    → raised ++ written ≡ ended (take count buffer) ++ drop (count + 8) buffer
+    → raised ++ written ≡ ended_message (take count buffer) ++ drop (count + 8) buffer
 ended_written count buffer raised written is_raised is_written =
     let message = take count buffer in
     let attribute = fingerprint_after (with_length message (length_with message 4)) in
@@ -107,16 +107,16 @@ length_fingerprinted message long =
 
 -- a FINGERPRINT that the library refuses for its size does not fit
 refused_as_written : (message : List ℕ) (room n : ℕ)
-    → option_map refusal_of_write (size_refusal message room n) ≡ fit_refusal message room n
+    → option_map (refusal_of_write true) (size_refusal message room n) ≡ fit_refusal message room n
 refused_as_written message room n =
-    elim (nat_lt max_length (length_with message n)) as (λ long. option_map refusal_of_write
+    elim (nat_lt max_length (length_with message n)) as (λ long. option_map (refusal_of_write true)
     (cond long (Some TooLarge) (cond (nat_lt room (attribute_length n)) (Some TooSmall) None))
     ≡ cond long (Some MessageTooLong)
     (cond (nat_lt room (attribute_length n)) (Some BufferTooSmall) None)) [
       | true ↦ refl
       | false ↦ elim
           (nat_lt room (attribute_length n)) as (λ wide.
-          option_map refusal_of_write (cond wide (Some TooSmall) None)
+          option_map (refusal_of_write true) (cond wide (Some TooSmall) None)
           ≡ cond wide (Some BufferTooSmall) None) [
             | true ↦ refl
             | false ↦ refl
@@ -125,17 +125,17 @@ refused_as_written message room n =
 
 -- so the refusals are those of the library's call
 pub refusals_agree : (message : List ℕ) (room : ℕ)
-    → option_map refusal_of_write (fingerprint_refusal message room)
+    → option_map (refusal_of_write true) (fingerprint_refusal message room)
     ≡ cond (shows_kind FINGERPRINT message) (Some AttributeExists) (fit_refusal message room 4)
 refusals_agree message room =
     let both : (has : Bool)
-    → option_map refusal_of_write
+    → option_map (refusal_of_write true)
     (cond has (Some (WriteAttributeExists (record { 0 = FINGERPRINT })))
     (size_refusal message room 4))
     ≡ cond has (Some AttributeExists) (fit_refusal message room 4) =
     λ has. elim
     has as (λ has.
-    option_map refusal_of_write
+    option_map (refusal_of_write true)
     (cond has (Some (WriteAttributeExists (record { 0 = FINGERPRINT })))
     (size_refusal message room 4))
     ≡ cond has (Some AttributeExists) (fit_refusal message room 4)) [

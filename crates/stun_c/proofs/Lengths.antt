@@ -6,7 +6,7 @@ use Rattle.md5.specs.Md5.{md5, digest_bytes as md5_bytes}
 use Rattle.sha2.specs.Sha256.{sha256, digest_bytes as sha256_bytes}
 use Rattle.stun_base.specs.Algorithm.{digest_length}
 use Rattle.stun_base.specs.code.Algorithm.{length-digest}
-use Rattle.stun_base.specs.Keys.{long_term_key, userhash}
+use Rattle.stun_base.specs.Keys.{long_term_key, userhash_of}
 use Rattle.stun_base.specs.declared.keys.algorithm.IntegrityAlgorithm.{IntegrityAlgorithm}
 use Rattle.stun_base.specs.declared.keys.algorithm.IntegrityAlgorithm.TheVariants.{Sha1, Sha256}
 use Rattle.byteorder.specs.Endian.{big_number}
@@ -26,9 +26,9 @@ unfolding md5 md5_bytes sha256 sha256_bytes
 length-long_term_key Sha1 username realm password = refl
 length-long_term_key Sha256 username realm password = refl
 
-pub length-userhash : (username realm : List ℕ) → length (userhash username realm) ≡ 32
+pub length-userhash_of : (username realm : List ℕ) → length (userhash_of username realm) ≡ 32
 unfolding sha256 sha256_bytes
-length-userhash username realm = refl
+length-userhash_of username realm = refl
 
 -- the length field takes no bytes more
 length-with_length : (bytes : List ℕ) (n : ℕ) → 20 ≤ length bytes

@@ -6,6 +6,5 @@ mod Members
 mod Refused
 mod Signed
 mod Sizes
-mod Texts
 mod Told
 mod Walking

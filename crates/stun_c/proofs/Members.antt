@@ -15,8 +15,8 @@ use Rattle.stun_types.specs.Walk.{Member}
 use Rattle.stun_types.specs.code.Walk.{IsInside}
 use Rattle.stun_types.proofs.IntegrityLemmas.{IfSome-find, first_of-within, visible-within}
 use Rattle.stun_types.proofs.WalkLemmas.{whole_within}
-use Rattle.stun_c.specs.declared.codes.Refusal.{Refusal}
-use Rattle.stun_c.specs.declared.codes.Refusal.TheVariants.{BadArgument}
+use Rattle.stun_numbers.specs.declared.refusal.Refusal.{Refusal}
+use Rattle.stun_numbers.specs.declared.refusal.Refusal.TheVariants.{BadArgument}
 use Rattle.stun_c.specs.Reading.{next_member, read_member, value_at}
 
 -- what reading answers of a member that may be there

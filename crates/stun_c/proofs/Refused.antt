@@ -10,12 +10,13 @@ use Rattle.stun_base.specs.MessageType.{method_of, type_number}
 use Rattle.stun_base.specs.declared.wire.attribute_type.AttributeType.{AttributeType}
 use Rattle.stun_base.specs.declared.wire.message_type.MessageClass.TheVariants.{Error}
 use Rattle.stun_types.specs.Attribute.{attribute_length}
-use Rattle.stun_types.specs.Grammar.{spelled, spelled_attribute}
+use Rattle.stun_types.specs.Grammar.{spelled_message, spelled_attribute}
 use Rattle.stun_types.specs.Message.{with_length}
 use Rattle.stun_types.specs.Writing.{empty_answer, length_with, with_attribute}
 use Rattle.stun_extra.specs.Unknown.{spelled_types}
-use Rattle.stun_c.specs.declared.codes.Refusal.TheVariants.{BufferTooSmall}
-use Rattle.stun_c.specs.Answers.{buffer_after, fitted, written_number}
+use Rattle.stun_numbers.specs.declared.refusal.Refusal.TheVariants.{BufferTooSmall}
+use Rattle.stun_numbers.specs.Buffers.{buffer_after, within_room}
+use Rattle.stun_c.specs.Answers.{written_number}
 use Rattle.stun_c.specs.Extra.{error_420, refused_front, types_attribute, unknown_answer}
 use Rattle.stun_c.proofs.Lengths.{length-spelled_attribute, length-with_attribute}
 
@@ -81,13 +82,14 @@ length-answer request types count is =
     ∙ (λ i. length-front request i + attribute_length (size i))
 
 -- bytes that fit
-fitted_ok : (bytes : List ℕ) (room : ℕ) → length bytes ≤ room → fitted (Ok bytes) room ≡ Ok bytes
-fitted_ok bytes room fits = let wide : nat_lt room (length bytes) ≡ false =
+within_room_ok : (bytes : List ℕ) (room : ℕ) → length bytes ≤ room
+    → within_room (Ok bytes) room ≡ Ok bytes
+within_room_ok bytes room fits = let wide : nat_lt room (length bytes) ≡ false =
     grind arith in rw wide refl
 
-fitted_small : (bytes : List ℕ) (room : ℕ) → room < length bytes
-    → fitted (Ok bytes) room ≡ Err BufferTooSmall
-fitted_small bytes room short = let narrow : nat_lt room (length bytes) ≡ true =
+within_room_small : (bytes : List ℕ) (room : ℕ) → room < length bytes
+    → within_room (Ok bytes) room ≡ Err BufferTooSmall
+within_room_small bytes room short = let narrow : nat_lt room (length bytes) ≡ true =
     grind arith in rw narrow refl
 
 -- the buffer and the number afterwards, where the answer fits and where it does not
@@ -97,7 +99,7 @@ pub answer_written : (request out front written : List ℕ) (types : List Attrib
     → written ≡ with_attribute (take 48 front) (types_attribute types)
     ++ drop (48 + attribute_length (2 * count)) front
     → 48 + attribute_length (2 * count) ≤ length out
-    → written ≡ buffer_after (fitted (Ok (unknown_answer request types)) (length out)) out
+    → written ≡ buffer_after (within_room (Ok (unknown_answer request types)) (length out)) out
 unfolding unknown_answer
 answer_written request out front written types count is is_front is_written room =
     let size = length-answer request types count is in
@@ -112,30 +114,32 @@ answer_written request out front written types count is is_front is_written room
     ∙ ((λ i. with_attribute (begins i) (types_attribute types) ++ rest i)
     ∙ ((λ i. unknown_answer request types ++ drop (sym size i) out)
     ∙ sym (ap (λ made. buffer_after made out)
-    (fitted_ok (unknown_answer request types) (length out) (omega (arith, size, room))))))
+    (within_room_ok (unknown_answer request types) (length out) (omega (arith, size, room))))))
 
 pub answer_number : (request : List ℕ) (types : List AttributeType) (count room : ℕ)
     → count ≡ length types
     → 48 + attribute_length (2 * count) ≤ room
-    → written_number (fitted (Ok (unknown_answer request types)) room)
+    → written_number (within_room (Ok (unknown_answer request types)) room)
     ≡ pos (48 + attribute_length (2 * count))
 answer_number request types count room is fits =
     let size = length-answer request types count is in
-    ap written_number (fitted_ok (unknown_answer request types) room (omega (arith, size, fits)))
+    ap written_number
+    (within_room_ok (unknown_answer request types) room (omega (arith, size, fits)))
     ∙ ap pos size
 
 pub answer_refused : (request : List ℕ) (types : List AttributeType) (count room : ℕ)
     → count ≡ length types
     → room < 48 + attribute_length (2 * count)
-    → fitted (Ok (unknown_answer request types)) room ≡ Err BufferTooSmall
+    → within_room (Ok (unknown_answer request types)) room ≡ Err BufferTooSmall
 answer_refused request types count room is short =
-    fitted_small (unknown_answer request types) room
+    within_room_small (unknown_answer request types) room
     (omega (arith, length-answer request types count is, short))
 
 -- the answer is spelled as any message with these two attributes
 pub answer_spelled : (request : List ℕ) (types : List AttributeType)
     → unknown_answer request types
-    ≡ spelled (type_number Error (method_of (type_field request))) (transaction_id_field request)
+    ≡ spelled_message (type_number Error (method_of (type_field request)))
+    (transaction_id_field request)
     (error_420 ∷ types_attribute types ∷ [])
 unfolding unknown_answer refused_front
 answer_spelled request types =

@@ -6,9 +6,9 @@ use Rattle.stun_base.specs.Attributes.{USERNAME}
 use Rattle.stun_base.specs.MessageType.{type_number}
 use Rattle.stun_base.specs.declared.keys.algorithm.IntegrityAlgorithm.{IntegrityAlgorithm}
 use Rattle.stun_base.specs.declared.wire.message_type.MessageClass.TheVariants.{Request}
-use Rattle.stun_types.specs.Grammar.{spelled}
+use Rattle.stun_types.specs.Grammar.{spelled_message}
 use Rattle.stun_types.specs.Writing.{with_integrity}
-use Rattle.stun_c.specs.Codes.{algorithm_numbered}
+use Rattle.stun_numbers.specs.Algorithms.{algorithm_numbered}
 use Rattle.stun_c.specs.Requests.{signed_request, username_refusal}
 
 -- what is written is the request that is asked for
@@ -17,7 +17,7 @@ pub request_signed : (number number_of_id : ℕ) (algorithm : IntegrityAlgorithm
     → algorithm_numbered number ≡ Some algorithm → length id ≡ 12 → number_of_id ≡ big_number 12 id
     → username_refusal name ≡ None → username ≡ name
     → written
-    ≡ spelled (type_number Request 0x001) number_of_id
+    ≡ spelled_message (type_number Request 0x001) number_of_id
     ([] ++ record { kind = USERNAME; value = username } ∷ [])
     → request ≡ with_integrity written algorithm key
     → signed_request (algorithm_numbered number) id name key ≡ Ok request

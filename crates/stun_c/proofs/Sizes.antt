@@ -7,12 +7,12 @@ use Rattle.stun_base.specs.Attributes.{USERNAME}
 use Rattle.stun_base.specs.declared.keys.algorithm.IntegrityAlgorithm.{IntegrityAlgorithm}
 use Rattle.stun_base.specs.declared.keys.algorithm.IntegrityAlgorithm.TheVariants.{Sha1, Sha256}
 use Rattle.stun_types.specs.Attribute.{padded_length}
-use Rattle.stun_types.specs.Grammar.{spelled}
+use Rattle.stun_types.specs.Grammar.{spelled_message}
 use Rattle.stun_types.specs.Writing.{IsOpen, signing_refusal}
 
 -- a header and one attribute
 pub request_length : (kind id : ℕ) (name : List ℕ)
-    → length (spelled kind id ([] ++ record { kind = USERNAME; value = name } ∷ []))
+    → length (spelled_message kind id ([] ++ record { kind = USERNAME; value = name } ∷ []))
     ≡ 24 + padded_length (length name)
 request_length kind id name = simp (length-append, length-replicate) (omega arith)
 

@@ -6,63 +6,64 @@ use Rattle.std.proofs.lemmas.List.{drop-drop}
 use Rattle.stun_base.specs.Attributes.{MESSAGE_INTEGRITY, MESSAGE_INTEGRITY_SHA256, FINGERPRINT}
 use Rattle.stun_base.specs.Header.{HEADER_LENGTH}
 use Rattle.stun_types.specs.Attribute.{TypedValue, attribute_length, has_attribute, first_attribute}
-use Rattle.stun_types.specs.Visible.{counts_behind, visible}
+use Rattle.stun_types.specs.Visible.{is_visible_after, visible}
 use Rattle.stun_types.specs.Walk.{next_place, walk_from, walk}
-use Rattle.stun_types.specs.code.Visible.{visible_from, HasPassed}
-use Rattle.stun_types.proofs.VisibleLemmas.{HasPassed-none, HasPassed-step}
-use Rattle.stun_types.proofs.VisibleLemmas.{counts-passed, visible_from-end}
+use Rattle.stun_types.specs.code.Visible.{visible_from, HasSeenKinds}
+use Rattle.stun_types.proofs.VisibleLemmas.{HasSeenKinds-none, HasSeenKinds-step}
+use Rattle.stun_types.proofs.VisibleLemmas.{is_visible-passed, visible_from-end}
 use Rattle.stun_types.proofs.VisibleLemmas.{visible_from-header, visible_from-step}
 use Rattle.stun_types.proofs.WalkLemmas.{has_attribute-past_end, walk_from-end}
 use Rattle.stun_types.proofs.WalkLemmas.{walk_from-step, whole_within}
 use Rattle.stun_c.specs.declared.walk.Cursor.{Cursor}
-use Rattle.stun_c.specs.Walking.{ahead, is_shown, rank, shown}
+use Rattle.stun_c.specs.Walking.{ahead, is_shown, rank, visible_after}
 
 -- what is shown from a place: the attribute there, where it is, and what is after it
-shown-step : (hidden place : ℕ) (bytes : List ℕ) → has_attribute (drop place bytes) ≡ true
-    → shown hidden (walk_from place bytes)
+visible_after-step : (hidden place : ℕ) (bytes : List ℕ) → has_attribute (drop place bytes) ≡ true
+    → visible_after hidden (walk_from place bytes)
     ≡ cond (is_shown hidden (first_attribute (drop place bytes)).kind)
     ((place, first_attribute (drop place bytes))
-    ∷ shown (max hidden (rank (first_attribute (drop place bytes)).kind))
+    ∷ visible_after (max hidden (rank (first_attribute (drop place bytes)).kind))
     (walk_from (next_place place bytes) bytes))
-    (shown (max hidden (rank (first_attribute (drop place bytes)).kind))
+    (visible_after (max hidden (rank (first_attribute (drop place bytes)).kind))
     (walk_from (next_place place bytes) bytes))
-unfolding shown
-shown-step hidden place bytes whole = rw (walk_from-step place bytes whole) refl
+unfolding visible_after
+visible_after-step hidden place bytes whole = rw (walk_from-step place bytes whole) refl
 
-pub shown-end : (hidden place : ℕ) (bytes : List ℕ) → has_attribute (drop place bytes) ≡ false
-    → shown hidden (walk_from place bytes) ≡ []
-unfolding shown
-shown-end hidden place bytes none = rw (walk_from-end place bytes none) refl
+pub visible_after-end : (hidden place : ℕ) (bytes : List ℕ)
+    → has_attribute (drop place bytes) ≡ false
+    → visible_after hidden (walk_from place bytes) ≡ []
+unfolding visible_after
+visible_after-end hidden place bytes none = rw (walk_from-end place bytes none) refl
 
 -- a whole attribute is at a place, and `behind` is the place after it
-pub record MetAt (place : ℕ) (bytes : List ℕ) (attribute : TypedValue) (kind behind : ℕ) : Type
-    0 where
+pub record MetAt (place : ℕ) (bytes : List ℕ) (attribute : TypedValue)
+    (kind behind : ℕ) : Type 0 where
   pub whole : has_attribute (drop place bytes) ≡ true
   pub attribute_is : attribute ≡ first_attribute (drop place bytes)
   pub kind_is : kind ≡ attribute.kind
   pub behind_is : behind ≡ place + attribute_length (length attribute.value)
 
 -- it is shown
-pub met-shown : (hidden : ℕ) {hidden' place kind behind : ℕ} {bytes : List ℕ}
+pub met-visible_after : (hidden : ℕ) {hidden' place kind behind : ℕ} {bytes : List ℕ}
     {attribute : TypedValue} → MetAt place bytes attribute kind behind
     → is_shown hidden kind ≡ true → hidden' ≡ max hidden (rank kind)
-    → shown hidden (walk_from place bytes)
-    ≡ (place, attribute) ∷ shown hidden' (walk_from behind bytes)
-met-shown hidden {place = place} {bytes = bytes} met is hidden_is =
+    → visible_after hidden (walk_from place bytes)
+    ≡ (place, attribute) ∷ visible_after hidden' (walk_from behind bytes)
+met-visible_after hidden {place = place} {bytes = bytes} met is hidden_is =
     let shows : is_shown hidden (first_attribute (drop place bytes)).kind ≡ true =
     rw (met.kind_is, met.attribute_is) at is in
-    shown-step hidden place bytes met.whole
+    visible_after-step hidden place bytes met.whole
     ∙ rw (hidden_is, met.behind_is, met.kind_is, met.attribute_is, shows) refl
 
 -- it is not
 pub met-hidden : (hidden : ℕ) {hidden' place kind behind : ℕ} {bytes : List ℕ}
     {attribute : TypedValue} → MetAt place bytes attribute kind behind
     → is_shown hidden kind ≡ false → hidden' ≡ max hidden (rank kind)
-    → shown hidden (walk_from place bytes) ≡ shown hidden' (walk_from behind bytes)
+    → visible_after hidden (walk_from place bytes) ≡ visible_after hidden' (walk_from behind bytes)
 met-hidden hidden {place = place} {bytes = bytes} met is hidden_is =
     let hides : is_shown hidden (first_attribute (drop place bytes)).kind ≡ false =
     rw (met.kind_is, met.attribute_is) at is in
-    shown-step hidden place bytes met.whole
+    visible_after-step hidden place bytes met.whole
     ∙ rw (hidden_is, met.behind_is, met.kind_is, met.attribute_is, hides) refl
 
 -- it is within
@@ -79,7 +80,7 @@ level integrity integrity_sha256 fingerprint =
 -- that is all that counts of them
 is_shown-level : (integrity integrity_sha256 fingerprint : Bool) (kind : ℕ)
     → is_shown (level integrity integrity_sha256 fingerprint) kind
-    ≡ counts_behind integrity integrity_sha256 fingerprint kind
+    ≡ is_visible_after integrity integrity_sha256 fingerprint kind
 is_shown-level true true true kind = grind arith
 is_shown-level true true false kind = grind arith
 is_shown-level true false true kind = grind arith
@@ -103,43 +104,45 @@ level-step false false true kind = grind arith
 level-step false false false kind = grind arith
 
 -- so what is shown after what was passed is what is visible from there
-shown-passed : (most place : ℕ) {integrity integrity_sha256 fingerprint : Bool} (bytes : List ℕ)
+visible_after-passed : (most place : ℕ) {integrity integrity_sha256 fingerprint : Bool}
+    (bytes : List ℕ)
     → length bytes ≤ place + most
-    → HasPassed place integrity integrity_sha256 fingerprint bytes
-    → shown (level integrity integrity_sha256 fingerprint) (walk_from place bytes)
+    → HasSeenKinds place integrity integrity_sha256 fingerprint bytes
+    → visible_after (level integrity integrity_sha256 fingerprint) (walk_from place bytes)
     ≡ visible_from place bytes
-shown-passed zero place {integrity} {integrity_sha256} {fingerprint} bytes few passed =
+visible_after-passed zero place {integrity} {integrity_sha256} {fingerprint} bytes few passed =
     let none = has_attribute-past_end place bytes (omega arith) in
-    shown-end (level integrity integrity_sha256 fingerprint) place bytes none
+    visible_after-end (level integrity integrity_sha256 fingerprint) place bytes none
     ∙ sym (visible_from-end place bytes none)
-shown-passed (suc most) place {integrity} {integrity_sha256} {fingerprint} bytes few passed =
+visible_after-passed (suc most) place {integrity} {integrity_sha256} {fingerprint} bytes few
+    passed =
     elim (has_attribute (drop place bytes)) as (λ whole. has_attribute (drop place bytes) ≡ whole →
-    shown (level integrity integrity_sha256 fingerprint) (walk_from place bytes)
+    visible_after (level integrity integrity_sha256 fingerprint) (walk_from place bytes)
     ≡ visible_from place bytes) [
       | true ↦ λ whole.
           let kind = (first_attribute (drop place bytes)).kind in
           let rest =
-          shown-passed most (next_place place bytes) bytes (omega arith)
-          (HasPassed-step passed whole) in
-          let rest' : shown (max (level integrity integrity_sha256 fingerprint) (rank kind))
+          visible_after-passed most (next_place place bytes) bytes (omega arith)
+          (HasSeenKinds-step passed whole) in
+          let rest' : visible_after (max (level integrity integrity_sha256 fingerprint) (rank kind))
           (walk_from (next_place place bytes) bytes) ≡ visible_from (next_place place bytes) bytes =
-          ap (λ hidden. shown hidden (walk_from (next_place place bytes) bytes))
+          ap (λ hidden. visible_after hidden (walk_from (next_place place bytes) bytes))
           (sym (level-step integrity integrity_sha256 fingerprint kind)) ∙ rest in
-          shown-step (level integrity integrity_sha256 fingerprint) place bytes whole
+          visible_after-step (level integrity integrity_sha256 fingerprint) place bytes whole
           ∙ (rw (
             is_shown-level integrity integrity_sha256 fingerprint kind,
             rest',
-            sym (counts-passed passed),
+            sym (is_visible-passed passed),
           ) refl ∙ sym (visible_from-step place bytes whole))
       | false ↦ λ none.
-          shown-end (level integrity integrity_sha256 fingerprint) place bytes none
+          visible_after-end (level integrity integrity_sha256 fingerprint) place bytes none
           ∙ sym (visible_from-end place bytes none)
     ] refl
 
 -- and from the header all that is visible
-pub shown_visible : (bytes : List ℕ) → shown 0 (walk bytes) ≡ visible bytes
+pub shown_visible : (bytes : List ℕ) → visible_after 0 (walk bytes) ≡ visible bytes
 shown_visible bytes =
-    shown-passed (length bytes) HEADER_LENGTH bytes (omega arith) (HasPassed-none bytes)
+    visible_after-passed (length bytes) HEADER_LENGTH bytes (omega arith) (HasSeenKinds-none bytes)
     ∙ visible_from-header bytes
 
 -- the first of those that are left after n is the one at n

@@ -1,20 +1,10 @@
--- What the calls over `stun_extra` answer: FINGERPRINT, types that are not known, and streams.
+-- What the calls over `stun_extra` return: FINGERPRINT, types that are not known, and streams.
 use Rattle.std.specs.Prelude.{ℕ, ℤ, pos, ◌+◌, ◌-◌, List, [], ◌++◌, length, map, take, drop, codes}
 use Rattle.std.specs.Prelude.{nat_lt, ◌==◌, if◌then◌else◌, Option, Some, None, Result, Ok, Err}
-use Rattle.std.specs.Option.{option_or, option_map}
+use Rattle.std.specs.Option.{option_or}
 use Rattle.stun_base.specs.Attributes.{ERROR_CODE, FINGERPRINT}
 use Rattle.stun_base.specs.MessageType.{class_in, class_number}
 use Rattle.stun_base.specs.declared.wire.attribute_type.AttributeType.{AttributeType}
-use Rattle.stun_base.specs.declared.wire.error.StunWriteError.{StunWriteError}
-use Rattle.stun_base.specs.declared.wire.error.StunWriteError.TheVariants.{
-  NotAllowed as WriteNotAllowed,
-  MessageIntegrityExists,
-  AttributeExists as WriteAttributeExists,
-  IntegrityFailed as WriteIntegrityFailed,
-  OutOfMemory,
-  TooLarge as WriteTooLarge,
-  TooSmall,
-}
 use Rattle.stun_base.specs.declared.wire.message_type.MessageClass.TheVariants.{Error}
 use Rattle.stun_types.specs.Attribute.{TypedValue}
 use Rattle.stun_types.specs.ErrorCode.{error_value}
@@ -29,16 +19,14 @@ use Rattle.stun_extra.specs.declared.fingerprint.Fingerprint.TheVariants.{Mispla
 use Rattle.stun_extra.specs.declared.framing.Frame.{Frame}
 use Rattle.stun_extra.specs.declared.framing.Frame.TheVariants.{Need, Message as Whole}
 use Rattle.stun_extra.specs.declared.framing.Frame.TheVariants.{NotStun as NoFrame}
-use Rattle.stun_c.specs.declared.codes.Refusal.{Refusal}
-use Rattle.stun_c.specs.declared.codes.Refusal.TheVariants.{NotStun, IntegrityFailed}
-use Rattle.stun_c.specs.declared.codes.Refusal.TheVariants.{BadArgument, MalformedAttribute}
-use Rattle.stun_c.specs.declared.codes.Refusal.TheVariants.{BufferTooSmall, NotAllowed, Closed}
-use Rattle.stun_c.specs.declared.codes.Refusal.TheVariants.{AttributeExists, MessageTooLong}
+use Rattle.stun_numbers.specs.declared.refusal.Refusal.{Refusal}
+use Rattle.stun_numbers.specs.declared.refusal.Refusal.TheVariants.{NotStun, BadArgument}
+use Rattle.stun_numbers.specs.declared.refusal.Refusal.TheVariants.{MalformedAttribute}
+use Rattle.stun_numbers.specs.declared.refusal.Refusal.TheVariants.{AttributeExists}
+use Rattle.stun_numbers.specs.Refusals.{refusal_number, refusal_or, message_refusal}
 use Rattle.stun_c.specs.Answers.{unless_no_message}
-use Rattle.stun_c.specs.Codes.{code_of, refusal_of_parse}
 use Rattle.stun_c.specs.Reading.{value_at}
-use Rattle.stun_c.specs.Requests.{unless_refused}
-use Rattle.stun_c.specs.Writing.{fit_refusal, shows_kind, unless}
+use Rattle.stun_c.specs.Writing.{fit_refusal, shows_kind}
 
 -- ---- FINGERPRINT (RFC 8489, section 14.7)
 
@@ -49,20 +37,10 @@ fingerprint_number Right = 1
 fingerprint_number Wrong = 2
 fingerprint_number Misplaced = 3
 
--- what `stunp_check_fingerprint` answers
+-- what `stunp_check_fingerprint` returns
 abbrev pub fingerprint_answer : List ℕ → ℤ
 fingerprint_answer bytes =
     unless_no_message (refusal bytes) (pos (fingerprint_number (fingerprint_in bytes)))
-
--- the refusal that tells an error of writing
-abbrev pub refusal_of_write : StunWriteError → Refusal
-refusal_of_write WriteNotAllowed = NotAllowed
-refusal_of_write MessageIntegrityExists = Closed
-refusal_of_write (WriteAttributeExists _) = AttributeExists
-refusal_of_write WriteTooLarge = MessageTooLong
-refusal_of_write TooSmall = BufferTooSmall
-refusal_of_write WriteIntegrityFailed = IntegrityFailed
-refusal_of_write OutOfMemory = BufferTooSmall
 
 -- why FINGERPRINT does not end the first `count` bytes of a buffer, if it does not: they are not
 -- there, they are no message, and then what the library's call refuses (law
@@ -70,14 +48,14 @@ refusal_of_write OutOfMemory = BufferTooSmall
 abbrev pub ending_refusal : List ℕ → ℕ → Option Refusal
 ending_refusal buffer count =
     if nat_lt (length buffer) count then Some BadArgument
-    else option_or (option_map refusal_of_parse (refusal (take count buffer)))
+    else option_or (message_refusal (refusal (take count buffer)))
     (if shows_kind FINGERPRINT (take count buffer) then Some AttributeExists
     else fit_refusal (take count buffer) (length buffer - count) 4)
 
 -- what `stunp_add_fingerprint` makes
-abbrev pub fingerprinted : List ℕ → ℕ → Result (List ℕ) Refusal
-fingerprinted buffer count =
-    unless_refused (ending_refusal buffer count) (with_fingerprint (take count buffer))
+abbrev pub fingerprinted_message : List ℕ → ℕ → Result (List ℕ) Refusal
+fingerprinted_message buffer count =
+    refusal_or (ending_refusal buffer count) (Ok (with_fingerprint (take count buffer)))
 
 -- ---- types that are not known (sections 6.3.1 and 14.13)
 
@@ -89,7 +67,7 @@ ALL_KNOWN = 256
 abbrev pub known_refusal : List ℕ → List ℕ → Option Refusal
 known_refusal bytes known =
     if nat_lt ALL_KNOWN (length known) then Some BadArgument
-    else option_map refusal_of_parse (refusal bytes)
+    else message_refusal (refusal bytes)
 
 -- a message's types that must be understood and are not known, in their order, each once
 abbrev pub unknown_of : List ℕ → List ℕ → List AttributeType
@@ -98,7 +76,7 @@ unknown_of bytes known = unknown_types (types_of known) bytes
 -- their number, or why they are not told
 abbrev pub told_number : Option Refusal → List AttributeType → ℤ
 told_number None types = pos (length types)
-told_number (Some refusal) types = code_of refusal
+told_number (Some refusal) types = refusal_number refusal
 
 -- the caller's numbers where types are written to their front, as many as have room
 abbrev pub numbers_after : List AttributeType → List ℕ → List ℕ
@@ -140,7 +118,7 @@ answer_made message types =
 -- what `stunp_refuse_unknown` makes
 abbrev pub unknown_made : List ℕ → List ℕ → Result (List ℕ) Refusal
 unknown_made request known =
-    unless (known_refusal request known) (answer_made request (unknown_of request known))
+    refusal_or (known_refusal request known) (answer_made request (unknown_of request known))
 
 -- types, unless their attribute is malformed
 abbrev pub unless_odd : Option (List AttributeType) → Result (List AttributeType) Refusal
@@ -157,10 +135,10 @@ types_of_value (Err refusal) = Err refusal
 abbrev pub types_at : List ℕ → ℕ → Result (List AttributeType) Refusal
 types_at bytes place = types_of_value (value_at bytes place)
 
--- what `stunp_read_types` answers of them
+-- what `stunp_read_types` returns of them
 abbrev pub held_number : Result (List AttributeType) Refusal → ℤ
 held_number (Ok types) = pos (length types)
-held_number (Err refusal) = code_of refusal
+held_number (Err refusal) = refusal_number refusal
 
 -- the caller's numbers, to whose front they are written
 abbrev pub held_after : Result (List AttributeType) Refusal → List ℕ → List ℕ
@@ -174,4 +152,4 @@ held_after (Err refusal) numbers = numbers
 abbrev pub wanted_number : ℕ → Frame → ℤ
 wanted_number there (Need more) = pos (there + more)
 wanted_number there (Whole n) = pos n
-wanted_number there NoFrame = code_of NotStun
+wanted_number there NoFrame = refusal_number NotStun

@@ -1,8 +1,7 @@
--- What the calls that read a message answer, and what they leave in the caller's numbers and
+-- What the calls that read a message return, and what they leave in the caller's numbers and
 -- buffers.
 use Rattle.std.specs.Prelude.{ℕ, ℤ, pos, ◌+◌, List, length, take, drop, find, nat_lt, not}
 use Rattle.std.specs.Prelude.{◌||◌, Option, Some, None, Result, Ok, Err, if◌then◌else◌}
-use Rattle.std.specs.Option.{option_map}
 use Rattle.std.specs.Str.{is_utf8}
 use Rattle.byteorder.specs.Endian.{big_number}
 use Rattle.stun_base.specs.Attributes.{ERROR_CODE, XOR_MAPPED_ADDRESS}
@@ -19,14 +18,15 @@ use Rattle.stun_types.specs.Reading.{attribute_answer}
 use Rattle.stun_types.specs.Visible.{visible}
 use Rattle.stun_types.specs.Walk.{Member}
 use Rattle.stun_types.specs.XorMappedAddress.{XoredAddress, xor_bytes, xor_key, xor_port, xored_of}
-use Rattle.stun_c.specs.declared.codes.Refusal.{Refusal}
-use Rattle.stun_c.specs.declared.codes.Refusal.TheVariants.{BadArgument, MalformedAttribute}
-use Rattle.stun_c.specs.declared.codes.Refusal.TheVariants.{MissingAttribute as NotFound, NotText}
+use Rattle.stun_numbers.specs.declared.refusal.Refusal.{Refusal}
+use Rattle.stun_numbers.specs.declared.refusal.Refusal.TheVariants.{BadArgument, MalformedAttribute}
+use Rattle.stun_numbers.specs.declared.refusal.Refusal.TheVariants.{MissingAttribute as NotFound}
+use Rattle.stun_numbers.specs.declared.refusal.Refusal.TheVariants.{NotText}
+use Rattle.stun_numbers.specs.Refusals.{refusal_number, refusal_of_parse, refusal_or}
+use Rattle.stun_numbers.specs.Refusals.{message_refusal}
 use Rattle.stun_c.specs.declared.header.Header.{Header}
 use Rattle.stun_c.specs.Answers.{unless_no_message}
-use Rattle.stun_c.specs.Codes.{code_of, refusal_of_attribute, refusal_of_parse}
-use Rattle.stun_c.specs.Requests.{unless_refused}
-use Rattle.stun_c.specs.Writing.{is_size, unless}
+use Rattle.stun_c.specs.Writing.{is_size}
 
 -- the two bits of the class (RFC 8489, section 5)
 abbrev pub class_answer : List ℕ → ℤ
@@ -45,7 +45,7 @@ header_in bytes = record {
   id = take 12 (drop 8 bytes);
 }
 
--- what `stunp_read_header` answers: what follows the header is not looked at
+-- what `stunp_read_header` returns: what follows the header is not looked at
 abbrev pub header_answer : List ℕ → ℤ
 header_answer bytes = unless_no_message (header_refusal bytes) (pos 0)
 
@@ -57,7 +57,7 @@ header_after None bytes header = header_in bytes
 -- the bytes of the transaction id
 abbrev pub id_of_message : List ℕ → Result (List ℕ) Refusal
 id_of_message bytes =
-    unless_refused (option_map refusal_of_parse (refusal bytes)) (take 12 (drop 8 bytes))
+    refusal_or (message_refusal (refusal bytes)) (Ok (take 12 (drop 8 bytes)))
 
 -- the first visible attribute that comes after a place (sections 14.5 to 14.7)
 abbrev pub next_member : ℕ → List ℕ → Option Member
@@ -68,7 +68,7 @@ abbrev pub place_number : Option Member → ℤ
 place_number None = pos 0
 place_number (Some m) = pos m.0
 
--- what `stunp_next` answers
+-- what `stunp_next` returns
 abbrev pub next_answer : List ℕ → ℕ → ℤ
 next_answer bytes place = unless_no_message (refusal bytes) (place_number (next_member place bytes))
 
@@ -81,12 +81,12 @@ number_after part None (Some m) number = part m.1
 -- why no attribute of a type is looked for: the type, then the message
 abbrev pub finding_refusal : ℕ → List ℕ → Option Refusal
 finding_refusal kind bytes =
-    if nat_lt kind 65536 then option_map refusal_of_parse (refusal bytes) else Some BadArgument
+    if nat_lt kind 65536 then message_refusal (refusal bytes) else Some BadArgument
 
--- what `stunp_find` answers of the attribute that it finds, if there is one
+-- what `stunp_find` returns of the attribute that it finds, if there is one
 abbrev pub find_answer : Option Refusal → Option Member → ℤ
-find_answer (Some refusal) found = code_of refusal
-find_answer None None = code_of NotFound
+find_answer (Some refusal) found = refusal_number refusal
+find_answer None None = refusal_number NotFound
 find_answer None (Some m) = pos m.0
 
 -- the first attribute of a type as it is read, where it is there
@@ -102,9 +102,9 @@ error_in bytes = read_member ERROR_CODE error_of (first_of ERROR_CODE (visible b
 -- its code, or why there is none
 abbrev pub code_number : Result CodeAndReason StunParseError → ℤ
 code_number (Ok error) = pos error.code
-code_number (Err error) = code_of (refusal_of_attribute error)
+code_number (Err error) = refusal_number (refusal_of_parse error)
 
--- what `stunp_error_code` answers
+-- what `stunp_error_code` returns
 abbrev pub error_answer : List ℕ → ℤ
 error_answer bytes = unless_no_message (refusal bytes) (code_number (error_in bytes))
 
@@ -116,12 +116,12 @@ address_in bytes =
 -- its octets, shown, or why there are none
 abbrev pub shown_octets : Result XoredAddress StunParseError → ℕ → Result (List ℕ) Refusal
 shown_octets (Ok address) id = Ok (xor_bytes address.octets (xor_key id))
-shown_octets (Err error) id = Err (refusal_of_attribute error)
+shown_octets (Err error) id = Err (refusal_of_parse error)
 
 -- what `stunp_xor_mapped_address` writes
 abbrev pub octets_of_message : List ℕ → Result (List ℕ) Refusal
 octets_of_message bytes =
-    unless (option_map refusal_of_parse (refusal bytes))
+    refusal_or (message_refusal (refusal bytes))
     (shown_octets (address_in bytes) (transaction_id_field bytes))
 
 -- the caller's port, which the address sets where its octets were written
@@ -168,14 +168,14 @@ plain_port_after (Ok octets) (Err refusal) port = port
 plain_port_after (Err refusal) address port = port
 
 -- a value of as many bytes as numbers have, or it is malformed
-abbrev pub sized : List ℕ → Result (List ℕ) Refusal
-sized value = if is_size (length value) then Ok value else Err MalformedAttribute
+abbrev pub sized_value : List ℕ → Result (List ℕ) Refusal
+sized_value value = if is_size (length value) then Ok value else Err MalformedAttribute
 
 -- the bytes of the number in the attribute at a place of a message, or why there are none
 abbrev pub sized_at : List ℕ → ℕ → Result (List ℕ) Refusal
 sized_at bytes place =
     if nat_lt place HEADER_LENGTH || not (has_attribute (drop place bytes)) then Err BadArgument
-    else sized (first_attribute (drop place bytes)).value
+    else sized_value (first_attribute (drop place bytes)).value
 
 -- the caller's number, which these bytes set
 abbrev pub sized_after : Result (List ℕ) Refusal → ℕ → ℕ
@@ -198,10 +198,10 @@ as_text (Err refusal) = Err refusal
 abbrev pub text_at : List ℕ → ℕ → Result (List ℕ) Refusal
 text_at bytes place = as_text (value_at bytes place)
 
--- what `stunp_read_text` answers of a text in the attribute at a place: where its value begins
+-- what `stunp_read_text` returns of a text in the attribute at a place: where its value begins
 abbrev pub text_answer : Result (List ℕ) Refusal → ℕ → ℤ
 text_answer (Ok text) place = pos (place + 4)
-text_answer (Err refusal) place = code_of refusal
+text_answer (Err refusal) place = refusal_number refusal
 
 -- the caller's length, which the text sets
 abbrev pub text_length_after : Result (List ℕ) Refusal → ℕ → ℕ

@@ -7,18 +7,20 @@ use Rattle.stun_base.specs.declared.keys.algorithm.IntegrityAlgorithm.{Integrity
 use Rattle.stun_base.specs.declared.keys.algorithm.IntegrityAlgorithm.TheVariants.{Sha1, Sha256}
 use Rattle.stun_base.specs.declared.wire.message_type.MessageClass.TheVariants.{Request}
 use Rattle.stun_base.specs.Attributes.{USERNAME}
-use Rattle.stun_base.specs.Keys.{long_term_key, userhash}
+use Rattle.stun_base.specs.Keys.{long_term_key, userhash_of}
 use Rattle.stun_base.specs.MessageType.{type_number}
-use Rattle.stun_types.specs.Grammar.{spelled}
+use Rattle.stun_types.specs.Grammar.{spelled_message}
 use Rattle.stun_types.specs.Limits.{USERNAME_LIMIT}
 use Rattle.stun_types.specs.Writing.{with_integrity}
-use Rattle.stun_c.specs.declared.codes.Refusal.{Refusal}
-use Rattle.stun_c.specs.declared.codes.Refusal.TheVariants.{BadArgument, NotText, TextTooLong}
+use Rattle.stun_numbers.specs.declared.refusal.Refusal.{Refusal}
+use Rattle.stun_numbers.specs.declared.refusal.Refusal.TheVariants.{BadArgument, NotText}
+use Rattle.stun_numbers.specs.declared.refusal.Refusal.TheVariants.{TextTooLong}
+use Rattle.stun_numbers.specs.Refusals.{refusal_or}
 
 -- a Binding request with a USERNAME (RFC 8489, sections 5, 14.3 and 18.2)
 abbrev pub binding_request : List ℕ → List ℕ → List ℕ
 binding_request id username =
-    spelled (type_number Request 0x001) (big_number 12 id)
+    spelled_message (type_number Request 0x001) (big_number 12 id)
     (record { kind = USERNAME; value = username } ∷ [])
 
 -- why bytes are no user name, if they are none
@@ -27,19 +29,14 @@ username_refusal username =
     if not (is_utf8 username) then Some NotText
     else (if nat_lt USERNAME_LIMIT (length username) then Some TextTooLong else None)
 
--- the bytes, unless something is refused
-abbrev pub unless_refused : Option Refusal → List ℕ → Result (List ℕ) Refusal
-unless_refused None bytes = Ok bytes
-unless_refused (Some refusal) bytes = Err refusal
-
 -- what `stunp_build_signed` makes: the request with its integrity attribute
 abbrev pub signed_request : Option IntegrityAlgorithm → List ℕ → List ℕ → List ℕ
     → Result (List ℕ) Refusal
 signed_request None id username key = Err BadArgument
 signed_request (Some algorithm) id username key =
     if not (length id == 12) then Err BadArgument
-    else unless_refused (username_refusal username)
-    (with_integrity (binding_request id username) algorithm key)
+    else refusal_or (username_refusal username)
+    (Ok (with_integrity (binding_request id username) algorithm key))
 
 -- the bytes of a long-term key (sections 9.2.2 and 18.5.1)
 abbrev pub key_length : IntegrityAlgorithm → ℕ
@@ -57,4 +54,4 @@ key_of_texts (Some algorithm) username realm password =
 -- what `stunp_userhash` makes (section 14.4)
 abbrev pub userhash_of_texts : List ℕ → List ℕ → Result (List ℕ) Refusal
 userhash_of_texts username realm =
-    if is_utf8 username && is_utf8 realm then Ok (userhash username realm) else Err NotText
+    if is_utf8 username && is_utf8 realm then Ok (userhash_of username realm) else Err NotText

@@ -2,7 +2,7 @@
 use Rattle.std.specs.Prelude.{ℕ, ◌-◌, ◌^◌, Bool, List, [], length, take, find}
 use Rattle.std.specs.Prelude.{nat_lt, nat_le, not, ◌==◌, ◌&&◌, ◌||◌, if◌then◌else◌}
 use Rattle.std.specs.Prelude.{is_some, Option, Some, None, Result, Ok, Err}
-use Rattle.std.specs.Option.{option_or, option_map}
+use Rattle.std.specs.Option.{option_or}
 use Rattle.std.specs.Str.{is_utf8}
 use Rattle.byteorder.specs.Endian.{big_bytes, big_number}
 use Rattle.stun_base.specs.Algorithm.{digest_length}
@@ -12,40 +12,29 @@ use Rattle.stun_base.specs.MessageType.{class_of_bits, type_number}
 use Rattle.stun_base.specs.declared.keys.algorithm.IntegrityAlgorithm.{IntegrityAlgorithm}
 use Rattle.stun_types.specs.Attribute.{attribute_length}
 use Rattle.stun_types.specs.ErrorCode.{error_value}
-use Rattle.stun_types.specs.Grammar.{spelled}
+use Rattle.stun_types.specs.Grammar.{spelled_message}
 use Rattle.stun_types.specs.Limits.{TEXT_LIMIT, max_length}
-use Rattle.stun_types.specs.Message.{refusal}
 use Rattle.stun_types.specs.Visible.{visible}
 use Rattle.stun_types.specs.Writing.{is_set_apart, length_with, with_attribute, with_integrity}
 use Rattle.stun_types.specs.XorMappedAddress.{xor_bytes, xor_key, xor_port, xored_value}
-use Rattle.stun_c.specs.declared.codes.Refusal.{Refusal}
-use Rattle.stun_c.specs.declared.codes.Refusal.TheVariants.{BadArgument, NotText, TextTooLong}
-use Rattle.stun_c.specs.declared.codes.Refusal.TheVariants.{BufferTooSmall, NotAllowed, Closed}
-use Rattle.stun_c.specs.declared.codes.Refusal.TheVariants.{AttributeExists, MessageTooLong}
-use Rattle.stun_c.specs.Codes.{refusal_of_parse}
-use Rattle.stun_c.specs.Requests.{unless_refused}
+use Rattle.stun_numbers.specs.declared.refusal.Refusal.{Refusal}
+use Rattle.stun_numbers.specs.declared.refusal.Refusal.TheVariants.{BadArgument, NotText}
+use Rattle.stun_numbers.specs.declared.refusal.Refusal.TheVariants.{TextTooLong, BufferTooSmall}
+use Rattle.stun_numbers.specs.declared.refusal.Refusal.TheVariants.{NotAllowed, AttributeExists}
+use Rattle.stun_numbers.specs.declared.refusal.Refusal.TheVariants.{MessageTooLong}
+use Rattle.stun_numbers.specs.Refusals.{refusal_or}
+use Rattle.stun_numbers.specs.Messages.{base_refusal}
 
 -- what `stunp_begin` makes: a header without attributes (RFC 8489, section 5)
-abbrev pub begun : ℕ → ℕ → List ℕ → Result (List ℕ) Refusal
-begun class method id =
+abbrev pub begun_message : ℕ → ℕ → List ℕ → Result (List ℕ) Refusal
+begun_message class method id =
     if nat_lt class 4 && nat_lt method 4096 && (length id == 12)
-    then Ok (spelled (type_number (class_of_bits class) method) (big_number 12 id) [])
+    then Ok (spelled_message (type_number (class_of_bits class) method) (big_number 12 id) [])
     else Err BadArgument
-
--- whether a message has an attribute after which no other may be added (sections 14.5 to 14.7)
-abbrev pub is_closed : List ℕ → Bool
-is_closed message = is_some (find (λ m. is_set_apart m.1.kind) (visible message))
 
 -- whether a message has a visible attribute of a type
 abbrev pub shows_kind : ℕ → List ℕ → Bool
 shows_kind kind message = is_some (find (λ m. m.1.kind == kind) (visible message))
-
--- why nothing can be added to the first `count` bytes of a buffer, if nothing can
-abbrev pub base_refusal : List ℕ → ℕ → Option Refusal
-base_refusal buffer count =
-    if nat_lt (length buffer) count then Some BadArgument
-    else option_or (option_map refusal_of_parse (refusal (take count buffer)))
-    (if is_closed (take count buffer) then Some Closed else None)
 
 -- why a value of n bytes does not fit after a message with so much room: the length field, then the
 -- room
@@ -63,15 +52,15 @@ adding_refusal buffer count kind n =
     else fit_refusal (take count buffer) (length buffer - count) n)
 
 -- a message with an attribute more, after it in its buffer
-abbrev pub added : List ℕ → ℕ → ℕ → List ℕ → Result (List ℕ) Refusal
-added buffer count kind value =
-    unless_refused (adding_refusal buffer count kind (length value))
-    (with_attribute (take count buffer) (record { kind = kind; value = value }))
+abbrev pub added_attribute : List ℕ → ℕ → ℕ → List ℕ → Result (List ℕ) Refusal
+added_attribute buffer count kind value =
+    refusal_or (adding_refusal buffer count kind (length value))
+    (Ok (with_attribute (take count buffer) (record { kind = kind; value = value })))
 
 -- what `stunp_add` makes, of a type that must be a number of 16 bits
 abbrev pub added_number : List ℕ → ℕ → ℕ → List ℕ → Result (List ℕ) Refusal
 added_number buffer count kind value =
-    if nat_lt kind 65536 then added buffer count kind value else Err BadArgument
+    if nat_lt kind 65536 then added_attribute buffer count kind value else Err BadArgument
 
 -- the family of an address of so many octets (section 14.2)
 abbrev pub family_of_count : ℕ → ℕ
@@ -96,7 +85,7 @@ is_address octets port = nat_lt port 65536 && ((length octets == 4) || (length o
 abbrev pub added_address : List ℕ → ℕ → ℕ → List ℕ → ℕ → Result (List ℕ) Refusal
 added_address buffer count kind octets port =
     if is_address octets port
-    then added buffer count kind
+    then added_attribute buffer count kind
     (hidden_value octets port (transaction_id_field (take count buffer))) else Err BadArgument
 
 -- what `stunp_add_xor_address` makes, of a type that must be a number of 16 bits
@@ -136,26 +125,23 @@ error_argument_refusal code reason =
     else if not (is_utf8 reason) then Some NotText
     else if nat_lt TEXT_LIMIT (length reason) then Some TextTooLong else None
 
--- the same, and then the message
-abbrev pub unless : Option Refusal → Result (List ℕ) Refusal → Result (List ℕ) Refusal
-unless None made = made
-unless (Some refusal) made = Err refusal
-
 -- what `stunp_add_error` makes
 abbrev pub added_error : List ℕ → ℕ → ℕ → List ℕ → Result (List ℕ) Refusal
 added_error buffer count code reason =
-    unless (error_argument_refusal code reason)
-    (added buffer count ERROR_CODE (error_value (record { code = code; reason = reason })))
+    refusal_or (error_argument_refusal code reason)
+    (added_attribute buffer count ERROR_CODE
+    (error_value (record { code = code; reason = reason })))
 
 -- why an integrity attribute is not added, the first reason that holds
-abbrev pub signing_refusal : List ℕ → ℕ → IntegrityAlgorithm → Option Refusal
-signing_refusal buffer count algorithm =
+abbrev pub digest_refusal : List ℕ → ℕ → IntegrityAlgorithm → Option Refusal
+digest_refusal buffer count algorithm =
     option_or (base_refusal buffer count)
     (fit_refusal (take count buffer) (length buffer - count) (digest_length algorithm))
 
 -- what `stunp_sign` makes: the message with its integrity attribute (sections 14.5 and 14.6)
-abbrev pub signed : List ℕ → ℕ → Option IntegrityAlgorithm → List ℕ → Result (List ℕ) Refusal
-signed buffer count None key = Err BadArgument
-signed buffer count (Some algorithm) key =
-    unless_refused (signing_refusal buffer count algorithm)
-    (with_integrity (take count buffer) algorithm key)
+abbrev pub signed_message : List ℕ → ℕ → Option IntegrityAlgorithm → List ℕ
+    → Result (List ℕ) Refusal
+signed_message buffer count None key = Err BadArgument
+signed_message buffer count (Some algorithm) key =
+    refusal_or (digest_refusal buffer count algorithm)
+    (Ok (with_integrity (take count buffer) algorithm key))

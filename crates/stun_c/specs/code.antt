@@ -1,4 +1,4 @@
--- Definitions that no clause of a public call says: what private functions alone cite.
+-- Definitions that no clause of a public call cites: what private functions alone use.
 -- where an attribute is written
 pub mod Room
 -- a message and its FINGERPRINT, as it is written

@@ -3,15 +3,18 @@
 ghost use Rattle.std.specs.Prelude.{◌≡◌, ◌≤◌, ◌<◌, ◌+◌, length, take, true, IfOk, IfErr, Some};
 ghost use Rattle.stun_base.specs.Header.{transaction_id_field};
 ghost use Rattle.stun_types.specs.XorMappedAddress.{xor_bytes, xor_key};
-ghost use Rattle.stun_c.specs.Answers.{written_number, buffer_after};
-ghost use Rattle.stun_c.specs.Writing.{added, added_address, added_plain_address};
-ghost use Rattle.stun_c.specs.Writing.{base_refusal, hidden_value, is_address, plain_value};
+ghost use Rattle.stun_numbers.specs.Buffers.{buffer_after};
+ghost use Rattle.stun_numbers.specs.Messages.{base_refusal};
+ghost use Rattle.stun_c.specs.Answers.{written_number};
+ghost use Rattle.stun_c.specs.Writing.{added_attribute, added_address, added_plain_address};
+ghost use Rattle.stun_c.specs.Writing.{hidden_value, is_address, plain_value};
 
-use crate::codes::Refusal;
-use crate::writing::{add, add_numbered, base_message};
+use crate::writing::{add, add_numbered};
 use stun_base::attribute_type::AttributeType;
 use stun_base::header::MAGIC_COOKIE;
 use stun_base::transaction_id::TransactionId;
+use stun_numbers::message::base_message;
+use stun_numbers::refusal::Refusal;
 
 /// What a port is xored with: the first half of the magic cookie.
 pub const PORT_KEY: u16 = 0x2112;
@@ -94,9 +97,9 @@ fn base_id(buffer: &[u8], count: usize) -> Result<TransactionId, Refusal>
 /// the buffer.
 fn add_hidden(buffer: &mut [u8], count: usize, kind: AttributeType, octets: &[u8], port: u16) -> i64
     requires { length octets.now ≤ 16 }
-    ensures answer { result ≡ written_number (added buffer.old count kind.0
+    ensures answer { result ≡ written_number (added_attribute buffer.old count kind.0
         (hidden_value octets.now port (transaction_id_field (take count buffer.old)))) }
-    ensures written { buffer.new ≡ buffer_after (added buffer.old count kind.0
+    ensures written { buffer.new ≡ buffer_after (added_attribute buffer.old count kind.0
         (hidden_value octets.now port (transaction_id_field (take count buffer.old)))) buffer.old }
 {
     match base_id(buffer, count) {
@@ -111,7 +114,7 @@ fn add_hidden(buffer: &mut [u8], count: usize, kind: AttributeType, octets: &[u8
 }
 
 /// Adds an attribute of a type with an address as XOR-MAPPED-ADDRESS has it to the message in the
-/// first `count` bytes of the buffer, and answers the new length or the number of the refusal.
+/// first `count` bytes of the buffer. Returns the new length or the number of the refusal.
 pub fn add_address(
     buffer: &mut [u8],
     count: usize,
@@ -119,7 +122,8 @@ pub fn add_address(
     octets: &[u8],
     port: u32,
 ) -> i64
-    ensures answer { result ≡ written_number (added_address buffer.old count kind.0 octets.now port) }
+    ensures answer { result ≡ written_number
+        (added_address buffer.old count kind.0 octets.now port) }
     ensures written { buffer.new ≡ buffer_after
         (added_address buffer.old count kind.0 octets.now port) buffer.old }
 {
@@ -130,7 +134,7 @@ pub fn add_address(
 }
 
 /// Adds an attribute of a type with an address as MAPPED-ADDRESS has it to the message in the first
-/// `count` bytes of the buffer, and answers the new length or the number of the refusal.
+/// `count` bytes of the buffer. Returns the new length or the number of the refusal.
 pub fn add_plain(buffer: &mut [u8], count: usize, kind: u32, octets: &[u8], port: u32) -> i64
     ensures answer { result ≡ written_number
         (added_plain_address buffer.old count kind octets.now port) }

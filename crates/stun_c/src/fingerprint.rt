@@ -2,24 +2,25 @@
 
 ghost use Rattle.std.specs.Prelude.{◌≡◌, ◌≤◌, ◌+◌, ◌++◌, length, pos};
 ghost use Rattle.std.specs.Prelude.{take, drop, IfErr, OnOk, Some, None};
-ghost use Rattle.stun_c.specs.Answers.{written_number, buffer_after};
-ghost use Rattle.stun_c.specs.code.Ended.{ended, fingerprint_after, fingerprint_value};
+ghost use Rattle.stun_numbers.specs.Buffers.{buffer_after};
+ghost use Rattle.stun_c.specs.Answers.{written_number};
+ghost use Rattle.stun_c.specs.code.Ended.{ended_message, fingerprint_after, fingerprint_value};
 ghost use Rattle.stun_c.specs.code.Room.{HasRoom};
 ghost use Rattle.stun_c.specs.Extra.{ending_refusal, fingerprint_answer};
-ghost use Rattle.stun_c.specs.Extra.{fingerprint_number, fingerprinted};
+ghost use Rattle.stun_c.specs.Extra.{fingerprint_number, fingerprinted_message};
 
-use crate::codes::Refusal;
 use crate::writing::{fits, set_length, shows_kind, spell};
 use stun_base::attribute_type::AttributeType;
 use stun_base::header::HEADER_LENGTH;
 use stun_extra::crc32::crc32;
 use stun_extra::fingerprint::{FINGERPRINT_LENGTH, Fingerprint, check_fingerprint};
+use stun_numbers::refusal::Refusal;
 use stun_types::message::Message;
 
 /// What the CRC-32 of a message is XORed with.
 const FINGERPRINT_XOR: u32 = 0x5354_554E;
 
-/// The number of what a FINGERPRINT is.
+/// What a FINGERPRINT is, as a number.
 fn fingerprint_number(fingerprint: Fingerprint) -> i64
     ensures { result ≡ pos (fingerprint_number fingerprint) }
 {
@@ -31,7 +32,7 @@ fn fingerprint_number(fingerprint: Fingerprint) -> i64
     }
 }
 
-/// The number of what the FINGERPRINT of a message is, or that of the refusal.
+/// What the FINGERPRINT of a message is, as a number, or the number of the refusal.
 pub fn check(message: &[u8]) -> i64
     ensures { result ≡ fingerprint_answer message.now }
 {
@@ -81,7 +82,8 @@ fn spell_after(bytes: &[u8], buffer: &mut [u8])
 fn append(buffer: &mut [u8], count: usize) -> i64
     requires { HasRoom count 4 (length buffer.old) }
     ensures answer { result ≡ pos (count + 8) }
-    ensures written { buffer.new ≡ ended (take count buffer.old) ++ drop (count + 8) buffer.old }
+    ensures written { buffer.new
+        ≡ ended_message (take count buffer.old) ++ drop (count + 8) buffer.old }
 {
     let end = count + FINGERPRINT_LENGTH;
     let (message, rest) = buffer.split_at_mut(count);
@@ -90,11 +92,12 @@ fn append(buffer: &mut [u8], count: usize) -> i64
     end as i64
 }
 
-/// Adds FINGERPRINT to the message in the first `count` bytes of the buffer, and answers the new
-/// length or the number of the refusal.
+/// Adds FINGERPRINT to the message in the first `count` bytes of the buffer. Returns the new length
+/// or the number of the refusal.
 pub fn add(buffer: &mut [u8], count: usize) -> i64
-    ensures answer { result ≡ written_number (fingerprinted buffer.old count) }
-    ensures written { buffer.new ≡ buffer_after (fingerprinted buffer.old count) buffer.old }
+    ensures answer { result ≡ written_number (fingerprinted_message buffer.old count) }
+    ensures written { buffer.new
+        ≡ buffer_after (fingerprinted_message buffer.old count) buffer.old }
 {
     match endable(buffer, count) {
         Ok(()) => append(buffer, count),

@@ -4,10 +4,10 @@ ghost use Rattle.std.specs.Prelude.{◌≡◌, ◌↔◌, ◌⊎◌, length, pos
 ghost use Rattle.stun_extra.specs.Framing.{IsStunPacket, frame_of, packet_frame_of, turn_frame_of};
 ghost use Rattle.stun_c.specs.Extra.{wanted_number};
 
-use crate::codes::Refusal;
 use byteorder::{BigEndian, ByteOrder};
 use stun_base::header::{HEADER_LENGTH, MessageHeader};
 use stun_extra::framing::{CHANNEL_HEADER_LENGTH, PACKET_HEADER_LENGTH, is_stun};
+use stun_numbers::refusal::Refusal;
 
 /// 1 where a packet is to be given to STUN, and 0 where it is not.
 pub fn is_stun_packet(packet: &[u8]) -> i64

@@ -2,11 +2,13 @@
 
 ghost use Rattle.std.specs.Prelude.{◌≡◌, IfOk, IfErr, Some, None, OnOk};
 ghost use Rattle.stun_base.specs.Header.{header_refusal};
+ghost use Rattle.stun_base.specs.MessageType.{class_number};
 ghost use Rattle.stun_c.specs.Reading.{header_answer, header_after, header_in};
 
-use crate::codes::{Refusal, class_number};
 use stun_base::error::StunParseError;
 use stun_base::header::{HEADER_LENGTH, MessageHeader};
+use stun_base::message_type::MessageClass;
+use stun_numbers::refusal::Refusal;
 
 /// What a header says.
 #[repr(C)]
@@ -20,6 +22,18 @@ pub struct Header {
     pub length: usize,
     /// The transaction id.
     pub id: [u8; 12],
+}
+
+/// The two bits of a class.
+pub fn class_number(class: MessageClass) -> u32
+    ensures { result ≡ class_number class }
+{
+    match class {
+        MessageClass::Request => 0,
+        MessageClass::Indication => 1,
+        MessageClass::Success => 2,
+        MessageClass::Error => 3,
+    }
 }
 
 /// The header that these bytes begin with.
@@ -40,7 +54,7 @@ fn fields_of(bytes: &[u8]) -> Result<Header, StunParseError>
     })
 }
 
-/// Writes the header that the bytes begin with, and answers 0 or the number of the refusal.
+/// Writes the header that the bytes begin with. Returns 0 or the number of the refusal.
 pub fn read_header(bytes: &[u8], out: &mut Header) -> i64
     ensures answer { result ≡ header_answer bytes.now }
     ensures written { out.new ≡ header_after (header_refusal bytes.now) bytes.now out.old }

@@ -1,18 +1,20 @@
 //! Keys and hashes of texts.
 
 ghost use Rattle.std.specs.Prelude.{◌≡◌, length, IfOk, IfErr, Ok, Err};
-ghost use Rattle.stun_c.specs.Answers.{fitted, written_number, buffer_after};
-ghost use Rattle.stun_c.specs.Codes.{algorithm_numbered};
+ghost use Rattle.stun_numbers.specs.Buffers.{within_room, buffer_after};
+ghost use Rattle.stun_numbers.specs.Algorithms.{algorithm_numbered};
+ghost use Rattle.stun_c.specs.Answers.{written_number};
 ghost use Rattle.stun_c.specs.Requests.{key_of_texts, userhash_of_texts};
 
-use crate::buffer::fill;
-use crate::codes::{Refusal, algorithm_numbered};
-use crate::text::text;
+use crate::buffer::write;
 use stun_base::algorithm::IntegrityAlgorithm;
 use stun_base::key::{md5_key_from_utf8, sha256_key_from_utf8, userhash};
+use stun_numbers::algorithm::algorithm_numbered;
+use stun_numbers::refusal::Refusal;
+use stun_numbers::text::text;
 
-/// Copies the long-term key of a user at a realm for the algorithm of this number to the front of
-/// the buffer, and answers its length or the number of the refusal.
+/// Copies the long-term key of a user in a realm, for the algorithm of this number, to the front of
+/// the buffer. Returns its length or the number of the refusal.
 pub fn write_key(
     algorithm: u32,
     username: &[u8],
@@ -20,27 +22,28 @@ pub fn write_key(
     password: &[u8],
     buffer: &mut [u8],
 ) -> i64
-    ensures answer { result ≡ written_number (fitted
+    ensures answer { result ≡ written_number (within_room
         (key_of_texts (algorithm_numbered algorithm) username.now realm.now password.now)
         (length buffer.old)) }
     ensures written { buffer.new ≡ buffer_after
-        (fitted (key_of_texts (algorithm_numbered algorithm) username.now realm.now password.now)
+        (within_room (key_of_texts (algorithm_numbered algorithm) username.now realm.now
+        password.now)
         (length buffer.old)) buffer.old }
 {
     match algorithm_numbered(algorithm) {
         Ok(IntegrityAlgorithm::Sha1) => match md5_key_from_utf8(username, realm, password) {
-            Some(key) => fill(buffer, &key),
+            Some(key) => write(buffer, &key),
             None => Refusal::NotText.code(),
         },
         Ok(IntegrityAlgorithm::Sha256) => match sha256_key_from_utf8(username, realm, password) {
-            Some(key) => fill(buffer, &key),
+            Some(key) => write(buffer, &key),
             None => Refusal::NotText.code(),
         },
         Err(refusal) => refusal.code(),
     }
 }
 
-/// The hash that stands for a user at a realm.
+/// The USERHASH of a user in a realm.
 pub fn userhash_of_texts(username: &[u8], realm: &[u8]) -> Result<[u8; 32], Refusal>
     ensures ok { IfOk result (λ hash. userhash_of_texts username.now realm.now ≡ Ok hash) }
     ensures err { IfErr result (λ refusal. userhash_of_texts username.now realm.now ≡ Err refusal) }

@@ -2,43 +2,45 @@
 //! over `stun_extra` refuse and write.
 
 ghost use Rattle.std.specs.Prelude.{◌≡◌, ◌≤◌, ◌+◌, ℕ, ℤ, suc, List, [], ◌∷◌, drop};
-ghost use Rattle.std.specs.Prelude.{take, length, slice_get, cond, IfOk, Some};
+ghost use Rattle.std.specs.Prelude.{take, length, slice_get, cond, IfOk, Some, true};
 ghost use Rattle.std.specs.Option.{option_map};
 ghost use Rattle.stun_base.specs.Algorithm.{digest_length};
 ghost use Rattle.stun_base.specs.Attributes.{FINGERPRINT};
 ghost use Rattle.stun_base.specs.Header.{transaction_id_field, type_field};
-ghost use Rattle.stun_base.specs.Keys.{long_term_key, userhash};
+ghost use Rattle.stun_base.specs.Keys.{long_term_key, userhash_of};
 ghost use Rattle.stun_base.specs.MessageType.{method_of, type_number};
 ghost use Rattle.stun_base.specs.declared.wire.attribute_type.AttributeType.{AttributeType};
 ghost use Rattle.stun_base.specs.declared.wire.message_type.MessageClass.{MessageClass};
 ghost use Rattle.stun_types.specs.Attribute.{padded_length};
-ghost use Rattle.stun_types.specs.Grammar.{spelled};
+ghost use Rattle.stun_types.specs.Grammar.{spelled_message};
 ghost use Rattle.stun_types.specs.Visible.{visible};
 ghost use Rattle.stun_types.specs.Writing.{with_integrity};
 ghost use Rattle.stun_extra.specs.Fingerprint.{fingerprint_refusal};
+ghost use Rattle.stun_numbers.specs.Refusals.{refusal_of_write};
 ghost use Rattle.stun_c.specs.declared.walk.Cursor.{Cursor};
 ghost use Rattle.stun_c.specs.Codes.{error_text};
-ghost use Rattle.stun_c.specs.Extra.{error_420, refusal_of_write, types_attribute, unknown_answer};
+ghost use Rattle.stun_c.specs.Extra.{error_420, types_attribute, unknown_answer};
 ghost use Rattle.stun_c.specs.Reading.{value_at};
 ghost use Rattle.stun_c.specs.Requests.{binding_request, key_length};
 ghost use Rattle.stun_c.specs.Walking.{ahead};
 ghost use Rattle.stun_c.specs.Writing.{fit_refusal, shows_kind};
 
-use crate::codes::Refusal;
 use stun_base::algorithm::IntegrityAlgorithm;
+use stun_numbers::refusal::Refusal;
 
 /// A key has 16 or 32 bytes, a USERHASH 32, and a request those of its header, USERNAME and digest.
 pub fn stated_lengths()
     ensures long_term_key { (algorithm : IntegrityAlgorithm) (username realm password : List ℕ)
         → length (long_term_key algorithm username realm password) ≡ key_length algorithm }
-    ensures userhash { (username realm : List ℕ) → length (userhash username realm) ≡ 32 }
+    ensures userhash { (username realm : List ℕ) → length (userhash_of username realm) ≡ 32 }
     ensures request { (algorithm : IntegrityAlgorithm) (id username key : List ℕ)
         → length (with_integrity (binding_request id username) algorithm key)
         ≡ 28 + padded_length (length username) + digest_length algorithm }
 {}
 
-/// Calls of `stunp_walk` on one message, from a cursor of zeros and each with the cursor that the
-/// one before left, come to the visible attributes, each once and in their order, and then to none.
+/// A walk is calls of `stunp_walk` on one message. The first has a cursor of zeros, and each other
+/// the cursor that the one before left. They come to the visible attributes, each once and in their
+/// order, and then to none.
 pub fn a_walk_comes_to_what_is_visible()
     ensures { (bytes : List ℕ) (cursors : ℕ → Cursor) → (cursors 0).place ≡ 0
         → ((n : ℕ) → ahead (cursors (suc n)) bytes ≡ drop 1 (ahead (cursors n) bytes))
@@ -48,7 +50,7 @@ pub fn a_walk_comes_to_what_is_visible()
 /// `stunp_add_fingerprint` refuses a message as `stun_extra` does, and for the same reason.
 pub fn fingerprint_is_refused()
     ensures { (message : List ℕ) (room : ℕ)
-        → option_map refusal_of_write (fingerprint_refusal message room)
+        → option_map (refusal_of_write true) (fingerprint_refusal message room)
         ≡ cond (shows_kind FINGERPRINT message) (Some Refusal.AttributeExists)
         (fit_refusal message room 4) }
 {}
@@ -57,7 +59,7 @@ pub fn fingerprint_is_refused()
 /// and the id of the request, its ERROR-CODE, and UNKNOWN-ATTRIBUTES.
 pub fn refusal_is_spelled()
     ensures { (request : List ℕ) (types : List AttributeType) → unknown_answer request types
-        ≡ spelled (type_number MessageClass.Error (method_of (type_field request)))
+        ≡ spelled_message (type_number MessageClass.Error (method_of (type_field request)))
         (transaction_id_field request) (error_420 ∷ types_attribute types ∷ []) }
 {}
 

@@ -12,10 +12,12 @@ ghost use Rattle.stun_types.specs.Integrity.{first_of};
 ghost use Rattle.stun_types.specs.Message.{refusal};
 ghost use Rattle.stun_types.specs.Visible.{visible};
 ghost use Rattle.stun_extra.specs.Framing.{IsStunPacket, frame_of, packet_frame_of, turn_frame_of};
-ghost use Rattle.stun_c.specs.Answers.{parse_answer, verify_answer, fitted};
-ghost use Rattle.stun_c.specs.Answers.{written_number, buffer_after};
-ghost use Rattle.stun_c.specs.Codes.{algorithm_numbered, error_text};
-ghost use Rattle.stun_c.specs.Extra.{fingerprint_answer, fingerprinted, known_refusal};
+ghost use Rattle.stun_numbers.specs.Buffers.{within_room, buffer_after};
+ghost use Rattle.stun_numbers.specs.Algorithms.{algorithm_numbered};
+ghost use Rattle.stun_c.specs.Answers.{parse_answer, verify_answer};
+ghost use Rattle.stun_c.specs.Answers.{written_number};
+ghost use Rattle.stun_c.specs.Codes.{error_text};
+ghost use Rattle.stun_c.specs.Extra.{fingerprint_answer, fingerprinted_message, known_refusal};
 ghost use Rattle.stun_c.specs.Extra.{told_number, types_after, unknown_made, unknown_of};
 ghost use Rattle.stun_c.specs.Extra.{wanted_number, held_after, held_number, types_at};
 ghost use Rattle.stun_c.specs.Reading.{text_answer, text_at, text_length_after, address_at};
@@ -26,13 +28,12 @@ ghost use Rattle.stun_c.specs.Reading.{plain_port_after, port_after, sized_after
 ghost use Rattle.stun_c.specs.Reading.{find_answer, finding_refusal, header_answer, header_after};
 ghost use Rattle.stun_c.specs.Requests.{signed_request, key_of_texts, userhash_of_texts};
 ghost use Rattle.stun_c.specs.Walking.{ahead, cursor_refusal, walk_answer};
-ghost use Rattle.stun_c.specs.Writing.{begun, added_number, added_sized};
+ghost use Rattle.stun_c.specs.Writing.{begun_message, added_number, added_sized};
 ghost use Rattle.stun_c.specs.Writing.{added_address, added_numbered_address};
-ghost use Rattle.stun_c.specs.Writing.{added_plain_address, added_error, signed};
+ghost use Rattle.stun_c.specs.Writing.{added_plain_address, added_error, signed_message};
 
 mod address;
 mod buffer;
-mod codes;
 mod error_text;
 mod fingerprint;
 mod framing;
@@ -42,25 +43,25 @@ pub mod laws;
 mod number;
 mod reading;
 mod request;
-mod text;
 mod unknown;
 mod value;
 mod verdict;
 mod walk;
 mod writing;
 
-use buffer::fill;
-use codes::{Refusal, algorithm_number};
+use buffer::write;
 use error_text::error_text;
 use header::Header;
 use keys::{userhash_of_texts, write_key};
 use request::{LONGEST_REQUEST, signed_request};
 use stun_base::attribute_type::AttributeType;
+use stun_numbers::algorithm::algorithm_number;
+use stun_numbers::refusal::Refusal;
 use stun_types::message::Message;
 use verdict::verdict;
 use walk::Cursor;
 
-/// Whether the bytes are a message: 0, or why they are none.
+/// Returns 0 if the bytes are a message, or why they are not.
 #[unsafe(no_mangle)]
 pub extern "C" fn stunp_parse(message: &[u8]) -> i64
     ensures { result ≡ parse_answer message.now }
@@ -82,8 +83,7 @@ pub extern "C" fn stunp_verify(message: &[u8], key: &[u8]) -> i64
     }
 }
 
-/// Writes a Binding request with this id, USERNAME and integrity under the key, and answers its
-/// length.
+/// Writes a Binding request with this id, USERNAME and integrity under the key. Returns its length.
 #[unsafe(no_mangle)]
 pub extern "C" fn stunp_build_signed(
     algorithm: u32,
@@ -92,21 +92,21 @@ pub extern "C" fn stunp_build_signed(
     key: &[u8],
     out: &mut [u8],
 ) -> i64
-    ensures answer { result ≡ written_number (fitted
+    ensures answer { result ≡ written_number (within_room
         (signed_request (algorithm_numbered algorithm) id.now username.now key.now)
         (length out.old)) }
-    ensures written { out.new ≡ buffer_after (fitted
+    ensures written { out.new ≡ buffer_after (within_room
         (signed_request (algorithm_numbered algorithm) id.now username.now key.now)
         (length out.old)) out.old }
 {
     let mut longest = [0; LONGEST_REQUEST];
     match signed_request(algorithm, id, username, key, &mut longest) {
-        Ok(request) => fill(out, request),
+        Ok(request) => write(out, request),
         Err(refusal) => refusal.code(),
     }
 }
 
-/// Writes the long-term key of a user for an algorithm, and answers its length, 16 or 32.
+/// Writes the long-term key of a user for an algorithm. Returns its length, 16 or 32.
 #[unsafe(no_mangle)]
 pub extern "C" fn stunp_long_term_key(
     algorithm: u32,
@@ -115,26 +115,26 @@ pub extern "C" fn stunp_long_term_key(
     password: &[u8],
     out: &mut [u8],
 ) -> i64
-    ensures answer { result ≡ written_number (fitted
+    ensures answer { result ≡ written_number (within_room
         (key_of_texts (algorithm_numbered algorithm) username.now realm.now password.now)
         (length out.old)) }
-    ensures written { out.new ≡ buffer_after (fitted
+    ensures written { out.new ≡ buffer_after (within_room
         (key_of_texts (algorithm_numbered algorithm) username.now realm.now password.now)
         (length out.old)) out.old }
 {
     write_key(algorithm, username, realm, password, out)
 }
 
-/// Writes the hash that stands for a user at a realm, and answers its length, 32.
+/// Writes the USERHASH of a user in a realm. Returns its length, 32.
 #[unsafe(no_mangle)]
 pub extern "C" fn stunp_userhash(username: &[u8], realm: &[u8], out: &mut [u8]) -> i64
-    ensures answer { result ≡ written_number (fitted (userhash_of_texts username.now realm.now)
+    ensures answer { result ≡ written_number (within_room (userhash_of_texts username.now realm.now)
         (length out.old)) }
-    ensures written { out.new ≡ buffer_after (fitted (userhash_of_texts username.now realm.now)
+    ensures written { out.new ≡ buffer_after (within_room (userhash_of_texts username.now realm.now)
         (length out.old)) out.old }
 {
     match userhash_of_texts(username, realm) {
-        Ok(hash) => fill(out, &hash),
+        Ok(hash) => write(out, &hash),
         Err(refusal) => refusal.code(),
     }
 }
@@ -147,7 +147,7 @@ pub extern "C" fn stunp_version() -> i64
     200
 }
 
-/// The same, by a name that each release changes with what it breaks, so that a program that was
+/// The same. Each release that breaks something changes this name, so that a program that was
 /// compiled against another one does not link.
 #[unsafe(no_mangle)]
 pub extern "C" fn stunp_release_0_2() -> i64
@@ -156,28 +156,30 @@ pub extern "C" fn stunp_release_0_2() -> i64
     200
 }
 
-/// Writes what an answer says, in English, with a zero byte at its end, and answers how many bytes
+/// Writes what an answer says, in English, with a zero byte at its end. Returns how many bytes
 /// there are.
 #[unsafe(no_mangle)]
 pub extern "C" fn stunp_error_text(answer: i64, out: &mut [u8]) -> i64
-    ensures answer { result ≡ written_number (fitted (Ok (error_text answer)) (length out.old)) }
-    ensures written { out.new ≡ buffer_after (fitted (Ok (error_text answer))
+    ensures answer { result ≡ written_number
+        (within_room (Ok (error_text answer)) (length out.old)) }
+    ensures written { out.new ≡ buffer_after (within_room (Ok (error_text answer))
         (length out.old)) out.old }
 {
-    fill(out, error_text(answer))
+    write(out, error_text(answer))
 }
 
-/// Writes a message without attributes, of a class, a method and an id, and answers its length, 20.
+/// Writes a message without attributes, of a class, a method and an id. Returns its length, 20.
 #[unsafe(no_mangle)]
 pub extern "C" fn stunp_begin(class: u32, method: u32, id: &[u8], out: &mut [u8]) -> i64
-    ensures answer { result ≡ written_number (fitted (begun class method id.now) (length out.old)) }
-    ensures written { out.new ≡ buffer_after (fitted (begun class method id.now)
+    ensures answer { result ≡ written_number
+        (within_room (begun_message class method id.now) (length out.old)) }
+    ensures written { out.new ≡ buffer_after (within_room (begun_message class method id.now)
         (length out.old)) out.old }
 {
     writing::begin(class, method, id, out)
 }
 
-/// Adds an attribute to the message in the first bytes of a buffer, and answers the new length.
+/// Adds an attribute to the message in the first bytes of a buffer. Returns the new length.
 #[unsafe(no_mangle)]
 pub extern "C" fn stunp_add(buffer: &mut [u8], count: usize, kind: u32, value: &[u8]) -> i64
     ensures answer { result ≡ written_number (added_number buffer.old count kind value.now) }
@@ -187,8 +189,8 @@ pub extern "C" fn stunp_add(buffer: &mut [u8], count: usize, kind: u32, value: &
     writing::add_numbered(buffer, count, kind, value)
 }
 
-/// Adds an attribute with a number of so many bytes to the message in the first bytes of a buffer,
-/// and answers the new length.
+/// Adds an attribute with a number of so many bytes to the message in the first bytes of a buffer.
+/// Returns the new length.
 #[unsafe(no_mangle)]
 pub extern "C" fn stunp_add_number(
     buffer: &mut [u8],
@@ -205,7 +207,7 @@ pub extern "C" fn stunp_add_number(
 }
 
 /// Adds an attribute of a type with an address, as MAPPED-ADDRESS has it, to the message in the
-/// first bytes of a buffer, and answers the new length.
+/// first bytes of a buffer. Returns the new length.
 #[unsafe(no_mangle)]
 pub extern "C" fn stunp_add_address(
     buffer: &mut [u8],
@@ -222,7 +224,7 @@ pub extern "C" fn stunp_add_address(
     address::add_plain(buffer, count, kind, octets, port)
 }
 
-/// Adds an XOR-MAPPED-ADDRESS to the message in the first bytes of a buffer, and answers the new
+/// Adds an XOR-MAPPED-ADDRESS to the message in the first bytes of a buffer. Returns the new
 /// length.
 #[unsafe(no_mangle)]
 pub extern "C" fn stunp_add_xor_mapped_address(
@@ -246,7 +248,7 @@ pub extern "C" fn stunp_add_xor_mapped_address(
 }
 
 /// Adds an attribute of a type with an address, hidden as in XOR-MAPPED-ADDRESS, to the message in
-/// the first bytes of a buffer, and answers the new length.
+/// the first bytes of a buffer. Returns the new length.
 #[unsafe(no_mangle)]
 pub extern "C" fn stunp_add_xor_address(
     buffer: &mut [u8],
@@ -266,7 +268,7 @@ pub extern "C" fn stunp_add_xor_address(
     address::add_address(buffer, count, AttributeType::new(kind as u16), octets, port)
 }
 
-/// Adds an ERROR-CODE to the message in the first bytes of a buffer, and answers the new length.
+/// Adds an ERROR-CODE to the message in the first bytes of a buffer. Returns the new length.
 #[unsafe(no_mangle)]
 pub extern "C" fn stunp_add_error(buffer: &mut [u8], count: usize, code: u32, reason: &[u8]) -> i64
     ensures answer { result ≡ written_number (added_error buffer.old count code reason.now) }
@@ -276,20 +278,19 @@ pub extern "C" fn stunp_add_error(buffer: &mut [u8], count: usize, code: u32, re
     writing::add_error(buffer, count, code, reason)
 }
 
-/// Adds the integrity attribute of an algorithm to the message in the first bytes of a buffer, and
-/// answers the new length.
+/// Adds the integrity attribute of an algorithm to the message in the first bytes of a buffer.
+/// Returns the new length.
 #[unsafe(no_mangle)]
 pub extern "C" fn stunp_sign(buffer: &mut [u8], count: usize, algorithm: u32, key: &[u8]) -> i64
-    ensures answer { result ≡ written_number (signed buffer.old count
+    ensures answer { result ≡ written_number (signed_message buffer.old count
         (algorithm_numbered algorithm) key.now) }
     ensures written { buffer.new ≡ buffer_after
-        (signed buffer.old count (algorithm_numbered algorithm) key.now) buffer.old }
+        (signed_message buffer.old count (algorithm_numbered algorithm) key.now) buffer.old }
 {
     writing::sign(buffer, count, algorithm, key)
 }
 
-/// Writes what the header says that the bytes begin with, and answers 0, or why they begin with
-/// none.
+/// Writes what the header says that the bytes begin with. Returns 0, or why they begin with none.
 #[unsafe(no_mangle)]
 pub extern "C" fn stunp_read_header(bytes: &[u8], header: &mut Header) -> i64
     ensures answer { result ≡ header_answer bytes.now }
@@ -314,11 +315,12 @@ pub extern "C" fn stunp_method(message: &[u8]) -> i64
     reading::method(message)
 }
 
-/// Writes the transaction id of a message, and answers its length, 12.
+/// Writes the transaction id of a message. Returns its length, 12.
 #[unsafe(no_mangle)]
 pub extern "C" fn stunp_id(message: &[u8], out: &mut [u8]) -> i64
-    ensures answer { result ≡ written_number (fitted (id_of_message message.now) (length out.old)) }
-    ensures written { out.new ≡ buffer_after (fitted (id_of_message message.now)
+    ensures answer { result ≡ written_number
+        (within_room (id_of_message message.now) (length out.old)) }
+    ensures written { out.new ≡ buffer_after (within_room (id_of_message message.now)
         (length out.old)) out.old }
 {
     reading::id(message, out)
@@ -390,22 +392,23 @@ pub extern "C" fn stunp_error_code(message: &[u8]) -> i64
     reading::error_code(message)
 }
 
-/// Writes the address that a message reports, 4 or 16 octets, and its port, and answers how many
-/// octets there are.
+/// Writes the address that a message reports, 4 or 16 octets, and its port. Returns how many octets
+/// there are.
 #[unsafe(no_mangle)]
 pub extern "C" fn stunp_xor_mapped_address(message: &[u8], out: &mut [u8], port: &mut u16) -> i64
-    ensures answer { result ≡ written_number (fitted (octets_of_message message.now)
+    ensures answer { result ≡ written_number (within_room (octets_of_message message.now)
         (length out.old)) }
-    ensures written { out.new ≡ buffer_after (fitted (octets_of_message message.now)
+    ensures written { out.new ≡ buffer_after (within_room (octets_of_message message.now)
         (length out.old)) out.old }
-    ensures port { port.new ≡ port_after (fitted (octets_of_message message.now) (length out.old))
+    ensures port { port.new ≡ port_after (within_room (octets_of_message message.now)
+        (length out.old))
         (address_in message.now) port.old }
 {
     reading::mapped_address(message, out, port)
 }
 
-/// Writes the address in the attribute at a place of a message, hidden as in XOR-MAPPED-ADDRESS, 4
-/// or 16 octets, and its port, and answers how many octets there are.
+/// Writes the address in the attribute at a place of a message, hidden as in XOR-MAPPED-ADDRESS,
+/// and its port. The address has 4 or 16 octets. Returns how many there are.
 #[unsafe(no_mangle)]
 pub extern "C" fn stunp_read_xor_address(
     message: &[u8],
@@ -413,18 +416,19 @@ pub extern "C" fn stunp_read_xor_address(
     out: &mut [u8],
     port: &mut u16,
 ) -> i64
-    ensures answer { result ≡ written_number (fitted (octets_at message.now place)
+    ensures answer { result ≡ written_number (within_room (octets_at message.now place)
         (length out.old)) }
-    ensures written { out.new ≡ buffer_after (fitted (octets_at message.now place)
+    ensures written { out.new ≡ buffer_after (within_room (octets_at message.now place)
         (length out.old)) out.old }
-    ensures port { port.new ≡ port_after (fitted (octets_at message.now place) (length out.old))
+    ensures port { port.new ≡ port_after (within_room (octets_at message.now place)
+        (length out.old))
         (address_at message.now place) port.old }
 {
     reading::address_at(message, place, out, port)
 }
 
-/// Writes the address in the attribute at a place of a message, as MAPPED-ADDRESS has it, 4 or 16
-/// octets, and its port, and answers how many octets there are.
+/// Writes the address in the attribute at a place of a message, as MAPPED-ADDRESS has it, and its
+/// port. The address has 4 or 16 octets. Returns how many there are.
 #[unsafe(no_mangle)]
 pub extern "C" fn stunp_read_address(
     message: &[u8],
@@ -432,19 +436,21 @@ pub extern "C" fn stunp_read_address(
     out: &mut [u8],
     port: &mut u16,
 ) -> i64
-    ensures answer { result ≡ written_number (fitted (plain_octets (address_at message.now place))
+    ensures answer { result ≡ written_number
+        (within_room (plain_octets (address_at message.now place))
         (length out.old)) }
-    ensures written { out.new ≡ buffer_after (fitted (plain_octets (address_at message.now place))
+    ensures written { out.new ≡ buffer_after
+        (within_room (plain_octets (address_at message.now place))
         (length out.old)) out.old }
     ensures port { port.new ≡ plain_port_after
-        (fitted (plain_octets (address_at message.now place)) (length out.old))
+        (within_room (plain_octets (address_at message.now place)) (length out.old))
         (address_at message.now place) port.old }
 {
     reading::plain_at(message, place, out, port)
 }
 
-/// Writes the number in the attribute at a place of a message, 1, 2, 4 or 8 bytes, and answers how
-/// many they are.
+/// Writes the number in the attribute at a place of a message, 1, 2, 4 or 8 bytes. Returns how many
+/// they are.
 #[unsafe(no_mangle)]
 pub extern "C" fn stunp_read_number(message: &[u8], place: usize, number: &mut u64) -> i64
     ensures answer { result ≡ written_number (sized_at message.now place) }
@@ -482,11 +488,12 @@ pub extern "C" fn stunp_check_fingerprint(message: &[u8]) -> i64
     fingerprint::check(message)
 }
 
-/// Adds FINGERPRINT to the message in the first bytes of a buffer, and answers the new length.
+/// Adds FINGERPRINT to the message in the first bytes of a buffer. Returns the new length.
 #[unsafe(no_mangle)]
 pub extern "C" fn stunp_add_fingerprint(buffer: &mut [u8], count: usize) -> i64
-    ensures answer { result ≡ written_number (fingerprinted buffer.old count) }
-    ensures written { buffer.new ≡ buffer_after (fingerprinted buffer.old count) buffer.old }
+    ensures answer { result ≡ written_number (fingerprinted_message buffer.old count) }
+    ensures written { buffer.new
+        ≡ buffer_after (fingerprinted_message buffer.old count) buffer.old }
 {
     fingerprint::add(buffer, count)
 }
@@ -503,13 +510,13 @@ pub extern "C" fn stunp_unknown_types(message: &[u8], known: &[u16], types: &mut
     unknown::types(message, known, types)
 }
 
-/// Writes the answer 420 to a request that has such types, and answers its length, or 0 where it
-/// has none.
+/// Writes the answer 420 to a request that has such types. Returns its length, or 0 where it has
+/// none.
 #[unsafe(no_mangle)]
 pub extern "C" fn stunp_refuse_unknown(request: &[u8], known: &[u16], out: &mut [u8]) -> i64
-    ensures answer { result ≡ written_number (fitted (unknown_made request.now known.now)
+    ensures answer { result ≡ written_number (within_room (unknown_made request.now known.now)
         (length out.old)) }
-    ensures written { out.new ≡ buffer_after (fitted (unknown_made request.now known.now)
+    ensures written { out.new ≡ buffer_after (within_room (unknown_made request.now known.now)
         (length out.old)) out.old }
 {
     unknown::refuse(request, known, out)

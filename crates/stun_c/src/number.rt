@@ -2,15 +2,16 @@
 
 ghost use Rattle.std.specs.Prelude.{◌≡◌, ◌<◌, length, true, IfOk, IfErr, Ok, Err};
 ghost use Rattle.byteorder.specs.Endian.{big_bytes, big_number};
-ghost use Rattle.stun_c.specs.Answers.{written_number, buffer_after};
+ghost use Rattle.stun_numbers.specs.Buffers.{buffer_after};
+ghost use Rattle.stun_c.specs.Answers.{written_number};
 ghost use Rattle.stun_c.specs.Reading.{sized_at, sized_after};
 ghost use Rattle.stun_c.specs.Writing.{added_sized, has_size, is_size};
 
-use crate::codes::Refusal;
 use crate::walk::attribute_at;
 use crate::writing::add_numbered;
 use byteorder::{BigEndian, ByteOrder};
 use stun_base::header::HEADER_LENGTH;
+use stun_numbers::refusal::Refusal;
 
 /// Whether numbers are written in so many bytes.
 fn is_size(size: usize) -> bool
@@ -25,7 +26,7 @@ fn is_size(size: usize) -> bool
     }
 }
 
-/// Whether this number is.
+/// Whether this number fits into so many bytes, and numbers are written in so many.
 fn has_size(size: usize, number: u64) -> bool
     ensures { result ≡ has_size size number }
 {
@@ -47,7 +48,7 @@ fn one_byte(number: u64) -> [u8; 1]
 }
 
 /// Adds an attribute of a type with a number in so many bytes to the message in the first `count`
-/// bytes of the buffer, and answers the new length or the number of the refusal.
+/// bytes of the buffer. Returns the new length or the number of the refusal.
 pub fn add_number(buffer: &mut [u8], count: usize, kind: u32, number: u64, size: usize) -> i64
     ensures answer { result ≡ written_number (added_sized buffer.old count kind size number) }
     ensures written { buffer.new ≡ buffer_after
@@ -96,8 +97,8 @@ fn number_of(value: &[u8]) -> u64
     }
 }
 
-/// Writes the number in the attribute at a place of a message, and answers of how many bytes it is
-/// or the number of the refusal.
+/// Writes the number in the attribute at a place of a message. Returns of how many bytes it is, or
+/// the number of the refusal.
 pub fn number_at(message: &[u8], place: usize, number: &mut u64) -> i64
     ensures answer { result ≡ written_number (sized_at message.now place) }
     ensures number { number.new ≡ sized_after (sized_at message.now place) number.old }

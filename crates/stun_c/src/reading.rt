@@ -9,8 +9,8 @@ ghost use Rattle.stun_types.specs.Message.{refusal};
 ghost use Rattle.stun_types.specs.Visible.{visible};
 ghost use Rattle.stun_types.specs.XorMappedAddress.{has_octets, xor_bytes};
 ghost use Rattle.stun_types.specs.XorMappedAddress.{xor_key, xor_port, xored_of};
-ghost use Rattle.stun_c.specs.Answers.{fitted, written_number, buffer_after};
-ghost use Rattle.stun_c.specs.Codes.{refusal_of_attribute};
+ghost use Rattle.stun_numbers.specs.Buffers.{within_room, buffer_after};
+ghost use Rattle.stun_c.specs.Answers.{written_number};
 ghost use Rattle.stun_c.specs.Reading.{address_at, octets_at, class_answer, method_answer};
 ghost use Rattle.stun_c.specs.Reading.{id_of_message, next_member, next_answer, number_after};
 ghost use Rattle.stun_c.specs.Reading.{error_in, error_answer, address_in, octets_of_message};
@@ -18,15 +18,16 @@ ghost use Rattle.stun_c.specs.Reading.{plain_octets, plain_port_after, port_afte
 ghost use Rattle.stun_c.specs.Reading.{shown_octets, find_answer, finding_refusal};
 
 use crate::address::{IPV4, IPV6, PORT_KEY, xor_key, xor_with};
-use crate::buffer::fill;
-use crate::codes::{Refusal, class_number};
-use crate::request::transaction_id;
+use crate::buffer::write;
+use crate::header::class_number;
 use crate::walk::attribute_at;
 use byteorder::{BigEndian, ByteOrder};
 use stun_base::attribute_type::AttributeType;
 use stun_base::error::StunParseError;
 use stun_base::header::HEADER_LENGTH;
 use stun_base::transaction_id::TransactionId;
+use stun_numbers::id::transaction_id;
+use stun_numbers::refusal::Refusal;
 use stun_types::attribute::{ErrorCode, RawAttribute};
 use stun_types::message::Message;
 use stun_types::prelude::*;
@@ -60,15 +61,16 @@ fn id_bytes(message: &[u8]) -> Result<&[u8], Refusal>
     Ok(&message.as_bytes()[8..20])
 }
 
-/// Copies the transaction id of a message to the front of the buffer, and answers its length or the
+/// Copies the transaction id of a message to the front of the buffer. Returns its length or the
 /// number of the refusal.
 pub fn id(message: &[u8], out: &mut [u8]) -> i64
-    ensures answer { result ≡ written_number (fitted (id_of_message message.now) (length out.old)) }
-    ensures written { out.new ≡ buffer_after (fitted (id_of_message message.now)
+    ensures answer { result ≡ written_number
+        (within_room (id_of_message message.now) (length out.old)) }
+    ensures written { out.new ≡ buffer_after (within_room (id_of_message message.now)
         (length out.old)) out.old }
 {
     match id_bytes(message) {
-        Ok(id) => fill(out, id),
+        Ok(id) => write(out, id),
         Err(refusal) => refusal.code(),
     }
 }
@@ -104,19 +106,6 @@ pub fn next(message: &[u8], place: usize, kind: &mut u16, value_length: &mut usi
     }
 }
 
-/// The refusal that tells an error of reading an attribute.
-fn attribute_refusal(error: StunParseError) -> Refusal
-    ensures { result ≡ refusal_of_attribute error }
-{
-    match error {
-        StunParseError::Truncated => Refusal::Truncated,
-        StunParseError::NotStun => Refusal::NotStun,
-        StunParseError::TooLarge => Refusal::TooLarge,
-        StunParseError::MissingAttribute(_) => Refusal::MissingAttribute,
-        StunParseError::InvalidAttributeData => Refusal::MalformedAttribute,
-    }
-}
-
 /// The error that a message reports.
 fn error_in<'a>(message: &Message<'a>) -> Result<ErrorCode<'a>, StunParseError>
     ensures { result ≡ error_in message.now }
@@ -131,7 +120,7 @@ pub fn error_code(message: &[u8]) -> i64
     match Message::from_bytes(message) {
         Ok(message) => match error_in(&message) {
             Ok(error) => i64::from(error.code()),
-            Err(error) => attribute_refusal(error).code(),
+            Err(error) => Refusal::from(error).code(),
         },
         Err(error) => Refusal::from(error).code(),
     }
@@ -253,13 +242,14 @@ fn shown_address<'a>(message: &[u8], place: &'a mut [u8]) -> Result<(u16, &'a [u
 }
 
 /// Copies the octets of the address that a message reports to the front of the buffer and its port
-/// to the caller's, and answers how many octets there are or the number of the refusal.
+/// to the caller's. Returns how many octets there are or the number of the refusal.
 pub fn mapped_address(message: &[u8], out: &mut [u8], port: &mut u16) -> i64
-    ensures answer { result ≡ written_number (fitted (octets_of_message message.now)
+    ensures answer { result ≡ written_number (within_room (octets_of_message message.now)
         (length out.old)) }
-    ensures written { out.new ≡ buffer_after (fitted (octets_of_message message.now)
+    ensures written { out.new ≡ buffer_after (within_room (octets_of_message message.now)
         (length out.old)) out.old }
-    ensures port { port.new ≡ port_after (fitted (octets_of_message message.now) (length out.old))
+    ensures port { port.new ≡ port_after (within_room (octets_of_message message.now)
+        (length out.old))
         (address_in message.now) port.old }
 {
     let mut place = [0; 16];
@@ -269,7 +259,7 @@ pub fn mapped_address(message: &[u8], out: &mut [u8], port: &mut u16) -> i64
                 return Refusal::BufferTooSmall.code();
             }
             *port = shown;
-            fill(out, octets)
+            write(out, octets)
         }
         Err(refusal) => refusal.code(),
     }
@@ -341,15 +331,16 @@ fn shown_at<'a>(
     Ok((port ^ PORT_KEY, shown))
 }
 
-/// Copies the octets of the address in the attribute at a place of a message to the front of the
-/// buffer and its port to the caller's, and answers how many octets there are or the number of the
+/// Copies the address in the attribute at a place of a message: its octets to the front of the
+/// buffer, and its port to the caller's. Returns how many octets there are or the number of the
 /// refusal.
 pub fn address_at(message: &[u8], place: usize, out: &mut [u8], port: &mut u16) -> i64
-    ensures answer { result ≡ written_number (fitted (octets_at message.now place)
+    ensures answer { result ≡ written_number (within_room (octets_at message.now place)
         (length out.old)) }
-    ensures written { out.new ≡ buffer_after (fitted (octets_at message.now place)
+    ensures written { out.new ≡ buffer_after (within_room (octets_at message.now place)
         (length out.old)) out.old }
-    ensures port { port.new ≡ port_after (fitted (octets_at message.now place) (length out.old))
+    ensures port { port.new ≡ port_after (within_room (octets_at message.now place)
+        (length out.old))
         (address_at message.now place) port.old }
 {
     let mut room = [0; 16];
@@ -359,7 +350,7 @@ pub fn address_at(message: &[u8], place: usize, out: &mut [u8], port: &mut u16) 
                 return Refusal::BufferTooSmall.code();
             }
             *port = shown;
-            fill(out, octets)
+            write(out, octets)
         }
         Err(refusal) => refusal.code(),
     }
@@ -367,12 +358,14 @@ pub fn address_at(message: &[u8], place: usize, out: &mut [u8], port: &mut u16) 
 
 /// The same of an address that is not hidden.
 pub fn plain_at(message: &[u8], place: usize, out: &mut [u8], port: &mut u16) -> i64
-    ensures answer { result ≡ written_number (fitted (plain_octets (address_at message.now place))
+    ensures answer { result ≡ written_number
+        (within_room (plain_octets (address_at message.now place))
         (length out.old)) }
-    ensures written { out.new ≡ buffer_after (fitted (plain_octets (address_at message.now place))
+    ensures written { out.new ≡ buffer_after
+        (within_room (plain_octets (address_at message.now place))
         (length out.old)) out.old }
     ensures port { port.new ≡ plain_port_after
-        (fitted (plain_octets (address_at message.now place)) (length out.old))
+        (within_room (plain_octets (address_at message.now place)) (length out.old))
         (address_at message.now place) port.old }
 {
     match hidden_at(message, place) {
@@ -381,7 +374,7 @@ pub fn plain_at(message: &[u8], place: usize, out: &mut [u8], port: &mut u16) ->
                 return Refusal::BufferTooSmall.code();
             }
             *port = plain;
-            fill(out, octets)
+            write(out, octets)
         }
         Err(refusal) => refusal.code(),
     }

@@ -1,16 +1,15 @@
 //! The signed request.
 
 ghost use Rattle.std.specs.Prelude.{◌≡◌, ◌≤◌, length, IfOk, OnOk, IfErr, Some, None, Ok, Err};
-ghost use Rattle.byteorder.specs.Endian.{big_number};
 ghost use Rattle.stun_types.specs.Limits.{USERNAME_LIMIT};
-ghost use Rattle.stun_c.specs.Codes.{algorithm_numbered};
+ghost use Rattle.stun_numbers.specs.Algorithms.{algorithm_numbered};
 ghost use Rattle.stun_c.specs.Requests.{signed_request, username_refusal};
 
-use crate::codes::{Refusal, algorithm_numbered};
-use crate::text::text;
-use byteorder::{BigEndian, ByteOrder};
 use stun_base::message_type::BINDING;
-use stun_base::transaction_id::TransactionId;
+use stun_numbers::algorithm::algorithm_numbered;
+use stun_numbers::id::transaction_id;
+use stun_numbers::refusal::Refusal;
+use stun_numbers::text::text;
 use stun_types::attribute::Username;
 use stun_types::message::{Message, MessageWriteMutSlice};
 use stun_types::prelude::*;
@@ -18,18 +17,6 @@ use stun_types::prelude::*;
 /// The bytes of the longest request: a header, a USERNAME of 513 bytes with its padding, and a
 /// digest of 32 bytes.
 pub const LONGEST_REQUEST: usize = 20 + 4 + 516 + 4 + 32;
-
-/// The id in 12 bytes, or `BadArgument` where they are more or fewer.
-pub fn transaction_id(bytes: &[u8]) -> Result<TransactionId, Refusal>
-    ensures ok { IfOk result (λ id. (length bytes.now ≡ 12) × (id ≡ big_number 12 bytes.now)) }
-    ensures err { IfErr result (λ refusal. ¬ (length bytes.now ≡ 12)
-        × (refusal ≡ Refusal.BadArgument)) }
-{
-    if bytes.len() != 12 {
-        return Err(Refusal::BadArgument);
-    }
-    Ok(TransactionId::from_u128(BigEndian::read_uint128(bytes, 12)).unwrap())
-}
 
 /// The user name in these bytes: `NotText` where they are not UTF-8, `TextTooLong` where they are
 /// more than 513.

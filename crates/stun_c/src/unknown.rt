@@ -9,17 +9,18 @@ ghost use Rattle.stun_types.specs.Attribute.{attribute_length};
 ghost use Rattle.stun_types.specs.Grammar.{spelled_attribute};
 ghost use Rattle.stun_types.specs.Writing.{empty_answer, with_attribute};
 ghost use Rattle.stun_extra.specs.Unknown.{spelled_types, types_of, unknown_types};
-ghost use Rattle.stun_c.specs.Answers.{fitted, written_number, buffer_after};
-ghost use Rattle.stun_c.specs.code.Room.{HasRoom};
+ghost use Rattle.stun_numbers.specs.Buffers.{within_room, buffer_after};
+ghost use Rattle.stun_c.specs.Answers.{written_number};
 ghost use Rattle.stun_c.specs.Extra.{answer_made, error_420, known_refusal, numbers_after};
 ghost use Rattle.stun_c.specs.Extra.{refused_front, told_number, types_after, types_attribute};
 ghost use Rattle.stun_c.specs.Extra.{unknown_answer, unknown_made, unknown_of};
 
-use crate::codes::{Refusal, class_number};
+use crate::header::class_number;
 use crate::writing::{append, set_length, write_error, write_header, write_zeros};
 use stun_base::attribute_type::AttributeType;
 use stun_base::header::HEADER_LENGTH;
 use stun_extra::unknown::{UNKNOWN_ATTRIBUTES, unknown_types};
+use stun_numbers::refusal::Refusal;
 use stun_types::attribute::attribute_length;
 use stun_types::message::{Message, MessageWriteMutSlice};
 use stun_types::prelude::*;
@@ -98,8 +99,8 @@ fn readable<'a, 'b>(
     Ok((message, known))
 }
 
-/// How many unknown types a message has, and as many of them as have room, or the number of the
-/// refusal.
+/// Writes as many unknown types of a message as have room. Returns how many it has, or the number
+/// of the refusal.
 pub fn types(message: &[u8], known: &[u16], types: &mut [u16]) -> i64
     ensures answer { result ≡ told_number (known_refusal message.now known.now)
         (unknown_of message.now known.now) }
@@ -215,15 +216,15 @@ fn append_types(message: &Message<'_>, known: &[AttributeType], count: usize, ou
     end as i64
 }
 
-/// Writes the answer to a request with so many unknown types to the front of a buffer, and answers
-/// its length or that it has no room.
+/// Writes the answer to a request with so many unknown types to the front of a buffer. Returns its
+/// length, or that it has no room.
 #[tactic(auto, using(crate::proofs::Refused::answer_refused))]
 fn write_answer(request: &Message<'_>, known: &[AttributeType], count: usize, out: &mut [u8]) -> i64
     requires count { count ≡ length (unknown_types known.now request.now) }
     requires few { count < 2 ^ 14 }
-    ensures answer { result ≡ written_number (fitted (Ok (unknown_answer request.now
+    ensures answer { result ≡ written_number (within_room (Ok (unknown_answer request.now
         (unknown_types known.now request.now))) (length out.old)) }
-    ensures written { out.new ≡ buffer_after (fitted (Ok (unknown_answer request.now
+    ensures written { out.new ≡ buffer_after (within_room (Ok (unknown_answer request.now
         (unknown_types known.now request.now))) (length out.old)) out.old }
 {
     if out.len() < FRONT_LENGTH + attribute_length(2 * count) {
@@ -241,12 +242,12 @@ fn count_types(message: &Message<'_>, known: &[AttributeType]) -> usize
     unknown_types(message, known).count()
 }
 
-/// Writes the answer to a message, which must be a request, to the front of the buffer, and answers
-/// its length, or 0 where it has no unknown type.
+/// Writes the answer to a message, which must be a request, to the front of the buffer. Returns its
+/// length, or 0 where the message has no unknown type.
 fn answer(message: &Message<'_>, known: &[AttributeType], out: &mut [u8]) -> i64
-    ensures answer { result ≡ written_number (fitted (answer_made message.now
+    ensures answer { result ≡ written_number (within_room (answer_made message.now
         (unknown_types known.now message.now)) (length out.old)) }
-    ensures written { out.new ≡ buffer_after (fitted (answer_made message.now
+    ensures written { out.new ≡ buffer_after (within_room (answer_made message.now
         (unknown_types known.now message.now)) (length out.old)) out.old }
 {
     if class_number(message.class()) != 0 {
@@ -259,12 +260,12 @@ fn answer(message: &Message<'_>, known: &[AttributeType], out: &mut [u8]) -> i64
     write_answer(message, known, count, out)
 }
 
-/// Writes the answer to a request that has unknown types to the front of the buffer, and answers
-/// its length, or 0 where it has none, or the number of the refusal.
+/// Writes the answer to a request that has unknown types to the front of the buffer. Returns its
+/// length, or 0 where the request has none, or the number of the refusal.
 pub fn refuse(request: &[u8], known: &[u16], out: &mut [u8]) -> i64
-    ensures answer { result ≡ written_number (fitted (unknown_made request.now known.now)
+    ensures answer { result ≡ written_number (within_room (unknown_made request.now known.now)
         (length out.old)) }
-    ensures written { out.new ≡ buffer_after (fitted (unknown_made request.now known.now)
+    ensures written { out.new ≡ buffer_after (within_room (unknown_made request.now known.now)
         (length out.old)) out.old }
 {
     let mut place = [AttributeType::new(0); ALL_KNOWN];

@@ -4,12 +4,12 @@ ghost use Rattle.std.specs.Prelude.{◌≡◌, ◌≤◌, ◌<◌, ◌+◌, leng
 ghost use Rattle.stun_c.specs.Extra.{held_after, held_number, numbers_after, types_at};
 ghost use Rattle.stun_c.specs.Reading.{text_answer, text_at, text_length_after, value_at};
 
-use crate::codes::Refusal;
-use crate::text::text;
 use crate::unknown::put;
 use crate::walk::attribute_at;
 use stun_base::header::HEADER_LENGTH;
 use stun_extra::unknown::{UNKNOWN_ATTRIBUTES, UnknownAttributes};
+use stun_numbers::refusal::Refusal;
+use stun_numbers::text::text;
 use stun_types::attribute::{ATTRIBUTE_HEADER_LENGTH, RawAttribute};
 use stun_types::prelude::*;
 
@@ -81,8 +81,8 @@ fn hold(held: &UnknownAttributes<'_>, types: &mut [u16])
     }
 }
 
-/// How many types the attribute at a place of a message holds, and as many of them as have room, or
-/// the number of the refusal.
+/// Writes as many types of the attribute at a place of a message as have room. Returns how many it
+/// holds, or the number of the refusal.
 pub fn read_types(message: &[u8], place: usize, types: &mut [u16]) -> i64
     ensures answer { result ≡ held_number (types_at message.now place) }
     ensures types { types.new ≡ held_after (types_at message.now place) types.old }

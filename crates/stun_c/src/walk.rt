@@ -5,12 +5,13 @@ ghost use Rattle.std.specs.Prelude.{IfOk, IfErr, OnOk, IfSome, IfNone, OnSome, S
 ghost use Rattle.stun_types.specs.Attribute.{first_attribute, has_attribute};
 ghost use Rattle.stun_types.specs.Walk.{walk_from};
 ghost use Rattle.stun_c.specs.Reading.{number_after};
-ghost use Rattle.stun_c.specs.Walking.{ahead, cursor_refusal, is_shown, rank, shown, walk_answer};
+ghost use Rattle.stun_c.specs.Walking.{ahead, cursor_refusal, is_shown, rank, visible_after};
+ghost use Rattle.stun_c.specs.Walking.{walk_answer};
 
-use crate::codes::Refusal;
 use byteorder::{BigEndian, ByteOrder};
 use stun_base::attribute_type::AttributeType;
 use stun_base::header::HEADER_LENGTH;
+use stun_numbers::refusal::Refusal;
 use stun_types::attribute::{ATTRIBUTE_HEADER_LENGTH, RawAttribute, attribute_length};
 use stun_types::message::Message;
 
@@ -79,10 +80,10 @@ fn advance<'a>(message: &'a [u8], cursor: &mut Cursor) -> Option<(usize, RawAttr
     requires behind { 20 ≤ cursor.old.place }
     requires within { cursor.old.place ≤ length message.now }
     ensures first { result ≡ slice_get
-        (shown cursor.old.hidden (walk_from cursor.old.place message.now)) 0 }
+        (visible_after cursor.old.hidden (walk_from cursor.old.place message.now)) 0 }
     ensures place { IfSome result (λ m. m.0 ≤ length message.now) }
-    ensures rest { shown cursor.new.hidden (walk_from cursor.new.place message.now)
-        ≡ drop 1 (shown cursor.old.hidden (walk_from cursor.old.place message.now)) }
+    ensures rest { visible_after cursor.new.hidden (walk_from cursor.new.place message.now)
+        ≡ drop 1 (visible_after cursor.old.hidden (walk_from cursor.old.place message.now)) }
     ensures behind { 20 ≤ cursor.new.place }
     ensures within { cursor.new.place ≤ length message.now }
 {
@@ -103,7 +104,8 @@ fn advance<'a>(message: &'a [u8], cursor: &mut Cursor) -> Option<(usize, RawAttr
 /// a message.
 #[tactic(auto, using(crate::proofs::Walking::shown_visible))]
 fn begun(message: &[u8], cursor: Cursor) -> Result<Cursor, Refusal>
-    ensures ok { IfOk result (λ begun. shown begun.hidden (walk_from begun.place message.now)
+    ensures ok { IfOk result
+        (λ begun. visible_after begun.hidden (walk_from begun.place message.now)
         ≡ ahead cursor message.now) }
     ensures behind { IfOk result (λ begun. 20 ≤ begun.place) }
     ensures within { IfOk result (λ begun. begun.place ≤ length message.now) }

@@ -1,8 +1,8 @@
 //! Messages written in the caller's buffer, an attribute at a time.
 
 ghost use Rattle.std.specs.Prelude.{◌≡◌, ◌≤◌, ◌<◌, ℕ, List, pos, nat_lt, Ok, Err, ◌+◌};
-ghost use Rattle.std.specs.Prelude.{◌-◌, ◌++◌, length, take, drop, find, replicate};
-ghost use Rattle.std.specs.Prelude.{IfOk, IfErr, OnOk, Some, None, is_some, true, false};
+ghost use Rattle.std.specs.Prelude.{◌-◌, ◌++◌, length, take, drop, replicate};
+ghost use Rattle.std.specs.Prelude.{IfOk, IfErr, OnOk, Some, None, true, false};
 ghost use Rattle.byteorder.specs.Endian.{big_bytes};
 ghost use Rattle.stun_base.specs.Algorithm.{digest, digest_length};
 ghost use Rattle.stun_base.specs.MessageType.{class_of_bits};
@@ -13,46 +13,30 @@ ghost use Rattle.stun_types.specs.Limits.{TEXT_LIMIT, max_length};
 ghost use Rattle.stun_types.specs.Message.{with_length};
 ghost use Rattle.stun_types.specs.Writing.{is_set_apart, integrity_kind};
 ghost use Rattle.stun_types.specs.Writing.{with_attribute, with_integrity};
-ghost use Rattle.stun_c.specs.Answers.{fitted, written_number, buffer_after};
-ghost use Rattle.stun_c.specs.Codes.{algorithm_numbered};
+ghost use Rattle.stun_numbers.specs.Buffers.{within_room, buffer_after};
+ghost use Rattle.stun_numbers.specs.Algorithms.{algorithm_numbered};
+ghost use Rattle.stun_c.specs.Answers.{written_number};
 ghost use Rattle.stun_c.specs.code.Room.{HasRoom};
-ghost use Rattle.stun_c.specs.Writing.{begun, base_refusal, fit_refusal, adding_refusal};
-ghost use Rattle.stun_c.specs.Writing.{signing_refusal, added, added_number, added_error};
-ghost use Rattle.stun_c.specs.Writing.{error_argument_refusal, signed, is_closed, shows_kind};
+ghost use Rattle.stun_c.specs.Writing.{begun_message, fit_refusal, adding_refusal};
+ghost use Rattle.stun_c.specs.Writing.{digest_refusal, added_attribute, added_number, added_error};
+ghost use Rattle.stun_c.specs.Writing.{error_argument_refusal, signed_message, shows_kind};
 
-use crate::buffer::fill;
-use crate::codes::{Refusal, algorithm_numbered};
-use crate::request::transaction_id;
-use crate::text::text;
+use crate::buffer::write;
 use byteorder::{BigEndian, ByteOrder};
 use stun_base::algorithm::IntegrityAlgorithm;
 use stun_base::attribute_type::AttributeType;
 use stun_base::header::HEADER_LENGTH;
 use stun_base::hmac::{SHA1_LENGTH, SHA256_LENGTH, hmac_sha1, hmac_sha256};
 use stun_base::message_type::{MessageClass, MessageType, Method};
+use stun_numbers::algorithm::algorithm_numbered;
+use stun_numbers::id::transaction_id;
+use stun_numbers::message::{base_message, is_set_apart};
+use stun_numbers::refusal::Refusal;
+use stun_numbers::text::text;
 use stun_types::attribute::attribute_length;
 use stun_types::limits::{MAX_LENGTH, TEXT_LIMIT};
 use stun_types::message::{Message, MessageWriteMutSlice};
 use stun_types::prelude::*;
-
-/// Whether attributes of this type end a message: the two of integrity, and FINGERPRINT.
-fn is_set_apart(kind: AttributeType) -> bool
-    ensures { result ≡ is_set_apart kind.0 }
-{
-    kind == AttributeType::MESSAGE_INTEGRITY
-        || kind == AttributeType::MESSAGE_INTEGRITY_SHA256
-        || kind == AttributeType::FINGERPRINT
-}
-
-/// Whether the message has an attribute after which no other may be added.
-fn is_closed(message: &Message<'_>) -> bool
-    ensures { result ≡ is_closed message.now }
-{
-    message
-        .iter_attributes()
-        .find(|found| is_set_apart(found.1.get_type()))
-        .is_some()
-}
 
 /// Whether the message has a visible attribute of this type.
 pub fn shows_kind(message: &Message<'_>, kind: AttributeType) -> bool
@@ -62,23 +46,6 @@ pub fn shows_kind(message: &Message<'_>, kind: AttributeType) -> bool
         .iter_attributes()
         .find(|found| found.1.get_type() == kind)
         .is_some()
-}
-
-/// The message at the front of the buffer, where an attribute may be added to it.
-pub fn base_message(buffer: &[u8], count: usize) -> Result<Message<'_>, Refusal>
-    ensures ok { IfOk result (λ message. message ≡ take count buffer.now) }
-    ensures within { OnOk result (count ≤ length buffer.now) }
-    ensures accepted { OnOk result (base_refusal buffer.now count ≡ None) }
-    ensures err { IfErr result (λ refusal. base_refusal buffer.now count ≡ Some refusal) }
-{
-    let Some(bytes) = buffer.get(..count) else {
-        return Err(Refusal::BadArgument);
-    };
-    let message = Message::from_bytes(bytes)?;
-    if is_closed(&message) {
-        return Err(Refusal::Closed);
-    }
-    Ok(message)
 }
 
 /// Whether a value of so many bytes fits after a message with so much room: the length field first,
@@ -183,12 +150,12 @@ pub(crate) fn append(buffer: &mut [u8], count: usize, kind: AttributeType, value
     end as i64
 }
 
-/// Adds an attribute to the message in the first `count` bytes of the buffer, and answers the new
+/// Adds an attribute to the message in the first `count` bytes of the buffer. Returns the new
 /// length or the number of the refusal.
 pub fn add(buffer: &mut [u8], count: usize, kind: AttributeType, value: &[u8]) -> i64
-    ensures answer { result ≡ written_number (added buffer.old count kind.0 value.now) }
+    ensures answer { result ≡ written_number (added_attribute buffer.old count kind.0 value.now) }
     ensures written { buffer.new ≡ buffer_after
-        (added buffer.old count kind.0 value.now) buffer.old }
+        (added_attribute buffer.old count kind.0 value.now) buffer.old }
 {
     match addable(buffer, count, kind, value.len()) {
         Ok(()) => append(buffer, count, kind, value),
@@ -267,10 +234,10 @@ fn append_integrity(
 /// the buffer.
 fn signable(buffer: &[u8], count: usize, algorithm: u32) -> Result<IntegrityAlgorithm, Refusal>
     ensures ok { IfOk result (λ algorithm'. (algorithm_numbered algorithm ≡ Some algorithm')
-        × (signing_refusal buffer.now count algorithm' ≡ None)
+        × (digest_refusal buffer.now count algorithm' ≡ None)
         × HasRoom count (digest_length algorithm') (length buffer.now)) }
     ensures err { IfErr result (λ refusal. (key : List ℕ)
-        → signed buffer.now count (algorithm_numbered algorithm) key ≡ Err refusal) }
+        → signed_message buffer.now count (algorithm_numbered algorithm) key ≡ Err refusal) }
 {
     let algorithm = algorithm_numbered(algorithm)?;
     let message = base_message(buffer, count)?;
@@ -278,13 +245,13 @@ fn signable(buffer: &[u8], count: usize, algorithm: u32) -> Result<IntegrityAlgo
     Ok(algorithm)
 }
 
-/// Adds the integrity attribute to the message in the first `count` bytes of the buffer, and
-/// answers the new length or the number of the refusal.
+/// Adds the integrity attribute to the message in the first `count` bytes of the buffer. Returns
+/// the new length or the number of the refusal.
 pub fn sign(buffer: &mut [u8], count: usize, algorithm: u32, key: &[u8]) -> i64
-    ensures answer { result ≡ written_number (signed buffer.old count
+    ensures answer { result ≡ written_number (signed_message buffer.old count
         (algorithm_numbered algorithm) key.now) }
     ensures written { buffer.new ≡ buffer_after
-        (signed buffer.old count (algorithm_numbered algorithm) key.now) buffer.old }
+        (signed_message buffer.old count (algorithm_numbered algorithm) key.now) buffer.old }
 {
     match signable(buffer, count, algorithm) {
         Ok(algorithm) => append_integrity(buffer, count, algorithm, key),
@@ -322,8 +289,8 @@ fn method_numbered(number: u32) -> Result<Method, Refusal>
 /// Writes a header to a buffer that has room for it.
 fn header<'a>(class: u32, method: u32, id: &[u8], buffer: &'a mut [u8]) -> Result<&'a [u8], Refusal>
     requires { 20 ≤ length buffer.old }
-    ensures ok { IfOk result (λ header. begun class method id.now ≡ Ok header.now) }
-    ensures err { IfErr result (λ refusal. begun class method id.now ≡ Err refusal) }
+    ensures ok { IfOk result (λ header. begun_message class method id.now ≡ Ok header.now) }
+    ensures err { IfErr result (λ refusal. begun_message class method id.now ≡ Err refusal) }
 {
     let class = class_numbered(class)?;
     let method = method_numbered(method)?;
@@ -334,16 +301,17 @@ fn header<'a>(class: u32, method: u32, id: &[u8], buffer: &'a mut [u8]) -> Resul
     Ok(writer.finish())
 }
 
-/// Writes a message without attributes to the front of the buffer, and answers its length or the
-/// number of the refusal.
+/// Writes a message without attributes to the front of the buffer. Returns its length or the number
+/// of the refusal.
 pub fn begin(class: u32, method: u32, id: &[u8], out: &mut [u8]) -> i64
-    ensures answer { result ≡ written_number (fitted (begun class method id.now) (length out.old)) }
-    ensures written { out.new ≡ buffer_after (fitted (begun class method id.now)
+    ensures answer { result ≡ written_number
+        (within_room (begun_message class method id.now) (length out.old)) }
+    ensures written { out.new ≡ buffer_after (within_room (begun_message class method id.now)
         (length out.old)) out.old }
 {
     let mut place = [0; HEADER_LENGTH];
     match header(class, method, id, &mut place) {
-        Ok(header) => fill(out, header),
+        Ok(header) => write(out, header),
         Err(refusal) => refusal.code(),
     }
 }
@@ -361,7 +329,8 @@ pub fn write_error(value: &mut [u8], code: u16, reason: &[u8])
 
 /// The code of an error that can be written with this reason, or the first reason against it.
 fn error_arguments(code: u32, reason: &[u8]) -> Result<u16, Refusal>
-    ensures ok { IfOk result (λ code'. (code' ≡ code) × (code < 700) × (length reason.now ≤ TEXT_LIMIT)) }
+    ensures ok { IfOk result (λ code'. (code' ≡ code) × (code < 700) ×
+        (length reason.now ≤ TEXT_LIMIT)) }
     ensures accepted { OnOk result (error_argument_refusal code reason.now ≡ None) }
     ensures err { IfErr result (λ refusal. error_argument_refusal code reason.now ≡ Some refusal) }
 {
@@ -375,7 +344,7 @@ fn error_arguments(code: u32, reason: &[u8]) -> Result<u16, Refusal>
     Ok(code as u16)
 }
 
-/// Adds an ERROR-CODE to the message in the first `count` bytes of the buffer, and answers the new
+/// Adds an ERROR-CODE to the message in the first `count` bytes of the buffer. Returns the new
 /// length or the number of the refusal.
 pub fn add_error(buffer: &mut [u8], count: usize, code: u32, reason: &[u8]) -> i64
     ensures answer { result ≡ written_number (added_error buffer.old count code reason.now) }

@@ -4,8 +4,8 @@ use Rattle.stun_cli.specs.declared.status.Status.{Status}
 use Rattle.stun_cli.specs.declared.status.Status.TheVariants.{Good, Bad, Failed, NotJudged}
 
 -- 0 for a good answer, 1 for a refusal or a failure, 2 where nothing was judged
-abbrev pub code_of : Status → ℕ
-code_of Good = 0
-code_of Bad = 1
-code_of Failed = 1
-code_of NotJudged = 2
+abbrev pub exit_code : Status → ℕ
+exit_code Good = 0
+exit_code Bad = 1
+exit_code Failed = 1
+exit_code NotJudged = 2

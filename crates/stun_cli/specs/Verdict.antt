@@ -40,16 +40,16 @@ verdict_of bytes keys =
     (verdict_on_integrity (verified_by keys bytes) (integrity_refusal bytes))
 
 -- the words for a refusal
-abbrev pub refusal_text : StunParseError → List ℕ
-refusal_text Truncated = codes "truncated"
-refusal_text NotStun = codes "not stun"
-refusal_text TooLarge = codes "too large"
-refusal_text (MissingAttribute _) = codes "missing attribute"
-refusal_text InvalidAttributeData = codes "malformed attribute"
+abbrev pub parse_error_text : StunParseError → List ℕ
+parse_error_text Truncated = codes "truncated"
+parse_error_text NotStun = codes "not stun"
+parse_error_text TooLarge = codes "too large"
+parse_error_text (MissingAttribute _) = codes "missing attribute"
+parse_error_text InvalidAttributeData = codes "malformed attribute"
 
 -- the line for bytes that are no message
 abbrev pub refusal_line : StunParseError → List ℕ
-refusal_line error = codes "not a message: " ++ (refusal_text error ++ 10 ∷ [])
+refusal_line error = codes "not a message: " ++ (parse_error_text error ++ 10 ∷ [])
 
 -- the status that goes with a verdict
 abbrev pub status_of : Verdict → Status

@@ -1,4 +1,4 @@
-//! The one way in which commands read.
+//! Reading: all that a command reads comes in by this module.
 ghost use Rattle.std.specs.Prelude.{◌≡◌, ◌≤◌, ◌+◌, ◌↔◌, ℕ, Bool, true, IfErr, IfOk, IfSome, length};
 ghost use Rattle.std.specs.Io.{ReadsAtMost};
 ghost use Rattle.std.specs.Io.KnownBytes.{ReadConsumes};
@@ -12,17 +12,17 @@ use std::io::{ErrorKind, Read};
 /// How often a command asks its reader, at most.
 const MAX_READS: u32 = 1_048_576;
 
-/// The bytes that one read may give.
+/// How many bytes one read may give.
 const READ_SIZE: usize = 256;
 
-/// A reader whose reads contracts can count.
+/// A reader that counts how often it is asked, so that contracts can bound it.
 pub trait CountedRead: Read {
     // How often the reader has been asked, up to 4294967295 times.
     ghost asked: { Self → ℕ };
     // Whether the last read failed, and was not only interrupted.
     ghost failed: { Self → Bool };
 
-    /// One read, as `read` makes it, which counts also where it is interrupted.
+    /// One read, as `read` makes it. It is counted, and so is one that is interrupted.
     fn ask(&mut self, buf: &mut [u8]) -> io::Result<usize>
         ensures bound { ReadsAtMost result buf.new }
         ensures bytes { ReadConsumes (Self.remaining self.old)
@@ -40,7 +40,7 @@ pub struct Counted<R: Read + Drop> {
 }
 
 impl<R: Read + Drop> Counted<R> {
-    /// Has not been asked yet.
+    /// A reader that has not been asked yet.
     pub fn new(reader: R) -> Counted<R> {
         Counted {
             reader,
@@ -74,10 +74,10 @@ impl<R: Read + Drop> CountedRead for Counted<R> {
     }
 }
 
-/// All that the reader has left, which is at most so many bytes.
+/// All bytes that the reader has left, which are at most `most`.
 ///
-/// It fails where a read or a growth fails, where there are more bytes, and where the end does not
-/// come within 1048576 reads. An interrupted read is asked again, and is one of them.
+/// Fails if a read or an allocation fails, if there are more bytes, or if the end does not come
+/// within 1048576 reads. An interrupted read is tried again, and counts as one.
 pub fn read_to_end<R: CountedRead, A: Allocator>(
     alloc: A,
     reader: &mut R,

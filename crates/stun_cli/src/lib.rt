@@ -1,5 +1,5 @@
-//! What the programs have in common: the words of a command line, what is read and written, what is
-//! said of a message, and how a command ends.
+//! What the programs share: the words of a command line, reading and writing, what is said of a
+//! message, and how a command ends.
 #![tactic(auto)]
 
 pub mod failure;

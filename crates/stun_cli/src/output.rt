@@ -1,4 +1,4 @@
-//! The one way in which commands write.
+//! Writing: all that a command writes goes out by this module.
 ghost use Rattle.std.specs.Prelude.{◌≡◌, ◌++◌, ◌∷◌, [], false, OnOk, OnErr, IfOk, string_bytes};
 ghost use Rattle.std.specs.Io.KnownBytes.{Appends};
 ghost use Rattle.stun_cli.specs.Line.{has_line_feed, IsLine};
@@ -8,13 +8,13 @@ use crate::failure::Failure;
 use std::alloc::{AllocError, Allocator};
 use std::io::{ErrorKind, Write};
 
-/// How often a text's writer is asked, at most.
+/// How often a text is handed to its writer, at most.
 const MAX_WRITES: u32 = 1_048_576;
 
-/// Writes the text, in at most `MAX_WRITES` writes; an interrupted one is asked again.
+/// Writes the text, in at most 1048576 writes. An interrupted write is tried again.
 ///
-/// It fails where a write fails or takes nothing, or the writes do not suffice. Then a beginning of
-/// the text is there, and not the whole.
+/// Fails if a write fails or takes nothing, or if that many writes do not suffice. A beginning of
+/// the text is then written, and not the whole.
 pub fn write_text<W: Write>(writer: &mut W, text: &[u8]) -> Result<(), Failure>
     ensures ok { OnOk result (Appends (W.contents writer.old) (W.contents writer.new) text.now) }
     ensures err { OnErr result (AppendsBeginning (W.contents writer.old)
@@ -49,8 +49,8 @@ pub fn has_line_feed(text: &str) -> bool
     text.as_bytes().contains(&b'\n')
 }
 
-/// The text, or where it has a line feed, other words. It keeps lines apart whatever their texts
-/// are: none that the programs print has a line feed.
+/// The text, or other words if it has a line feed. It keeps lines apart, whatever the texts in them
+/// are: none that the programs print has a line feed. Fails if an allocation fails.
 pub fn unbroken<A: Allocator>(alloc: A, text: String<A>) -> Result<String<A>, AllocError>
     ensures unbroken { IfOk result (λ unbroken. has_line_feed (string_bytes unbroken) ≡ false) }
     ensures same { has_line_feed (string_bytes text) ≡ false
@@ -63,7 +63,8 @@ pub fn unbroken<A: Allocator>(alloc: A, text: String<A>) -> Result<String<A>, Al
     }
 }
 
-/// The line of a text: the text as `unbroken` gives it, and a line feed.
+/// The line of a text: the text as `unbroken` gives it, and a line feed. Fails if an allocation
+/// fails.
 pub fn line_of<A: Allocator>(alloc: A, text: String<A>) -> Result<String<A>, AllocError>
     ensures line { IfOk result (λ line. IsLine (string_bytes line)) }
     ensures text { has_line_feed (string_bytes text) ≡ false

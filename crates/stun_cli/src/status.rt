@@ -1,7 +1,7 @@
 //! The exit statuses of the programs.
 ghost use Rattle.std.specs.Prelude.{◌≡◌};
 ghost use Rattle.std.specs.Process.{exit_status};
-ghost use Rattle.stun_cli.specs.Status.{code_of};
+ghost use Rattle.stun_cli.specs.Status.{exit_code};
 
 use std::process::ExitCode;
 
@@ -21,7 +21,7 @@ pub enum Status {
 impl Status {
     /// The exit status of the process.
     pub fn code(self) -> ExitCode
-        ensures { exit_status result ≡ code_of self }
+        ensures { exit_status result ≡ exit_code self }
     {
         ExitCode::from(match self {
             Status::Good => 0,

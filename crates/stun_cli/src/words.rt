@@ -4,7 +4,7 @@ use std::alloc::AllocError;
 use std::env;
 use std::io::ErrorKind;
 
-/// The words after the program's name, or none where one of them is no text. It fails where an
+/// The words after the program's name. There are none if one of them is no text. Fails if an
 /// allocation fails.
 pub fn words_of(rt: &(impl std::rt::Env + AllocGlobal)) -> Result<Vec<String>, AllocError> {
     match env::args(rt) {

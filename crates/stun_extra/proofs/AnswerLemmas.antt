@@ -11,7 +11,7 @@ use Rattle.stun_base.specs.declared.wire.message_type.MessageClass.TheVariants.{
 use Rattle.stun_types.specs.ErrorCode.{CodeAndReason, error_value}
 use Rattle.stun_base.specs.declared.wire.attribute_type.AttributeType.{AttributeType}
 use Rattle.stun_types.specs.Attribute.{TypedValue, attribute_length}
-use Rattle.stun_types.specs.Grammar.{spelled, spelled_attribute}
+use Rattle.stun_types.specs.Grammar.{spelled_message, spelled_attribute}
 use Rattle.stun_types.proofs.AddingLemmas.{length-spelled_attribute}
 use Rattle.stun_extra.specs.Unknown.{UNKNOWN_ATTRIBUTES, refusing_answer, spelled_types}
 use Rattle.stun_extra.specs.Unknown.{unknown_attribute_error, unknown_types}
@@ -19,7 +19,7 @@ use Rattle.stun_extra.proofs.UnknownLemmas.{length_of_types}
 
 -- a message of two attributes
 length-two : (message_type id : ℕ) (one other : TypedValue)
-    → length (spelled message_type id (one ∷ other ∷ []))
+    → length (spelled_message message_type id (one ∷ other ∷ []))
     ≡ 20 + attribute_length (length one.value) + attribute_length (length other.value)
 length-two message_type id one other =
     let sum = length-append (spelled_attribute one) (spelled_attribute other ++ []) in
@@ -38,16 +38,18 @@ length-refusing_answer known request =
     ∙ ap (λ n. 48 + attribute_length n) (length_of_types types)
 
 -- the answer is spelled so
-pub refusing_answer-spelled : (known types : List AttributeType) (request : List ℕ)
+pub refusing_answer-spelled_message : (known types : List AttributeType) (request : List ℕ)
     (error : CodeAndReason)
     → error ≡ record { code = 420; reason = codes "Unknown Attribute" }
     → types ≡ unknown_types known request
-    → spelled (type_number Error (method_of (type_field request))) (transaction_id_field request)
+    → spelled_message (type_number Error (method_of (type_field request)))
+    (transaction_id_field request)
     (record { kind = ERROR_CODE; value = error_value error }
     ∷ record { kind = UNKNOWN_ATTRIBUTES; value = spelled_types types } ∷ [])
     ≡ refusing_answer known request
 unfolding refusing_answer
-refusing_answer-spelled known types request error error_is types_are =
-    λ i. spelled (type_number Error (method_of (type_field request))) (transaction_id_field request)
+refusing_answer-spelled_message known types request error error_is types_are =
+    λ i. spelled_message (type_number Error (method_of (type_field request)))
+    (transaction_id_field request)
     (record { kind = ERROR_CODE; value = error_value (error_is i) }
     ∷ record { kind = UNKNOWN_ATTRIBUTES; value = spelled_types (types_are i) } ∷ [])

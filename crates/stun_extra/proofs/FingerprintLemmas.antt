@@ -19,7 +19,7 @@ use Rattle.stun_types.specs.Grammar.{spelled_attribute}
 use Rattle.stun_types.specs.Integrity.{deciding, first_of, verified_at, verified_by}
 use Rattle.stun_types.specs.Limits.{max_length}
 use Rattle.stun_types.specs.Message.{IsMessage, with_length}
-use Rattle.stun_types.specs.Visible.{before, counts, counts_behind, has_kind, visible}
+use Rattle.stun_types.specs.Visible.{before, is_visible, is_visible_after, has_kind, visible}
 use Rattle.stun_types.specs.Walk.{Member, walk}
 use Rattle.stun_types.specs.Writing.{HasOneMore, IsAddable, length_with}
 use Rattle.stun_types.specs.code.Walk.{IsInside}
@@ -30,7 +30,7 @@ use Rattle.stun_types.proofs.TailLemmas.{verified_by-tail}
 use Rattle.stun_extra.specs.Crc32.{crc32}
 use Rattle.stun_extra.specs.Fingerprint.{FINGERPRINT_XOR, fingerprint_at}
 use Rattle.stun_extra.specs.Fingerprint.{fingerprint_attribute, fingerprint_if}
-use Rattle.stun_extra.specs.Fingerprint.{fingerprint_in, fingerprint_number, with_fingerprint}
+use Rattle.stun_extra.specs.Fingerprint.{fingerprint_in, fingerprint_crc, with_fingerprint}
 use Rattle.stun_extra.specs.declared.fingerprint.Fingerprint.TheVariants.{Right, Wrong, Misplaced}
 use Rattle.stun_extra.proofs.Crc32Lemmas.{crc32-below}
 use lib.Bits.{xor_lt}
@@ -69,10 +69,11 @@ before-added members last place earlier =
     ∙ rw later (append-nil (before place members))
 
 -- so it hides nothing of that
-counts-added : (members : List Member) (last m : Member) → m.0 ≤ last.0
-    → counts (members ++ last ∷ []) m ≡ counts members m
-counts-added members last m earlier =
-    ap (λ ms. counts_behind (has_kind MESSAGE_INTEGRITY ms) (has_kind MESSAGE_INTEGRITY_SHA256 ms)
+is_visible-added : (members : List Member) (last m : Member) → m.0 ≤ last.0
+    → is_visible (members ++ last ∷ []) m ≡ is_visible members m
+is_visible-added members last m earlier =
+    ap (λ ms. is_visible_after (has_kind MESSAGE_INTEGRITY ms)
+    (has_kind MESSAGE_INTEGRITY_SHA256 ms)
     (has_kind FINGERPRINT ms) m.1.kind) (before-added members last m.0 earlier)
 
 -- two tests that agree keep the same
@@ -87,7 +88,7 @@ filter-same P one other (x ∷ xs) all agree =
 
 -- FINGERPRINT is hidden by another alone
 fingerprint-shown : (integrity integrity_sha256 : Bool)
-    → counts_behind integrity integrity_sha256 false FINGERPRINT ≡ true
+    → is_visible_after integrity integrity_sha256 false FINGERPRINT ≡ true
 fingerprint-shown false false = refl
 fingerprint-shown false true = refl
 fingerprint-shown true false = refl
@@ -101,19 +102,19 @@ visible-added : (message longer : List ℕ) (last : Member) → last.0 ≡ lengt
 unfolding visible
 visible-added message longer last place kind none walked =
     let members = walk message in
-    let test = counts (members ++ last ∷ []) in
-    let earlier : filter test members ≡ filter (counts members) members =
-    filter-same (IsInside message) test (counts members) members
+    let test = is_visible (members ++ last ∷ []) in
+    let earlier : filter test members ≡ filter (is_visible members) members =
+    filter-same (IsInside message) test (is_visible members) members
     (walk_up_to-within (length message) HEADER_LENGTH message (omega arith))
-    (λ m within. counts-added members last m (omega (arith, within.whole, place))) in
+    (λ m within. is_visible-added members last m (omega (arith, within.whole, place))) in
     let no_other = has_kind-before FINGERPRINT last.0 members none in
     let last_counts : test last ≡ true =
-    counts-added members last last (omega arith)
-    ∙ ((λ i. counts_behind (has_kind MESSAGE_INTEGRITY (before last.0 members))
+    is_visible-added members last last (omega arith)
+    ∙ ((λ i. is_visible_after (has_kind MESSAGE_INTEGRITY (before last.0 members))
     (has_kind MESSAGE_INTEGRITY_SHA256 (before last.0 members)) (no_other i) (kind i))
     ∙ fingerprint-shown (has_kind MESSAGE_INTEGRITY (before last.0 members))
     (has_kind MESSAGE_INTEGRITY_SHA256 (before last.0 members))) in
-    ap (λ ms. filter (counts ms) ms) walked
+    ap (λ ms. filter (is_visible ms) ms) walked
     ∙ (filter-append test members (last ∷ [])
     ∙ (λ i. earlier i ++ cond (last_counts i) (last ∷ []) []))
 
@@ -160,7 +161,7 @@ first_of-none : (kind : ℕ) (message : List ℕ) → has_kind kind (walk messag
     → first_of kind (visible message) ≡ None
 unfolding visible
 first_of-none kind message none =
-    any-filter (λ m. m.1.kind == kind) (counts (walk message)) (walk message) none
+    any-filter (λ m. m.1.kind == kind) (is_visible (walk message)) (walk message) none
 
 -- FINGERPRINT is found
 found : (message : List ℕ) → IsFree message
@@ -213,19 +214,19 @@ fingerprint_at-added : (message : List ℕ) → IsFree message
     → fingerprint_at (with_fingerprint message) (fingerprint_member message) ≡ Right
 fingerprint_at-added message free =
     let covered = with_length message (length_with message 4) in
-    let small : fingerprint_number covered < 2 ^ 32 =
+    let small : fingerprint_crc covered < 2 ^ 32 =
     xor_lt 32 (crc32 covered) FINGERPRINT_XOR (crc32-below covered) (omega arith) in
     let ends : (length message + 8 == length (with_fingerprint message)) ≡ true =
     alike (length message + 8) (length (with_fingerprint message))
     (length-fingerprint message free) in
     let front = front-fingerprint message free.is_message.header.is_whole in
-    let same : big_number 4 (big_bytes 4 (fingerprint_number covered))
-    ≡ fingerprint_number (take (length message) (with_fingerprint message)) =
-    number-again (fingerprint_number covered) small ∙ ap fingerprint_number (sym front) in
-    let right : (big_number 4 (big_bytes 4 (fingerprint_number covered))
-    == fingerprint_number (take (length message) (with_fingerprint message))) ≡ true =
-    alike (big_number 4 (big_bytes 4 (fingerprint_number covered)))
-    (fingerprint_number (take (length message) (with_fingerprint message))) same in
+    let same : big_number 4 (big_bytes 4 (fingerprint_crc covered))
+    ≡ fingerprint_crc (take (length message) (with_fingerprint message)) =
+    number-again (fingerprint_crc covered) small ∙ ap fingerprint_crc (sym front) in
+    let right : (big_number 4 (big_bytes 4 (fingerprint_crc covered))
+    == fingerprint_crc (take (length message) (with_fingerprint message))) ≡ true =
+    alike (big_number 4 (big_bytes 4 (fingerprint_crc covered)))
+    (fingerprint_crc (take (length message) (with_fingerprint message))) same in
     λ i. cond (ends i) (cond (right i) Right Wrong) Misplaced
 
 pub fingerprint_in-added : (message : List ℕ) → IsFree message

@@ -11,8 +11,8 @@ use Rattle.byteorder.specs.Endian.{big_number}
 use Rattle.byteorder.specs.Numbers.{big_from-append}
 use Rattle.stun_base.specs.Header.{cookie_field, is_stun, length_field, type_field}
 use Rattle.stun_types.specs.Message.{IsMessage}
-use Rattle.stun_extra.specs.Framing.{Cut, IsLeftOver, IsPartOf, cut, cut_by}
-use Rattle.stun_extra.specs.Framing.{cut_up_to, fed, frame_of, frame_to, with_first}
+use Rattle.stun_extra.specs.Framing.{Cut, IsLeftOver, IsPartOf, cut_of, cut_by}
+use Rattle.stun_extra.specs.Framing.{cut_up_to, cut_with_more, frame_of, frame_to, with_first}
 use Rattle.stun_extra.specs.declared.framing.Frame.{Frame}
 use Rattle.stun_extra.specs.declared.framing.Frame.TheVariants.{Need, Message, NotStun}
 
@@ -165,18 +165,18 @@ frame-part message n is_message below = by (nat_lt n 20) refl
 -- ---- cutting
 
 -- a message is cut off
-cut-framed : (most n : ℕ) (bytes : List ℕ) → IsFramed bytes n
+cut_of-framed : (most n : ℕ) (bytes : List ℕ) → IsFramed bytes n
     → cut_up_to (suc most) bytes ≡ with_first (take n bytes) (cut_up_to most (drop n bytes))
 unfolding cut_up_to
-cut-framed most n bytes framed =
+cut_of-framed most n bytes framed =
     ap (λ f. cut_by f (cut_up_to most) bytes) (frame-framed bytes n framed)
 
 -- nothing is cut off where no whole message is
-cut-left_over : (most : ℕ) (bytes : List ℕ) → IsLeftOver bytes
+cut_of-left_over : (most : ℕ) (bytes : List ℕ) → IsLeftOver bytes
     → cut_up_to most bytes ≡ record { messages = []; rest = bytes }
 unfolding cut_up_to
-cut-left_over zero bytes left = refl
-cut-left_over (suc most) bytes left = by (frame_of bytes) refl
+cut_of-left_over zero bytes left = refl
+cut_of-left_over (suc most) bytes left = by (frame_of bytes) refl
   where
     by : (f : Frame) → frame_of bytes ≡ f
         → cut_by f (cut_up_to most) bytes ≡ record { messages = []; rest = bytes }
@@ -200,69 +200,72 @@ front bytes = by (frame_of bytes) refl
         has_none (λ k other. let apart : NotStun ≡ Message k = sym answer ∙ other in cc)
 
 -- as many messages as there are bytes are enough
-cut-enough : (a b : ℕ) (bytes : List ℕ) → Front bytes → length bytes ≤ a → length bytes ≤ b
+cut_of-enough : (a b : ℕ) (bytes : List ℕ) → Front bytes → length bytes ≤ a → length bytes ≤ b
     → cut_up_to a bytes ≡ cut_up_to b bytes
-cut-enough a b bytes (has_none left) enough other =
-    cut-left_over a bytes left ∙ sym (cut-left_over b bytes left)
-cut-enough zero b bytes (has_message n framed) enough other =
+cut_of-enough a b bytes (has_none left) enough other =
+    cut_of-left_over a bytes left ∙ sym (cut_of-left_over b bytes left)
+cut_of-enough zero b bytes (has_message n framed) enough other =
     absurd (omega (arith, enough, framed.least, framed.within))
-cut-enough (suc a) zero bytes (has_message n framed) enough other =
+cut_of-enough (suc a) zero bytes (has_message n framed) enough other =
     absurd (omega (arith, other, framed.least, framed.within))
-cut-enough (suc a) (suc b) bytes (has_message n framed) enough other =
+cut_of-enough (suc a) (suc b) bytes (has_message n framed) enough other =
     let count = length-drop n bytes in
     let others =
-    cut-enough a b (drop n bytes) (front (drop n bytes))
+    cut_of-enough a b (drop n bytes) (front (drop n bytes))
     (omega (arith, enough, framed.least, count)) (omega (arith, other, framed.least, count)) in
-    cut-framed a n bytes framed
-    ∙ (ap (with_first (take n bytes)) others ∙ sym (cut-framed b n bytes framed))
+    cut_of-framed a n bytes framed
+    ∙ (ap (with_first (take n bytes)) others ∙ sym (cut_of-framed b n bytes framed))
 
 -- the first message is cut off, and then the bytes behind it are cut
-cut-first : (bytes : List ℕ) (n : ℕ) → IsFramed bytes n
-    → cut bytes ≡ with_first (take n bytes) (cut (drop n bytes))
-cut-first bytes n framed =
+cut_of-first : (bytes : List ℕ) (n : ℕ) → IsFramed bytes n
+    → cut_of bytes ≡ with_first (take n bytes) (cut_of (drop n bytes))
+cut_of-first bytes n framed =
     let count = length-drop n bytes in
-    cut-enough (length bytes) (suc (length bytes)) bytes (has_message n framed) (omega arith)
+    cut_of-enough (length bytes) (suc (length bytes)) bytes (has_message n framed) (omega arith)
     (omega arith)
-    ∙ (cut-framed (length bytes) n bytes framed
+    ∙ (cut_of-framed (length bytes) n bytes framed
     ∙ ap (with_first (take n bytes))
-    (cut-enough (length bytes) (length (drop n bytes)) (drop n bytes) (front (drop n bytes))
+    (cut_of-enough (length bytes) (length (drop n bytes)) (drop n bytes) (front (drop n bytes))
     (omega (arith, count)) (omega arith)))
 
 -- exactly the messages that were written are cut off
-pub cut-messages : (messages : List (List ℕ)) (rest : List ℕ) → AllByRecursion IsMessage messages
+pub cut_of-messages : (messages : List (List ℕ)) (rest : List ℕ) → AllByRecursion IsMessage messages
     → IsLeftOver rest
-    → cut (concat messages ++ rest) ≡ record { messages = messages; rest = rest }
-cut-messages [] rest all left = cut-left_over (length rest) rest left
-cut-messages (message ∷ messages) rest all left =
+    → cut_of (concat messages ++ rest) ≡ record { messages = messages; rest = rest }
+cut_of-messages [] rest all left = cut_of-left_over (length rest) rest left
+cut_of-messages (message ∷ messages) rest all left =
     let behind = concat messages ++ rest in
     let framed = framed-more message behind (length message) (message-framed message all.0) in
-    ap cut (append_assoc message (concat messages) rest)
-    ∙ (cut-first (message ++ behind) (length message) framed
+    ap cut_of (append_assoc message (concat messages) rest)
+    ∙ (cut_of-first (message ++ behind) (length message) framed
     ∙ ((λ i.
-    with_first (take-append_seam message behind i) (cut (drop-append_seam message behind i)))
-    ∙ ap (with_first message) (cut-messages messages rest all.1 left)))
+    with_first (take-append_seam message behind i) (cut_of (drop-append_seam message behind i)))
+    ∙ ap (with_first message) (cut_of-messages messages rest all.1 left)))
 
 -- a cut is its two parts
 alone : (c : Cut) → record { messages = [] ++ c.messages; rest = c.rest } ≡ c
 alone c = refl
 
 -- what comes in pieces is cut as if it came at once
-cut-fed_up_to : (most : ℕ) (bytes more : List ℕ) → Front bytes → length bytes ≤ most
-    → cut (bytes ++ more) ≡ fed (cut_up_to most bytes) more
-cut-fed_up_to most bytes more (has_none left) enough =
-    sym (alone (cut (bytes ++ more))) ∙ ap (λ c. fed c more) (sym (cut-left_over most bytes left))
-cut-fed_up_to zero bytes more (has_message n framed) enough =
+cut_of-fed_up_to : (most : ℕ) (bytes more : List ℕ) → Front bytes → length bytes ≤ most
+    → cut_of (bytes ++ more) ≡ cut_with_more (cut_up_to most bytes) more
+cut_of-fed_up_to most bytes more (has_none left) enough =
+    sym (alone (cut_of (bytes ++ more)))
+    ∙ ap (λ c. cut_with_more c more) (sym (cut_of-left_over most bytes left))
+cut_of-fed_up_to zero bytes more (has_message n framed) enough =
     absurd (omega (arith, enough, framed.least, framed.within))
-cut-fed_up_to (suc most) bytes more (has_message n framed) enough =
+cut_of-fed_up_to (suc most) bytes more (has_message n framed) enough =
     let first = take-append-le n bytes more framed.within in
     let behind = drop-append-le n bytes more framed.within in
     let others =
-    cut-fed_up_to most (drop n bytes) more (front (drop n bytes))
+    cut_of-fed_up_to most (drop n bytes) more (front (drop n bytes))
     (omega (arith, enough, framed.least, length-drop n bytes)) in
-    cut-first (bytes ++ more) n (framed-more bytes more n framed)
-    ∙ ((λ i. with_first (first i) (cut (behind i)))
+    cut_of-first (bytes ++ more) n (framed-more bytes more n framed)
+    ∙ ((λ i. with_first (first i) (cut_of (behind i)))
     ∙ (ap (with_first (take n bytes)) others
-    ∙ ap (λ c. fed c more) (sym (cut-framed most n bytes framed))))
+    ∙ ap (λ c. cut_with_more c more) (sym (cut_of-framed most n bytes framed))))
 
-pub cut-fed : (bytes more : List ℕ) → cut (bytes ++ more) ≡ fed (cut bytes) more
-cut-fed bytes more = cut-fed_up_to (length bytes) bytes more (front bytes) (omega arith)
+pub cut_of-cut_with_more : (bytes more : List ℕ)
+    → cut_of (bytes ++ more) ≡ cut_with_more (cut_of bytes) more
+cut_of-cut_with_more bytes more =
+    cut_of-fed_up_to (length bytes) bytes more (front bytes) (omega arith)

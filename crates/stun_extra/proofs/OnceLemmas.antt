@@ -4,7 +4,7 @@ use Rattle.std.proofs.Common.{[], ◌∷◌, length, refl, sym, ◌∙◌, ap, a
 use Rattle.std.specs.Prelude.{filter, not, ◌==◌, ◌&&◌, ◌||◌}
 use Rattle.std.specs.List.{list_any}
 use Rattle.std.proofs.lemmas.Bool.Decides.{nat_tests}
-use Rattle.stun_extra.specs.Unknown.{once}
+use Rattle.stun_extra.specs.Unknown.{without_repeats}
 use Rattle.stun_extra.proofs.Crc32Lemmas.{equal}
 
 -- two tests, one after the other, as one
@@ -25,7 +25,7 @@ filter-twice one other both (x ∷ xs) agree =
 
 -- those that pass a test and are not told
 abbrev pub untold : (ℕ → Bool) → (ℕ → Bool) → List ℕ → List ℕ
-untold test told xs = filter (λ x. not (told x)) (once (filter test xs))
+untold test told xs = filter (λ x. not (told x)) (without_repeats (filter test xs))
 
 both_true : (a b : Bool) → (a && b) ≡ true → (a ≡ true) × (b ≡ true)
 both_true true b both = (refl, both)
@@ -58,10 +58,11 @@ pub untold-skipped : (test told : ℕ → Bool) (k : ℕ) (ks : List ℕ) → (t
 untold-skipped test told k ks skipped = by (test k) skipped
   where
     others : List ℕ
-    others = once (filter test ks)
+    others = without_repeats (filter test ks)
 
     by : (passes : Bool) → (passes && not (told k)) ≡ false
-        → filter (λ x. not (told x)) (once (cond passes (k ∷ filter test ks) (filter test ks)))
+        → filter (λ x. not (told x))
+        (without_repeats (cond passes (k ∷ filter test ks) (filter test ks)))
         ≡ filter (λ x. not (told x)) others
     by false skip = refl
     by true skip =
@@ -79,8 +80,9 @@ pub untold-told : (test told next : ℕ → Bool) (k : ℕ) (ks : List ℕ)
     → untold test told (k ∷ ks) ≡ k ∷ untold test next ks
 untold-told test told next k ks shown more =
     let parts = both_true (test k) (not (told k)) shown in
-    let others = once (filter test ks) in
-    ap (λ b. filter (λ x. not (told x)) (once (cond b (k ∷ filter test ks) (filter test ks))))
+    let others = without_repeats (filter test ks) in
+    ap (λ b. filter (λ x. not (told x))
+    (without_repeats (cond b (k ∷ filter test ks) (filter test ks))))
     parts.0
     ∙ (ap (λ b. cond b (k ∷ filter (λ x. not (told x)) (filter (λ y. not (y == k)) others))
     (filter (λ x. not (told x)) (filter (λ y. not (y == k)) others))) parts.1
@@ -90,8 +92,8 @@ untold-told test told next k ks shown more =
 
 -- where none is told all are left
 pub untold-none : (test told : ℕ → Bool) (ks : List ℕ) → ((x : ℕ) → told x ≡ false)
-    → untold test told ks ≡ once (filter test ks)
-untold-none test told ks none = all (once (filter test ks))
+    → untold test told ks ≡ without_repeats (filter test ks)
+untold-none test told ks none = all (without_repeats (filter test ks))
   where
     all : (xs : List ℕ) → filter (λ x. not (told x)) xs ≡ xs
     all [] = refl
@@ -101,13 +103,13 @@ untold-none test told ks none = all (once (filter test ks))
         λ i. cond (here i) (x ∷ rest i) (rest i)
 
 -- a number is once in such a list where it is in the list at all, or else not at all
-pub once-count : (x : ℕ) (xs : List ℕ)
-    → length (filter (λ y. y == x) (once xs)) ≡ cond (list_any (λ y. y == x) xs) 1 0
-once-count x [] = refl
-once-count x (k ∷ ks) = by (once-count x ks) (k == x) refl
+pub without_repeats-count : (x : ℕ) (xs : List ℕ)
+    → length (filter (λ y. y == x) (without_repeats xs)) ≡ cond (list_any (λ y. y == x) xs) 1 0
+without_repeats-count x [] = refl
+without_repeats-count x (k ∷ ks) = by (without_repeats-count x ks) (k == x) refl
   where
     others : List ℕ
-    others = once ks
+    others = without_repeats ks
 
     none : (k ≡ x) → (y : ℕ) → (not (y == k) && (y == x)) ≡ false
     none same y =

@@ -9,10 +9,10 @@ use Rattle.byteorder.specs.Endian.{big_number}
 use Rattle.stun_base.specs.declared.wire.attribute_type.AttributeType.{AttributeType}
 use Rattle.stun_types.specs.Attribute.{first_attribute, has_attribute}
 use Rattle.stun_base.specs.Header.{HEADER_LENGTH}
-use Rattle.stun_types.specs.Visible.{counts, visible}
+use Rattle.stun_types.specs.Visible.{is_visible, visible}
 use Rattle.stun_types.specs.Walk.{Member, next_place, walk, walk_up_to}
 use Rattle.stun_types.proofs.GrammarLemmas.{AreBytes, AreBytes-drop}
-use Rattle.stun_extra.specs.Unknown.{AreTypes, is_unknown, kinds_of, once}
+use Rattle.stun_extra.specs.Unknown.{AreTypes, is_unknown, kinds_of, without_repeats}
 use Rattle.stun_extra.specs.Unknown.{spelled_types, types_in, types_of, unknown_types}
 
 -- a type for each 2 bytes
@@ -100,7 +100,7 @@ HaveTypes-walk_up_to (suc most) place bytes small =
 HaveTypes-visible : (bytes : List ℕ) → AreBytes bytes → HaveTypes (visible bytes)
 unfolding visible
 HaveTypes-visible bytes small =
-    AllByRecursion-filter (λ (m : Member). m.1.kind < 2 ^ 16) (counts (walk bytes)) (walk bytes)
+    AllByRecursion-filter (λ (m : Member). m.1.kind < 2 ^ 16) (is_visible (walk bytes)) (walk bytes)
     (HaveTypes-walk_up_to (length bytes) HEADER_LENGTH bytes small)
 
 abbrev AreKinds : List ℕ → Type 0
@@ -110,12 +110,12 @@ AreKinds-of : (members : List Member) → HaveTypes members → AreKinds (kinds_
 AreKinds-of [] fit = tt
 AreKinds-of (m ∷ members) fit = (fit.0, AreKinds-of members fit.1)
 
-AreKinds-once : (kinds : List ℕ) → AreKinds kinds → AreKinds (once kinds)
-AreKinds-once [] fit = tt
-AreKinds-once (kind ∷ kinds) fit = (
+AreKinds-without_repeats : (kinds : List ℕ) → AreKinds kinds → AreKinds (without_repeats kinds)
+AreKinds-without_repeats [] fit = tt
+AreKinds-without_repeats (kind ∷ kinds) fit = (
   fit.0,
-  AllByRecursion-filter (λ (n : ℕ). n < 2 ^ 16) (λ n. not (n == kind)) (once kinds)
-      (AreKinds-once kinds fit.1),
+  AllByRecursion-filter (λ (n : ℕ). n < 2 ^ 16) (λ n. not (n == kind)) (without_repeats kinds)
+      (AreKinds-without_repeats kinds fit.1),
 )
 
 AreTypes-of : (kinds : List ℕ) → AreKinds kinds → AreTypes (types_of kinds)
@@ -127,7 +127,7 @@ pub AreTypes-unknown : (known : List AttributeType) (bytes : List ℕ) → AreBy
 AreTypes-unknown known bytes small =
     let kinds = kinds_of (visible bytes) in
     let unknown = filter (is_unknown known) kinds in
-    AreTypes-of (once unknown)
-    (AreKinds-once unknown
+    AreTypes-of (without_repeats unknown)
+    (AreKinds-without_repeats unknown
     (AllByRecursion-filter (λ (n : ℕ). n < 2 ^ 16) (is_unknown known) kinds
     (AreKinds-of (visible bytes) (HaveTypes-visible bytes small))))

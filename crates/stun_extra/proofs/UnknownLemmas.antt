@@ -6,7 +6,7 @@ use Rattle.std.proofs.lemmas.List.Sums.{count_by-le-length, length-filter}
 use Rattle.stun_base.specs.declared.wire.attribute_type.AttributeType.{AttributeType}
 use Rattle.stun_types.specs.Visible.{visible}
 use Rattle.stun_types.specs.Walk.{Member}
-use Rattle.stun_extra.specs.Unknown.{is_unknown, kinds_of, once}
+use Rattle.stun_extra.specs.Unknown.{is_unknown, kinds_of, without_repeats}
 use Rattle.stun_extra.specs.Unknown.{spelled_types, types_of, unknown_types}
 use Rattle.stun_extra.specs.code.Told.{is_new, is_told, left_to_tell}
 use Rattle.stun_extra.proofs.OnceLemmas.{untold-none, untold-skipped, untold-told}
@@ -49,11 +49,17 @@ left_to_tell-none known words bytes none =
 -- ---- how many there are
 
 -- each number once are no more numbers
-once-few : (xs : List ℕ) → length (once xs) ≤ length xs
-once-few [] = omega arith
-once-few (x ∷ xs) =
+without_repeats-few : (xs : List ℕ) → length (without_repeats xs) ≤ length xs
+without_repeats-few [] = omega arith
+without_repeats-few (x ∷ xs) =
     let kept = λ (y : ℕ). not (y == x) in
-    omega (arith, once-few xs, length-filter kept (once xs), count_by-le-length kept (once xs))
+    omega (
+      arith,
+      without_repeats-few xs,
+      length-filter kept
+          (without_repeats xs),
+      count_by-le-length kept (without_repeats xs),
+    )
 
 -- there are no more of them than visible attributes
 pub unknown_types-few : (known : List AttributeType) (bytes : List ℕ)
@@ -61,14 +67,14 @@ pub unknown_types-few : (known : List AttributeType) (bytes : List ℕ)
 unknown_types-few known bytes =
     let kinds = kinds_of (visible bytes) in
     let unknown = filter (is_unknown known) kinds in
-    let one : length (types_of (once unknown)) ≡ length (once unknown) =
-    length-map (once unknown) _ in
+    let one : length (types_of (without_repeats unknown)) ≡ length (without_repeats unknown) =
+    length-map (without_repeats unknown) _ in
     let two : length kinds ≡ length (visible bytes) = length-map (visible bytes) _ in
     omega (
       arith,
       one,
       two,
-      once-few unknown,
+      without_repeats-few unknown,
       length-filter (is_unknown known) kinds,
       count_by-le-length (is_unknown known) kinds,
     )

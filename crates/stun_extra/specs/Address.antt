@@ -26,7 +26,7 @@ abbrev pub address_value : Address → List ℕ
 address_value address =
     0 ∷ family_of_ip address.ip ∷ big_bytes 2 address.port ++ octets_of_ip address.ip
 
--- the address of a family with these octets, where they are as many as it has
+-- the address of a family with these octets, if they are as many as it has
 abbrev pub ip_of : ℕ → List ℕ → Option IpAddr
 ip_of family octets =
     if family == 0x01 && (length octets == 4) then Some (V4 (record { octets = octets }))
@@ -38,7 +38,7 @@ abbrev pub with_port : ℕ → Option IpAddr → Option Address
 with_port port (Some ip) = Some (record { ip = ip; port = port })
 with_port port None = None
 
--- the address in an attribute of this type, where it is well formed
+-- the address in an attribute of this type, if it is well formed
 abbrev pub address_of : ℕ → TypedValue → Option Address
 address_of kind attribute =
     if attribute.kind == kind && nat_le 4 (length attribute.value)

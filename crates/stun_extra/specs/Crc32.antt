@@ -18,8 +18,8 @@ bits_of byte =
     byte % 2 ∷ byte / 2 % 2 ∷ byte / 4 % 2 ∷ byte / 8 % 2
     ∷ byte / 16 % 2 ∷ byte / 32 % 2 ∷ byte / 64 % 2 ∷ byte / 128 % 2 ∷ []
 
--- one step of the division: the remainder is multiplied by x, and the polynomial is subtracted
--- where the power that leaves and the next bit of the message differ
+-- one step of the division: the remainder is multiplied by x, and the polynomial is subtracted if
+-- the power that leaves and the next bit of the message differ
 abbrev pub after_bit : ℕ → ℕ → ℕ
 after_bit remainder bit =
     if remainder % 2 == bit then remainder / 2 else bit_xor (remainder / 2) POLYNOMIAL

@@ -22,21 +22,21 @@ abbrev pub FINGERPRINT_XOR : ℕ
 FINGERPRINT_XOR = 0x5354554E
 
 -- the number in a FINGERPRINT after these bytes of a message
-abbrev pub fingerprint_number : List ℕ → ℕ
-fingerprint_number bytes = bit_xor (crc32 bytes) FINGERPRINT_XOR
+abbrev pub fingerprint_crc : List ℕ → ℕ
+fingerprint_crc bytes = bit_xor (crc32 bytes) FINGERPRINT_XOR
 
 -- the FINGERPRINT at the end of a message, whose length field counts its 4 bytes of value
 abbrev pub fingerprint_attribute : List ℕ → TypedValue
 fingerprint_attribute message = record {
   kind = FINGERPRINT;
-  value = big_bytes 4 (fingerprint_number (with_length message (length_with message 4)));
+  value = big_bytes 4 (fingerprint_crc (with_length message (length_with message 4)));
 }
 
 -- the message with its length raised, then its FINGERPRINT
 abbrev pub with_fingerprint : List ℕ → List ℕ
 with_fingerprint message = with_attribute message (fingerprint_attribute message)
 
--- why a FINGERPRINT is refused in a writer with so much room, the first reason that holds
+-- why a FINGERPRINT is refused in a writer with this room: the first reason that holds
 abbrev pub fingerprint_refusal : List ℕ → ℕ → Option StunWriteError
 fingerprint_refusal message room =
     if has_kind FINGERPRINT (walk message) then Some (AttributeExists (record { 0 = FINGERPRINT }))
@@ -50,14 +50,14 @@ is_in_place message m = (length m.1.value == 4) && (m.0 + 8 == length message)
 abbrev pub fingerprint_at : List ℕ → Member → Fingerprint
 fingerprint_at message m =
     if is_in_place message m
-    then if big_number 4 m.1.value == fingerprint_number (take m.0 message) then Right else Wrong
+    then if big_number 4 m.1.value == fingerprint_crc (take m.0 message) then Right else Wrong
     else Misplaced
 
--- the same, where there is one
+-- the same, or `Absent` if there is none
 abbrev pub fingerprint_if : List ℕ → Option Member → Fingerprint
 fingerprint_if message None = Absent
 fingerprint_if message (Some m) = fingerprint_at message m
 
--- what the FINGERPRINT of a message is: the first one hides each other
+-- what the FINGERPRINT of a message is: only the first one counts
 abbrev pub fingerprint_in : List ℕ → Fingerprint
 fingerprint_in message = fingerprint_if message (first_of FINGERPRINT (visible message))

@@ -7,7 +7,7 @@ use Rattle.stun_types.specs.Attribute.{padded_length}
 use Rattle.stun_extra.specs.declared.framing.Frame.{Frame}
 use Rattle.stun_extra.specs.declared.framing.Frame.TheVariants.{Need, Message, NotStun}
 
--- what bytes that begin with a message of so many bytes are, by how many of them are there
+-- what bytes are that begin with a message of this length, by how many of them are there
 abbrev pub frame_to : ℕ → ℕ → Frame
 frame_to there whole = if nat_lt there whole then Need (whole - there) else Message whole
 
@@ -26,7 +26,8 @@ pub record IsStunPacket (packet : List ℕ) : Type 0 where
 
 -- ---- a stream
 
--- so many bytes of a message, fewer than it has, want more, and no more than it has
+-- the first `n` bytes of a message, fewer than it has, give `Need`, with at most the number of
+-- bytes that the message lacks
 pub record IsPartOf (message : List ℕ) (n : ℕ) : Type 0 where
   pub needed : ℕ
   pub answer : frame_of (take n message) ≡ Need needed
@@ -38,31 +39,31 @@ pub record Cut : Type 0 where
   pub messages : List (List ℕ)
   pub rest : List ℕ
 
--- one message more at the front
+-- one more message at the front
 abbrev pub with_first : List ℕ → Cut → Cut
 with_first message others = record { messages = message ∷ others.messages; rest = others.rest }
 
--- a message is cut off where there is one, and then what follows it is cut
+-- if a message is at the front, it is cut off, and then what follows it is cut
 abbrev pub cut_by : Frame → (List ℕ → Cut) → List ℕ → Cut
 cut_by (Message n) others bytes = with_first (take n bytes) (others (drop n bytes))
 cut_by (Need n) others bytes = record { messages = []; rest = bytes }
 cut_by NotStun others bytes = record { messages = []; rest = bytes }
 
--- up to so many messages
+-- at most this number of messages
 unfoldable pub cut_up_to : ℕ → List ℕ → Cut
 cut_up_to zero bytes = record { messages = []; rest = bytes }
 cut_up_to (suc most) bytes = cut_by (frame_of bytes) (cut_up_to most) bytes
 
 -- all of them: there are no more of them than bytes
-abbrev pub cut : List ℕ → Cut
-cut bytes = cut_up_to (length bytes) bytes
+abbrev pub cut_of : List ℕ → Cut
+cut_of bytes = cut_up_to (length bytes) bytes
 
--- more bytes come behind what was left, and are cut with it
-abbrev pub fed : Cut → List ℕ → Cut
-fed before more =
+-- more bytes follow what was left, and are cut with it
+abbrev pub cut_with_more : Cut → List ℕ → Cut
+cut_with_more before more =
     record {
-      messages = before.messages ++ (cut (before.rest ++ more)).messages;
-      rest = (cut (before.rest ++ more)).rest;
+      messages = before.messages ++ (cut_of (before.rest ++ more)).messages;
+      rest = (cut_of (before.rest ++ more)).rest;
     }
 
 -- no whole message is at the front
@@ -71,18 +72,18 @@ IsLeftOver bytes = (n : ℕ) → frame_of bytes ≡ Message n → ⊥
 
 -- ---- other frames of a stream
 
--- a packet behind its length in 2 bytes, as ICE sends it over TCP (RFC 4571, section 2)
+-- a packet after its length in 2 bytes, as ICE sends it over TCP (RFC 4571, section 2)
 abbrev pub framed_packet : List ℕ → List ℕ
 framed_packet packet = big_bytes 2 (length packet) ++ packet
 
--- what bytes begin with, where such packets come
+-- what bytes begin with, if such packets are expected
 abbrev pub packet_frame_of : List ℕ → Frame
 packet_frame_of bytes =
     if nat_lt (length bytes) 2 then Need (2 - length bytes)
     else frame_to (length bytes) (2 + big_number 2 bytes)
 
--- ChannelData in a stream: the number of a channel, the length of the data, the data, and padding
--- up to a multiple of 4 bytes (RFC 8656, sections 12.4 and 12.5)
+-- ChannelData in a stream (RFC 8656, sections 12.4 and 12.5): the number of a channel, the length
+-- of the data, the data, and padding up to a multiple of 4 bytes
 abbrev pub channel_data : ℕ → List ℕ → List ℕ
 channel_data channel bytes =
     big_bytes 2 channel ++ big_bytes 2 (length bytes) ++ bytes
@@ -92,7 +93,7 @@ channel_data channel bytes =
 abbrev pub is_channel : List ℕ → Bool
 is_channel bytes = slice_index bytes 0 / 16 == 4
 
--- what bytes begin with, where ChannelData and messages come
+-- what bytes begin with, if ChannelData and messages are expected
 abbrev pub turn_frame_of : List ℕ → Frame
 turn_frame_of bytes =
     if nat_lt (length bytes) 4 then Need (4 - length bytes)
@@ -100,8 +101,8 @@ turn_frame_of bytes =
     then frame_to (length bytes) (4 + padded_length (big_number 2 (drop 2 bytes)))
     else frame_of bytes
 
--- by a reader of frames so many bytes of a whole, fewer than it has, want more, and no more than it
--- has
+-- as `IsPartOf`, for any reader of frames: the first `n` bytes of a whole, fewer than it has, give
+-- `Need`, with at most the number of bytes that it lacks
 pub record IsPartBy (reader : List ℕ → Frame) (whole : List ℕ) (n : ℕ) : Type 0 where
   pub needed : ℕ
   pub answer : reader (take n whole) ≡ Need needed

@@ -2,7 +2,7 @@
 
 -- CRC-32, as a division of polynomials
 pub mod Crc32
--- FINGERPRINT: what is written at the end of a message, and what is found there (RFC 8489, section
+-- FINGERPRINT: how it is written at the end of a message, and what reading finds (RFC 8489, section
 -- 14.7)
 pub mod Fingerprint
 -- types that must be understood and are not known, and UNKNOWN-ATTRIBUTES (sections 6.3.1 and
@@ -21,5 +21,5 @@ pub mod Address
 pub mod Turn
 -- the methods of TURN (RFC 8656, section 17)
 pub mod TurnMethods
--- what no clause of a public call says: views of structs
+-- what no clause of a public call cites: views of structs
 pub mod code

@@ -40,7 +40,7 @@ abbrev pub family_number : AddressFamily → ℕ
 family_number Ipv4 = 0x01
 family_number Ipv6 = 0x02
 
--- the family of a number, where it is one
+-- the family of a number, if it is one
 abbrev pub numbered_family : ℕ → Option AddressFamily
 numbered_family number =
     if number == 0x01 then Some Ipv4 else (if number == 0x02 then Some Ipv6 else None)

@@ -13,7 +13,7 @@ method_number Data = 0x007
 method_number CreatePermission = 0x008
 method_number ChannelBind = 0x009
 
--- the method of a number, where it is one of TURN
+-- the method of a number, if it is one of TURN
 abbrev pub turn_method_of : ℕ → Option TurnMethod
 turn_method_of number =
     if number == 0x003 then Some Allocate

@@ -9,7 +9,7 @@ use Rattle.byteorder.specs.Endian.{big_bytes}
 use Rattle.stun_base.specs.declared.wire.attribute_type.AttributeType.{AttributeType}
 use Rattle.stun_types.specs.Attribute.{TypedValue}
 use Rattle.stun_types.specs.ErrorCode.{error_value}
-use Rattle.stun_types.specs.Grammar.{spelled}
+use Rattle.stun_types.specs.Grammar.{spelled_message}
 use Rattle.stun_types.specs.Integrity.{first_of}
 use Rattle.stun_base.specs.Attributes.{ERROR_CODE}
 use Rattle.stun_base.specs.Header.{transaction_id_field, type_field}
@@ -20,8 +20,8 @@ use Rattle.stun_types.specs.Walk.{Member}
 pub use Rattle.stun_extra.specs.AttributeTypes.{UNKNOWN_ATTRIBUTES}
 
 -- whether an attribute of a type must be understood (section 14)
-abbrev pub is_required : ℕ → Bool
-is_required kind = nat_lt kind 0x8000
+abbrev pub is_comprehension_required : ℕ → Bool
+is_comprehension_required kind = nat_lt kind 0x8000
 
 -- whether a type is in a list
 abbrev pub is_known : List AttributeType → ℕ → Bool
@@ -29,12 +29,12 @@ is_known known kind = list_any (λ k. k.0 == kind) known
 
 -- whether an attribute of a type must be understood, and is not known
 abbrev pub is_unknown : List AttributeType → ℕ → Bool
-is_unknown known kind = is_required kind && not (is_known known kind)
+is_unknown known kind = is_comprehension_required kind && not (is_known known kind)
 
--- each number of a list where it comes first
-abbrev pub once : List ℕ → List ℕ
-once [] = []
-once (x ∷ xs) = x ∷ filter (λ y. not (y == x)) (once xs)
+-- each number of a list at its first place
+abbrev pub without_repeats : List ℕ → List ℕ
+without_repeats [] = []
+without_repeats (x ∷ xs) = x ∷ filter (λ y. not (y == x)) (without_repeats xs)
 
 -- the types of attributes, in their order
 abbrev pub kinds_of : List Member → List ℕ
@@ -47,7 +47,8 @@ types_of kinds = map (λ kind. record { 0 = kind }) kinds
 -- the types of visible attributes that must be understood and are not known, in their order, each
 -- once
 abbrev pub unknown_types : List AttributeType → List ℕ → List AttributeType
-unknown_types known bytes = types_of (once (filter (is_unknown known) (kinds_of (visible bytes))))
+unknown_types known bytes =
+    types_of (without_repeats (filter (is_unknown known) (kinds_of (visible bytes))))
 
 -- a message has a visible attribute that must be understood and is not known
 abbrev pub HasUnknown : List AttributeType → List ℕ → Type 0
@@ -80,7 +81,8 @@ unknown_attribute_error =
 -- (section 6.3.1)
 unfoldable pub refusing_answer : List AttributeType → List ℕ → List ℕ
 refusing_answer known request =
-    spelled (type_number Error (method_of (type_field request))) (transaction_id_field request)
+    spelled_message (type_number Error (method_of (type_field request)))
+    (transaction_id_field request)
     (unknown_attribute_error
     ∷ record {
       kind = UNKNOWN_ATTRIBUTES;

@@ -1,5 +1,5 @@
--- How values of one form are read: a number, nothing, or bytes. Of another length than their type
--- has they are malformed.
+-- How values of one form are read: a number, nothing, or bytes. A value of another length than its
+-- type has is malformed.
 use Rattle.std.specs.Prelude.{◌≡◌, ◌<◌, ◌^◌, ℕ, List, [], length, Option}
 use Rattle.std.specs.Prelude.{Some, None, ◌==◌, ◌&&◌, if◌then◌else◌}
 use Rattle.std.proofs.Common.{rules, sym, ap, ◌∙◌}
@@ -12,14 +12,14 @@ use Rattle.stun_types.specs.Attribute.{TypedValue}
 abbrev pub DOMAIN_LIMIT : ℕ
 DOMAIN_LIMIT = 255
 
--- the value of an attribute of this type, where it has exactly so many bytes
-abbrev pub value_of : ℕ → ℕ → TypedValue → Option (List ℕ)
-value_of kind count attribute =
+-- the value of an attribute of this type, if it has exactly this number of bytes
+abbrev pub value_of_length : ℕ → ℕ → TypedValue → Option (List ℕ)
+value_of_length kind count attribute =
     if attribute.kind == kind && (length attribute.value == count) then Some attribute.value
     else None
 
--- the number that is the value of an attribute of this type, in exactly so many bytes, the highest
--- first
+-- the number that is the value of an attribute of this type, if it has exactly this number of
+-- bytes, the highest first
 abbrev pub number_of : ℕ → ℕ → TypedValue → Option ℕ
 number_of kind count attribute =
     if attribute.kind == kind && (length attribute.value == count)
@@ -52,7 +52,7 @@ pub number_of_8-written : (kind number : ℕ) → number < 2 ^ 64
 number_of_8-written kind number fits = let read = number-written 8 number fits in search rules
 
 pub value_of-written : (kind count : ℕ) (value : List ℕ) → length value ≡ count
-    → value_of kind count (record { kind = kind; value = value }) ≡ Some value
+    → value_of_length kind count (record { kind = kind; value = value }) ≡ Some value
 value_of-written kind count value whole = search rules
 
 pub flag_of-written : (kind : ℕ) (flag : Unit {0}) → Unit {0}

@@ -1,4 +1,4 @@
-//! FINGERPRINT (RFC 8489, section 14.7): written at the end of a message, and checked.
+//! FINGERPRINT (RFC 8489, section 14.7): adds it to a message, and checks it.
 ghost use Rattle.std.specs.Prelude.{◌≡◌, ◌≤◌, ℕ, false, List, length, IfOk};
 ghost use Rattle.std.specs.Prelude.{IsOk, IsOkUnless, MatchOption, None, Err};
 ghost use Rattle.stun_base.specs.Attributes.{FINGERPRINT};
@@ -8,7 +8,7 @@ ghost use Rattle.stun_types.specs.Message.{IsMessage};
 ghost use Rattle.stun_types.specs.Visible.{visible};
 ghost use Rattle.stun_types.specs.Writing.{HasOneMore};
 ghost use Rattle.stun_extra.specs.Fingerprint.{fingerprint_at, fingerprint_attribute};
-ghost use Rattle.stun_extra.specs.Fingerprint.{fingerprint_in, fingerprint_number};
+ghost use Rattle.stun_extra.specs.Fingerprint.{fingerprint_in, fingerprint_crc};
 ghost use Rattle.stun_extra.specs.Fingerprint.{fingerprint_refusal, with_fingerprint};
 
 use crate::crc32::crc32;
@@ -30,17 +30,17 @@ pub const FINGERPRINT_LENGTH: usize = 8;
 /// What the FINGERPRINT of a message is.
 #[derive(Clone, Copy, Debug, PartialEq, Eq)]
 pub enum Fingerprint {
-    /// That of the message before it.
+    /// The number is that of the bytes before it.
     Right,
-    /// Another number: the message is damaged, or is no message of STUN.
+    /// The number is another: the message is damaged, or is no message of STUN.
     Wrong,
-    /// Not the last attribute, or not of four bytes.
+    /// It is not the last attribute, or its value does not have 4 bytes.
     Misplaced,
-    /// There is none.
+    /// The message has none.
     Absent,
 }
 
-/// What the FINGERPRINT of a message is. It does not allocate.
+/// Checks the FINGERPRINT of a message. It does not allocate.
 pub fn check_fingerprint(message: &Message<'_>) -> Fingerprint
     ensures { result ≡ fingerprint_in message.now }
 {
@@ -50,7 +50,7 @@ pub fn check_fingerprint(message: &Message<'_>) -> Fingerprint
     }
 }
 
-/// The first FINGERPRINT of a message, with its place.
+/// The first visible FINGERPRINT of a message, with its place.
 fn first_fingerprint<'a>(message: &Message<'a>) -> Option<(usize, RawAttribute<'a>)>
     ensures { result ≡ first_of FINGERPRINT (visible message.now) }
 {
@@ -79,18 +79,19 @@ fn fingerprint_at(message: &[u8], place: usize, attribute: &RawAttribute<'_>) ->
 
 /// The number in a FINGERPRINT after these bytes of a message.
 fn fingerprint_number(bytes: &[u8]) -> u32
-    ensures { result ≡ fingerprint_number bytes.now }
+    ensures { result ≡ fingerprint_crc bytes.now }
 {
     crc32(bytes) ^ FINGERPRINT_XOR
 }
 
-/// Adds FINGERPRINT to a message and ends the writing, so that nothing comes behind it.
+/// Adds FINGERPRINT, 8 bytes, to a message and ends the writing, so that nothing follows it.
 ///
-/// The message may be signed before: its digest verifies as it did, since it covers only what is
-/// before it, and a length that ends after it. It refuses by the first of these: the message has a
-/// FINGERPRINT (`AttributeExists`), it would be longer than 65532 bytes after its header
-/// (`TooLarge`), no room for 8 bytes (`TooSmall`), an allocation fails (`OutOfMemory`). A refusal
-/// drops the writer.
+/// The message may be signed before, and its digest verifies as it did: it covers only the bytes
+/// before it, and a length that ends after it.
+///
+/// Fails by the first of these that holds, and drops the writer. `AttributeExists`: the message has
+/// a FINGERPRINT. `TooLarge`: it would have more than 65532 bytes after its header. `TooSmall`: the
+/// writer has no room for 8 bytes. `OutOfMemory`: an allocation fails.
 pub fn finish_with_fingerprint<W: MessageWrite>(mut writer: W) -> Result<W::Output, StunWriteError>
     requires { 20 ≤ length (W.bytes writer) }
 

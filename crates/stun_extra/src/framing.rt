@@ -14,22 +14,23 @@ pub const PACKET_HEADER_LENGTH: usize = 2;
 /// section 12.4).
 pub const CHANNEL_HEADER_LENGTH: usize = 4;
 
-/// What bytes of a stream begin with.
+/// What the bytes of a stream begin with.
 #[derive(Clone, Copy, Debug, PartialEq, Eq)]
 pub enum Frame {
-    /// A part of a message: it has at least so many bytes more, one or more.
+    /// A part of a message, which has at least this number of bytes more, one or more.
     Need(usize),
-    /// A message of so many bytes, by its header. Whether its attributes are whole,
-    /// `Message::from_bytes` tells.
+    /// A message of this number of bytes, by its header. `Message::from_bytes` tells whether its
+    /// attributes are whole.
     Message(usize),
-    /// No message of STUN, whatever follows.
+    /// No message of STUN, whatever bytes follow.
     NotStun,
 }
 
-/// What these bytes of a stream begin with, where a message is to begin. It does not allocate.
+/// What these bytes begin with, at a place of a stream at which a message begins (RFC 8489, section
+/// 6.2.2). It does not allocate.
 ///
-/// With fewer bytes than a header has, `Need` is what the header lacks; with a header, what the
-/// message lacks.
+/// `Need` counts the bytes that the header lacks, or after a whole header those that the message
+/// lacks.
 pub fn next_frame(bytes: &[u8]) -> Frame
     ensures { result ≡ frame_of bytes.now }
 {
@@ -45,9 +46,10 @@ pub fn next_frame(bytes: &[u8]) -> Frame
     }
 }
 
-/// What these bytes of a stream begin with, where a packet behind its length in 2 bytes is to
-/// begin, as ICE sends packets over TCP (RFC 4571, section 2). `Message` counts these 2 bytes, and
-/// so may be an empty packet; `NotStun` is never answered.
+/// What these bytes begin with, at a place of a stream at which a packet begins with its length in
+/// 2 bytes. ICE sends packets so over TCP (RFC 4571, section 2). It does not allocate.
+///
+/// `Message` counts these 2 bytes too, and the packet may be empty. It never returns `NotStun`.
 pub fn next_packet_frame(bytes: &[u8]) -> Frame
     ensures { result ≡ packet_frame_of bytes.now }
 {
@@ -58,9 +60,11 @@ pub fn next_packet_frame(bytes: &[u8]) -> Frame
     frame_to(bytes.len(), PACKET_HEADER_LENGTH + length)
 }
 
-/// What these bytes of a stream begin with, where a message or the ChannelData of TURN is to begin
-/// (RFC 8656, sections 12.4 and 12.5). `Message` is ChannelData, with its header of 4 bytes and its
-/// padding, where the first byte is 0x40 to 0x4F.
+/// What these bytes begin with, at a place of a stream at which a message or ChannelData begins
+/// (RFC 8656, sections 12.4 and 12.5). It does not allocate.
+///
+/// If the first byte is 0x40 to 0x4F, `Message` is ChannelData, with its header of 4 bytes and its
+/// padding.
 pub fn next_turn_frame(bytes: &[u8]) -> Frame
     ensures { result ≡ turn_frame_of bytes.now }
 {
@@ -74,7 +78,7 @@ pub fn next_turn_frame(bytes: &[u8]) -> Frame
     frame_to(bytes.len(), CHANNEL_HEADER_LENGTH + (length + 3) / 4 * 4)
 }
 
-/// What is there of so many bytes.
+/// `Need` or `Message`, by how many bytes of the whole are there.
 fn frame_to(there: usize, whole: usize) -> Frame
     ensures { result ≡ frame_to there whole }
 {
@@ -85,8 +89,8 @@ fn frame_to(there: usize, whole: usize) -> Frame
     }
 }
 
-/// Whether a packet is to be given to STUN, where other protocols share its port (RFC 8489, section
-/// 8; RFC 7983, section 7): its first byte is 0 to 3, and it begins with a header of STUN.
+/// Whether a packet is for STUN, on a port that other protocols share (RFC 8489, section 8; RFC
+/// 7983, section 7). Its first byte is 0 to 3, and it begins with a header of STUN.
 pub fn is_stun(packet: &[u8]) -> bool
     ensures { IsTrue result ↔ IsStunPacket packet.now }
 {

@@ -9,9 +9,10 @@ ghost use Rattle.stun_types.specs.Visible.{visible};
 ghost use Rattle.stun_types.specs.Walk.{Member};
 ghost use Rattle.stun_extra.specs.Crc32.{crc32};
 ghost use Rattle.stun_extra.specs.Fingerprint.{fingerprint_in};
-ghost use Rattle.stun_extra.specs.Framing.{IsLeftOver, IsPartBy, IsPartOf, channel_data, cut, fed};
+ghost use Rattle.stun_extra.specs.Framing.{IsLeftOver, IsPartBy, IsPartOf, channel_data, cut_of};
+ghost use Rattle.stun_extra.specs.Framing.{cut_with_more};
 ghost use Rattle.stun_extra.specs.Framing.{frame_of, framed_packet, packet_frame_of, turn_frame_of};
-ghost use Rattle.stun_extra.specs.Unknown.{once};
+ghost use Rattle.stun_extra.specs.Unknown.{without_repeats};
 ghost use Rattle.stun_extra.specs.declared.fingerprint.Fingerprint.{Fingerprint};
 ghost use Rattle.stun_extra.specs.declared.framing.Frame.{Frame};
 
@@ -21,8 +22,8 @@ pub fn one_changed_byte_changes_the_crc()
         → crc32 (front ++ byte ∷ behind) ≡ crc32 (front ++ other ∷ behind) → byte ≡ other }
 {}
 
-/// Of two messages with the same FINGERPRINT at the same place that differ in one byte before it,
-/// one at most is right.
+/// If two messages differ in one byte before the same FINGERPRINT at the same place, at most one of
+/// them is right.
 pub fn one_changed_byte_makes_fingerprint_wrong()
     ensures { (front behind : List ℕ) (byte other : ℕ) (m : Member)
         → byte < 256 → other < 256 → length front < m.0
@@ -33,14 +34,13 @@ pub fn one_changed_byte_makes_fingerprint_wrong()
         → byte ≡ other }
 {}
 
-/// A list with each number once has the numbers of the list, and each of them one time.
+/// The list with each number once has the same numbers, and each of them one time.
 pub fn each_number_is_there_once()
-    ensures { (x : ℕ) (xs : List ℕ) → length (filter (λ y. y == x) (once xs))
+    ensures { (x : ℕ) (xs : List ℕ) → length (filter (λ y. y == x) (without_repeats xs))
         ≡ cond (list_any (λ y. y == x) xs) 1 0 }
 {}
 
-/// A stream of messages is cut into exactly these messages, whatever the pieces are in which it
-/// comes.
+/// A stream of messages is cut into exactly these messages, whatever pieces it comes in.
 pub fn stream_is_cut_into_its_messages()
     ensures whole { (message rest : List ℕ) → IsMessage message
         → frame_of (message ++ rest) ≡ Frame.Message (length message) }
@@ -48,20 +48,22 @@ pub fn stream_is_cut_into_its_messages()
         → IsPartOf message n }
     ensures cut { (messages : List (List ℕ)) (rest : List ℕ)
         → AllByRecursion IsMessage messages → IsLeftOver rest
-        → cut (concat messages ++ rest) ≡ record { messages = messages; rest = rest } }
-    ensures fed { (bytes more : List ℕ) → cut (bytes ++ more) ≡ fed (cut bytes) more }
+        → cut_of (concat messages ++ rest) ≡ record { messages = messages; rest = rest } }
+    ensures fed { (bytes more : List ℕ)
+        → cut_of (bytes ++ more) ≡ cut_with_more (cut_of bytes) more }
 {}
 
-/// A packet behind its length is cut off whole, and a part of it wants more.
+/// A packet after its length is cut off whole, and for a part of it `Need` is returned.
 pub fn packet_is_framed()
     ensures whole { (packet rest : List ℕ) → length packet < 2 ^ 16
-        → packet_frame_of (framed_packet packet ++ rest) ≡ Frame.Message (length (framed_packet packet)) }
+        → packet_frame_of (framed_packet packet ++ rest)
+        ≡ Frame.Message (length (framed_packet packet)) }
     ensures begun { (packet : List ℕ) (n : ℕ) → length packet < 2 ^ 16
         → n < length (framed_packet packet) → IsPartBy packet_frame_of (framed_packet packet) n }
 {}
 
-/// Where messages and ChannelData come, each is cut off whole, and a part of ChannelData wants
-/// more.
+/// In a stream of messages and ChannelData each is cut off whole. For a part of ChannelData `Need`
+/// is returned.
 pub fn turn_is_framed()
     ensures message { (message rest : List ℕ) → IsMessage message
         → turn_frame_of (message ++ rest) ≡ Frame.Message (length message) }

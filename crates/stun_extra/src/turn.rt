@@ -27,11 +27,11 @@ pub const CHANNEL_BIND: u16 = 0x009;
 pub enum TurnMethod {
     /// A client asks for an allocation.
     Allocate,
-    /// A client asks for its allocation to be kept, or to be ended.
+    /// A client asks the server to keep its allocation, or to end it.
     Refresh,
     /// A client sends data to a peer through the server.
     Send,
-    /// A server hands on data of a peer.
+    /// A server passes on the data of a peer.
     Data,
     /// A client permits a peer to send.
     CreatePermission,
@@ -54,7 +54,7 @@ impl TurnMethod {
         }
     }
 
-    /// The method, for a message.
+    /// The method, as a message has it.
     pub fn method(self) -> Method
         ensures { result ≡ method_number self }
     {
@@ -64,7 +64,7 @@ impl TurnMethod {
         }
     }
 
-    /// The method of TURN that a method is, if it is one.
+    /// The method of TURN that a method is, or `None` if it is none of TURN.
     pub fn of(method: Method) -> Option<TurnMethod>
         ensures { result ≡ turn_method_of method }
     {

@@ -19,8 +19,9 @@ pub use attribute::UnknownAttributes;
 /// The type of UNKNOWN-ATTRIBUTES (RFC 8489, section 18.3).
 pub const UNKNOWN_ATTRIBUTES: AttributeType = AttributeType(0x000A);
 
-/// The types of a message's visible attributes that must be understood, below 0x8000, and that a
-/// caller does not know, each once, in their order; seen as the list of those that are left.
+/// The types below 0x8000 of a message's visible attributes that a caller does not know. Such types
+/// must be understood (RFC 8489, section 14). Each comes once, in the order of the message.
+/// Contracts see the list of those that are left.
 ///
 /// It does not allocate: it has 4 KiB of its own, a bit for each such type.
 #[derive(Debug, Drop)]
@@ -40,10 +41,10 @@ impl<'a> Model for UnknownTypes<'a> {
     ghost view = { λ it. left_to_tell it.known.now it.told.words it.left };
 }
 
-/// The types of a message that must be understood and that are not among these.
+/// The types of a message's visible attributes that must be understood and are not among these.
 ///
-/// A server answers a request that has one with the error 420 and the attribute
-/// `UnknownAttributes`, an agent drops an indication or a response that has one (RFC 8489, sections
+/// A server refuses a request that has one, with the error 420 and the attribute
+/// `UnknownAttributes`. An agent drops an indication or a response that has one (RFC 8489, sections
 /// 6.3.1 to 6.3.4).
 pub fn unknown_types<'a>(message: &Message<'a>, known: &'a [AttributeType]) -> UnknownTypes<'a>
     ensures types { result ≡ unknown_types known.now message.now }
@@ -71,7 +72,7 @@ pub fn has_unknown(message: &Message<'_>, known: &[AttributeType]) -> bool
     unknown_types(message, known).next().is_some()
 }
 
-/// Whether a type is to be told now.
+/// Whether the iterator should return a type: it must be understood, is not known and is new.
 fn is_new(known: &[AttributeType], told: &Told, kind: AttributeType) -> bool
     ensures { result ≡ is_new known.now told.now.words kind.0 }
 {

@@ -15,7 +15,7 @@ use Rattle.stun_inspect.specs.declared.fingerprint.Fingerprint.{Fingerprint}
 use Rattle.stun_inspect.specs.declared.fingerprint.Fingerprint.TheVariants.{Right, Wrong, Misplaced}
 use Rattle.stun_inspect.specs.declared.telling.Told.{Told}
 use Rattle.stun_inspect.specs.Decode.{line_with}
-use Rattle.stun_inspect.specs.Fingerprint.{ending_of, fingerprint_of, text_of}
+use Rattle.stun_inspect.specs.Fingerprint.{ending_of, fingerprint_of, fingerprint_text}
 
 -- a text of two that have none
 no_feed-append : (front text : List ℕ) → has_line_feed front ≡ false → has_line_feed text ≡ false
@@ -60,14 +60,14 @@ no_feed-type kind =
     (no_feed-byte (kind % 256))
 
 -- the words on a FINGERPRINT
-no_feed-text : (fingerprint : Fingerprint) → has_line_feed (text_of fingerprint) ≡ false
+no_feed-text : (fingerprint : Fingerprint) → has_line_feed (fingerprint_text fingerprint) ≡ false
 no_feed-text Right = refl
 no_feed-text Wrong = refl
 no_feed-text Misplaced = refl
 
 no_feed-ending : (message : List ℕ) (told : Told) → has_line_feed (ending_of message told) ≡ false
 no_feed-ending message told =
-    let text = text_of (fingerprint_of message told.place told.attribute.value) in
+    let text = fingerprint_text (fingerprint_of message told.place told.attribute.value) in
     elim (told.attribute.kind == FINGERPRINT) as (λ is. has_line_feed (cond is text []) ≡ false) [
       | true ↦ no_feed-text (fingerprint_of message told.place told.attribute.value)
       | false ↦ refl

@@ -7,12 +7,12 @@ use Rattle.stun_base.specs.Attributes.{MESSAGE_INTEGRITY_SHA256, FINGERPRINT}
 use Rattle.stun_base.specs.declared.wire.attribute_type.AttributeType.{AttributeType}
 use Rattle.stun_types.specs.Attribute.{TypedValue, first_attribute}
 use Rattle.stun_types.specs.Walk.{Member, walk}
-use Rattle.stun_types.specs.Visible.{before, counts, counts_behind, visible}
-use Rattle.stun_types.specs.code.Visible.{HasPassed}
+use Rattle.stun_types.specs.Visible.{before, is_visible, is_visible_after, visible}
+use Rattle.stun_types.specs.code.Visible.{HasSeenKinds}
 use Rattle.stun_types.proofs.WalkLemmas.{before-step}
 use Rattle.stun_types.proofs.VisibleLemmas.{StandsAt}
 use Rattle.stun_inspect.specs.declared.telling.Told.{Told}
-use Rattle.stun_inspect.specs.Telling.{hider, told_at, told_of, shown}
+use Rattle.stun_inspect.specs.Telling.{hider, told_at, told_attributes, unhidden_members}
 
 -- the cases of both, in the same order
 cases_agree : (fingerprint last integrity_sha256 integrity stronger : Bool) (a b c : AttributeType)
@@ -36,36 +36,37 @@ cases_agree false true false true false a b c = refl
 -- nothing hides what is visible, and something hides the rest
 hider-none : (integrity integrity_sha256 fingerprint : Bool) (kind : ℕ)
     → is_none (hider integrity integrity_sha256 fingerprint kind)
-    ≡ counts_behind integrity integrity_sha256 fingerprint kind
+    ≡ is_visible_after integrity integrity_sha256 fingerprint kind
 hider-none integrity integrity_sha256 fingerprint kind =
     cases_agree fingerprint (kind == FINGERPRINT) integrity_sha256 integrity
     (kind == MESSAGE_INTEGRITY_SHA256) _ _ _
 
 -- what is told of attributes shows those that are visible among all
-shown-told : (all members : List Member)
-    → shown (map (told_at all) members) ≡ filter (counts all) members
-shown-told all [] = refl
-shown-told all (m ∷ members) =
-    let rest = shown-told all members in
-    let same : is_none (told_at all m).hidden_by ≡ counts all m = hider-none _ _ _ m.1.kind in
-    rw same (elim (counts all m) as (λ is_shown.
+unhidden_members-told : (all members : List Member)
+    → unhidden_members (map (told_at all) members) ≡ filter (is_visible all) members
+unhidden_members-told all [] = refl
+unhidden_members-told all (m ∷ members) =
+    let rest = unhidden_members-told all members in
+    let same : is_none (told_at all m).hidden_by ≡ is_visible all m = hider-none _ _ _ m.1.kind in
+    rw same (elim (is_visible all m) as (λ is_shown.
     map (λ t. (t.place, t.attribute))
     (cond is_shown (told_at all m ∷ filter (λ t. is_none t.hidden_by) (map (told_at all) members))
     (filter (λ t. is_none t.hidden_by) (map (told_at all) members)))
-    ≡ cond is_shown (m ∷ filter (counts all) members) (filter (counts all) members)) [
+    ≡ cond is_shown (m ∷ filter (is_visible all) members) (filter (is_visible all) members)) [
       | true ↦ ap (λ ms. m ∷ ms) rest
       | false ↦ rest
     ])
 
 -- what is told of a message shows what is visible
-pub shown-visible : (bytes : List ℕ) → shown (told_of bytes) ≡ visible bytes
+pub unhidden_members-visible : (bytes : List ℕ)
+    → unhidden_members (told_attributes bytes) ≡ visible bytes
 unfolding visible
-shown-visible bytes = shown-told (walk bytes) (walk bytes)
+unhidden_members-visible bytes = unhidden_members-told (walk bytes) (walk bytes)
 
 -- the attribute at a place is told after those before it
 pub told-step : {place kind behind : ℕ} {integrity integrity_sha256 fingerprint : Bool}
     {bytes : List ℕ} {attribute : TypedValue} {told : List Told}
-    → HasPassed place integrity integrity_sha256 fingerprint bytes
+    → HasSeenKinds place integrity integrity_sha256 fingerprint bytes
     → StandsAt place bytes attribute kind behind
     → told ≡ map (told_at (walk bytes)) (before place (walk bytes))
     → told ++ record {

@@ -10,7 +10,7 @@ use Rattle.stun_types.specs.Message.{refusal}
 use Rattle.stun_cli.specs.declared.status.Status.{Status}
 use Rattle.stun_cli.specs.declared.status.Status.TheVariants.{Good, Bad}
 use Rattle.stun_inspect.specs.declared.telling.Told.{Told}
-use Rattle.stun_inspect.specs.Telling.{told_of}
+use Rattle.stun_inspect.specs.Telling.{told_attributes}
 use Rattle.stun_inspect.specs.Fingerprint.{ending_of}
 
 -- the letters of a name's column
@@ -50,7 +50,7 @@ IsHeader text =
 abbrev pub Describes : List ℕ → List ℕ → Type 0
 Describes message text =
     (header : List ℕ) × (lines : List ℕ) × IsHeader header
-    × AreLinesOn message (told_of message) lines × (text ≡ header ++ lines)
+    × AreLinesOn message (told_attributes message) lines × (text ≡ header ++ lines)
 
 -- the message is described, or the line for what refuses the bytes is printed
 abbrev pub PrintsUnlessRefused : Option StunParseError → List ℕ → Status → Option (List ℕ)

@@ -19,9 +19,9 @@ is_before_byte word rest =
     (length word == 6)
     && ((length rest == 2) || (nat_lt 2 (length rest) && (get_or rest 2 0 == 32)))
 
--- the digits of an offset, if a row's first word is one, where this follows the blank after it: the
--- colon that ends an offset is the last byte of that word, and without one there a second blank
--- follows the first, or the word has six letters and the next one two
+-- the digits of an offset, if a row's first word is one. After that word come a blank and `rest`. A
+-- word that ends in a colon is one, without the colon. Else it is one if a second blank follows the
+-- first, or if it has six letters and the next word two
 abbrev pub offset_digits : List ℕ → List ℕ → Option (List ℕ)
 offset_digits word rest =
     if nat_lt 0 (length word) && (get_or word (length word - 1) 0 == 58)

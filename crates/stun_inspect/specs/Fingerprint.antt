@@ -11,26 +11,26 @@ use Rattle.stun_extra.specs.Fingerprint.{FINGERPRINT_XOR}
 
 -- whether the attribute of this value at this place has the four bytes of a CRC-32, and the message
 -- ends with it
-abbrev pub is_in_place : List ℕ → ℕ → List ℕ → Bool
-is_in_place message place value = (length value == 4) && (place + 8 == length message)
+abbrev pub is_value_in_place : List ℕ → ℕ → List ℕ → Bool
+is_value_in_place message place value = (length value == 4) && (place + 8 == length message)
 
 -- the value is the CRC-32 of the message up to the attribute, XORed with the number; the length in
 -- the message's header counts the attribute, since it is the last
 abbrev pub fingerprint_of : List ℕ → ℕ → List ℕ → Fingerprint
 fingerprint_of message place value =
-    if is_in_place message place value
+    if is_value_in_place message place value
     then if big_number 4 value == bit_xor (crc32 (take place message)) FINGERPRINT_XOR then Right
     else Wrong
     else Misplaced
 
 -- the words for it
-abbrev pub text_of : Fingerprint → List ℕ
-text_of Right = codes ", right"
-text_of Wrong = codes ", wrong"
-text_of Misplaced = codes ", misplaced"
+abbrev pub fingerprint_text : Fingerprint → List ℕ
+fingerprint_text Right = codes ", right"
+fingerprint_text Wrong = codes ", wrong"
+fingerprint_text Misplaced = codes ", misplaced"
 
 -- what ends the line on an attribute: of a FINGERPRINT whether it is right
 abbrev pub ending_of : List ℕ → Told → List ℕ
 ending_of message told =
     if told.attribute.kind == FINGERPRINT
-    then text_of (fingerprint_of message told.place told.attribute.value) else []
+    then fingerprint_text (fingerprint_of message told.place told.attribute.value) else []

@@ -4,7 +4,7 @@ use Rattle.std.specs.Prelude.{◌≡◌, ◌≢◌, ℕ, List, [], ◌∷◌, �
 use Rattle.std.specs.Prelude.{Option, Some, None, Result, IfSome, IfOk}
 use Rattle.std.specs.Io.KnownBytes.{Appends}
 use Rattle.hex.specs.Hex.{encode_lower}
-use Rattle.stun_base.specs.Keys.{short_term_key, long_term_key, userhash}
+use Rattle.stun_base.specs.Keys.{short_term_key, long_term_key, userhash_of}
 use Rattle.stun_base.specs.declared.keys.algorithm.IntegrityAlgorithm.{IntegrityAlgorithm}
 use Rattle.stun_inspect.specs.declared.command.Command.{Command}
 use Rattle.stun_inspect.specs.declared.command.Command.TheVariants.{Help, Version, Decode}
@@ -17,7 +17,7 @@ use Rattle.stun_inspect.specs.Decode.{PrintsDecoded}
 use Rattle.stun_inspect.specs.Input.{is_raw}
 use Rattle.stun_cli.specs.Line.{IsLine}
 use Rattle.stun_cli.specs.Verdict.{verdict_of}
-use Rattle.stun_inspect.specs.Verify.{PrintsVerdict}
+use Rattle.stun_inspect.specs.Verify.{PrintsVerdictAndNotes}
 
 -- the key for each algorithm of a user at a realm, or of a password alone (RFC 8489, sections 9.1.1
 -- and 9.2.2)
@@ -51,12 +51,14 @@ Answers Decode given result before after =
     (λ input. IfOk result (λ status. is_raw input ≡ true → PrintsDecoded input status before after))
 Answers (Verify who) given result before after =
     who.password.now ≢ codes "-" → IfSome given (λ input. IfOk result (λ status. is_raw input ≡ true
-    → PrintsVerdict (verdict_of input (keys_for who.user who.password.now)) status before after))
+    → PrintsVerdictAndNotes (verdict_of input (keys_for who.user who.password.now)) status before
+    after))
 Answers (Key algorithm user password) given result before after =
     password.now ≢ codes "-" → IfOk result (λ status.
     PrintsDigits (long_term_key algorithm user.name.now user.realm.now password.now) status before
     after)
 Answers (Userhash user) given result before after =
-    IfOk result (λ status. PrintsDigits (userhash user.name.now user.realm.now) status before after)
+    IfOk result (λ status. PrintsDigits
+    (userhash_of user.name.now user.realm.now) status before after)
 Answers (Nonce nonce) given result before after =
     IfOk result (λ status. PrintsLine status before after)

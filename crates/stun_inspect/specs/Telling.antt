@@ -31,9 +31,9 @@ told_at members m = record {
 }
 
 -- what is told of a message: each attribute once, in order
-abbrev pub told_of : List ℕ → List Told
-told_of bytes = map (told_at (walk bytes)) (walk bytes)
+abbrev pub told_attributes : List ℕ → List Told
+told_attributes bytes = map (told_at (walk bytes)) (walk bytes)
 
 -- the attributes that nothing hides
-abbrev pub shown : List Told → List Member
-shown told = map (λ t. (t.place, t.attribute)) (filter (λ t. is_none t.hidden_by) told)
+abbrev pub unhidden_members : List Told → List Member
+unhidden_members told = map (λ t. (t.place, t.attribute)) (filter (λ t. is_none t.hidden_by) told)

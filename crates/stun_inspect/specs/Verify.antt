@@ -4,10 +4,10 @@ use Rattle.std.specs.Io.KnownBytes.{Appends}
 use Rattle.stun_cli.specs.declared.status.Status.{Status}
 use Rattle.stun_cli.specs.declared.verdict.Verdict.{Verdict}
 use Rattle.stun_cli.specs.Verdict.{status_of}
-use Rattle.stun_inspect.specs.Verdict.{line_of}
+use Rattle.stun_inspect.specs.Verdict.{verify_line}
 
 -- the verdict's line is printed, and perhaps notes after it; the status goes with the verdict
-abbrev pub PrintsVerdict : Verdict → Status → Option (List ℕ) → Option (List ℕ) → Type 0
-PrintsVerdict verdict status before after =
+abbrev pub PrintsVerdictAndNotes : Verdict → Status → Option (List ℕ) → Option (List ℕ) → Type 0
+PrintsVerdictAndNotes verdict status before after =
     (status ≡ status_of verdict) × (notes : List ℕ)
-    × Appends before after (line_of verdict ++ notes)
+    × Appends before after (verify_line verdict ++ notes)

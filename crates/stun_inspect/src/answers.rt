@@ -7,7 +7,7 @@ ghost use Rattle.stun_inspect.specs.Input.{is_raw};
 ghost use Rattle.stun_inspect.specs.Run.{Answers, PrintsDigits, PrintsLine, PrintsText, keys_for};
 ghost use Rattle.stun_cli.specs.Line.{IsLine};
 ghost use Rattle.stun_cli.specs.Verdict.{verdict_of};
-ghost use Rattle.stun_inspect.specs.Verify.{PrintsVerdict};
+ghost use Rattle.stun_inspect.specs.Verify.{PrintsVerdictAndNotes};
 
 use crate::command::{Command, User, Who};
 use crate::decode::describe;
@@ -30,7 +30,8 @@ use stun_types::message::{
     ShortTermCredentials, long_term_key,
 };
 
-/// Runs a command, and answers how it ended.
+/// Runs a command, and returns how it ended. Fails if a read, a write or an allocation fails, or if
+/// the input is none that the command reads.
 pub fn run_command<R: CountedRead, W: Write, A: Allocator + Copy>(
     alloc: A,
     command: Command<'_>,
@@ -116,7 +117,8 @@ fn verify_input<R: CountedRead, W: Write, A: Allocator + Copy>(
 ) -> Result<Status, Failure>
     ensures { who.entry.password.now ≢ codes "-" → IfSome (R.remaining reader.old)
         (λ input. IfOk result (λ status. is_raw input ≡ true
-        → PrintsVerdict (verdict_of input (keys_for who.entry.user who.entry.password.now)) status
+        → PrintsVerdictAndNotes (verdict_of input (keys_for who.entry.user who.entry.password.now))
+        status
         (W.contents writer.old) (W.contents writer.new))) }
 {
     let input = read_to_end(alloc, reader, INPUT_LIMIT)?;
@@ -134,7 +136,7 @@ fn verify_all<W: Write, A: Allocator + Copy>(
     writer: &mut W,
 ) -> Result<Status, Failure>
     ensures { is_raw input.now ≡ true → IfOk result (λ status.
-        PrintsVerdict (verdict_of input.now (keys_for user.entry password.now)) status
+        PrintsVerdictAndNotes (verdict_of input.now (keys_for user.entry password.now)) status
         (W.contents writer.old) (W.contents writer.new)) }
 {
     let credentials = credentials_of(alloc, user, password)?;
@@ -150,7 +152,7 @@ fn verify_each<W: Write, A: Allocator + Copy>(
     writer: &mut W,
 ) -> Result<Status, Failure>
     ensures { is_raw input.now ≡ true → IfOk result (λ status.
-        PrintsVerdict (verdict_of input.now (keys_of credentials.now)) status
+        PrintsVerdictAndNotes (verdict_of input.now (keys_of credentials.now)) status
         (W.contents writer.old) (W.contents writer.new)) }
 {
     if is_raw(input) {
@@ -196,7 +198,7 @@ fn print_key<R: CountedRead, W: Write, A: Allocator + Copy>(
     print_digits(alloc, key.as_bytes(), writer)
 }
 
-/// Prints each attribute of the message, or why the bytes are none.
+/// Prints each attribute of the message, or why the bytes are no message.
 pub fn decode<W: Write, A: Allocator + Copy>(
     alloc: A,
     bytes: &[u8],
@@ -218,7 +220,7 @@ pub fn decode<W: Write, A: Allocator + Copy>(
     }
 }
 
-/// Prints whether the message's digest verifies, and then what else differs from the user.
+/// Prints whether the message's digest verifies, and then what differs from the user.
 pub fn verify<W: Write, A: Allocator + Copy, B: Allocator>(
     alloc: A,
     bytes: &[u8],
@@ -226,7 +228,7 @@ pub fn verify<W: Write, A: Allocator + Copy, B: Allocator>(
     credentials: &MessageIntegrityCredentials<B>,
     writer: &mut W,
 ) -> Result<Status, Failure>
-    ensures { IfOk result (λ status. PrintsVerdict
+    ensures { IfOk result (λ status. PrintsVerdictAndNotes
         (verdict_of bytes.now (keys_of credentials.now)) status
         (W.contents writer.old) (W.contents writer.new)) }
 {
@@ -270,8 +272,8 @@ fn password_input<R: CountedRead, A: Allocator + Copy>(
     Ok(Vec::new(alloc))
 }
 
-/// The password, and the rest of the input: for the word `-` the first line of the input, without
-/// its end.
+/// The password, and the rest of the input. For the word `-` the password is the first line of the
+/// input, without its end.
 fn password_of<'a>(word: &'a str, input: &'a [u8]) -> Result<(&'a str, &'a [u8]), Failure>
     ensures word { word.now ≢ codes "-" → IfOk result (λ found. found.0.now ≡ word.now) }
     ensures input { word.now ≢ codes "-" → IfOk result (λ found. found.1.now ≡ input.now) }

@@ -11,8 +11,8 @@ use std::alloc::{AllocError, Allocator};
 use stun_cli::output::{has_line_feed, line_of, unbroken};
 use stun_types::message::{Message, MessageClass, TransactionId};
 
-/// What is printed of a message: its class, its method and its id, and then a line on each
-/// attribute.
+/// What is printed of a message: its class, method and id, and then a line on each attribute. Fails
+/// if an allocation fails.
 pub fn describe<A: Allocator + Copy>(
     alloc: A,
     message: &Message<'_>,

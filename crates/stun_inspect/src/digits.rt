@@ -29,7 +29,7 @@ struct Run {
     is_at_word: bool,
 }
 
-/// What one byte of a run comes to.
+/// What one byte of a run does.
 enum Step {
     Byte(u8),
     Nothing,

@@ -19,10 +19,13 @@ pub fn first_blank(row: &[u8]) -> Option<usize>
     row.iter().position(|byte| *byte == b' ')
 }
 
-/// The digits of an offset, where the first word of a row is one: all of a word that ends in a
-/// colon but that colon, and but `0x` before them; or a whole word after whose blank another blank
-/// follows, or which has six letters and after it a word of two, as `od` has them. A colon that
-/// comes later, as one in the column of characters, ends no offset.
+/// The digits of an offset, if the first word of a row is one:
+///
+/// - a word that ends in a colon, without that colon, and without `0x` before the digits;
+/// - else a whole word, after which two blanks come;
+/// - else a whole word of six letters, after which a word of two comes, as `od` writes them.
+///
+/// A colon that comes later, as one in the column of characters, ends no offset.
 pub fn offset_digits<'a>(word: &'a [u8], rest: &[u8]) -> Option<&'a [u8]>
     ensures { option_copied result ≡ offset_digits word.now rest.now }
 {
@@ -44,7 +47,7 @@ fn is_before_byte(word: &[u8], rest: &[u8]) -> bool
     word.len() == 6 && (rest.len() == 2 || rest.len() > 2 && rest[2] == b' ')
 }
 
-/// The digits after `0x`, where that comes first.
+/// The digits after `0x`, if that comes first.
 fn without_prefix(digits: &[u8]) -> &[u8]
     ensures { result.now ≡ without_prefix digits.now }
 {
@@ -198,8 +201,8 @@ fn is_end(line: &str, length: usize) -> bool {
 /// The place of the characters in a row of `hexdump -C`.
 const CHARACTERS: usize = 60;
 
-/// Appends the bytes of a row. Of `hexdump -C` they stand between two blanks and a bar at a fixed
-/// place, of others up to two blanks.
+/// Appends the bytes of a row. In one of `hexdump -C` they lie between two blanks and a bar at a
+/// fixed place, in others up to two blanks.
 fn read_row_of<A: Allocator>(
     bytes: &mut Vec<u8, A>,
     line: &str,
@@ -213,7 +216,7 @@ fn read_row_of<A: Allocator>(
     }
 }
 
-/// The digits of a row of `hexdump -C`: eight digits and two blanks stand before them, and a bar at
+/// The digits of a row of `hexdump -C`. Eight digits and two blanks come before them, and a bar at
 /// a fixed place after them.
 fn canonical_row(line: &str) -> Option<&str> {
     let _offset = number_of(line.get(..8)?.as_bytes())?;
@@ -243,7 +246,7 @@ enum Column {
     Blank,
 }
 
-/// What one byte of a row comes to.
+/// What one byte of a row does.
 enum Step {
     To(Column),
     Byte(u8),

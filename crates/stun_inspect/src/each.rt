@@ -1,5 +1,5 @@
-//! What is told of an input that is no raw message: of the one message that it spells, or of each
-//! of several with a line before it.
+//! What is printed of an input that is no raw message: of the one message that it spells, or of
+//! each of several with a line before it.
 
 use crate::answers::{decode, verify};
 use crate::command::User;
@@ -139,8 +139,8 @@ fn line_heading<A: Allocator + Copy>(
     format!(in alloc; "message {number}, line {line}\n")
 }
 
-/// Tells the messages of a capture of so many bytes. Those before the place where it cannot be read
-/// further are told.
+/// Tells the messages of a capture of this many bytes. If it cannot be read further at a place,
+/// those before it are told.
 fn tell_capture<T: Teller, W: Write, A: Allocator + Copy>(
     alloc: A,
     teller: &T,

@@ -1,6 +1,6 @@
 //! Whether a FINGERPRINT is that of its message (RFC 8489, section 14.7).
 ghost use Rattle.std.specs.Prelude.{◌≡◌};
-ghost use Rattle.stun_inspect.specs.Fingerprint.{ending_of, fingerprint_of, text_of};
+ghost use Rattle.stun_inspect.specs.Fingerprint.{ending_of, fingerprint_of, fingerprint_text};
 
 use crate::telling::Told;
 use byteorder::{BigEndian, ByteOrder};
@@ -27,7 +27,7 @@ pub enum Fingerprint {
 impl Fingerprint {
     /// What is printed after the value.
     pub fn text(self) -> &'static str
-        ensures { result.now ≡ text_of self }
+        ensures { result.now ≡ fingerprint_text self }
     {
         match self {
             Fingerprint::Right => ", right",

@@ -33,10 +33,10 @@ pub fn is_raw(bytes: &[u8]) -> bool
         && BigEndian::read_u32(&bytes[4..]) == MAGIC_COOKIE
 }
 
-/// What may be a message of these bytes: all of them where they begin as one, else what they carry
-/// over UDP, where they are a packet.
+/// The bytes that may be a message: all of these if they begin as one. If they are a packet, what
+/// it carries over UDP.
 ///
-/// It fails where that is more than 65552 bytes.
+/// Fails if that is more than 65552 bytes.
 pub fn message_of(bytes: &[u8]) -> Result<&[u8], Failure>
     ensures limit { IfOk result (λ message. length message.now ≤ LENGTH_LIMIT) }
     ensures raw { is_raw bytes.now ≡ true → IfOk result (λ message. message.now ≡ bytes.now) }
@@ -47,7 +47,7 @@ pub fn message_of(bytes: &[u8]) -> Result<&[u8], Failure>
     within_limit(payload(bytes))
 }
 
-/// The bytes, where they are no more than a message may have.
+/// The bytes, if they are no more than a message may have (65552). Fails if they are more.
 pub fn within_limit(bytes: &[u8]) -> Result<&[u8], Failure>
     ensures limit { IfOk result (λ same. length same.now ≤ LENGTH_LIMIT) }
     ensures same { IfOk result (λ same. same.now ≡ bytes.now) }
@@ -62,8 +62,8 @@ pub fn within_limit(bytes: &[u8]) -> Result<&[u8], Failure>
     Ok(bytes)
 }
 
-/// What a packet carries over UDP, where the bytes are one: of IPv4 or IPv6, or a frame of
-/// Ethernet. Else the bytes themselves.
+/// What a packet carries over UDP, if the bytes are one: of IPv4 or IPv6, or a frame of Ethernet.
+/// Else the bytes themselves.
 fn payload(bytes: &[u8]) -> &[u8] {
     if let Some(Carried::Udp(datagram)) = carried(RAW, bytes) {
         return datagram.payload;
@@ -74,8 +74,9 @@ fn payload(bytes: &[u8]) -> &[u8] {
     }
 }
 
-/// What an input spells, which is no raw message: its dumps with offsets, its lines where each has
-/// a message, or all of it in hexadecimal digits or base64.
+/// The messages that a text input spells. They are its dumps with offsets, or one in each line, or
+/// one in all of it. Lines and whole inputs are hexadecimal digits or base64. Fails if an
+/// allocation fails, or if the text spells no bytes.
 pub fn read_text<A: Allocator + Copy>(
     alloc: A,
     input: &[u8],

@@ -1,4 +1,4 @@
-//! Tells what a STUN message has, and whether its integrity verifies.
+//! A program that prints what a STUN message has, and whether its integrity verifies.
 #![tactic(auto)]
 
 ghost use Rattle.std.specs.Prelude.{◌≡◌, ◌≢◌};
@@ -36,7 +36,7 @@ use stun_cli::status::Status;
 use stun_cli::words::words_of;
 use usage::usage_of;
 
-/// Runs the command that the words name. Why it has no answer is written to `errors`.
+/// Runs the command that the words name. If it has no answer, the reason is written to `errors`.
 fn run<F: Files, R: CountedRead, W: Write, E: Write, A: Allocator + Copy>(
     files: &F,
     alloc: A,

@@ -1,13 +1,13 @@
-//! What of a message differs from the user under whose key it is verified.
+//! How a message differs from the user under whose key it is verified.
 
 use crate::command::User;
 use std::alloc::{AllocError, Allocator};
 use stun_types::attribute::{Realm, Userhash, Username};
 use stun_types::message::Message;
 
-/// A line for each of USERNAME and REALM that is visible and not the user's, and for a visible
-/// USERHASH whether it is. There is none for a password alone, and none where the bytes are no
-/// message.
+/// Notes where USERNAME or REALM differ from those of the user, and whether a USERHASH matches.
+/// There is a line for each that is visible. There is none for a password alone, and none if the
+/// bytes are no message. Fails if an allocation fails.
 pub fn notes_on<A: Allocator>(
     alloc: A,
     bytes: &[u8],

@@ -1,11 +1,11 @@
-//! The attributes of a message one by one, also those that are hidden.
+//! The attributes of a message one by one, hidden ones too.
 ghost use Rattle.std.specs.Prelude.{◌≡◌, ◌<◌, drop, true, false, OnSome};
 ghost use Rattle.std.specs.Prelude.{IfSome, IfNone, IfOk, ◌==◌, ◌||◌};
 ghost use Rattle.stun_base.specs.Attributes.{MESSAGE_INTEGRITY};
 ghost use Rattle.stun_base.specs.Attributes.{MESSAGE_INTEGRITY_SHA256, FINGERPRINT};
 ghost use Rattle.stun_types.specs.Attribute.{has_attribute, first_attribute};
 ghost use Rattle.stun_types.specs.Visible.{visible};
-ghost use Rattle.stun_inspect.specs.Telling.{hider, told_of, shown};
+ghost use Rattle.stun_inspect.specs.Telling.{hider, told_attributes, unhidden_members};
 
 use byteorder::{BigEndian, ByteOrder};
 use std::alloc::{AllocError, Allocator};
@@ -97,13 +97,14 @@ fn attribute_at<'a>(bytes: &'a [u8], place: usize) -> Option<RawAttribute<'a>>
 }
 
 /// Each attribute of the message once, in their order, with its place and with what hides it. Those
-/// that nothing hides are those that the message's own iterator gives.
+/// that nothing hides are the visible ones, which the message's own iterator gives. Fails if an
+/// allocation fails.
 pub fn tell<'a, A: Allocator>(
     alloc: A,
     message: &Message<'a>,
 ) -> Result<Vec<Told<'a>, A>, AllocError>
-    ensures told { IfOk result (λ told. told.items ≡ told_of message.now) }
-    ensures visible { IfOk result (λ told. shown told.items ≡ visible message.now) }
+    ensures told { IfOk result (λ told. told.items ≡ told_attributes message.now) }
+    ensures visible { IfOk result (λ told. unhidden_members told.items ≡ visible message.now) }
 {
     let bytes = message.as_bytes();
     let mut told = Vec::new(alloc);

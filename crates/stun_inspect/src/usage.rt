@@ -9,8 +9,8 @@ stun_inspect key sha1|sha256 NAME REALM PASSWORD
 stun_inspect userhash NAME REALM
 stun_inspect nonce NONCE                        the security bits of a nonce
 FILE, or standard input without one, is a capture (pcap, pcapng), or has a message:
-raw, in hexadecimal, in base64, one message a line, or dumped by xxd, hexdump -C,
-od -A x -t x1, tcpdump -x, tshark -x or Wireshark. The password - is the first
+raw, in hexadecimal, in base64, one message a line, or dumped by xxd, hexdump -Cv,
+od -v -A x -t x1, tcpdump -x, tshark -x or Wireshark. The password - is the first
 line of standard input.
 Status: 0 good, 1 not a message or invalid, 2 not judged or not read to the end.
 ";

@@ -16,7 +16,8 @@ use stun_types::attribute::{
 use stun_types::message::TransactionId;
 use stun_types::prelude::AttributeFromRaw;
 
-/// Appends a value as its type is read, or as hexadecimal digits where it is no such value.
+/// Appends a value as its type is read, or as hexadecimal digits if it is no such value. Fails if
+/// an allocation fails.
 pub fn push_value<A: Allocator + Copy>(
     text: &mut String<A>,
     form: Form,
@@ -67,7 +68,7 @@ pub fn push_digits<A: Allocator + Copy>(
     Ok(true)
 }
 
-/// Appends a text in quotes. Of it ASCII's printable characters are as they are, and others as
+/// Appends a text in quotes. Printable characters of ASCII stay as they are. All others become
 /// `\u{..}`, so that no text can control a terminal.
 pub fn push_quoted<A: Allocator + Copy>(
     text: &mut String<A>,

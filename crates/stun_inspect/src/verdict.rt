@@ -2,7 +2,7 @@
 ghost use Rattle.std.specs.Prelude.{◌≡◌};
 ghost use Rattle.stun_base.specs.Keys.OfCredentials.{keys_of};
 ghost use Rattle.stun_cli.specs.Verdict.{verdict_of};
-ghost use Rattle.stun_inspect.specs.Verdict.{line_of};
+ghost use Rattle.stun_inspect.specs.Verdict.{verify_line};
 
 use std::alloc::Allocator;
 use stun_cli::verdict::{Verdict, refusal_line, verdict_without_digest};
@@ -10,7 +10,7 @@ use stun_types::message::{IntegrityAlgorithm, Message, MessageIntegrityCredentia
 
 /// The line that is printed for a verdict.
 pub fn line(verdict: Verdict) -> &'static str
-    ensures { result.now ≡ line_of verdict }
+    ensures { result.now ≡ verify_line verdict }
 {
     match verdict {
         Verdict::Valid(IntegrityAlgorithm::Sha1) => "valid MESSAGE-INTEGRITY\n",
@@ -23,8 +23,8 @@ pub fn line(verdict: Verdict) -> &'static str
     }
 }
 
-/// The verdict on bytes under credentials: a password, or a user at a realm, who has a long-term
-/// key for each algorithm (RFC 8489, sections 9.1.1 and 9.2.2).
+/// The verdict on bytes under credentials: a password, or a user at a realm. Each has a key for
+/// each algorithm (RFC 8489, sections 9.1.1 and 9.2.2).
 pub fn verdict_on<A: Allocator>(
     bytes: &[u8],
     credentials: &MessageIntegrityCredentials<A>,

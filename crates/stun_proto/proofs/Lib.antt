@@ -6,3 +6,5 @@ pub mod server_runs
 pub mod meetings
 -- sentence 3: an agent that is driven, turn by turn, and the plan of each request
 pub mod agent_runs
+-- all three: tests that hold both, and two numbers in order
+pub mod Tests

@@ -15,15 +15,29 @@ pub mod DriveLemmas
 pub mod AfterCalls
 -- one request among others: what a call of the agent leaves of it
 pub mod OneTransaction
+-- a request that is outstanding, in an agent: what each call of a turn leaves of it
+pub mod Outstanding
+-- an event that is not aimed at an outstanding request leaves it as it was
+pub mod NotAimed
+-- the steps of one transaction among all steps
+pub mod OwnSteps
 -- a run up to one of its events, and what it keeps
 pub mod RunLemmas
--- a driven run keeps the plan of each of its requests, whoever makes the calls
-pub mod Driven
+-- the plan of a request, transmission by transmission, and the moments that it awaits
+pub mod PlanLemmas
 -- a request that nothing disturbs keeps its plan
 pub mod ScheduleLaw
+-- no request of an id is outstanding: what leaves it so
+pub mod Absent
+-- all steps of an id from an agent on: none comes after their first end
+pub mod Said
+-- what a run keeps of an agent that is never asked for a request of an id
+pub mod Stays
 -- all steps of a request that is asked once: there are none before it is asked, and none after its
 -- end
 pub mod Once
+-- a driven run keeps the plan of each of its requests, whoever makes the calls
+pub mod Driven
 -- the steps of a run are counted one by one: each call adds the tally of its step, and sums of
 -- tallies are counts over the steps
 pub mod Counting
@@ -34,6 +48,16 @@ pub mod Existence
 -- a loop that is never late makes a driven run: until the moment that it is told to wait until, no
 -- moment is awaited
 pub mod AgentLoopLemmas
+-- what is sent of a request in a loop that may be late, turn by turn: its story
+pub mod LateStory
+-- the turns at which a request is sent, and ends: each from the one before
+pub mod TurnMoments
+-- the steps of a request by the turns that are taken: its story is their plan
+pub mod TurnPlan
+-- how late a request is sent, and ends
+pub mod HowLate
 -- a request in a loop that may be late: its transmissions and its end are at the first turns at
 -- which they are due
-pub mod LateLemmas
+pub mod LateLaw
+-- whatever turns are taken, no transmission of a request comes before its moment in the plan
+pub mod NeverEarly

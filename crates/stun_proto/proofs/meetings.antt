@@ -22,6 +22,8 @@ pub mod Heard
 pub mod Signed
 -- one message is written anew and signed
 pub mod SigningLemmas
+-- bytes that are all below 128 are ASCII
+pub mod Ascii
 -- what is read of each message of a run, and that it can be signed, by the laws on what signing
 -- adds
 pub mod SignedRuns

@@ -10,19 +10,24 @@ use Rattle.stun_auth.specs.Reading.{reading_of}
 use Rattle.stun_auth.specs.Validation.{AcceptedWith, ServerSeen, sight}
 use Rattle.stun_proto.specs.declared.replay.call.ServerCall.{ServerCall}
 use Rattle.stun_proto.specs.declared.replay.call.ServerCall.TheVariants as Call
-use Rattle.stun_proto.specs.Isolation.{own, sight_over}
+use Rattle.stun_proto.specs.Isolation.{own_calls, sight_over}
 use Rattle.stun_proto.specs.Serving.{Reply, Validated}
 
 -- At each index of the list: a request or an indication from an address is validated with an
--- algorithm if and only if it has a realm, the nonce that is current at the address, algorithms
--- that agree, and the digest under the key of the present user whom it names. All of this holds at
--- the place that the address's own earlier calls leave.
-abbrev pub ValidatesAccepted : ServerSeen → List ServerCall → List Reply → Type 0
-ValidatesAccepted start calls given =
+-- algorithm if and only if it has all of these:
+--
+-- - a realm;
+-- - the nonce that is current at the address;
+-- - algorithms that agree;
+-- - the digest under the key of the present user whom it names.
+--
+-- All of this holds at the place that the address's own earlier calls leave.
+abbrev pub ValidatesEachAccepted : ServerSeen → List ServerCall → List Reply → Type 0
+ValidatesEachAccepted start calls given =
     (i : ℕ) (a : SocketAddr) (now : ℕ) (message : Vec ℕ Global) (words : List ℕ)
     (algorithm : IntegrityAlgorithm)
     → slice_get calls i ≡ Some (Call.Validate a now message words)
     → refusal message.items ≡ None → is_response (class_in message.items) ≡ false
     → (slice_get given i ≡ Some (Validated algorithm))
-    ↔ AcceptedWith (sight_over (sight start a) (own a (take i calls))) now words
+    ↔ AcceptedWith (sight_over (sight start a) (own_calls a (take i calls))) now words
     (reading_of message.items) algorithm

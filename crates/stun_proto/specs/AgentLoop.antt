@@ -17,7 +17,7 @@ use Rattle.stun_proto.specs.Headline.{SendsByPlan}
 use Rattle.stun_proto.specs.Run.{IsDriven, Turn, sending, after_event, steps_of_event}
 use Rattle.stun_proto.specs.RunLaws.{requester}
 use Rattle.stun_proto.specs.Schedule.{IsAimedAt, transmission}
-use Rattle.stun_proto.specs.Steps.{Step, Transmitted, TimedOut, own}
+use Rattle.stun_proto.specs.Steps.{Step, Transmitted, TimedOut, steps_to_end}
 
 -- ---- the loop
 -- what comes in a loop at a moment: an event, or nothing but the time
@@ -28,12 +28,12 @@ Comings = List (ℕ × Option AgentEvent)
 abbrev pub wait_of : ℕ → Agent → ℕ
 wait_of now agent = wake_up agent.transport now agent.transactions
 
--- A loop over an agent. At each of its moments an event is handed over and a turn is taken
--- (`poll_transmit` until it answers `None`, then `poll` until it answers `WaitUntil`), or a turn
--- alone is taken. What comes at one moment is handed over before a turn alone; moments do not go
--- back, and none is the last there is, 584 years on. Each is at most `late` nanoseconds after the
--- one that the last `poll` said to wait until. A loop goes from a moment that nothing comes before,
--- one to wait until, and an agent, to such a moment to wait until and an agent
+-- A loop over an agent. At each of its moments an event is handed over and a turn is taken, or a
+-- turn alone is taken. A turn is `poll_transmit` until it returns `None`, then `poll` until it
+-- returns `WaitUntil`. What comes at one moment is handed over before a turn alone. Moments do not
+-- go back, and none is the last there is, 584 years on. Each is at most `late` nanoseconds after
+-- the one that the last `poll` said to wait until. A loop begins with a moment that nothing comes
+-- before, a moment to wait until, and an agent. It ends with a moment to wait until and an agent
 pub data Loop (late : ℕ) : ℕ → ℕ → Agent → Comings → List Step → ℕ → Agent → Type 0 where
   rest : {a : Agent} {from wait : ℕ} → Loop late from wait a [] [] wait a
   handed : {a b c : Agent} {from wait last : ℕ} {comings : Comings} {turned more : List Step}
@@ -79,8 +79,8 @@ pub record RunsUntil (until : ℕ) (comings : Comings) (last : ℕ) : Type 0 whe
   pub within : AllByRecursion (λ c. c.0 ≤ until) comings
   pub no_more : until < last
 
--- an agent with no request outstanding, in a loop that is never late, makes the steps of `drive`
--- with the same events, and is then the same
+-- An agent with no request outstanding, in a loop that is never late, makes the steps of `drive`
+-- with the same events. It is then the same agent
 abbrev pub LoopsAreDriven : Type 0
 LoopsAreDriven =
     (until from wait last : ℕ) (a b : Agent) (comings : Comings) (steps : List Step)
@@ -133,15 +133,15 @@ pub record IsRequested (a : Agent) (bytes : List ℕ) (to : SocketAddr) (later :
     pub left_alone :
         AllByRecursion (λ e. IsAimedAt (transaction_id_field bytes) to e.1 → ⊥) (events_in later)
 
--- However late: from there on, up to its end (`own`), the request is sent, and times out, at these
--- turns and at no others, and each timeout counts from the turn before
+-- However late: from there on, up to its end (`steps_to_end`), the request is sent, and times out,
+-- at these turns and at no others. Each timeout counts from the turn before
 abbrev pub LoopsSendByTurns : Type 0
 LoopsSendByTurns =
     (late from wait last start : ℕ) (a b : Agent) (bytes : Vec ℕ) (to : SocketAddr)
     (later : Comings) (steps : List Step) → IsRequested a bytes.items to later
     → Loop late from wait a ((start, Some (SendRequest bytes to)) ∷ later) steps last b
     → let id = transaction_id_field bytes.items in
-    own id steps
+    steps_to_end id steps
     ≡ plan_by_turns a.transport start a.settings id to bytes.items (start ∷ moments_in later)
 
 -- so no step comes before its moment in the plan, whatever turns are taken
@@ -154,8 +154,8 @@ TurnsAreNeverEarly =
     × ((now : ℕ) → ended_at transport settings start turns ≡ Some now
     → planned_end transport settings start ≤ now)
 
--- and where each turn is at most so late, transmission k is at most k times as late, and the
--- time-out once more than the last transmission may be
+-- And where each turn is at most so late, transmission k is at most k times as late. The time-out
+-- is late at most once more than the last transmission may be
 abbrev pub LateLoopsAreBounded : Type 0
 LateLoopsAreBounded =
     (late from wait last start : ℕ) (a b : Agent) (bytes : Vec ℕ) (to : SocketAddr)

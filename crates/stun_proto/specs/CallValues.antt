@@ -21,18 +21,18 @@ pub data CallValue : Type 0 where
   ForgetExpired : ℕ → CallValue
   Forget : SocketAddr → CallValue
 
-abbrev pub value_of : ServerCall → CallValue
-value_of (Call.Validate from now message words) = Validate from now message.items words
-value_of (Call.Sign to message) = Sign to message.items
-value_of (Call.AddUser name password) = AddUser (string_bytes name) (string_bytes password)
-value_of (Call.RemoveUser name) = RemoveUser (string_bytes name)
-value_of (Call.AddIntegrity algorithm) = AddIntegrity algorithm
-value_of (Call.SetIntegrity algorithm) = SetIntegrity algorithm
-value_of (Call.SetAnonymous feature) = SetAnonymous feature
-value_of (Call.RemoveClient address) = RemoveClient address
-value_of (Call.SetExpiry expiry) = SetExpiry expiry
-value_of (Call.ForgetExpired now) = ForgetExpired now
-value_of (Call.Forget address) = Forget address
+abbrev pub call_value : ServerCall → CallValue
+call_value (Call.Validate from now message words) = Validate from now message.items words
+call_value (Call.Sign to message) = Sign to message.items
+call_value (Call.AddUser name password) = AddUser (string_bytes name) (string_bytes password)
+call_value (Call.RemoveUser name) = RemoveUser (string_bytes name)
+call_value (Call.AddIntegrity algorithm) = AddIntegrity algorithm
+call_value (Call.SetIntegrity algorithm) = SetIntegrity algorithm
+call_value (Call.SetAnonymous feature) = SetAnonymous feature
+call_value (Call.RemoveClient address) = RemoveClient address
+call_value (Call.SetExpiry expiry) = SetExpiry expiry
+call_value (Call.ForgetExpired now) = ForgetExpired now
+call_value (Call.Forget address) = Forget address
 
 -- what is shown of a call: which it is, and none of its values, a password being one
 abbrev pub call_shown : ServerCall → List ℕ

@@ -4,7 +4,7 @@ use Rattle.std.specs.Prelude.{filter, length, sum_by, Option, Some, None}
 use Rattle.stun_base.specs.declared.wire.message_type.MessageClass.{MessageClass}
 use Rattle.stun_base.specs.MessageType.{class_in, is_indication, is_response}
 use Rattle.stun_agent.specs.Agent.{Agent}
-use Rattle.stun_agent.specs.Statistics.{Statistics, last_count, raised}
+use Rattle.stun_agent.specs.Statistics.{Statistics, last_count, saturating_sum}
 use Rattle.stun_proto.specs.declared.replay.event.AgentEvent.{AgentEvent}
 use Rattle.stun_proto.specs.Run.{IsDriven}
 use Rattle.stun_proto.specs.Steps.{Step, Transmitted, Sent, Received, Refused, TimedOut, Cancelled}
@@ -53,7 +53,7 @@ sent_bytes (Cancelled moment id) = 0
 -- ---- what they add
 -- a counter of 64 bits has so many more. It stays at its greatest number once it is there
 abbrev pub Adds : ℕ → ℕ → ℕ → Type 0
-Adds old more new = old ≤ last_count → new ≡ raised old more
+Adds old more new = old ≤ last_count → new ≡ saturating_sum old more
 
 -- the counters that the steps alone decide
 pub record AreCounted (steps : List Step) (old new : Statistics) : Type 0 where

@@ -5,8 +5,8 @@ use Rattle.stun_proto.specs.Steps.{Step, Transmitted, TimedOut}
 
 -- a Binding request without attributes, of the id 7: type 0x0001, length 0, magic cookie, id
 -- (section 5)
-abbrev pub binding_request : List ℕ
-binding_request =
+abbrev pub example_request : List ℕ
+example_request =
     0x00 ∷ 0x01 ∷ 0 ∷ 0 ∷ 0x21 ∷ 0x12 ∷ 0xA4 ∷ 0x42 ∷ 0 ∷ 0 ∷ 0 ∷ 0 ∷ 0 ∷ 0 ∷ 0 ∷ 0 ∷ 0 ∷ 0 ∷ 0
     ∷ 7 ∷ []
 
@@ -15,17 +15,18 @@ abbrev pub ms : ℕ → ℕ
 ms n = n * 1000000
 
 -- it is sent to an address
-abbrev pub sent_at : ℕ → SocketAddr → Step
-sent_at milliseconds to = Transmitted (ms milliseconds) 7 to binding_request
+abbrev pub sent_at_ms : ℕ → SocketAddr → Step
+sent_at_ms milliseconds to = Transmitted (ms milliseconds) 7 to example_request
 
 -- over UDP with the default settings, asked at 0: each timeout is twice the one before, and after
 -- the seventh transmission 8 seconds pass
 abbrev pub udp_steps : SocketAddr → List Step
 udp_steps to =
-    sent_at 0 to ∷ sent_at 500 to ∷ sent_at 1500 to ∷ sent_at 3500 to ∷ sent_at 7500 to
-    ∷ sent_at 15500 to ∷ sent_at 31500 to
+    sent_at_ms 0 to ∷ sent_at_ms 500 to ∷ sent_at_ms 1500 to ∷ sent_at_ms 3500 to
+    ∷ sent_at_ms 7500 to
+    ∷ sent_at_ms 15500 to ∷ sent_at_ms 31500 to
     ∷ TimedOut (ms 39500) 7 ∷ []
 
 -- over TCP it is sent once, and ends at the same moment (section 6.2.2)
 abbrev pub tcp_steps : SocketAddr → List Step
-tcp_steps to = sent_at 0 to ∷ TimedOut (ms 39500) 7 ∷ []
+tcp_steps to = sent_at_ms 0 to ∷ TimedOut (ms 39500) 7 ∷ []

@@ -5,23 +5,43 @@ use Rattle.std.specs.FinMap as map
 use Rattle.std.specs.Prelude.{◌≡◌, ◌≤◌, ◌+◌, ◌-◌, ◌↔◌, ◌⊎◌, ◌∷◌, ◌++◌}
 use Rattle.stun_auth.specs.declared.server.reason.LongTermServerValidation.TheVariants as Served
 use Rattle.stun_proto.specs.Serving as Serving
-use Rattle.stun_proto.specs.Words.{ℕ, false, List, filter, length, slice_get, take, Some, None, AllByRecursion, IsSome, Vec, SocketAddr, Result, Ok, Err, digest, NameAndPassword, HEADER_LENGTH, header_refusal, transaction_id_field, long_term_key, class_in, is_response, IntegrityAlgorithm, Request, TypedValue, deciding, integrity_algorithm, TEXT_LIMIT, USERNAME_LIMIT, with_length, UnsupportedFeature, listed, Challenge, ClientState, authenticated, initial, Reading, verified_under, PlaceSeen, Sight, AcceptedWith, Answer, ServerSeen, sight, ServerCall, Validate, NegotiateError, Memory, Outcome, Validated, ClientRefused, HashIsRefused, IsShared, IsStrongestShared, IsReady, own, own_replies, Meeting, Reads, sight_by_replies, Reply, Agent, planned_end, at, AgentEvent, SendRequest, requester, Requester, Asks, IsUndisturbed, plan, cut, Step, is_of}
+use Rattle.stun_proto.specs.Words.{ℕ, false, List, filter, length, slice_get, take, Some, None}
+use Rattle.stun_proto.specs.Words.{AllByRecursion, IsSome, Vec, SocketAddr, Result, Ok, Err, digest}
+use Rattle.stun_proto.specs.Words.{NameAndPassword, HEADER_LENGTH, header_refusal}
+use Rattle.stun_proto.specs.Words.{transaction_id_field, long_term_key, class_in, is_response}
+use Rattle.stun_proto.specs.Words.{IntegrityAlgorithm, Request, TypedValue, deciding}
+use Rattle.stun_proto.specs.Words.{integrity_algorithm, TEXT_LIMIT, USERNAME_LIMIT, with_length}
+use Rattle.stun_proto.specs.Words.{UnsupportedFeature, algorithms_of, Challenge, ClientState}
+use Rattle.stun_proto.specs.Words.{authenticated, initial, Reading, verified_under, PlaceSeen}
+use Rattle.stun_proto.specs.Words.{Sight, AcceptedWith, Answer, ServerSeen, sight, ServerCall}
+use Rattle.stun_proto.specs.Words.{Validate, NegotiateError, Memory, Outcome, Validated}
+use Rattle.stun_proto.specs.Words.{ClientRefused, HashIsRefused, IsShared, IsStrongestShared}
+use Rattle.stun_proto.specs.Words.{IsReady, own_calls, own_replies, Meeting, Reads}
+use Rattle.stun_proto.specs.Words.{sight_by_replies}
+use Rattle.stun_proto.specs.Words.{Reply, Agent, planned_end, at, AgentEvent, SendRequest}
+use Rattle.stun_proto.specs.Words.{requester, Requester, Asks, IsUndisturbed, plan, steps_until}
+use Rattle.stun_proto.specs.Words.{Step}
+use Rattle.stun_proto.specs.Words.{is_of}
 
 -- ---- 1. The server (section 9.2.4)
 
--- One call: `LongTermServerAuth::validate_incoming_message`, clause `accepted`. A request or an
--- indication (the RFC challenges no indication; this call judges one alike) is answered
--- `Validated` if and only if it has a REALM of any value, the NONCE that is current at its address
--- (after its end: the one just made, which nobody was sent), consistent algorithms of which the
--- server supports the chosen one, and the digest under the key of the registered user it names
+-- One call: `LongTermServerAuth::validate_incoming_message`, clause `accepted`. The RFC challenges
+-- no indication; this call judges one as it judges a request. A request or an indication gets
+-- `Validated` if and only if it has all of these:
+--
+-- - a REALM, of any value;
+-- - the NONCE that is current at its address (after the end of that one: the nonce just made, which
+--   nobody was sent);
+-- - consistent algorithms, of which the server supports the chosen one;
+-- - the digest under the key of the registered user it names
 abbrev pub ValidatesOneCall : Sight → ℕ → List ℕ → Reading → Answer → Type 0
 ValidatesOneCall s now words r given =
     (is_response r.class ≡ false) → (a : IntegrityAlgorithm)
     → (given ≡ Ok (Served.Validated a)) ↔ AcceptedWith s now words r a
 
--- The digest, in bytes: the integrity attribute that decides (MESSAGE-INTEGRITY-SHA256 where one is
--- visible) has the whole HMAC, under this key, of the bytes before it, with the length field of a
--- message that ends after it (sections 14.5 and 14.6)
+-- The digest, in bytes. One integrity attribute decides: MESSAGE-INTEGRITY-SHA256 where one is
+-- visible. It has the whole HMAC, under this key, of the bytes before it. Their length field is the
+-- one of a message that ends after the attribute (sections 14.5 and 14.6)
 abbrev pub HoldsDigest : List ℕ → List ℕ → Type 0
 HoldsDigest bytes key =
     (place : ℕ) × (attribute : TypedValue) × (deciding bytes ≡ Some (place, attribute))
@@ -30,39 +50,47 @@ HoldsDigest bytes key =
 
 -- Every list of calls: `serve`, clause `headline`, with `read` = `message_read` and `run` =
 -- `replies`. Whom the server validates is said by `validated` and `digest` without `replies`
-pub record ValidatesEachCall (read : Reads) (run : ServerSeen → List ServerCall → List Reply) (start : ServerSeen) (calls : List ServerCall) (given : List Reply) : Type 0 where
+pub record ValidatesEachCall (read : Reads) (run : ServerSeen → List ServerCall → List Reply)
+    (start : ServerSeen) (calls : List ServerCall) (given : List Reply) : Type 0 where
   -- the replies are those of the run
   pub replied : given ≡ run start calls
-  -- at each index the same as of one call, with the nonce, the offer, the users and the settings
-  -- that were left by the earlier calls of the same address and those that concern all, and by the
-  -- replies to them
+  -- at each index the same as of one call. The nonce, the offer, the users and the settings are
+  -- those that earlier calls left, by their replies. These are the calls of the same address and
+  -- those that concern all
   pub validated : (i : ℕ) (from : SocketAddr) (now : ℕ) (message : Vec ℕ) (words : List ℕ)
       (m : Reading) (a : IntegrityAlgorithm)
       → slice_get calls i ≡ Some (Validate from now message words) → read message.items ≡ Some m
       → is_response m.class ≡ false → (slice_get given i ≡ Some (Serving.Validated a))
-      ↔ AcceptedWith (sight_by_replies read from (sight start from) (take i calls) given) now words m a
+      ↔ AcceptedWith (sight_by_replies read from (sight start from) (take i calls) given)
+      now words m a
   -- the digest of a message verifies where the message holds it
   pub digest : (bytes key : List ℕ) (m : Reading) → read bytes ≡ Some m
       → IsSome (verified_under m key) ↔ HoldsDigest bytes key
   -- whatever other addresses do: the replies to an address are those of the run of its own calls
   -- and of those that concern all
-  pub isolated : (from : SocketAddr) → own_replies from calls given ≡ run start (own from calls)
+  pub isolated : (from : SocketAddr)
+      → own_replies from calls given ≡ run start (own_calls from calls)
 
 -- ---- 2. The client (sections 9.2.3 to 9.2.5)
 
--- A client that has read nothing yet and is ready: it has the credentials of a registered user, no
--- two registered users share a hash, its address is new to the server, the calls between its
--- messages are those of other addresses alone, and its second request comes while the nonce is
--- current. Its realm and its user name have at most 763 and 513 bytes (sections 14.9 and 14.3)
-pub record IsReadyClient (state : ClientState) (m : Meeting) (who : NameAndPassword) (server : ServerSeen) : Type 0 where
+-- A client that has read nothing yet and is ready:
+--
+-- - it has the credentials of a registered user, and no two registered users share a hash;
+-- - its address is new to the server;
+-- - the calls between its messages are those of other addresses alone;
+-- - its second request comes while the nonce is current;
+-- - its realm and its user name have at most 763 and 513 bytes (sections 14.9 and 14.3)
+pub record IsReadyClient (state : ClientState) (m : Meeting) (who : NameAndPassword)
+    (server : ServerSeen) : Type 0 where
   pub new : state ≡ initial
   pub ready : IsReady m who server
   pub realm_fits : length server.registered.realm ≤ TEXT_LIMIT
   pub name_fits : length who.username ≤ USERNAME_LIMIT
 
--- both know each other: the server keeps this client at its address with this algorithm, and the
--- client the server's realm, the nonce of its address, and its user's key for the algorithm
-pub record KnowEachOther (from : SocketAddr) (who : NameAndPassword) (a : IntegrityAlgorithm) (client : ClientState) (server : ServerSeen) : Type 0 where
+-- both know each other. The server keeps this client at its address with this algorithm. The client
+-- keeps the server's realm, the nonce of its address, and its user's key for the algorithm
+pub record KnowEachOther (from : SocketAddr) (who : NameAndPassword) (a : IntegrityAlgorithm)
+    (client : ClientState) (server : ServerSeen) : Type 0 where
   pub place : PlaceSeen
   pub challenge : Challenge
   pub kept : map.get server.places from ≡ Some place
@@ -79,27 +107,35 @@ EndsWith result outcome left = ((result ≡ Ok outcome) × left) ⊎ (result ≡
 
 -- How the meeting of such a client ends, with nobody in between, and how it leaves both sides:
 -- `negotiate`, clause `headline`, says that `IsReadyClient` gives `EndsAtStrongest`
-pub record EndsAtStrongest (m : Meeting) (who : NameAndPassword) (server : ServerSeen) (result : Result Outcome NegotiateError) (client : ClientState) (after : ServerSeen) : Type 0 where
+pub record EndsAtStrongest (m : Meeting) (who : NameAndPassword) (server : ServerSeen)
+    (result : Result Outcome NegotiateError) (client : ClientState)
+    (after : ServerSeen) : Type 0 where
   -- the outcome is `Validated`, by the strongest algorithm that both support: the server accepted
   -- the second request, and the client its success, and both know each other
-  pub validated : (a : IntegrityAlgorithm) → IsStrongestShared m.settings.supported (listed server.registered.algorithms) a
+  pub validated : (a : IntegrityAlgorithm)
+      → IsStrongestShared m.settings.supported (algorithms_of server.registered.algorithms) a
       → (HashIsRefused m.settings.feature server.feature → ⊥)
       → EndsWith result (Validated a) (KnowEachOther m.from who a client after)
-  -- where they share none, or the client must hash its name and the server takes no hash, the
+  -- where they share none, or the client must hash its name and the server takes no hash: the
   -- client gives up and keeps nothing, and the server knows no client at its address
   pub refused : (HashIsRefused m.settings.feature server.feature
-      ⊎ ((a : IntegrityAlgorithm) → IsShared m.settings.supported (listed server.registered.algorithms) a → ⊥))
+      ⊎ ((a : IntegrityAlgorithm)
+      → IsShared m.settings.supported (algorithms_of server.registered.algorithms) a → ⊥))
       → EndsWith result (ClientRefused UnsupportedFeature)
       ((client ≡ initial) × (place : PlaceSeen) × (map.get after.places m.from ≡ Some place)
       × (place.client ≡ None))
 
 -- ---- 3. The agent (sections 6.2.1 and 6.2.2)
 
--- A request that one event asks for and that is undisturbed: its bytes begin with the header of a
--- request (section 5) and this id, the agent may send to its destination, no request of the id is
--- outstanding when the run begins, no other event asks for the id, and up to the end of its plan no
--- response of the id comes from its address, and no call cancels or changes it
-pub record IsAskedOnce (a : Requester) (id start : ℕ) (bytes : List ℕ) (to : SocketAddr) (earlier later : List (ℕ × AgentEvent)) : Type 0 where
+-- A request that one event asks for and that is undisturbed:
+--
+-- - its bytes begin with the header of a request (section 5) and this id;
+-- - the agent may send to its destination;
+-- - no request of the id is outstanding when the run begins, and no other event asks for the id;
+-- - up to the end of its plan no response of the id comes from its address, and no call cancels or
+--   changes it
+pub record IsAskedOnce (a : Requester) (id start : ℕ) (bytes : List ℕ) (to : SocketAddr)
+    (earlier later : List (ℕ × AgentEvent)) : Type 0 where
   pub header : header_refusal bytes ≡ None
   pub class : class_in bytes ≡ Request
   pub names : transaction_id_field bytes ≡ id
@@ -110,19 +146,23 @@ pub record IsAskedOnce (a : Requester) (id start : ℕ) (bytes : List ℕ) (to :
   pub not_again : AllByRecursion (λ e. Asks id e.1 → ⊥) later
   pub undisturbed : IsUndisturbed id to (planned_end a.transport a.settings start) later
 
--- All steps of this id in a list are those of its plan, up to and including `until`: it is sent at
--- its start plus the sum of its first k timeouts, for each k up to its number of slots, and at no
--- other moment, and times out once, where `until` reaches its end
+-- All steps of this id in a list are those of its plan, up to and including `until`. For each k up
+-- to its number of slots, it is sent at its start plus the sum of its first k timeouts. It is sent
+-- at no other moment. It times out once, where `until` reaches its end
 abbrev pub SendsByPlan : ℕ → Requester → List (ℕ × AgentEvent) → List Step → Type 0
 SendsByPlan until a events steps =
     (id start : ℕ) (bytes : Vec ℕ) (to : SocketAddr) (earlier later : List (ℕ × AgentEvent))
-    → events ≡ earlier ++ (start, SendRequest bytes to) ∷ later → IsAskedOnce a id start bytes.items to earlier later
-    → filter (is_of id) steps ≡ cut until (plan a.transport start a.settings id to bytes.items)
+    → events ≡ earlier ++ (start, SendRequest bytes to) ∷ later
+    → IsAskedOnce a id start bytes.items to earlier later
+    → filter (is_of id) steps
+    ≡ steps_until until (plan a.transport start a.settings id to bytes.items)
 
 -- `drive`, clause `headline`, with `run` = `IsDriven until`
-pub record IsDrivenByPlan (run : Agent → List (ℕ × AgentEvent) → List Step → Agent → Type 0) (until : ℕ) (a : Agent) (events : List (ℕ × AgentEvent)) (steps : List Step) (after : Agent) : Type 0 where
-  -- the steps that are answered are all that this agent did, which took the events and was polled
-  -- at exactly the moments that it names, and `after` is the agent that this leaves
+pub record IsDrivenByPlan (run : Agent → List (ℕ × AgentEvent) → List Step → Agent → Type 0)
+    (until : ℕ) (a : Agent) (events : List (ℕ × AgentEvent)) (steps : List Step)
+    (after : Agent) : Type 0 where
+  -- the steps that are returned are all that this agent did. It took the events and was polled at
+  -- exactly the moments that it names. `after` is the agent that this leaves
   pub driven : run a events steps after
   -- those of each request that is asked once are its plan
   pub by_plan : SendsByPlan until (requester a) events steps

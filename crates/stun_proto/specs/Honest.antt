@@ -5,21 +5,21 @@ use Rattle.std.specs.declared.result.Result.TheVariants.{Ok}
 use Rattle.std.specs.FinMap as map
 use Rattle.std.specs.declared.net.socket_addr.SocketAddr.{SocketAddr}
 use Rattle.stun_base.specs.Credentials.{NameAndPassword}
-use Rattle.stun_base.specs.Keys.{userhash}
+use Rattle.stun_base.specs.Keys.{userhash_of}
 use Rattle.stun_base.specs.Moments.{moment_after}
 use Rattle.stun_base.specs.declared.keys.algorithm.IntegrityAlgorithm.{IntegrityAlgorithm}
 use Rattle.stun_types.specs.Limits.{TEXT_LIMIT, USERNAME_LIMIT}
 use Rattle.stun_auth.specs.declared.client.answer.LongTermClientAuthErrorReason.TheVariants.{
   UnsupportedFeature,
 }
-use Rattle.stun_auth.specs.Algorithms.{listed}
+use Rattle.stun_auth.specs.Algorithms.{algorithms_of}
 use Rattle.stun_auth.specs.Client.{Challenge, authenticated, initial}
 use Rattle.stun_auth.specs.Registered.{Registered}
 use Rattle.stun_auth.specs.Seen.{ClientSeen, PlaceSeen}
 use Rattle.stun_auth.specs.Validation.{ServerSeen, sight}
 use Rattle.stun_proto.specs.Best.{best}
 use Rattle.stun_proto.specs.Matching.{AreJoined, AreOfOthers, AreTexts, IsRegistered}
-use Rattle.stun_proto.specs.Negotiation.{Meeting, Met, negotiated}
+use Rattle.stun_proto.specs.Negotiation.{Meeting, Met, whole_negotiation}
 use Rattle.stun_proto.specs.declared.replay.negotiation.Outcome.TheVariants.{Validated}
 use Rattle.stun_proto.specs.declared.replay.negotiation.Outcome.TheVariants.{ClientRefused}
 
@@ -27,7 +27,7 @@ use Rattle.stun_proto.specs.declared.replay.negotiation.Outcome.TheVariants.{Cli
 abbrev pub HaveOwnHashes : Registered → Type 0
 HaveOwnHashes users = (a b : List ℕ) → is_some (map.get users.secrets a) ≡ true
     → is_some (map.get users.secrets b) ≡ true
-    → userhash a users.realm ≡ userhash b users.realm → a ≡ b
+    → userhash_of a users.realm ≡ userhash_of b users.realm → a ≡ b
 
 -- a new client is ready: it has a registered user's credentials, comes from an address without a
 -- place, and is in time
@@ -46,7 +46,7 @@ pub record IsReady (m : Meeting) (who : NameAndPassword) (server : ServerSeen) :
 -- `honest` is short for: it is ready, and no signing of the meeting is refused
 pub record IsHonest (m : Meeting) (who : NameAndPassword) (server : ServerSeen) : Type 0 where
   pub ready : IsReady m who server
-  pub signed : IsOk (negotiated m initial server).ending
+  pub signed : IsOk (whole_negotiation m initial server).ending
 
 -- the client that a server knows at an address
 abbrev pub client_at : ServerSeen → SocketAddr → Option ClientSeen
@@ -74,7 +74,7 @@ ComesTo from who None met = GivesUp from met
 -- the strongest algorithm that a client and a server support, if there is one
 abbrev pub strongest : Meeting → ServerSeen → Option IntegrityAlgorithm
 strongest m server =
-    best m.settings.supported (listed server.registered.algorithms) m.settings.feature
+    best m.settings.supported (algorithms_of server.registered.algorithms) m.settings.feature
     server.feature
 
 -- a client that is honest in this sense and its server come to the strongest algorithm of both,
@@ -82,7 +82,7 @@ strongest m server =
 abbrev pub StrongestIsAgreed : Type 0
 StrongestIsAgreed = (m : Meeting) (who : NameAndPassword) (server : ServerSeen)
     → AreTexts server.registered.realm who.username → IsHonest m who server
-    → ComesTo m.from who (strongest m server) (negotiated m initial server)
+    → ComesTo m.from who (strongest m server) (whole_negotiation m initial server)
 
 -- ---- signings that succeed
 

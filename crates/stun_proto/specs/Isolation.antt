@@ -33,9 +33,9 @@ concerns a (Call.ForgetExpired now) = true
 concerns a (Call.Forget address) = same_address address a
 
 -- the calls of an address and all calls that concern every address, in their order
-abbrev pub own : SocketAddr → List ServerCall → List ServerCall
-own a [] = []
-own a (call ∷ calls) = if concerns a call then call ∷ own a calls else own a calls
+abbrev pub own_calls : SocketAddr → List ServerCall → List ServerCall
+own_calls a [] = []
+own_calls a (call ∷ calls) = if concerns a call then call ∷ own_calls a calls else own_calls a calls
 
 -- the replies to them
 abbrev pub own_replies : SocketAddr → List ServerCall → List Reply → List Reply
@@ -88,7 +88,7 @@ sight_over s (call ∷ calls) = sight_over (sight_after s call) calls
 abbrev pub IsolatedBy : (ServerSeen → List ServerCall → List Reply) → ServerSeen → List ServerCall
     → List Reply → Type 0
 IsolatedBy run start calls given =
-    (a : SocketAddr) → own_replies a calls given ≡ run start (own a calls)
+    (a : SocketAddr) → own_replies a calls given ≡ run start (own_calls a calls)
 
 -- the run of this library's server
 abbrev pub IsIsolated : ServerSeen → List ServerCall → List Reply → Type 0

@@ -58,5 +58,5 @@ pub mod Stopped
 pub mod CallValues
 -- an event as a value: what its equality compares
 pub mod EventValues
--- what no clause of a public call says: codings of models, views of structs, steps of the code
+-- what no clause of a public call cites: codings of models, views of structs, steps of the code
 pub mod code

@@ -7,7 +7,7 @@ use Rattle.stun_base.specs.Credentials.{NameAndPassword}
 use Rattle.stun_base.specs.Keys.{long_term_key}
 use Rattle.stun_base.specs.declared.keys.algorithm.IntegrityAlgorithm.{IntegrityAlgorithm}
 use Rattle.stun_auth.specs.declared.feature.Feature.{Feature}
-use Rattle.stun_auth.specs.Algorithms.{contains, listed}
+use Rattle.stun_auth.specs.Algorithms.{contains, algorithms_of}
 use Rattle.stun_auth.specs.Client.{Challenge}
 use Rattle.stun_auth.specs.ClientStep.{naming_of}
 use Rattle.stun_auth.specs.Nonces.{nonce_of}
@@ -45,7 +45,7 @@ pub record Matches (users : Registered) (feature : Feature) (p : PlaceSeen) (c :
   -- the nonce was made under the present settings
   pub made : (words : List ℕ) × (p.nonce ≡ nonce_of users.algorithms feature words)
   pub offered : p.offered ≡ Some users.algorithms
-  pub algorithms : c.algorithms ≡ listed users.algorithms
+  pub algorithms : c.algorithms ≡ algorithms_of users.algorithms
   pub algorithm : contains c.algorithm users.algorithms ≡ true
   pub naming : (hashes : Bool) × (c.naming ≡ naming_of hashes who.username users.realm)
   pub known : IsRegistered users who

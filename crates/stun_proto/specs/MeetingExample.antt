@@ -17,7 +17,7 @@ use Rattle.stun_auth.specs.Reading.{reading_of}
 use Rattle.stun_auth.specs.Registered.{new_registered, with_user}
 use Rattle.stun_auth.specs.Validation.{ServerSeen, new_server}
 use Rattle.stun_proto.specs.declared.replay.call.ServerCall.TheVariants as Call
-use Rattle.stun_proto.specs.Negotiation.{Meeting, asked, failure, request}
+use Rattle.stun_proto.specs.Negotiation.{Meeting, client_request, failure, request}
 use Rattle.stun_proto.specs.Serving.{Refused, Signed, Validated, replies}
 
 -- who asks
@@ -55,7 +55,7 @@ pub record IsServed (from : SocketAddr) (words more : List ℕ) : Type 0 where
   pub challenge : Page
   pub again : Page
   pub signed_again :
-      asked 8 (client_step a_client initial (reading_of challenge.bytes)).state ≡ Ok again
+      client_request 8 (client_step a_client initial (reading_of challenge.bytes)).state ≡ Ok again
   pub replied : (first error second : Vec ℕ)
       → first.items ≡ request 7 → error.items ≡ failure UNAUTHORIZED 7 → second.items ≡ again.bytes
       → replies a_server

@@ -21,11 +21,12 @@ use Rattle.stun_auth.specs.ClientSigning.{client_additions}
 use Rattle.stun_auth.specs.ClientStep.{ClientAnswer, UNAUTHORIZED, client_step}
 use Rattle.stun_auth.specs.Reading.{reading_of}
 use Rattle.stun_auth.specs.ServerSigning.{after_signing, server_signed}
-use Rattle.stun_auth.specs.Validation.{Answer, ServerSeen, after_message, answer, sight}
+use Rattle.stun_auth.specs.Validation.{Answer, ServerSeen, after_validation, answer, sight}
 use Rattle.stun_proto.specs.Honest.{ComesTo, IsHonest, strongest}
 use Rattle.stun_proto.specs.Matching.{AreTexts}
-use Rattle.stun_proto.specs.Negotiation.{Meeting, Met, Round, ended, failure, negotiated}
-use Rattle.stun_proto.specs.Negotiation.{outcome_of_success, request, success, unwritten}
+use Rattle.stun_proto.specs.Negotiation.{Meeting, Met, Round, ending_with, failure}
+use Rattle.stun_proto.specs.Negotiation.{whole_negotiation}
+use Rattle.stun_proto.specs.Negotiation.{outcome_of_success, request, success, ending_unwritten}
 use Rattle.stun_proto.specs.ServerLoop.{AreMade}
 use Rattle.stun_proto.specs.Serving.{Reply}
 use Rattle.stun_proto.specs.Signing.{if_signed}
@@ -58,21 +59,21 @@ pub record ServerSigns (server : ServerSeen) (to : SocketAddr) (message : List �
 pub record ServerReads (server : ServerSeen) (from : SocketAddr) (round : Round) (page : Page)
     (given : Answer) (after : ServerSeen) : Type 0 where
   pub answered : given ≡ answer (sight server from) round.now round.words (reading_of page.bytes)
-  pub left : after ≡ after_message server from round.now round.words (reading_of page.bytes)
+  pub left : after ≡ after_validation server from round.now round.words (reading_of page.bytes)
 
 -- ---- the meeting
 
 -- the server has signed the success: the client reads it
 abbrev pub SuccessSigned : Meeting → IntegrityAlgorithm → ClientState
     → Result Page StunWriteError → ServerSeen → Met → Type 0
-SuccessSigned m a state (Err reason) server met = met ≡ unwritten reason state server
+SuccessSigned m a state (Err reason) server met = met ≡ ending_unwritten reason state server
 SuccessSigned m a state (Ok page) server met =
     (given : ClientAnswer) × (after : ClientState) × ClientReads m.settings state page given after
-    × (met ≡ ended (outcome_of_success a given) after server)
+    × (met ≡ ending_with (outcome_of_success a given) after server)
 
 -- the server has read the second request: it signs the success
 abbrev pub SecondRead : Meeting → ClientState → Answer → ServerSeen → Met → Type 0
-SecondRead m state (Err reason) server met = met ≡ ended (ServerRefused reason) state server
+SecondRead m state (Err reason) server met = met ≡ ending_with (ServerRefused reason) state server
 SecondRead m state (Ok (Served.Validated a)) server met =
     (signed : Result Page StunWriteError) × (after : ServerSeen)
     × ServerSigns server m.from (success m.second.id) signed after
@@ -81,7 +82,7 @@ SecondRead m state (Ok (Served.Validated a)) server met =
 -- the client has signed the second request: the server reads it, after the calls that come before
 abbrev pub SecondSigned : Meeting → ClientState
     → Result Page StunWriteError → ServerSeen → Met → Type 0
-SecondSigned m state (Err reason) server met = met ≡ unwritten reason state server
+SecondSigned m state (Err reason) server met = met ≡ ending_unwritten reason state server
 SecondSigned m state (Ok page) server met =
     (told : List Reply) × (called : ServerSeen) × AreMade server m.second.before told called
     × (given : Answer) × (after : ServerSeen) × ServerReads called m.from m.second page given after
@@ -93,13 +94,14 @@ ChallengeRead m (Ok (Read.ResendRequest a)) state server met =
     (signed : Result Page StunWriteError) × ClientSigns state m.second.id signed
     × SecondSigned m state signed server met
 ChallengeRead m (Ok (Read.Validated a)) state server met =
-    met ≡ ended (ClientRefused Client.Unauthorized) state server
-ChallengeRead m (Err reason) state server met = met ≡ ended (ClientRefused reason) state server
+    met ≡ ending_with (ClientRefused Client.Unauthorized) state server
+ChallengeRead m (Err reason) state server met =
+    met ≡ ending_with (ClientRefused reason) state server
 
 -- the server has signed the challenge: the client reads it, after the calls that come before
 abbrev pub ChallengeSigned : Meeting → ClientState
     → Result Page StunWriteError → ServerSeen → Met → Type 0
-ChallengeSigned m state (Err reason) server met = met ≡ unwritten reason state server
+ChallengeSigned m state (Err reason) server met = met ≡ ending_unwritten reason state server
 ChallengeSigned m state (Ok page) server met =
     (told : List Reply) × (called : ServerSeen) × AreMade server m.first.before told called
     × (given : ClientAnswer) × (after : ClientState) × ClientReads m.settings state page given after
@@ -108,17 +110,17 @@ ChallengeSigned m state (Ok page) server met =
 -- the server has read the first request: it signs the challenge
 abbrev pub FirstRead : Meeting → ClientState → Answer → ServerSeen → Met → Type 0
 FirstRead m state (Ok (Served.Validated a)) server met =
-    met ≡ ended (AlreadyValidated a) state server
+    met ≡ ending_with (AlreadyValidated a) state server
 FirstRead m state (Err Server.Unauthorized) server met =
     (signed : Result Page StunWriteError) × (after : ServerSeen)
     × ServerSigns server m.from (failure UNAUTHORIZED m.first.id) signed after
     × ChallengeSigned m state signed after met
-FirstRead m state (Err reason) server met = met ≡ ended (ServerRefused reason) state server
+FirstRead m state (Err reason) server met = met ≡ ending_with (ServerRefused reason) state server
 
 -- the client has signed the first request: the server reads it
 abbrev pub FirstSigned : Meeting → ClientState
     → Result Page StunWriteError → ServerSeen → Met → Type 0
-FirstSigned m state (Err reason) server met = met ≡ unwritten reason state server
+FirstSigned m state (Err reason) server met = met ≡ ending_unwritten reason state server
 FirstSigned m state (Ok page) server met =
     (given : Answer) × (after : ServerSeen) × ServerReads server m.from m.first page given after
     × FirstRead m state given after met
@@ -135,7 +137,7 @@ HaveMet m state server met =
 abbrev pub MeetingsAreNegotiated : Type 0
 MeetingsAreNegotiated =
     (m : Meeting) (state : ClientState) (server : ServerSeen) (met : Met)
-    → HaveMet m state server met → met ≡ negotiated m state server
+    → HaveMet m state server met → met ≡ whole_negotiation m state server
 
 -- and a client that is honest and its server come to the strongest algorithm of both
 abbrev pub MeetingsAgree : Type 0

@@ -13,7 +13,7 @@ use Rattle.stun_base.specs.declared.wire.error.StunWriteError.TheVariants.{Integ
 use Rattle.stun_base.specs.declared.wire.error.StunWriteError.TheVariants.{OutOfMemory}
 use Rattle.stun_auth.specs.Client.{ClientSettings, ClientState}
 use Rattle.stun_auth.specs.Validation.{ServerSeen}
-use Rattle.stun_proto.specs.Negotiation.{Meeting, Met, Round, ended, unwritten}
+use Rattle.stun_proto.specs.Negotiation.{Meeting, Met, Round, ending_with, ending_unwritten}
 use Rattle.stun_proto.specs.declared.replay.call.ServerCall.{ServerCall}
 use Rattle.stun_proto.specs.declared.replay.negotiation.NegotiateError.{NegotiateError}
 use Rattle.stun_proto.specs.declared.replay.negotiation.NegotiateError.TheVariants.{Memory, Write}
@@ -44,16 +44,16 @@ meeting settings from ids moments words between = record {
 
 -- how a run has ended and what it has left, where no allocation failed
 abbrev pub met_by : Result Outcome NegotiateError → ClientState → ServerSeen → Option Met
-met_by (Ok outcome) client server = Some (ended outcome client server)
-met_by (Err (Write reason)) client server = Some (unwritten reason client server)
+met_by (Ok outcome) client server = Some (ending_with outcome client server)
+met_by (Err (Write reason)) client server = Some (ending_unwritten reason client server)
 met_by (Err Memory) client server = None
 
 -- a refused signing as an error of the run
-abbrev pub error_of : StunWriteError → NegotiateError
-error_of NotAllowed = Write NotAllowed
-error_of MessageIntegrityExists = Write MessageIntegrityExists
-error_of (AttributeExists kind) = Write (AttributeExists kind)
-error_of TooLarge = Write TooLarge
-error_of TooSmall = Write TooSmall
-error_of IntegrityFailed = Write IntegrityFailed
-error_of OutOfMemory = Memory
+abbrev pub error_of_write : StunWriteError → NegotiateError
+error_of_write NotAllowed = Write NotAllowed
+error_of_write MessageIntegrityExists = Write MessageIntegrityExists
+error_of_write (AttributeExists kind) = Write (AttributeExists kind)
+error_of_write TooLarge = Write TooLarge
+error_of_write TooSmall = Write TooSmall
+error_of_write IntegrityFailed = Write IntegrityFailed
+error_of_write OutOfMemory = Memory

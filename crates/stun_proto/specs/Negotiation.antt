@@ -9,7 +9,7 @@ use Rattle.stun_base.specs.declared.keys.algorithm.IntegrityAlgorithm.{Integrity
 use Rattle.stun_base.specs.declared.wire.error.StunWriteError.{StunWriteError}
 use Rattle.stun_base.specs.declared.wire.message_type.MessageClass.TheVariants as Class
 use Rattle.stun_types.specs.ErrorCode.{CodeAndReason, default_reason}
-use Rattle.stun_types.specs.Grammar.{spelled}
+use Rattle.stun_types.specs.Grammar.{spelled_message}
 use Rattle.stun_auth.specs.declared.client.answer.LongTermClientAuthErrorReason.TheVariants
     as Client
 use Rattle.stun_auth.specs.declared.client.answer.LongTermClientValidation.TheVariants as Read
@@ -24,7 +24,7 @@ use Rattle.stun_auth.specs.Reading.{Reading, reading_of}
 use Rattle.stun_auth.specs.Server.{Sight}
 use Rattle.stun_auth.specs.ServerSigning.{after_signing, server_signed}
 use Rattle.stun_auth.specs.Signed.{error_attribute}
-use Rattle.stun_auth.specs.Validation.{Answer, ServerSeen, after_message, answer, sight}
+use Rattle.stun_auth.specs.Validation.{Answer, ServerSeen, after_validation, answer, sight}
 use Rattle.stun_auth.specs.Additions.{page_of}
 use Rattle.stun_proto.specs.Serving.{after_calls}
 use Rattle.stun_proto.specs.declared.replay.call.ServerCall.{ServerCall}
@@ -36,9 +36,9 @@ use Rattle.stun_proto.specs.declared.replay.negotiation.Outcome.TheVariants.{Cli
 
 -- ---- who meets
 
--- a request and its answer: the id, the moment at which the server reads the request, the random
--- words of a nonce, and the server's calls just before the 401 is read, or before the second
--- request is
+-- A request and its answer: the id, the moment at which the server reads the request, and the
+-- random words of a nonce. `before` has the server's calls just before the 401 is read, or before
+-- the second request is
 pub record Round : Type 0 where
   pub id : ℕ
   pub now : ℕ
@@ -66,11 +66,11 @@ BINDING = 1
 
 -- a Binding request without attributes
 unfoldable pub request : ℕ → List ℕ
-request id = spelled (type_number Class.Request BINDING) id []
+request id = spelled_message (type_number Class.Request BINDING) id []
 
 -- its success, without attributes
 unfoldable pub success : ℕ → List ℕ
-success id = spelled (type_number Class.Success BINDING) id []
+success id = spelled_message (type_number Class.Success BINDING) id []
 
 -- the error of a code, with the phrase of that code (section 14.8)
 abbrev pub error : ℕ → CodeAndReason
@@ -78,26 +78,28 @@ error code = record { code = code; reason = default_reason code }
 
 -- its error, with ERROR-CODE alone
 unfoldable pub failure : ℕ → ℕ → List ℕ
-failure code id = spelled (type_number Class.Error BINDING) id (error_attribute (error code) ∷ [])
+failure code id =
+    spelled_message (type_number Class.Error BINDING) id (error_attribute (error code) ∷ [])
 
 -- ---- signed messages
 
 -- a request that the client signs
-unfoldable pub asked : ℕ → ClientState → Result Page StunWriteError
-asked id state = added_all (client_additions true state) (page_of (request id))
+unfoldable pub client_request : ℕ → ClientState → Result Page StunWriteError
+client_request id state = added_all (client_additions true state) (page_of (request id))
 
 -- a response that the server signs
-unfoldable pub responded : List ℕ → Sight → Result Page StunWriteError
-responded message s = server_signed s true (page_of message)
+unfoldable pub server_response : List ℕ → Sight → Result Page StunWriteError
+server_response message s = server_signed s true (page_of message)
 
 -- ---- the steps, the last ones first
 
 -- a signing is refused
-abbrev pub unwritten : StunWriteError → ClientState → ServerSeen → Met
-unwritten reason state server = record { ending = Err reason; client = state; server = server }
+abbrev pub ending_unwritten : StunWriteError → ClientState → ServerSeen → Met
+ending_unwritten reason state server =
+    record { ending = Err reason; client = state; server = server }
 
-abbrev pub ended : Outcome → ClientState → ServerSeen → Met
-ended outcome state server = record { ending = Ok outcome; client = state; server = server }
+abbrev pub ending_with : Outcome → ClientState → ServerSeen → Met
+ending_with outcome state server = record { ending = Ok outcome; client = state; server = server }
 
 -- the success: read by the client
 abbrev pub outcome_of_success : IntegrityAlgorithm → ClientAnswer → Outcome
@@ -106,68 +108,70 @@ outcome_of_success a (Ok (Read.ResendRequest b)) = ClientRefused Client.Unauthor
 outcome_of_success a (Err reason) = ClientRefused reason
 
 abbrev pub success_read : IntegrityAlgorithm → ServerSeen → ClientStep → Met
-success_read a server step = ended (outcome_of_success a step.answer) step.state server
+success_read a server step = ending_with (outcome_of_success a step.answer) step.state server
 
 -- signed by the server
-abbrev pub succeeded : Meeting → IntegrityAlgorithm → ClientState → ServerSeen
+abbrev pub success_sent : Meeting → IntegrityAlgorithm → ClientState → ServerSeen
     → Result Page StunWriteError → Met
-succeeded m a state server (Err reason) = unwritten reason state server
-succeeded m a state server (Ok page) =
+success_sent m a state server (Err reason) = ending_unwritten reason state server
+success_sent m a state server (Ok page) =
     success_read a (after_signing server m.from true)
     (client_step m.settings state (reading_of page.bytes))
 
 -- the second request: answered by the server
 abbrev pub second_answered : Meeting → ClientState → ServerSeen → Answer → Met
-second_answered m state server (Err reason) = ended (ServerRefused reason) state server
+second_answered m state server (Err reason) = ending_with (ServerRefused reason) state server
 second_answered m state server (Ok (Served.Validated a)) =
-    succeeded m a state server (responded (success m.second.id) (sight server m.from))
+    success_sent m a state server (server_response (success m.second.id) (sight server m.from))
 
 abbrev pub second_read : Meeting → ClientState → ServerSeen → Reading → Met
 second_read m state server r =
-    second_answered m state (after_message server m.from m.second.now m.second.words r)
+    second_answered m state (after_validation server m.from m.second.now m.second.words r)
     (answer (sight server m.from) m.second.now m.second.words r)
 
 -- signed by the client, and read by the server after the second list of calls
 abbrev pub second_asked : Meeting → ClientState → ServerSeen → Result Page StunWriteError → Met
-second_asked m state server (Err reason) = unwritten reason state server
+second_asked m state server (Err reason) = ending_unwritten reason state server
 second_asked m state server (Ok page) =
     second_read m state (after_calls server m.second.before) (reading_of page.bytes)
 
 -- the challenge: answered by the client
 abbrev pub challenge_answered : Meeting → ServerSeen → ClientState → ClientAnswer → Met
 challenge_answered m server state (Ok (Read.ResendRequest a)) =
-    second_asked m state server (asked m.second.id state)
+    second_asked m state server (client_request m.second.id state)
 challenge_answered m server state (Ok (Read.Validated a)) =
-    ended (ClientRefused Client.Unauthorized) state server
-challenge_answered m server state (Err reason) = ended (ClientRefused reason) state server
+    ending_with (ClientRefused Client.Unauthorized) state server
+challenge_answered m server state (Err reason) = ending_with (ClientRefused reason) state server
 
 abbrev pub challenge_read : Meeting → ServerSeen → ClientStep → Met
 challenge_read m server step = challenge_answered m server step.state step.answer
 
 -- signed by the server, and read by the client after the first list of calls
-abbrev pub challenged : Meeting → ClientState → ServerSeen → Result Page StunWriteError → Met
-challenged m state server (Err reason) = unwritten reason state server
-challenged m state server (Ok page) =
+abbrev pub challenge_sent : Meeting → ClientState → ServerSeen → Result Page StunWriteError → Met
+challenge_sent m state server (Err reason) = ending_unwritten reason state server
+challenge_sent m state server (Ok page) =
     challenge_read m (after_calls (after_signing server m.from true) m.first.before)
     (client_step m.settings state (reading_of page.bytes))
 
 -- the first request: answered by the server
 abbrev pub first_answered : Meeting → ClientState → ServerSeen → Answer → Met
-first_answered m state server (Ok (Served.Validated a)) = ended (AlreadyValidated a) state server
+first_answered m state server (Ok (Served.Validated a)) =
+    ending_with (AlreadyValidated a) state server
 first_answered m state server (Err Server.Unauthorized) =
-    challenged m state server (responded (failure UNAUTHORIZED m.first.id) (sight server m.from))
-first_answered m state server (Err reason) = ended (ServerRefused reason) state server
+    challenge_sent m state server
+    (server_response (failure UNAUTHORIZED m.first.id) (sight server m.from))
+first_answered m state server (Err reason) = ending_with (ServerRefused reason) state server
 
 abbrev pub first_read : Meeting → ClientState → ServerSeen → Reading → Met
 first_read m state server r =
-    first_answered m state (after_message server m.from m.first.now m.first.words r)
+    first_answered m state (after_validation server m.from m.first.now m.first.words r)
     (answer (sight server m.from) m.first.now m.first.words r)
 
 -- signed by the client, and read by the server
 abbrev pub first_asked : Meeting → ClientState → ServerSeen → Result Page StunWriteError → Met
-first_asked m state server (Err reason) = unwritten reason state server
+first_asked m state server (Err reason) = ending_unwritten reason state server
 first_asked m state server (Ok page) = first_read m state server (reading_of page.bytes)
 
 -- ---- the whole run
-abbrev pub negotiated : Meeting → ClientState → ServerSeen → Met
-negotiated m state server = first_asked m state server (asked m.first.id state)
+abbrev pub whole_negotiation : Meeting → ClientState → ServerSeen → Met
+whole_negotiation m state server = first_asked m state server (client_request m.first.id state)

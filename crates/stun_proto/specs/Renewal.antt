@@ -20,10 +20,10 @@ use Rattle.stun_auth.specs.ClientStep.{STALE_NONCE, client_step}
 use Rattle.stun_base.specs.MessageType.{class_in}
 use Rattle.stun_auth.specs.Reading.{error_code, reading_of}
 use Rattle.stun_auth.specs.Seen.{PlaceSeen}
-use Rattle.stun_auth.specs.Server.{Sight, standing}
+use Rattle.stun_auth.specs.Server.{Sight, current_place}
 use Rattle.stun_auth.specs.ServerSigning.{after_signing, server_signed}
 use Rattle.stun_auth.specs.Signed.{IsUnsigned}
-use Rattle.stun_auth.specs.Validation.{Answer, ServerSeen, after_message, answer, sight}
+use Rattle.stun_auth.specs.Validation.{Answer, ServerSeen, after_validation, answer, sight}
 use Rattle.stun_proto.specs.Matching.{AreJoined, AreTexts}
 use Rattle.stun_proto.specs.Serving.{after_calls}
 use Rattle.stun_proto.specs.declared.replay.call.ServerCall.{ServerCall}
@@ -36,7 +36,7 @@ pub record Arrival : Type 0 where
   pub now : ℕ
   pub words : List ℕ
 
--- what the client is set to, its address, whether calls meanwhile may remove it there, its two
+-- What the client is set to, its address, and whether calls meanwhile may remove it there. Its two
 -- requests, and the server's calls before the first, the error and the second
 pub record Renewal : Type 0 where
   pub settings : ClientSettings
@@ -56,7 +56,7 @@ answer_at m arrival server page =
 -- the server after a request
 abbrev pub after_request : Renewal → Arrival → ServerSeen → Page → ServerSeen
 after_request m arrival server page =
-    after_message server m.from arrival.now arrival.words (reading_of page.bytes)
+    after_validation server m.from arrival.now arrival.words (reading_of page.bytes)
 
 -- the server that reads the first request
 abbrev pub at_first : Renewal → ServerSeen → ServerSeen
@@ -64,11 +64,12 @@ at_first m server = after_calls server m.before_first
 
 -- the nonce that is current when the server reads the first request, and its end: the one that is
 -- kept and has not expired, or else one that is made
-abbrev pub drawn : Renewal → ServerSeen → List ℕ
-drawn m server = (standing (sight (at_first m server) m.from) m.first.now m.first.words).nonce
+abbrev pub current_nonce : Renewal → ServerSeen → List ℕ
+current_nonce m server =
+    (current_place (sight (at_first m server) m.from) m.first.now m.first.words).nonce
 
 abbrev pub end : Renewal → ServerSeen → ℕ
-end m server = (standing (sight (at_first m server) m.from) m.first.now m.first.words).expires
+end m server = (current_place (sight (at_first m server) m.from) m.first.now m.first.words).expires
 
 -- the server that signs the error
 abbrev pub at_error : Renewal → ServerSeen → Page → ServerSeen
@@ -76,8 +77,8 @@ at_error m server asking =
     after_calls (after_request m m.first (at_first m server) asking) m.before_error
 
 -- the client that has read it
-abbrev pub told : Renewal → ClientState → Page → ClientState
-told m state telling = (client_step m.settings state (reading_of telling.bytes)).state
+abbrev pub client_after_error : Renewal → ClientState → Page → ClientState
+client_after_error m state telling = (client_step m.settings state (reading_of telling.bytes)).state
 
 -- the server that reads the second request
 abbrev pub at_second : Renewal → ServerSeen → Page → ServerSeen
@@ -104,9 +105,9 @@ pub record IsTold (s : Sight) (telling : Page) : Type 0 where
 -- ---- the law
 
 -- whether a call leaves users, settings and the nonce of an address: messages from there are read
--- up to its end. Where the client there may be removed, expired nonces are forgotten up to that end
--- alone, and else at any moment, since a place with a client is kept. The address itself is not
--- forgotten
+-- up to its end. Where the client there may be removed, expired nonces are forgotten only up to
+-- that end. Else they are forgotten at any moment, since a place with a client is kept. The address
+-- itself is not forgotten
 abbrev pub leaves_nonce : SocketAddr → ℕ → Bool → ServerCall → Bool
 leaves_nonce a end removable (Call.Validate from now message words) =
     if same_address from a then nat_le now end else true
@@ -164,18 +165,18 @@ pub record IsToldStale (m : Renewal) (server : ServerSeen) (p : PlaceSeen) (c : 
   -- the client signs a request under the nonce that has run out
   pub asked : IsAsked (authenticated c) asking
   -- the nonce that is current when the server reads it is another one
-  pub other_nonce : bytes_eq p.nonce (drawn m server) ≡ false
+  pub other_nonce : bytes_eq p.nonce (current_nonce m server) ≡ false
   -- the server signs the error, later
   pub error : IsTold (sight (at_error m server asking) m.from) telling
   -- the client that has read the error signs a request again
-  pub asked_again : IsAsked (told m (authenticated c) telling) again
+  pub asked_again : IsAsked (client_after_error m (authenticated c) telling) again
 
 -- a request is accepted, and server and client are joined after it
 pub record IsAcceptedAnew (m : Renewal) (who : NameAndPassword) (c : Challenge)
     (server : ServerSeen) (telling again : Page) : Type 0 where
   pub accepted : answer_at m m.second server again ≡ Ok (Validated c.algorithm)
   pub joined : (d : Challenge) × (q : PlaceSeen)
-      × (told m (authenticated c) telling ≡ authenticated d)
+      × (client_after_error m (authenticated c) telling ≡ authenticated d)
       × AreJoined (sight (after_request m m.second server again) m.from) q d who
 
 pub record IsRenewed (m : Renewal) (who : NameAndPassword) (server : ServerSeen) (p : PlaceSeen)
@@ -183,7 +184,8 @@ pub record IsRenewed (m : Renewal) (who : NameAndPassword) (server : ServerSeen)
   -- the request is stale, unless the nonce that is current by now is the old one, drawn again
   pub first : (asking : Page) → IsAsked (authenticated c) asking
       → answer_at m m.first (at_first m server) asking
-      ≡ (if bytes_eq p.nonce (drawn m server) then Ok (Validated c.algorithm) else Err StaleNonce)
+      ≡ (if bytes_eq p.nonce (current_nonce m server) then Ok (Validated c.algorithm)
+      else Err StaleNonce)
   -- once the client has been told that its nonce is stale, its next request is accepted
   pub second : (asking telling again : Page) → IsToldStale m server p c asking telling again
       → IsAcceptedAnew m who c (at_second m server asking) telling again

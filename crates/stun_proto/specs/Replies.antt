@@ -12,7 +12,7 @@ use Rattle.stun_base.specs.MessageType.{is_response}
 use Rattle.stun_auth.specs.Reading.{Reading, reading_of}
 use Rattle.stun_auth.specs.Registered.{RegisteredUser}
 use Rattle.stun_auth.specs.Seen.{PlaceSeen}
-use Rattle.stun_auth.specs.Server.{Sight, named, standing}
+use Rattle.stun_auth.specs.Server.{Sight, named_user, current_place}
 use Rattle.stun_auth.specs.Validation.{needs_nonce}
 use Rattle.stun_proto.specs.declared.replay.call.ServerCall.{ServerCall}
 use Rattle.stun_proto.specs.declared.replay.call.ServerCall.TheVariants as Call
@@ -69,7 +69,7 @@ client_by_reply place who TooShort = place
 abbrev pub place_by_answer : Sight → ℕ → List ℕ → Reading → Reply → Option PlaceSeen
 place_by_answer s now words m r =
     if needs_nonce m
-    then Some (client_by_reply (standing s now words) (named s.registered s.feature m) r)
+    then Some (client_by_reply (current_place s now words) (named_user s.registered s.feature m) r)
     else s.place
 
 -- the same, where the bytes are a message
@@ -82,9 +82,13 @@ abbrev pub place_by_signing : Sight → Option Reading → Option PlaceSeen
 place_by_signing s None = s.place
 place_by_signing s (Some m) = place_offered s (is_response m.class)
 
--- what a call makes of an address's place: a message that needs a nonce, a response that was
--- signed, the call that removes its client, the one that forgets expired nonces where no client is
--- known, and the one that forgets the address
+-- What a call makes of an address's place. It is changed by:
+--
+-- - a message that needs a nonce;
+-- - a response that was signed;
+-- - the call that removes its client;
+-- - the one that forgets expired nonces, where no client is known;
+-- - the one that forgets the address
 abbrev pub place_by_reply : Reads → Sight → ServerCall → Reply → Option PlaceSeen
 place_by_reply read s (Call.Validate from now message words) r =
     place_by_message s now words (read message.items) r

@@ -12,8 +12,10 @@ use Rattle.stun_agent.specs.Agent.{Agent, with_transactions, with_validated, sen
 use Rattle.stun_agent.specs.Agent.{after_send, request_refusal, after_send_request}
 use Rattle.stun_agent.specs.Agent.{takes_message, after_message, ended_by_poll, after_poll}
 use Rattle.stun_agent.specs.Agent.{sent_by_poll, after_poll_transmit}
-use Rattle.stun_agent.specs.Transactions.{Transaction, at, changed, cancelled, silenced}
-use Rattle.stun_agent.specs.Transactions.{configured, wake_up, awaited, is_cancelled, repeats}
+use Rattle.stun_agent.specs.Transactions.{Transaction, at, with_change_at, with_cancellation}
+use Rattle.stun_agent.specs.Transactions.{without_retransmissions}
+use Rattle.stun_agent.specs.Transactions.{with_settings, wake_up, awaited_moment, is_cancelled}
+use Rattle.stun_agent.specs.Transactions.{repeats}
 use Rattle.stun_agent.specs.declared.error.StunError.TheVariants.{ParseError}
 use Rattle.stun_proto.specs.declared.replay.event.AgentEvent.{AgentEvent}
 use Rattle.stun_proto.specs.declared.replay.event.AgentEvent.TheVariants.{Send, SendRequest}
@@ -23,16 +25,16 @@ use Rattle.stun_proto.specs.declared.replay.event.AgentEvent.TheVariants.{Config
 use Rattle.stun_proto.specs.Steps.{Step, Transmitted, Sent, Received, Refused, TimedOut, Cancelled}
 
 -- ---- steps
-abbrev pub transmitted : ℕ → ℕ × Transaction → Step
-transmitted now e = Transmitted now e.0 e.1.to e.1.bytes
+abbrev pub transmission_step : ℕ → ℕ × Transaction → Step
+transmission_step now e = Transmitted now e.0 e.1.to e.1.bytes
 
-abbrev pub ended : ℕ → ℕ × Transaction → Step
-ended now e = if repeats e.1.sending then TimedOut now e.0 else Cancelled now e.0
+abbrev pub end_step : ℕ → ℕ × Transaction → Step
+end_step now e = if repeats e.1.sending then TimedOut now e.0 else Cancelled now e.0
 
 -- ---- events
 -- the agent once the request of an id is changed, if there is one
 abbrev pub after_change : (Transaction → Transaction) → ℕ → Agent → Agent
-after_change f id agent = with_transactions agent (changed f id agent.transactions)
+after_change f id agent = with_transactions agent (with_change_at f id agent.transactions)
 
 -- a message is sent that wants no answer
 abbrev pub after_sending : List ℕ → SocketAddr → Agent → Agent
@@ -69,11 +71,11 @@ abbrev pub after_event : ℕ → AgentEvent → Agent → Agent
 after_event now (Send bytes to) agent = after_sending bytes.items to agent
 after_event now (SendRequest bytes to) agent = after_asking now bytes.items to agent
 after_event now (Receive bytes from) agent = after_receiving now bytes.items from agent
-after_event now (Cancel id) agent = after_change cancelled id agent
-after_event now (CancelRetransmissions id) agent = after_change silenced id agent
+after_event now (Cancel id) agent = after_change with_cancellation id agent
+after_event now (CancelRetransmissions id) agent = after_change without_retransmissions id agent
 after_event now (Configure id initial retransmits last max) agent =
     after_change
-    (configured
+    (with_settings
     (record {
       initial = as_nanos initial;
       maximum = as_nanos max;
@@ -103,11 +105,11 @@ pub data Phase : Type 0 where
 pub data Turn (now : ℕ) : Phase → Agent → List Step → Agent → Type 0 where
   sends : {a b : Agent} {steps : List Step} (e : ℕ × Transaction) → sent_by_poll now a ≡ Some e
       → Turn now sending (after_poll_transmit now a) steps b
-      → Turn now sending a (transmitted now e ∷ steps) b
+      → Turn now sending a (transmission_step now e ∷ steps) b
   rests : {a b : Agent} {steps : List Step} → sent_by_poll now a ≡ None
       → Turn now ending (after_poll_transmit now a) steps b → Turn now sending a steps b
   ends : {a b : Agent} {steps : List Step} (e : ℕ × Transaction) → ended_by_poll now a ≡ Some e
-      → Turn now ending (after_poll now a) steps b → Turn now ending a (ended now e ∷ steps) b
+      → Turn now ending (after_poll now a) steps b → Turn now ending a (end_step now e ∷ steps) b
   again : {a b : Agent} {steps : List Step} → ended_by_poll now a ≡ None
       → wake_up a.transport now a.transactions ≡ now → now < last_moment
       → Turn now sending a steps b → Turn now ending a steps b
@@ -120,7 +122,7 @@ pub data Turn (now : ℕ) : Phase → Agent → List Step → Agent → Type 0 w
 abbrev pub IsAwaited : Agent → ℕ → Type 0
 IsAwaited a moment =
     (id : ℕ) × (t : Transaction) × (at id a.transactions ≡ Some t)
-    × (is_cancelled t.sending ≡ false) × (awaited a.transport t ≡ moment)
+    × (is_cancelled t.sending ≡ false) × (awaited_moment a.transport t ≡ moment)
 
 -- the least of the awaited moments from `from` on
 pub record IsNext (a : Agent) (from moment : ℕ) : Type 0 where

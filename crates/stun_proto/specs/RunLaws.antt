@@ -12,8 +12,8 @@ use Rattle.stun_agent.specs.Transactions.{IsAscending}
 use Rattle.stun_proto.specs.declared.replay.event.AgentEvent.{AgentEvent}
 use Rattle.stun_proto.specs.declared.replay.event.AgentEvent.TheVariants.{SendRequest}
 use Rattle.stun_proto.specs.Run.{Run, IsDriven}
-use Rattle.stun_proto.specs.Schedule.{Requester, Asks, AreInOrder, IsUndisturbed, plan, cut}
-use Rattle.stun_proto.specs.Steps.{Step, is_of, own}
+use Rattle.stun_proto.specs.Schedule.{Requester, Asks, AreInOrder, IsUndisturbed, plan, steps_until}
+use Rattle.stun_proto.specs.Steps.{Step, is_of, steps_to_end}
 
 -- what an agent's requests depend on
 abbrev pub requester : Agent → Requester
@@ -25,9 +25,10 @@ requester a =
       outstanding = a.transactions;
     }
 
--- the steps of a run from a request on, which comes to this agent after these steps: if the agent
--- accepts it and nothing disturbs it, those of its transaction are its plan up to its first end, as
--- far as the run goes; and these are all steps of its id where no later event asks for the id
+-- The steps of a run from a request on, which comes to this agent after these steps. Let the agent
+-- accept it, and let nothing disturb it. Then the steps of its transaction are its plan up to its
+-- first end, as far as the run goes. These are all steps of its id if no later event asks for the
+-- id
 pub record GoesByPlan (until : ℕ) (agent : Agent) (later : List (ℕ × AgentEvent)) (start : ℕ)
     (bytes : List ℕ) (to : SocketAddr) (before steps : List Step) : Type 0 where
   pub after : List Step
@@ -35,17 +36,19 @@ pub record GoesByPlan (until : ℕ) (agent : Agent) (later : List (ℕ × AgentE
   pub keeps : request_refusal agent bytes to ≡ None
       → IsUndisturbed (transaction_id_field bytes) to
       (planned_end agent.transport agent.settings start) later
-      → own (transaction_id_field bytes) after
-      ≡ cut until (plan agent.transport start agent.settings (transaction_id_field bytes) to bytes)
+      → steps_to_end (transaction_id_field bytes) after
+      ≡ steps_until until
+      (plan agent.transport start agent.settings (transaction_id_field bytes) to bytes)
   pub once : request_refusal agent bytes to ≡ None
       → IsUndisturbed (transaction_id_field bytes) to
       (planned_end agent.transport agent.settings start) later
       → AllByRecursion (λ e. Asks (transaction_id_field bytes) e.1 → ⊥) later
       → filter (is_of (transaction_id_field bytes)) after
-      ≡ cut until (plan agent.transport start agent.settings (transaction_id_field bytes) to bytes)
+      ≡ steps_until until
+      (plan agent.transport start agent.settings (transaction_id_field bytes) to bytes)
 
--- a request of a run: the earlier events have a run up to its moment, and whatever agent and steps
--- that run comes to, from there the request goes by its plan
+-- A request of a run: the earlier events have a run up to its moment. Whatever agent and steps that
+-- run comes to, from there the request goes by its plan
 pub record KeepsItsPlan (until : ℕ) (a : Agent) (earlier later : List (ℕ × AgentEvent)) (start : ℕ)
     (bytes : List ℕ) (to : SocketAddr) (steps : List Step) : Type 0 where
   pub comes : (agent : Agent) × (before : List Step) × Run start 0 a earlier before agent

@@ -42,8 +42,8 @@ plan transport start settings id to bytes =
     ++ TimedOut (planned_end transport settings start) id ∷ []
 
 -- the steps up to a moment
-abbrev pub cut : ℕ → List Step → List Step
-cut until steps = filter (λ s. nat_le (moment_of s) until) steps
+abbrev pub steps_until : ℕ → List Step → List Step
+steps_until until steps = filter (λ s. nat_le (moment_of s) until) steps
 
 -- ---- what disturbs it
 -- the event asks the agent to send a request of this id

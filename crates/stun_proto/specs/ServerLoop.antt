@@ -18,7 +18,7 @@ use Rattle.stun_auth.specs.Places.{with_change, with_client}
 use Rattle.stun_auth.specs.Reading.{reading_of}
 use Rattle.stun_auth.specs.Registered.{with_user, without_user}
 use Rattle.stun_auth.specs.ServerSigning.{after_signing, server_signed}
-use Rattle.stun_auth.specs.Validation.{ServerSeen, after_message, answer, sight}
+use Rattle.stun_auth.specs.Validation.{ServerSeen, after_validation, answer, sight}
 use Rattle.stun_proto.specs.declared.replay.call.ServerCall.{ServerCall}
 use Rattle.stun_proto.specs.declared.replay.call.ServerCall.TheVariants as Call
 use Rattle.stun_proto.specs.Headline.{ValidatesEachCall}
@@ -34,18 +34,18 @@ pub record Told : Type 0 where
   pub reply : Reply
   pub server : ServerSeen
 
-abbrev pub told : Reply → ServerSeen → Told
-told reply server = record { reply = reply; server = server }
+abbrev pub reply_with : Reply → ServerSeen → Told
+reply_with reply server = record { reply = reply; server = server }
 
 -- bytes that are no message reach no call of the server: `Message::from_bytes` refuses them
 abbrev pub IfMessage : ServerSeen → Option StunParseError → Told → Type 0 → Type 0
-IfMessage s (Some error) after called = after ≡ told (NotAMessage error) s
+IfMessage s (Some error) after called = after ≡ reply_with (NotAMessage error) s
 IfMessage s None after called = called
 
 -- a signing that succeeds, and one that is refused
 abbrev pub signed_or_refused : ServerSeen → ServerSeen → Result Page StunWriteError → Told
-signed_or_refused s signed (Ok page) = told (Signed page.bytes) signed
-signed_or_refused s signed (Err error) = told (SignRefused error) s
+signed_or_refused s signed (Ok page) = reply_with (Signed page.bytes) signed
+signed_or_refused s signed (Err error) = reply_with (SignRefused error) s
 
 -- What the clauses of the server's own calls say of the reply and of the server after it. A call
 -- that answers `OutOfMemory` leaves the server, and is no call of the loop
@@ -54,8 +54,8 @@ abbrev pub IsMade : ServerSeen → ServerCall → Told → Type 0
 IsMade s (Call.Validate from now message words) after =
     let r = reading_of message.items in
     IfMessage s (refusal message.items) after
-    (after ≡ told (reply_of_answer (answer (sight s from) now words r))
-    (after_message s from now words r))
+    (after ≡ reply_with (reply_of_answer (answer (sight s from) now words r))
+    (after_validation s from now words r))
 -- `sign_outgoing_message`, clauses `answer`, `signed` and `refused`, of a message in a vector which
 -- `serve` writes anew as it is: one that was built by `add_attribute` alone
 IsMade s (Call.Sign to message) after =
@@ -68,24 +68,27 @@ IsMade s (Call.Sign to message) after =
 IsMade s (Call.AddUser name password) after =
     let user : NameAndPassword =
     record { username = string_bytes name; password = string_bytes password } in
-    after ≡ told Done (record s { registered = with_user s.registered user })
+    after ≡ reply_with Done (record s { registered = with_user s.registered user })
 IsMade s (Call.RemoveUser name) after =
-    after ≡ told Done (record s { registered = without_user s.registered (string_bytes name) })
+    after ≡ reply_with Done
+    (record s { registered = without_user s.registered (string_bytes name) })
 IsMade s (Call.AddIntegrity algorithm) after =
     let all = with_algorithm algorithm s.registered.algorithms in
-    after ≡ told Done (record s { registered = record s.registered { algorithms = all } })
+    after ≡ reply_with Done (record s { registered = record s.registered { algorithms = all } })
 IsMade s (Call.SetIntegrity algorithm) after =
     after
-    ≡ told Done (record s { registered = record s.registered { algorithms = only algorithm } })
-IsMade s (Call.SetAnonymous feature) after = after ≡ told Done (record s { feature = feature })
+    ≡ reply_with Done
+    (record s { registered = record s.registered { algorithms = only algorithm } })
+IsMade s (Call.SetAnonymous feature) after =
+    after ≡ reply_with Done (record s { feature = feature })
 IsMade s (Call.RemoveClient address) after =
-    after ≡ told Done (record s { places = with_change s.places address (with_client None) })
+    after ≡ reply_with Done (record s { places = with_change s.places address (with_client None) })
 -- less than the least expiry is not handed to the call, which asks for that much
 IsMade s (Call.SetExpiry expiry) after =
-    after ≡ (if is_too_short expiry then told TooShort s
-    else told Done (record s { expiry = as_nanos expiry }))
-IsMade s (Call.ForgetExpired now) after = after ≡ told Done (after_forgetting s now)
-IsMade s (Call.Forget address) after = after ≡ told Done (without_place s address)
+    after ≡ (if is_too_short expiry then reply_with TooShort s
+    else reply_with Done (record s { expiry = as_nanos expiry }))
+IsMade s (Call.ForgetExpired now) after = after ≡ reply_with Done (after_forgetting s now)
+IsMade s (Call.Forget address) after = after ≡ reply_with Done (without_place s address)
 
 -- ---- a loop
 
@@ -96,7 +99,7 @@ AreMade s [] [] last = last ≡ s
 AreMade s [] (r ∷ given) last = ⊥
 AreMade s (call ∷ calls) [] last = ⊥
 AreMade s (call ∷ calls) (r ∷ given) last =
-    (after : ServerSeen) × IsMade s call (told r after) × AreMade after calls given last
+    (after : ServerSeen) × IsMade s call (reply_with r after) × AreMade after calls given last
 
 -- they are a run of `serve`: the same replies, and the same server after them
 abbrev pub CallsAreServed : Type 0

@@ -23,7 +23,7 @@ use Rattle.stun_base.specs.MessageType.{class_in, is_response}
 use Rattle.stun_auth.specs.Reading.{reading_of}
 use Rattle.stun_auth.specs.Registered.{Registered, with_user, without_user}
 use Rattle.stun_auth.specs.ServerSigning.{after_signing}
-use Rattle.stun_auth.specs.Validation.{Answer, ServerSeen, after_message, answer, sight}
+use Rattle.stun_auth.specs.Validation.{Answer, ServerSeen, after_validation, answer, sight}
 use Rattle.stun_proto.specs.Signing.{if_signed, signing}
 use Rattle.stun_proto.specs.declared.replay.call.ServerCall.{ServerCall}
 use Rattle.stun_proto.specs.declared.replay.call.ServerCall.TheVariants as Call
@@ -131,7 +131,7 @@ places_unless None before after = after
 abbrev pub places_after : ServerSeen → ServerCall → PlacesSeen
 places_after s (Call.Validate from now message words) =
     places_unless (refusal message.items) s.places
-    (after_message s from now words (reading_of message.items)).places
+    (after_validation s from now words (reading_of message.items)).places
 places_after s (Call.Sign to message) =
     places_unless (refusal message.items) s.places
     (if_signed (signing (sight s to) message.items) s.places

@@ -9,24 +9,24 @@ use Rattle.stun_proto.specs.Serving.{after_calls, replies}
 
 -- whether the server of a number takes a call: one of an address that is dealt to it, or one that
 -- concerns every address
-abbrev pub takes : (SocketAddr → ℕ) → ℕ → ServerCall → Bool
-takes deal k (Call.Validate from now message words) = deal from == k
-takes deal k (Call.Sign to message) = deal to == k
-takes deal k (Call.AddUser name password) = true
-takes deal k (Call.RemoveUser name) = true
-takes deal k (Call.AddIntegrity algorithm) = true
-takes deal k (Call.SetIntegrity algorithm) = true
-takes deal k (Call.SetAnonymous feature) = true
-takes deal k (Call.RemoveClient address) = deal address == k
-takes deal k (Call.SetExpiry expiry) = true
-takes deal k (Call.ForgetExpired now) = true
-takes deal k (Call.Forget address) = deal address == k
+abbrev pub is_shard_call : (SocketAddr → ℕ) → ℕ → ServerCall → Bool
+is_shard_call deal k (Call.Validate from now message words) = deal from == k
+is_shard_call deal k (Call.Sign to message) = deal to == k
+is_shard_call deal k (Call.AddUser name password) = true
+is_shard_call deal k (Call.RemoveUser name) = true
+is_shard_call deal k (Call.AddIntegrity algorithm) = true
+is_shard_call deal k (Call.SetIntegrity algorithm) = true
+is_shard_call deal k (Call.SetAnonymous feature) = true
+is_shard_call deal k (Call.RemoveClient address) = deal address == k
+is_shard_call deal k (Call.SetExpiry expiry) = true
+is_shard_call deal k (Call.ForgetExpired now) = true
+is_shard_call deal k (Call.Forget address) = deal address == k
 
 -- the calls that it takes, in their order
-abbrev pub share : (SocketAddr → ℕ) → ℕ → List ServerCall → List ServerCall
-share deal k [] = []
-share deal k (call ∷ calls) =
-    if takes deal k call then call ∷ share deal k calls else share deal k calls
+abbrev pub shard_calls : (SocketAddr → ℕ) → ℕ → List ServerCall → List ServerCall
+shard_calls deal k [] = []
+shard_calls deal k (call ∷ calls) =
+    if is_shard_call deal k call then call ∷ shard_calls deal k calls else shard_calls deal k calls
 
 -- each server begins with what one server of all addresses would keep for those that are dealt to
 -- it
@@ -37,11 +37,11 @@ StartAlike deal servers one = (a : SocketAddr) → sight (servers (deal a)) a �
 pub record ServesAsOne (deal : SocketAddr → ℕ) (servers : ℕ → ServerSeen) (one : ServerSeen)
     (calls : List ServerCall) (a : SocketAddr) : Type 0 where
   -- the replies
-  pub replied : own_replies a (share deal (deal a) calls)
-      (replies (servers (deal a)) (share deal (deal a) calls))
+  pub replied : own_replies a (shard_calls deal (deal a) calls)
+      (replies (servers (deal a)) (shard_calls deal (deal a) calls))
       ≡ own_replies a calls (replies one calls)
   -- and what is kept for it, so that the next calls go on alike
-  pub kept : sight (after_calls (servers (deal a)) (share deal (deal a) calls)) a
+  pub kept : sight (after_calls (servers (deal a)) (shard_calls deal (deal a) calls)) a
       ≡ sight (after_calls one calls) a
 
 -- so it is with each address, however addresses are dealt out and to however many servers

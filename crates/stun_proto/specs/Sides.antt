@@ -12,8 +12,8 @@ use Rattle.stun_auth.specs.Client.{ClientState}
 use Rattle.stun_auth.specs.ClientStep.{IsResend, UNAUTHORIZED, client_step}
 use Rattle.stun_auth.specs.Reading.{reading_of}
 use Rattle.stun_auth.specs.ServerSigning.{after_signing}
-use Rattle.stun_auth.specs.Validation.{ServerSeen, after_message, answer, sight}
-use Rattle.stun_proto.specs.Negotiation.{Meeting, asked, failure, responded, success}
+use Rattle.stun_auth.specs.Validation.{ServerSeen, after_validation, answer, sight}
+use Rattle.stun_proto.specs.Negotiation.{Meeting, client_request, failure, server_response, success}
 use Rattle.stun_proto.specs.Serving.{after_calls}
 use Rattle.stun_proto.specs.declared.replay.call.ServerCall.{ServerCall}
 
@@ -34,7 +34,7 @@ PassesCalls state server calls x =
 abbrev pub PassesAccepted : Meeting → ClientState → ServerSeen → Sides → Type 0
 PassesAccepted m state server x =
     (x ≡ sides state server)
-    ⊎ ((page : Page) × (responded (success m.second.id) (sight server m.from) ≡ Ok page)
+    ⊎ ((page : Page) × (server_response (success m.second.id) (sight server m.from) ≡ Ok page)
     × IsResend (client_step m.settings state (reading_of page.bytes)).answer
     × (x ≡ sides state (after_signing server m.from true)))
 
@@ -46,10 +46,10 @@ PassesResend m state server x =
     let words = m.second.words in
     let called = after_calls server m.second.before in
     (x ≡ sides state server)
-    ⊎ ((page : Page) × (asked m.second.id state ≡ Ok page)
+    ⊎ ((page : Page) × (client_request m.second.id state ≡ Ok page)
     × (PassesCalls state server m.second.before x
     ⊎ (IsOk (answer (sight called m.from) now words (reading_of page.bytes))
-    × PassesAccepted m state (after_message called m.from now words (reading_of page.bytes)) x)))
+    × PassesAccepted m state (after_validation called m.from now words (reading_of page.bytes)) x)))
 
 -- the first request is to be challenged: the server signs the 401 and makes the first list of
 -- calls, and the client reads the 401
@@ -58,7 +58,7 @@ PassesUnauthorized m state server x =
     let signed = after_signing server m.from true in
     (x ≡ sides state server)
     ⊎ ((page : Page)
-    × (responded (failure UNAUTHORIZED m.first.id) (sight server m.from) ≡ Ok page)
+    × (server_response (failure UNAUTHORIZED m.first.id) (sight server m.from) ≡ Ok page)
     × (PassesCalls state signed m.first.before x
     ⊎ (IsResend (client_step m.settings state (reading_of page.bytes)).answer
     × PassesResend m (client_step m.settings state (reading_of page.bytes)).state
@@ -70,6 +70,7 @@ Passes m state server x =
     let now = m.first.now in
     let words = m.first.words in
     (x ≡ sides state server)
-    ⊎ ((page : Page) × (asked m.first.id state ≡ Ok page)
+    ⊎ ((page : Page) × (client_request m.first.id state ≡ Ok page)
     × (answer (sight server m.from) now words (reading_of page.bytes) ≡ Err Unauthorized)
-    × PassesUnauthorized m state (after_message server m.from now words (reading_of page.bytes)) x)
+    × PassesUnauthorized m state (after_validation server m.from now words (reading_of page.bytes))
+    x)

@@ -7,7 +7,7 @@ use Rattle.std.specs.Option.{option_and_then, option_map}
 use Rattle.stun_base.specs.Header.{type_field, transaction_id_field}
 use Rattle.stun_base.specs.declared.wire.error.StunWriteError.{StunWriteError}
 use Rattle.stun_types.specs.Attribute.{TypedValue}
-use Rattle.stun_types.specs.Grammar.{spelled}
+use Rattle.stun_types.specs.Grammar.{spelled_message}
 use Rattle.stun_types.specs.Message.{LENGTH_LIMIT}
 use Rattle.stun_types.specs.Visible.{visible}
 use Rattle.stun_types.specs.Walk.{attributes_of}
@@ -32,7 +32,7 @@ next_if_written (Err reason) next = Err reason
 -- the message with the type and id of another and these attributes
 abbrev pub spelled_anew : List ℕ → List TypedValue → List ℕ
 spelled_anew message attributes =
-    spelled (type_field message) (transaction_id_field message) attributes
+    spelled_message (type_field message) (transaction_id_field message) attributes
 
 -- why an attribute cannot be added to a message
 abbrev pub refusal_after : List ℕ → TypedValue → Option StunWriteError

@@ -55,6 +55,7 @@ is_end (TimedOut moment id) = true
 is_end (Cancelled moment id) = true
 
 -- the steps of the transaction of an id, up to its end
-unfoldable pub own : ℕ → List Step → List Step
-own id [] = []
-own id (s ∷ ss) = if is_of id s then (if is_end s then s ∷ [] else s ∷ own id ss) else own id ss
+unfoldable pub steps_to_end : ℕ → List Step → List Step
+steps_to_end id [] = []
+steps_to_end id (s ∷ ss) =
+    if is_of id s then (if is_end s then s ∷ [] else s ∷ steps_to_end id ss) else steps_to_end id ss

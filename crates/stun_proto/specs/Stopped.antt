@@ -25,7 +25,7 @@ pub record HasStopped (until done : ℕ) (a : Agent) (events : List (ℕ × Agen
   pub taken : Run (next_bound until left) 0 a complete lost b
 
 -- ---- going on
--- whoever drives the agent as it was left over the events that are left makes the later steps of
+-- The agent as it was left is driven over the events that are left. This makes the later steps of
 -- the whole run, those after the lost ones, and comes to its agent
 abbrev pub StoppedRunsGoOn : Type 0
 StoppedRunsGoOn =

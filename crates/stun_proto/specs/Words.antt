@@ -1,18 +1,20 @@
 -- The words of the three sentences of Headline.antt, and where each of them is defined.
 
 -- ---- what the sentences rest on, one step down, with the file in specs/
--- realm, current nonce, user, algorithms   IsAccepted, standing, named, agreed  stun_auth Server
--- what a message says, and its digest      reading_of, verified_under           stun_auth Reading
--- the attribute that decides               deciding                             stun_types
--- Integrity HMAC                                     digest, hmac                         stun_base
--- Algorithm, Hmac an address's own calls                   concerns, own
--- Isolation what they leave, by the replies to them  sight_by_replies                     Replies
--- the run of a server                      replies                              Serving strongest
--- that both support              IsStrongestShared                    Best ready
--- IsReady                              Honest the run of a driven agent                IsDriven,
--- Run, Turns, Turn           Run plan, prefix sums                        plan, transmission
--- Schedule timeouts, slots, end                     sum_of_timeouts, slots, planned_end  stun_agent
--- Timing undisturbed, asks                        IsUndisturbed, IsAimedAt, Asks       Schedule
+-- - realm, current nonce, user, algorithms: `IsAccepted`, `current_place`, `named_user`,
+--   `agreement` (stun_auth Server)
+-- - what a message says, and its digest: `reading_of`, `verified_under` (stun_auth Reading)
+-- - the attribute that decides: `deciding` (stun_types Integrity)
+-- - HMAC: `digest`, `hmac` (stun_base Algorithm, Hmac)
+-- - an address's own calls: `concerns`, `own_calls` (Isolation)
+-- - what they leave, by the replies to them: `sight_by_replies` (Replies)
+-- - the run of a server: `replies` (Serving)
+-- - strongest that both support: `IsStrongestShared` (Best)
+-- - ready: `IsReady` (Honest)
+-- - the run of a driven agent: `IsDriven`, `Run`, `Turns`, `Turn` (Run)
+-- - plan, prefix sums: `plan`, `transmission` (Schedule)
+-- - timeouts, slots, end: `sum_of_timeouts`, `slots`, `planned_end` (stun_agent Timing)
+-- - undisturbed, asks: `IsUndisturbed`, `IsAimedAt`, `Asks` (Schedule)
 
 -- ---- the library of the toolchain
 pub use Rattle.std.specs.Prelude.{ℕ, false, List, filter, length, slice_get, take, Some, None}
@@ -38,7 +40,7 @@ pub use Rattle.stun_types.specs.Message.{with_length}
 pub use Rattle.stun_auth.specs.declared.client.answer.LongTermClientAuthErrorReason.TheVariants.{
   UnsupportedFeature,
 }
-pub use Rattle.stun_auth.specs.Algorithms.{listed}
+pub use Rattle.stun_auth.specs.Algorithms.{algorithms_of}
 pub use Rattle.stun_auth.specs.Client.{Challenge, ClientState, authenticated, initial}
 pub use Rattle.stun_auth.specs.Reading.{Reading, verified_under}
 pub use Rattle.stun_auth.specs.Seen.{PlaceSeen}
@@ -53,7 +55,7 @@ pub use Rattle.stun_proto.specs.declared.replay.negotiation.Outcome.TheVariants.
 pub use Rattle.stun_proto.specs.declared.replay.negotiation.Outcome.TheVariants.{ClientRefused}
 pub use Rattle.stun_proto.specs.Best.{HashIsRefused, IsShared, IsStrongestShared}
 pub use Rattle.stun_proto.specs.Honest.{IsReady}
-pub use Rattle.stun_proto.specs.Isolation.{own, own_replies}
+pub use Rattle.stun_proto.specs.Isolation.{own_calls, own_replies}
 pub use Rattle.stun_proto.specs.Negotiation.{Meeting}
 pub use Rattle.stun_proto.specs.Replies.{Reads, sight_by_replies}
 pub use Rattle.stun_proto.specs.Serving.{Reply}
@@ -64,5 +66,5 @@ pub use Rattle.stun_agent.specs.Transactions.{at}
 pub use Rattle.stun_proto.specs.declared.replay.event.AgentEvent.{AgentEvent}
 pub use Rattle.stun_proto.specs.declared.replay.event.AgentEvent.TheVariants.{SendRequest}
 pub use Rattle.stun_proto.specs.RunLaws.{requester}
-pub use Rattle.stun_proto.specs.Schedule.{Requester, Asks, IsUndisturbed, plan, cut}
+pub use Rattle.stun_proto.specs.Schedule.{Requester, Asks, IsUndisturbed, plan, steps_until}
 pub use Rattle.stun_proto.specs.Steps.{Step, is_of}

@@ -1,6 +1,6 @@
 //! What derived impls of calls and replies do: comparisons and copies.
 ghost use Rattle.std.specs.Prelude.{◌≡◌, ◌-◌, ◌↔◌, IsTrue, Ok};
-ghost use Rattle.stun_proto.specs.CallValues.{value_of};
+ghost use Rattle.stun_proto.specs.CallValues.{call_value};
 ghost use Rattle.stun_proto.specs.EventValues.{event_value};
 ghost use Rattle.stun_proto.specs.Serving.{reply_of};
 ghost use Rattle.stun_proto.specs.Steps.{step_of};
@@ -10,14 +10,14 @@ use crate::replay::{
 };
 use std::alloc::{AllocError, Allocator};
 
-/// What meetings come to is equal as values.
+/// Equality of outcomes is equality of values.
 pub fn is_same_outcome(one: Outcome, other: Outcome) -> bool
     ensures { IsTrue result ↔ (one ≡ other) }
 {
     one == other
 }
 
-/// Reasons why a meeting came to nothing are equal as values.
+/// Equality of the errors of a meeting is equality of values.
 pub fn is_same_negotiate_error(one: NegotiateError, other: NegotiateError) -> bool
     ensures { IsTrue result ↔ (one ≡ other) }
 {
@@ -34,7 +34,7 @@ pub fn is_same_reply<A: Allocator>(one: &ServerReply<A>, other: &ServerReply<A>)
 
 /// Calls are equal as values: messages by their bytes, names and passwords by theirs.
 pub fn is_same_call(one: &ServerCall, other: &ServerCall) -> bool
-    ensures { IsTrue result ↔ (value_of one.now ≡ value_of other.now) }
+    ensures { IsTrue result ↔ (call_value one.now ≡ call_value other.now) }
 {
     one == other
 }

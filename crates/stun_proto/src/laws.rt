@@ -11,22 +11,22 @@ ghost use Rattle.stun_types.specs.WriteVec.{Written};
 ghost use Rattle.stun_agent.specs.Agent.{Agent, new_agent};
 ghost use Rattle.stun_agent.specs.Timing.{default_settings};
 ghost use Rattle.stun_agent.specs.Transactions.{IsAscending};
-ghost use Rattle.stun_auth.specs.Additions.{UnlessMemory, written};
+ghost use Rattle.stun_auth.specs.Additions.{UnlessMemory, written_page};
 ghost use Rattle.stun_auth.specs.Client.{initial};
 ghost use Rattle.stun_auth.specs.Reading.{Reading};
-ghost use Rattle.stun_auth.specs.Reasons.{OrMemory};
+ghost use Rattle.stun_auth.specs.Reasons.{ServerOrMemory};
 ghost use Rattle.stun_auth.specs.Server.{Sight};
 ghost use Rattle.stun_auth.specs.Validation.{answer};
 ghost use Rattle.stun_proto.specs.AgentLoop.{LateLoopsAreBounded, LoopsAreDriven, LoopsExist};
 ghost use Rattle.stun_proto.specs.AgentLoop.{LoopsSendByPlan, LoopsSendByTurns, TurnsAreNeverEarly};
 ghost use Rattle.stun_proto.specs.Appending.{AgreeingAreAnsweredAlike, ContinuedAreAnsweredAlike};
 ghost use Rattle.stun_proto.specs.Best.{BestIsStrongest};
-ghost use Rattle.stun_proto.specs.Examples.{binding_request, udp_steps, tcp_steps};
+ghost use Rattle.stun_proto.specs.Examples.{example_request, udp_steps, tcp_steps};
 ghost use Rattle.stun_proto.specs.Counters.{RunsCountSteps};
 ghost use Rattle.stun_proto.specs.Honest.{AgreesOn, ShortNamesAreSigned, StrongestIsAgreed};
 ghost use Rattle.stun_proto.specs.MeetingExample.{IsServed, a_meeting, a_server, a_user};
 ghost use Rattle.stun_proto.specs.MeetingLoop.{MeetingsAgree, MeetingsAreNegotiated};
-ghost use Rattle.stun_proto.specs.Negotiation.{negotiated};
+ghost use Rattle.stun_proto.specs.Negotiation.{whole_negotiation};
 ghost use Rattle.stun_proto.specs.Renewal.{NonceIsRenewed};
 ghost use Rattle.stun_proto.specs.Headline.{IsAskedOnce, IsReadyClient};
 ghost use Rattle.stun_proto.specs.Headline.{SendsByPlan, ValidatesOneCall};
@@ -35,7 +35,7 @@ ghost use Rattle.stun_proto.specs.RunLaws.{EventsHaveRuns, IsDetermined};
 ghost use Rattle.stun_proto.specs.RunLaws.{IsDeterminedThroughout, KeepPlans, requester};
 ghost use Rattle.stun_proto.specs.Schedule.{AreInOrder, plan};
 ghost use Rattle.stun_proto.specs.ServerLoop.{BuiltAreWrittenSo, CallsAreServed};
-ghost use Rattle.stun_proto.specs.ServerLoop.{CallsAreValidated, IsMade, told};
+ghost use Rattle.stun_proto.specs.ServerLoop.{CallsAreValidated, IsMade, reply_with};
 ghost use Rattle.stun_proto.specs.Serving.{reply_of_answer, reply_of_signing};
 ghost use Rattle.stun_proto.specs.Shards.{ShardsServeAsOne};
 ghost use Rattle.stun_proto.specs.Signing.{written_anew};
@@ -85,9 +85,9 @@ pub fn runs_count_steps()
     ensures { RunsCountSteps }
 {}
 
-/// Whoever drives an agent in this way, polling it at the moments that it names, a request that one
-/// event asks for and that is undisturbed is sent by its plan, and times out once, as far as the
-/// run goes.
+/// Let anybody drive an agent in this way, and poll it at the moments that it names. Then a request
+/// that one event asks for and that is undisturbed is sent by its plan. It times out once, as far
+/// as the run goes.
 pub fn runs_send_by_plan()
     ensures { (until : ℕ) (a b : Agent) (events : List (ℕ × TheEvent)) (steps : List Step)
         → until ≤ last_moment → IsAscending a.transactions → AreInOrder until 0 events
@@ -114,12 +114,14 @@ pub fn loops_are_driven()
     ensures exist { LoopsExist }
 {}
 
-/// An agent in such a loop that is late, by however much. Up to its end a request at which no event
-/// is aimed is sent at the first turn at which its timeout has passed since it was sent before, and
-/// at no other, at most as often as its plan says; and it times out at the first turn at which the
-/// final wait has passed since then. No step comes before its moment in the plan. Where each turn
-/// is at most so late, transmission k, counted from 0, is at most k times as late, and the time-out
-/// once more than the last transmission.
+/// An agent in such a loop that is late, by however much, and a request at which no event is aimed:
+///
+/// - Up to its end it is sent at the first turn at which its timeout has passed since it was sent
+///   before. It is sent at no other turn, and at most as often as its plan says.
+/// - It times out at the first turn at which the final wait has passed since then.
+/// - No step comes before its moment in the plan.
+/// - Where each turn is at most so late, transmission k, counted from 0, is at most k times as
+///   late. The time-out is late at most once more than the last transmission.
 pub fn late_loops_send_by_turns()
     ensures turns { LoopsSendByTurns }
     ensures never_early { TurnsAreNeverEarly }
@@ -131,10 +133,10 @@ pub fn late_loops_send_by_turns()
 /// transmission, and the time-out at the same moment (RFC 8489, sections 6.2.1 and 6.2.2). A new
 /// agent that is asked this request and nothing else meets the premise of `runs_send_by_plan`.
 pub fn plan_of_a_request()
-    ensures udp { (to : Address) → plan Udp 0 default_settings 7 to binding_request ≡ udp_steps to }
-    ensures tcp { (to : Address) → plan Tcp 0 default_settings 7 to binding_request ≡ tcp_steps to }
+    ensures udp { (to : Address) → plan Udp 0 default_settings 7 to example_request ≡ udp_steps to }
+    ensures tcp { (to : Address) → plan Tcp 0 default_settings 7 to example_request ≡ tcp_steps to }
     ensures asked { (transport : Transport) (here to : Address)
-        → IsAskedOnce (requester (new_agent transport here)) 7 0 binding_request to [] [] }
+        → IsAskedOnce (requester (new_agent transport here)) 7 0 example_request to [] [] }
 {}
 
 /// The answer to one request or indication is `Validated` if and only if the message is accepted
@@ -146,10 +148,10 @@ pub fn one_call_validates()
     stun_auth::laws::accepted_messages_are_validated();
 }
 
-/// Calls that a user makes on one server, one by one, are a run of `serve`: each as the clauses of
-/// the server's own call say (`IsMade`), and from the server that the one before left, they have
-/// the replies of the run, and leave its server. So the first sentence holds of them (RFC 8489,
-/// section 9.2.4).
+/// Calls that a user makes on one server, one by one, are a run of `serve`. Each is as the clauses
+/// of the server's own call say (`IsMade`), from the server that the one before left. They have the
+/// replies of the run, and leave its server. So the first sentence holds of them (RFC 8489, section
+/// 9.2.4).
 pub fn calls_are_a_run()
     ensures served { CallsAreServed }
     ensures validated { CallsAreValidated }
@@ -168,10 +170,10 @@ pub fn a_validation_is_made<A: Allocator + Copy, R: Rng>(
     now: Instant,
     rng: &mut R,
 ) -> Result<LongTermServerValidation, LongTermServerAuthError>
-    ensures { OrMemory result
+    ensures { ServerOrMemory result
         ((bytes : TheVec ℕ) → bytes.items ≡ message.now → IsMade server.old
         (ServerCall.Validate from now bytes (next_words 16 (R.stream rng.old)))
-        (told (reply_of_answer result) server.new))
+        (reply_with (reply_of_answer result) server.new))
         (server.new ≡ server.old) }
 {
     // For the proof: it tells that the bytes are a message.
@@ -179,8 +181,8 @@ pub fn a_validation_is_made<A: Allocator + Copy, R: Rng>(
     server.validate_incoming_message(message, from, now, rng)
 }
 
-/// One call of `sign_outgoing_message`, on a message in a vector that `serve` writes anew as it is
-/// (clause `plain` of `calls_are_a_run`), is the call `Sign` of a run (`IsMade`). Where an
+/// One call of `sign_outgoing_message` is the call `Sign` of a run (`IsMade`). The message is in a
+/// vector, and `serve` writes it anew as it is (clause `plain` of `calls_are_a_run`). Where an
 /// allocation failed it is no call of the run, and the server is as before.
 pub fn a_signing_is_made<A: Allocator + Copy>(
     server: &mut LongTermServerAuth<A>,
@@ -191,7 +193,8 @@ pub fn a_signing_is_made<A: Allocator + Copy>(
     ensures { UnlessMemory result
         ((bytes : TheVec ℕ) → bytes.items ≡ writer.bytes
         → written_anew writer.bytes ≡ Ok writer.bytes → IsMade server.old
-        (ServerCall.Sign to bytes) (told (reply_of_signing (written (λ (w : Written). w.bytes)
+        (ServerCall.Sign to bytes)
+        (reply_with (reply_of_signing (written_page (λ (w : Written). w.bytes)
         (λ (w : Written). LENGTH_LIMIT - length w.bytes) result)) server.new))
         (server.new ≡ server.old) }
 {
@@ -205,12 +208,12 @@ pub fn best_is_strongest()
     ensures { BestIsStrongest }
 {}
 
-/// Two messages with the same bytes up to the end of the integrity attribute that decides in both,
-/// but for the length in the header, get the same reply and leave the same server, with the same
-/// place of their address; and so does each run in which one of them is in the place of the other.
-/// So nobody changes what a server makes of a signed request by appending to it, unless a
-/// MESSAGE-INTEGRITY-SHA256 is put after a MESSAGE-INTEGRITY: then its digest decides (RFC 8489,
-/// sections 14.5 to 14.7).
+/// Two messages have the same bytes, but for the length in the header, up to the end of the
+/// integrity attribute that decides in both. They get the same reply and leave the same server,
+/// with the same place of their address. So does each run in which one of them is in the place of
+/// the other. So nobody changes what a server makes of a signed request by appending to it, with
+/// one exception. A MESSAGE-INTEGRITY-SHA256 that is put after a MESSAGE-INTEGRITY has the digest
+/// that decides (RFC 8489, sections 14.5 to 14.7).
 pub fn appending_changes_no_reply()
     ensures agreeing { AgreeingAreAnsweredAlike }
     ensures appended { ContinuedAreAnsweredAlike }
@@ -219,17 +222,17 @@ pub fn appending_changes_no_reply()
     auth_laws::what_follows_integrity_is_not_read();
 }
 
-/// Addresses can be dealt out to any number of servers that start alike, each of which takes the
-/// calls of its addresses and all calls that concern every address (users, settings, forgetting):
-/// each address then gets the replies that one server that takes all calls would give it, and the
-/// same is kept for it.
+/// Addresses can be dealt out to any number of servers that start alike. Each server takes the
+/// calls of its addresses, and all calls that concern every address (users, settings, forgetting).
+/// Each address then gets the replies that one server that takes all calls would give it. The same
+/// is kept for it.
 pub fn shards_serve_as_one()
     ensures { ShardsServeAsOne }
 {}
 
 /// A client that is ready, where no signing is refused (`IsHonest`), is accepted with its second
-/// request and with the strongest algorithm that both sides support; the server knows it then, and
-/// it the server. Where there is none, it gives up and keeps nothing (RFC 8489, section 9.2).
+/// request. The algorithm is the strongest that both sides support. Both sides then know each
+/// other. Where there is none, the client gives up and keeps nothing (RFC 8489, section 9.2).
 ///
 /// This is a law over the steps of a meeting, which are computed over the bytes of its messages.
 pub fn strongest_is_agreed()
@@ -241,10 +244,10 @@ pub fn strongest_is_agreed()
     auth_laws::sides_add_by_attribute();
 }
 
-/// A client and a server whose users make their calls one by one, each on what the other side has
-/// sent, in order (`HaveMet`), are in a meeting as `negotiate` has it: they come to the same
-/// outcome, and both sides are left the same. So an honest client is accepted with its second
-/// request and the strongest algorithm of both (RFC 8489, section 9.2).
+/// The users of a client and a server make their calls one by one, each on what the other side has
+/// sent, in order (`HaveMet`). Then the two are in a meeting as `negotiate` has it. They come to
+/// the same outcome, and both sides are left the same. So an honest client is accepted with its
+/// second request and the strongest algorithm of both (RFC 8489, section 9.2).
 pub fn calls_are_a_meeting()
     ensures negotiated { MeetingsAreNegotiated }
     ensures strongest { MeetingsAgree }
@@ -253,7 +256,7 @@ pub fn calls_are_a_meeting()
 }
 
 /// No signing of the meeting of a ready client (`IsReady`) is refused where realm and user name fit
-/// their attributes, 763 and 513 bytes (RFC 8489, sections 14.3 and 14.9).
+/// their attributes. These hold 763 and 513 bytes (RFC 8489, sections 14.3 and 14.9).
 pub fn short_names_are_signed()
     ensures { ShortNamesAreSigned }
 {
@@ -265,16 +268,19 @@ pub fn short_names_are_signed()
 }
 
 /// One meeting: a client of one user that must hash the name (USERHASH, RFC 8489, section 14.4),
-/// and a server that has this user alone, both with HMAC-SHA1 and HMAC-SHA256. From whatever
-/// address it comes, and whatever random words are drawn, it meets the premise of the second
-/// sentence; the meeting ends `Validated` with HMAC-SHA256; and of the three calls that it makes
-/// its server make, `serve` challenges the first, signs the challenge, and validates the last.
+/// and a server that has this user alone. Both support HMAC-SHA1 and HMAC-SHA256. Whatever the
+/// client's address is, and whatever random numbers are drawn:
+///
+/// - The client meets the premise of the second sentence.
+/// - The meeting ends `Validated` with HMAC-SHA256.
+/// - The server makes three calls. `serve` challenges the first, signs the challenge, and validates
+///   the last.
 pub fn a_hashed_name_is_validated()
     ensures ready { (from : Address) (words more : List ℕ)
         → IsReadyClient initial (a_meeting from words more) a_user a_server }
     ensures validated { (from : Address) (words more : List ℕ) → length words ≤ 16
         → AgreesOn from a_user IntegrityAlgorithm.Sha256
-        (negotiated (a_meeting from words more) initial a_server) }
+        (whole_negotiation (a_meeting from words more) initial a_server) }
     ensures served { (from : Address) (words more : List ℕ) → length words ≤ 16
         → IsServed from words more }
 {
@@ -285,16 +291,21 @@ pub fn a_hashed_name_is_validated()
     auth_laws::sides_add_by_attribute();
 }
 
-/// A request of an authenticated client whose nonce has ended is answered `StaleNonce`, unless the
-/// nonce that is current by then is the old one, drawn again. Once the client has read one error of
-/// code 438 that the server signed, its request is accepted while that nonce is current (RFC 8489,
-/// sections 9.2.4 and 9.2.5). The messages are of any method, and have any attributes of their own
-/// but those that signing adds. Between them users and settings stay. Before the request other
-/// messages of the client's address may be read at any moment, so that one of them has made the
-/// nonce that is current; after it they are read while that nonce is current. Expired nonces may be
-/// forgotten at any moment, and no call removes the client at its address; or such calls come too,
-/// and expired nonces are forgotten up to the end of the client's nonce before the request, and up
-/// to the end of the new one after it, since a place without a client is forgotten.
+/// An authenticated client sends a request after its nonce has ended. The server refuses it with
+/// `StaleNonce`, unless the nonce that is current by then is the old one, drawn again. Then the
+/// client reads one error of code 438 that the server signed. Its next request is accepted while
+/// the nonce of that error is current (RFC 8489, sections 9.2.4 and 9.2.5).
+///
+/// - The messages are of any method. They have any attributes of their own but those that signing
+///   adds.
+/// - Between the messages users and settings stay.
+/// - Before the request other messages of the client's address may be read at any moment. One of
+///   them may have made the nonce that is current. After the request they are read while that nonce
+///   is current.
+/// - If no call removes the client at its address, expired nonces may be forgotten at any moment.
+/// - If such calls come too, a place without a client is forgotten. So before the request expired
+///   nonces are forgotten up to the end of the client's nonce. After it they are forgotten up to
+///   the end of the new one.
 pub fn nonce_is_renewed()
     ensures { NonceIsRenewed }
 {

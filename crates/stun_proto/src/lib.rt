@@ -1,10 +1,10 @@
-//! STUN (RFC 8489) without IO: message bytes, addresses, moments and random words go in; what to
+//! STUN (RFC 8489) without IO. Message bytes, addresses, times and random numbers go in. What to
 //! send, how long to wait and who signed come out. No call reads a socket, a clock or a random
 //! source, and each function is proved to meet its contract.
 //!
-//! This crate is the front door: it has the crates below under one name, and beside them `replay`,
-//! which runs a server, a meeting of a client and a server, or an agent over a list of calls and
-//! says what comes of it.
+//! This crate is the front door: it has the crates below under one name, and `replay` beside them.
+//! `replay` runs a server, a meeting of a client and a server, or an agent over a list of calls. It
+//! returns what they did.
 //!
 //! ```text
 //!   socket --- bytes, from ---> types::message::Message::from_bytes
@@ -25,20 +25,22 @@
 //! The smallest program: is this message signed with this password?
 //!
 //! ```text
-//! let message = Message::from_bytes(&bytes)?;                          // or why the bytes are no
-//! message let user = ShortTermCredentials::new(password); let algorithm =
-//! message.validate_integrity(&user.into())?;           // Sha1 or Sha256, or why it is refused
+//! let message = Message::from_bytes(&bytes)?;                  // or why the bytes are no message
+//! let user = ShortTermCredentials::new(password);
+//! let algorithm = message.validate_integrity(&user.into())?;   // Sha1 or Sha256, or a refusal
 //! ```
 //!
 //! A request, from the first transmission to its answer or its end:
 //!
 //! ```text
 //! let mut agent = StunAgent::builder(alloc, TransportType::Udp, local).build();
-//! socket.send(agent.send_request(request, server, now)?); while let Some(again) =
-//! agent.poll_transmit(now) { socket.send(again) }       // at each moment: what is due match
-//! agent.poll(now) {
-//!     StunAgentPollRet::WaitUntil(until) => .. ,                                // until then, or until bytes come
-//!     StunAgentPollRet::TransactionTimedOut(id) => .. ,                         // no answer came
+//! socket.send(agent.send_request(request, server, now)?);
+//! while let Some(again) = agent.poll_transmit(now) {       // at each time: what is due
+//!     socket.send(again)
+//! }
+//! match agent.poll(now) {
+//!     StunAgentPollRet::WaitUntil(until) => .. ,           // until then, or until bytes come
+//!     StunAgentPollRet::TransactionTimedOut(id) => .. ,    // no answer came
 //!     StunAgentPollRet::TransactionCancelled(id) => .. ,
 //! }
 //! ```

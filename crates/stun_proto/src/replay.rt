@@ -1,4 +1,4 @@
-//! Runs: calls that are made in their order, with what each of them answers.
+//! Runs: calls that are made in their order, with what each of them returns.
 
 mod apply;
 mod call;

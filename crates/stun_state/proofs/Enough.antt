@@ -16,8 +16,8 @@ use Rattle.stun_types.specs.Walk.{walk}
 use Rattle.stun_types.specs.Writing.{attribute_refusal, has_integrity, is_set_apart}
 use Rattle.stun_types.specs.Writing.{length_with, max_length, size_refusal}
 use Rattle.stun_auth.specs.Additions.{Addition, Page, WantsMemory, added_all, added_one, after}
-use Rattle.stun_auth.specs.Additions.{attribute, growth, growth_of, integrity, is_too_long}
-use Rattle.stun_auth.specs.Additions.{page_of, refusal_of, unless_refused, with_addition}
+use Rattle.stun_auth.specs.Additions.{attribute, growth, growth_of, integrity, is_text_too_long}
+use Rattle.stun_auth.specs.Additions.{page_of, addition_refusal, page_unless_refused, with_addition}
 use Rattle.stun_auth.specs.Client.{ClientState, initial, authenticating, authenticated}
 use Rattle.stun_auth.specs.ClientSigning.{algorithm_choice, client_additions, identity, protection}
 use Rattle.stun_auth.specs.ServerSigning.{server_additions, server_growth}
@@ -78,11 +78,11 @@ size_fits message room n none =
     (passed (nat_lt room (attribute_length n)) TooSmall None second.1).0
 
 -- what is not refused has room
-fits_one : (x : Addition) (page : Page) → refusal_of x page ≡ None → growth_of x ≤ page.room
+fits_one : (x : Addition) (page : Page) → addition_refusal x page ≡ None → growth_of x ≤ page.room
 fits_one (attribute a) page none =
     let n = length a.value in
     let second =
-    passed (is_too_long a) TooLarge (attribute_refusal page.bytes page.room a.kind n) none in
+    passed (is_text_too_long a) TooLarge (attribute_refusal page.bytes page.room a.kind n) none in
     let third =
     passed (is_set_apart a.kind) NotAllowed
     (if has_integrity page.bytes then Some MessageIntegrityExists
@@ -103,10 +103,10 @@ fits_one (integrity algorithm key) page none =
     size_fits page.bytes page.room (digest_length algorithm) second.1
 
 fits_step : (x : Addition) (xs : List Addition) (page : Page) (refusal : Option StunWriteError)
-    → refusal_of x page ≡ refusal
+    → addition_refusal x page ≡ refusal
     → ((next : Page) → IsOk (added_all xs next) → growth xs ≤ next.room)
     → IsOk (after
-    (unless_refused refusal
+    (page_unless_refused refusal
     (record { bytes = with_addition x page.bytes; room = page.room - growth_of x })) (added_all xs))
     → growth (x ∷ xs) ≤ page.room
 fits_step x xs page (Some reason) is rest ok = absurd (true≢false (sym ok))
@@ -119,7 +119,7 @@ fits_room : (list : List Addition) (page : Page) → IsOk (added_all list page)
     → growth list ≤ page.room
 unfolding added_one
 fits_room [] page ok = omega arith
-fits_room (x ∷ xs) page ok = fits_step x xs page (refusal_of x page) refl (fits_room xs) ok
+fits_room (x ∷ xs) page ok = fits_step x xs page (addition_refusal x page) refl (fits_room xs) ok
 
 pub any_length : (list : List Addition) (message : List ℕ)
     → WantsMemory list (page_of message) (LENGTH_LIMIT - length message) → ⊥

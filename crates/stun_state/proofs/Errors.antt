@@ -12,20 +12,20 @@ use Rattle.stun_base.specs.Header.{header_refusal, transaction_id_field}
 use Rattle.stun_base.specs.MessageType.{class_in, is_request}
 use Rattle.stun_base.specs.declared.wire.error.StunParseError.{StunParseError}
 use Rattle.stun_base.specs.declared.wire.error.StunParseError.TheVariants as Parse
+use Rattle.stun_numbers.specs.Refusals.{message_refusal, refusal_or, refusal_of_parse}
+use Rattle.stun_numbers.specs.declared.refusal.Refusal.{Refusal}
 use Rattle.stun_state.specs.Agent.{done_unless, refusal_of_agent}
-use Rattle.stun_state.specs.Answers.{ForRefusal, at_address, message_refusal, unless_refused}
-use Rattle.stun_state.specs.Codes.{refusal_of_parse}
-use Rattle.stun_state.specs.declared.codes.Refusal.{Refusal}
+use Rattle.stun_state.specs.Answers.{ForRefusal, at_address}
 
 -- what is answered about a message of STUN and an address
 pub at_given : (given : Option SocketAddr) (to : SocketAddr) (why : Option StunParseError)
     (refused : SocketAddr → Option StunError) (answer : Result (Unit {0}) Refusal)
     → given ≡ Some to → why ≡ None → done_unless (refused to) ≡ answer
-    → at_address given (λ a. unless_refused (message_refusal why) (done_unless (refused a)))
+    → at_address given (λ a. refusal_or (message_refusal why) (done_unless (refused a)))
     ≡ answer
 at_given given to why refused answer is fine done =
-    ap (λ o. at_address o (λ a. unless_refused (message_refusal why) (done_unless (refused a)))) is
-    ∙ ap (λ o. unless_refused (message_refusal o) (done_unless (refused to))) fine ∙ done
+    ap (λ o. at_address o (λ a. refusal_or (message_refusal why) (done_unless (refused a)))) is
+    ∙ ap (λ o. refusal_or (message_refusal o) (done_unless (refused to))) fine ∙ done
 
 -- an error's own value
 abbrev pub error_in : {T : Type 0} → StunError → Result T StunError → StunError

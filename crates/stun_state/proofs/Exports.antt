@@ -4,24 +4,26 @@ use Rattle.std.proofs.Common.{if◌then◌else◌, Option, Some, IfSome, Result,
 use Rattle.std.proofs.Common.{Err, OnOk, OnErr, refl, sym, subst, ap, inl, inr}
 use Rattle.std.specs.Prelude.{⊤}
 use lib.Dec.{leb-suc-zero}
-use Rattle.stun_state.specs.Answers.{ForRefusal, OrMemory}
-use Rattle.stun_state.specs.Codes.{code_of}
+use Rattle.stun_state.specs.Answers.{ForRefusal, CallOrMemory}
+use Rattle.stun_numbers.specs.Refusals.{refusal_number}
 use Rattle.stun_state.specs.Numbers.{OrOutOfMemory, left_by, length_answer}
-use Rattle.stun_state.specs.Signing.{buffer_after, length_of}
-use Rattle.stun_state.specs.declared.codes.Refusal.{Refusal}
-use Rattle.stun_state.specs.declared.codes.Refusal.TheVariants.{Truncated, NotStun, TooLarge}
-use Rattle.stun_state.specs.declared.codes.Refusal.TheVariants.{IntegrityFailed, BadArgument}
-use Rattle.stun_state.specs.declared.codes.Refusal.TheVariants.{NotText, TextTooLong}
-use Rattle.stun_state.specs.declared.codes.Refusal.TheVariants.{BufferTooSmall, NotAllowed}
-use Rattle.stun_state.specs.declared.codes.Refusal.TheVariants.{Closed, AttributeExists}
-use Rattle.stun_state.specs.declared.codes.Refusal.TheVariants.{MessageTooLong, MissingAttribute}
-use Rattle.stun_state.specs.declared.codes.Refusal.TheVariants.{MalformedAttribute, OutOfMemory}
-use Rattle.stun_state.specs.declared.codes.Refusal.TheVariants.{EmptyHandle, FullHandle}
-use Rattle.stun_state.specs.declared.codes.Refusal.TheVariants.{AlreadyInProgress}
-use Rattle.stun_state.specs.declared.codes.Refusal.TheVariants.{ProtocolViolation, Unauthorized}
-use Rattle.stun_state.specs.declared.codes.Refusal.TheVariants.{BadRequest, StaleNonce}
-use Rattle.stun_state.specs.declared.codes.Refusal.TheVariants.{UnsupportedFeature, NoWait}
-use Rattle.stun_state.specs.declared.codes.Refusal.TheVariants.{TooManyAddresses}
+use Rattle.stun_numbers.specs.Buffers.{buffer_after, length_of}
+use Rattle.stun_numbers.specs.declared.refusal.Refusal.{Refusal}
+use Rattle.stun_numbers.specs.declared.refusal.Refusal.TheVariants.{Truncated, NotStun, TooLarge}
+use Rattle.stun_numbers.specs.declared.refusal.Refusal.TheVariants.{NoIntegrity, MalformedIntegrity}
+use Rattle.stun_numbers.specs.declared.refusal.Refusal.TheVariants.{IntegrityFailed, BadArgument}
+use Rattle.stun_numbers.specs.declared.refusal.Refusal.TheVariants.{NotText, TextTooLong}
+use Rattle.stun_numbers.specs.declared.refusal.Refusal.TheVariants.{BufferTooSmall, NotAllowed}
+use Rattle.stun_numbers.specs.declared.refusal.Refusal.TheVariants.{Closed, AttributeExists}
+use Rattle.stun_numbers.specs.declared.refusal.Refusal.TheVariants.{MessageTooLong}
+use Rattle.stun_numbers.specs.declared.refusal.Refusal.TheVariants.{MissingAttribute}
+use Rattle.stun_numbers.specs.declared.refusal.Refusal.TheVariants.{MalformedAttribute, OutOfMemory}
+use Rattle.stun_numbers.specs.declared.refusal.Refusal.TheVariants.{EmptyHandle, FullHandle}
+use Rattle.stun_numbers.specs.declared.refusal.Refusal.TheVariants.{AlreadyInProgress}
+use Rattle.stun_numbers.specs.declared.refusal.Refusal.TheVariants.{ProtocolViolation, Unauthorized}
+use Rattle.stun_numbers.specs.declared.refusal.Refusal.TheVariants.{BadRequest, StaleNonce}
+use Rattle.stun_numbers.specs.declared.refusal.Refusal.TheVariants.{UnsupportedFeature, NoWait}
+use Rattle.stun_numbers.specs.declared.refusal.Refusal.TheVariants.{TooManyAddresses}
 
 -- what is so of the value that is there
 pub some_is : {T : Type 0} (o : Option T) (x : T) (F : T → Type 0) → o ≡ Some x → F x → IfSome o F
@@ -30,7 +32,7 @@ some_is o x F is f = subst (λ p. IfSome p F) (sym is) f
 -- the answer's number and what is left, unless the refusal is that an allocation failed
 unless_memory : {V S : Type 0} (Q : Type 0) (number : Result V Refusal → ℤ) (refusal : Refusal)
     (expected : Result V Refusal) (told : ℤ) (before now after : S)
-    → number (Err OutOfMemory) ≡ code_of OutOfMemory → told ≡ number (Err refusal)
+    → number (Err OutOfMemory) ≡ refusal_number OutOfMemory → told ≡ number (Err refusal)
     → ForRefusal refusal (Err refusal ≡ expected) Q
     → ForRefusal refusal (now ≡ after) (now ≡ before)
     → OrOutOfMemory told before now (number expected) after
@@ -39,6 +41,10 @@ unless_memory Q number Truncated expected told before now after memory is p q =
 unless_memory Q number NotStun expected told before now after memory is p q =
     inl (is ∙ ap number p, q)
 unless_memory Q number TooLarge expected told before now after memory is p q =
+    inl (is ∙ ap number p, q)
+unless_memory Q number NoIntegrity expected told before now after memory is p q =
+    inl (is ∙ ap number p, q)
+unless_memory Q number MalformedIntegrity expected told before now after memory is p q =
     inl (is ∙ ap number p, q)
 unless_memory Q number IntegrityFailed expected told before now after memory is p q =
     inl (is ∙ ap number p, q)
@@ -87,8 +93,8 @@ unless_memory Q number TooManyAddresses expected told before now after memory is
 
 pub or_memory : {V S : Type 0} (Q : Type 0) (number : Result V Refusal → ℤ)
     (answer expected : Result V Refusal) (told : ℤ) (before now after : S)
-    → number (Err OutOfMemory) ≡ code_of OutOfMemory → told ≡ number answer
-    → OrMemory answer (answer ≡ expected) Q → OrMemory answer (now ≡ after) (now ≡ before)
+    → number (Err OutOfMemory) ≡ refusal_number OutOfMemory → told ≡ number answer
+    → CallOrMemory answer (answer ≡ expected) Q → CallOrMemory answer (now ≡ after) (now ≡ before)
     → OrOutOfMemory told before now (number expected) after
 or_memory Q number (Ok value) expected told before now after memory is p q =
     inl (is ∙ ap number p, q)
@@ -99,10 +105,12 @@ or_memory Q number (Err refusal) expected told before now after memory is p q =
 not_below : (n : ℕ) → int_lt (pos n) (pos 0) ≡ false
 not_below n = leb-suc-zero n
 
-below : (refusal : Refusal) → int_lt (code_of refusal) (pos 0) ≡ true
+below : (refusal : Refusal) → int_lt (refusal_number refusal) (pos 0) ≡ true
 below Truncated = refl
 below NotStun = refl
 below TooLarge = refl
+below NoIntegrity = refl
+below MalformedIntegrity = refl
 below IntegrityFailed = refl
 below BadArgument = refl
 below NotText = refl
@@ -156,6 +164,10 @@ unwritten_by NotStun signed before after is written =
     unwritten NotStun signed before after is written
 unwritten_by TooLarge signed before after is written =
     unwritten TooLarge signed before after is written
+unwritten_by NoIntegrity signed before after is written =
+    unwritten NoIntegrity signed before after is written
+unwritten_by MalformedIntegrity signed before after is written =
+    unwritten MalformedIntegrity signed before after is written
 unwritten_by IntegrityFailed signed before after is written =
     unwritten IntegrityFailed signed before after is written
 unwritten_by BadArgument signed before after is written =
@@ -201,8 +213,8 @@ unwritten_by TooManyAddresses signed before after is written =
 -- what is in the buffer after a call that signs, where an allocation may fail
 pub left_buffer : (answer : Result ℕ Refusal) (signed : Result (List ℕ) Refusal) (told : ℤ)
     (before after : List ℕ)
-    → told ≡ length_answer answer → OrMemory answer (answer ≡ length_of signed) ⊤
-    → OrMemory answer (after ≡ buffer_after signed before) (after ≡ before)
+    → told ≡ length_answer answer → CallOrMemory answer (answer ≡ length_of signed) ⊤
+    → CallOrMemory answer (after ≡ buffer_after signed before) (after ≡ before)
     → after ≡ left_by told before (buffer_after signed before)
 left_buffer (Ok n) signed told before after told_is is written =
     written ∙ sym (ap (λ z. left_by z before (buffer_after signed before)) told_is

@@ -4,5 +4,4 @@ mod Errors
 mod Exports
 mod Reasons
 pub mod Steps
-mod Texts
 pub mod Words

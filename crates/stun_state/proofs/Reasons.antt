@@ -1,7 +1,7 @@
 -- The refusal for a reason, where that may be want of memory.
 use Rattle.std.proofs.Common.{◌≡◌, sym, subst}
 use Rattle.stun_auth.specs.ClientStep as client
-use Rattle.stun_auth.specs.Reasons.{ForReason}
+use Rattle.stun_auth.specs.Reasons.{ForServerReason}
 use Rattle.stun_auth.specs.declared.client.answer.LongTermClientAuthErrorReason.{
   LongTermClientAuthErrorReason,
 }
@@ -18,13 +18,13 @@ use Rattle.stun_auth.specs.declared.server.reason.LongTermServerAuthErrorReason.
   StaleNonce,
   OutOfMemory,
 }
+use Rattle.stun_numbers.specs.declared.refusal.Refusal.{Refusal}
 use Rattle.stun_state.specs.Answers.{ForRefusal}
 use Rattle.stun_state.specs.Codes.{refusal_of_client, refusal_of_server}
-use Rattle.stun_state.specs.declared.codes.Refusal.{Refusal}
 
 -- what follows from a fact about a reason, of its refusal
 server_cases : (reason : LongTermServerAuthErrorReason) {P Q P' Q' : Type 0} → (P → P') → (Q → Q')
-    → ForReason reason P Q → ForRefusal (refusal_of_server reason) P' Q'
+    → ForServerReason reason P Q → ForRefusal (refusal_of_server reason) P' Q'
 server_cases Unauthorized one other h = one h
 server_cases IntegrityFailed one other h = one h
 server_cases UnsupportedFeature one other h = one h
@@ -36,12 +36,12 @@ pub server_refused : (reason : LongTermServerAuthErrorReason) (refusal : Refusal
     (P' Q' : Refusal → Type 0)
     → refusal ≡ refusal_of_server reason → (P → P' (refusal_of_server reason))
     → (Q → Q' (refusal_of_server reason))
-    → ForReason reason P Q → ForRefusal refusal (P' refusal) (Q' refusal)
+    → ForServerReason reason P Q → ForRefusal refusal (P' refusal) (Q' refusal)
 server_refused reason refusal P' Q' is one other h =
     subst (λ r. ForRefusal r (P' r) (Q' r)) (sym is) (server_cases reason one other h)
 
 client_cases : (reason : LongTermClientAuthErrorReason) {P Q P' Q' : Type 0} → (P → P') → (Q → Q')
-    → client.ForReason reason P Q → ForRefusal (refusal_of_client reason) P' Q'
+    → client.ForClientReason reason P Q → ForRefusal (refusal_of_client reason) P' Q'
 client_cases AtClient.Unauthorized one other h = one h
 client_cases AtClient.IntegrityFailed one other h = one h
 client_cases AtClient.UnsupportedFeature one other h = one h
@@ -51,6 +51,6 @@ pub client_refused : (reason : LongTermClientAuthErrorReason) (refusal : Refusal
     (P' Q' : Refusal → Type 0)
     → refusal ≡ refusal_of_client reason → (P → P' (refusal_of_client reason))
     → (Q → Q' (refusal_of_client reason))
-    → client.ForReason reason P Q → ForRefusal refusal (P' refusal) (Q' refusal)
+    → client.ForClientReason reason P Q → ForRefusal refusal (P' refusal) (Q' refusal)
 client_refused reason refusal P' Q' is one other h =
     subst (λ r. ForRefusal r (P' r) (Q' r)) (sym is) (client_cases reason one other h)

@@ -28,9 +28,9 @@ socket_address a =
     else if a.length == 16 then Some (ipv6 a.octets a.port) else None
 
 -- an address as a caller gets it: zeros after four octets
-abbrev pub address_of : SocketAddr → Address
-address_of (V4 a) = record { octets = a.ip.octets ++ replicate 12 0; port = a.port; length = 4 }
-address_of (V6 a) = record { octets = octets_of a.ip.segments; port = a.port; length = 16 }
+abbrev pub caller_address : SocketAddr → Address
+caller_address (V4 a) = record { octets = a.ip.octets ++ replicate 12 0; port = a.port; length = 4 }
+caller_address (V6 a) = record { octets = octets_of a.ip.segments; port = a.port; length = 16 }
 
 -- where a walk over addresses begins, as a caller means it: at the first of all where the length is
 -- 0; nothing where it is none
@@ -41,4 +41,4 @@ start_told a =
 -- where it goes on, as a caller gets it: of length 0 at its end
 abbrev pub start_for : Option SocketAddr → Address
 start_for None = record { octets = replicate 16 0; port = 0; length = 0 }
-start_for (Some address) = address_of address
+start_for (Some address) = caller_address address

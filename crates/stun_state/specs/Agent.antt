@@ -1,4 +1,4 @@
--- What the calls on an agent answer and leave, by the definitions of its library (RFC 8489, section
+-- What the calls on an agent return and leave, by the definitions of its library (RFC 8489, section
 -- 6.2).
 use Rattle.std.specs.Prelude.{ℕ, Bool, List, ◌++◌, length, drop, min, nat_lt, ◌==◌, ◌&&◌}
 use Rattle.std.specs.Prelude.{◌||◌, if◌then◌else◌, Option, Some, None, Result, Ok, Err}
@@ -10,7 +10,7 @@ use Rattle.stun_agent.specs.Agent.{Agent}
 use Rattle.stun_agent.specs.Peers.{is_peer}
 use Rattle.stun_agent.specs.Statistics as counts
 use Rattle.stun_agent.specs.Timing.{Settings}
-use Rattle.stun_agent.specs.Transactions.{Transaction, at, changed, configured}
+use Rattle.stun_agent.specs.Transactions.{Transaction, at, with_change_at, with_settings}
 use Rattle.stun_agent.specs.declared.agent.StunAgentPollRet.{StunAgentPollRet}
 use Rattle.stun_agent.specs.declared.agent.StunAgentPollRet.TheVariants.{TransactionTimedOut}
 use Rattle.stun_agent.specs.declared.agent.StunAgentPollRet.TheVariants.{TransactionCancelled}
@@ -20,19 +20,18 @@ use Rattle.stun_agent.specs.declared.error.StunError.TheVariants as Error
 use Rattle.stun_base.specs.declared.wire.transport.TransportType.{TransportType}
 use Rattle.stun_base.specs.declared.wire.transport.TransportType.TheVariants.{Udp, Tcp}
 use Rattle.stun_types.specs.Message.{refusal}
-use Rattle.stun_state.specs.Addresses.{address_of, socket_address}
+use Rattle.stun_numbers.specs.Refusals.{message_refusal, refusal_or, refusal_of_parse}
+use Rattle.stun_numbers.specs.declared.refusal.Refusal.{Refusal}
+use Rattle.stun_numbers.specs.declared.refusal.Refusal.TheVariants.{AlreadyInProgress, BadArgument}
+use Rattle.stun_numbers.specs.declared.refusal.Refusal.TheVariants.{BufferTooSmall, NoWait}
+use Rattle.stun_numbers.specs.declared.refusal.Refusal.TheVariants.{ProtocolViolation, OutOfMemory}
+use Rattle.stun_state.specs.Addresses.{caller_address, socket_address}
 use Rattle.stun_state.specs.Answers.{after_address, kept_if_refused}
-use Rattle.stun_state.specs.Answers.{message_refusal, unless_refused}
-use Rattle.stun_state.specs.Codes.{refusal_of_parse}
 use Rattle.stun_state.specs.declared.address.Address.{Address}
 use Rattle.stun_state.specs.declared.agent.Statistics.{Statistics}
 use Rattle.stun_state.specs.declared.agent.Timeouts.{Timeouts}
-use Rattle.stun_state.specs.declared.codes.Refusal.{Refusal}
-use Rattle.stun_state.specs.declared.codes.Refusal.TheVariants.{AlreadyInProgress, BadArgument}
-use Rattle.stun_state.specs.declared.codes.Refusal.TheVariants.{BufferTooSmall, NoWait}
-use Rattle.stun_state.specs.declared.codes.Refusal.TheVariants.{ProtocolViolation, OutOfMemory}
 
--- the refusal for an agent's error. An agent answers none of the last four
+-- the refusal for an agent's error. An agent returns none of the last four
 abbrev pub refusal_of_agent : StunError → Refusal
 refusal_of_agent Error.AlreadyInProgress = AlreadyInProgress
 refusal_of_agent Error.ProtocolViolation = ProtocolViolation
@@ -55,13 +54,13 @@ counting_agent transport local =
     record (agent.new_agent transport local) { statistics = Some counts.new_statistics }
 
 -- an agent of a transport at an address, where both are given
-abbrev pub made : Option TransportType → Option SocketAddr → Result Agent Refusal
-made None local = Err BadArgument
-made (Some transport) None = Err BadArgument
-made (Some transport) (Some local) = Ok (counting_agent transport local)
+abbrev pub agent_at : Option TransportType → Option SocketAddr → Result Agent Refusal
+agent_at None local = Err BadArgument
+agent_at (Some transport) None = Err BadArgument
+agent_at (Some transport) (Some local) = Ok (counting_agent transport local)
 
-abbrev pub settings_of : Timeouts → Settings
-settings_of t =
+abbrev pub settings_of_timeouts : Timeouts → Settings
+settings_of_timeouts t =
     record {
       initial = t.initial;
       maximum = t.longest;
@@ -87,7 +86,7 @@ timeouts_refusal t =
 -- an answer, unless it is to be given to such time-outs
 abbrev pub unless_untimed : {V : Type 0} → Timeouts → Result V Refusal → Result V Refusal
 unless_untimed t (Err refusal) = Err refusal
-unless_untimed t (Ok value) = unless_refused (timeouts_refusal t) (Ok value)
+unless_untimed t (Ok value) = refusal_or (timeouts_refusal t) (Ok value)
 
 -- the address to which alone an agent sends: none where the length is 0
 abbrev pub remote_if : Option SocketAddr → Result (Option SocketAddr) Refusal
@@ -103,11 +102,11 @@ bound_to (Err refusal) a = Err refusal
 bound_to (Ok remote) a = Ok (record a { remote_addr = remote })
 
 -- the agent with these time-outs, where they are taken
-abbrev pub made_with : Result Agent Refusal → Address → Timeouts → Result Agent Refusal
-made_with (Err refusal) remote timeouts = Err refusal
-made_with (Ok a) remote timeouts =
+abbrev pub agent_with_timeouts : Result Agent Refusal → Address → Timeouts → Result Agent Refusal
+agent_with_timeouts (Err refusal) remote timeouts = Err refusal
+agent_with_timeouts (Ok a) remote timeouts =
     unless_untimed timeouts
-    (bound_to (remote_given remote) (record a { settings = settings_of timeouts }))
+    (bound_to (remote_given remote) (record a { settings = settings_of_timeouts timeouts }))
 
 -- ---- messages
 
@@ -116,22 +115,22 @@ abbrev pub done_unless : Option StunError → Result (Unit {0}) Refusal
 done_unless None = Ok tt
 done_unless (Some error) = Err (refusal_of_agent error)
 
--- what is answered to a request for an address
-abbrev pub requested : Agent → List ℕ → SocketAddr → Result (Unit {0}) Refusal
-requested a bytes to =
-    unless_refused (message_refusal (refusal bytes))
+-- what is returned for a request for an address
+abbrev pub request_answer : Agent → List ℕ → SocketAddr → Result (Unit {0}) Refusal
+request_answer a bytes to =
+    refusal_or (message_refusal (refusal bytes))
     (done_unless (agent.request_refusal a bytes to))
 
--- what is answered to a response or an indication for an address
-abbrev pub sent : Agent → List ℕ → SocketAddr → Result (Unit {0}) Refusal
-sent a bytes to =
-    unless_refused (message_refusal (refusal bytes))
+-- what is returned for a response or an indication for an address
+abbrev pub sending_answer : Agent → List ℕ → SocketAddr → Result (Unit {0}) Refusal
+sending_answer a bytes to =
+    refusal_or (message_refusal (refusal bytes))
     (done_unless (agent.sending_refusal a bytes to))
 
--- what is answered to bytes that came from an address: 1 where they are taken
-abbrev pub handled : Agent → List ℕ → SocketAddr → Result ℕ Refusal
-handled a bytes from =
-    unless_refused (message_refusal (refusal bytes))
+-- what is returned for bytes that came from an address: 1 where they are taken
+abbrev pub receiving_answer : Agent → List ℕ → SocketAddr → Result ℕ Refusal
+receiving_answer a bytes from =
+    refusal_or (message_refusal (refusal bytes))
     (Ok (if agent.takes_message bytes from a then 1 else 0))
 
 -- the agent that is kept once a request is taken, or a message, with its address as a caller gives
@@ -146,9 +145,9 @@ kept_after_message a bytes from now =
 
 -- ---- addresses
 
--- what is answered of an address: 1 where a message from it was taken, or it was named as such
-abbrev pub known : Agent → SocketAddr → Result ℕ Refusal
-known a peer = Ok (if is_peer peer a.peers then 1 else 0)
+-- what is returned about an address: 1 where a message from it was taken, or it was named as such
+abbrev pub peer_answer : Agent → SocketAddr → Result ℕ Refusal
+peer_answer a peer = Ok (if is_peer peer a.peers then 1 else 0)
 
 -- the agent once an address is named, as a caller gives it
 abbrev pub kept_after_naming : Agent → Address → Agent
@@ -162,15 +161,15 @@ kept_after_forgetting a peer =
 
 -- ---- time
 
--- the number of what a poll answers
+-- the number of what a poll returns
 abbrev pub poll_number : StunAgentPollRet → ℕ
 poll_number (WaitUntil moment) = 0
 poll_number (TransactionTimedOut id) = 1
 poll_number (TransactionCancelled id) = 2
 
 -- the same, for an id's buffer of so many bytes
-abbrev pub polled : ℕ → StunAgentPollRet → Result ℕ Refusal
-polled room answer = if nat_lt room 12 then Err BufferTooSmall else Ok (poll_number answer)
+abbrev pub polling_answer : ℕ → StunAgentPollRet → Result ℕ Refusal
+polling_answer room answer = if nat_lt room 12 then Err BufferTooSmall else Ok (poll_number answer)
 
 -- the caller's moment and id then
 abbrev pub moment_told : StunAgentPollRet → ℕ → ℕ
@@ -197,12 +196,12 @@ bytes_told (Some e) buffer = e.1.bytes ++ drop (length e.1.bytes) buffer
 -- the address that they go to
 abbrev pub sent_to : Option (ℕ × Transaction) → Address → Address
 sent_to None before = before
-sent_to (Some e) before = address_of e.1.to
+sent_to (Some e) before = caller_address e.1.to
 
 -- the address that a request went to, where there is one
 abbrev pub peer_told : Option Transaction → Address → Address
 peer_told None before = before
-peer_told (Some t) before = address_of t.to
+peer_told (Some t) before = caller_address t.to
 
 -- ---- one request
 
@@ -210,10 +209,10 @@ peer_told (Some t) before = address_of t.to
 abbrev pub id_in : List ℕ → Option ℕ
 id_in bytes = if length bytes == 12 then Some (big_number 12 bytes) else None
 
--- what is answered of the request of an id: 1 where it is outstanding
-abbrev pub found : Option ℕ → Agent → Result ℕ Refusal
-found None a = Err BadArgument
-found (Some id) a = Ok (option_map_or (λ t. 1) (at id a.transactions) 0)
+-- what is returned about the request of an id: 1 where it is outstanding
+abbrev pub outstanding_answer : Option ℕ → Agent → Result ℕ Refusal
+outstanding_answer None a = Err BadArgument
+outstanding_answer (Some id) a = Ok (option_map_or (λ t. 1) (at id a.transactions) 0)
 
 -- the address of the request of an id
 abbrev pub peer_found : Option ℕ → Agent → Address → Address
@@ -223,12 +222,14 @@ peer_found (Some id) a before = peer_told (at id a.transactions) before
 -- the agent whose request of an id is another
 abbrev pub with_changed : (Transaction → Transaction) → Option ℕ → Agent → Agent
 with_changed change None a = a
-with_changed change (Some id) a = agent.with_transactions a (changed change id a.transactions)
+with_changed change (Some id) a =
+    agent.with_transactions a (with_change_at change id a.transactions)
 
 -- the agent whose request of an id has other time-outs, where they are taken
 abbrev pub kept_after_configuring : Timeouts → Option ℕ → Agent → Agent
 kept_after_configuring t id a =
-    kept_if_refused (timeouts_refusal t) a (with_changed (configured (settings_of t)) id a)
+    kept_if_refused (timeouts_refusal t) a
+    (with_changed (with_settings (settings_of_timeouts t)) id a)
 
 -- ---- what was counted
 
@@ -245,8 +246,8 @@ STATISTICS_SIZE = 120
 abbrev pub statistics_answer : Statistics → Result (Unit {0}) Refusal
 statistics_answer s = if s.size == STATISTICS_SIZE then Ok tt else Err BadArgument
 
-abbrev pub told : counts.Statistics → Statistics
-told s = record {
+abbrev pub caller_statistics : counts.Statistics → Statistics
+caller_statistics s = record {
   size = STATISTICS_SIZE;
   requests_sent = s.requests_sent;
   requests_received = s.requests_received;
@@ -265,6 +266,6 @@ told s = record {
 }
 
 -- the caller's numbers, where the agent counts
-abbrev pub told_of : Option counts.Statistics → Statistics → Statistics
-told_of None before = before
-told_of (Some s) before = told s
+abbrev pub caller_statistics_after : Option counts.Statistics → Statistics → Statistics
+caller_statistics_after None before = before
+caller_statistics_after (Some s) before = caller_statistics s

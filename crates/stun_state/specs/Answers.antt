@@ -3,28 +3,30 @@
 use Rattle.std.specs.Prelude.{ℕ, List, ◌&&◌, if◌then◌else◌, Option, Some, None, Result, Ok, Err}
 use Rattle.std.specs.Str.{is_utf8}
 use Rattle.std.specs.declared.net.socket_addr.SocketAddr.{SocketAddr}
-use Rattle.stun_base.specs.declared.wire.error.StunParseError.{StunParseError}
-use Rattle.stun_state.specs.Codes.{refusal_of_parse}
-use Rattle.stun_state.specs.declared.codes.Refusal.{Refusal}
-use Rattle.stun_state.specs.declared.codes.Refusal.TheVariants.{Truncated, NotStun, TooLarge}
-use Rattle.stun_state.specs.declared.codes.Refusal.TheVariants.{IntegrityFailed, BadArgument}
-use Rattle.stun_state.specs.declared.codes.Refusal.TheVariants.{NotText, TextTooLong}
-use Rattle.stun_state.specs.declared.codes.Refusal.TheVariants.{BufferTooSmall, NotAllowed}
-use Rattle.stun_state.specs.declared.codes.Refusal.TheVariants.{Closed, AttributeExists}
-use Rattle.stun_state.specs.declared.codes.Refusal.TheVariants.{MessageTooLong, MissingAttribute}
-use Rattle.stun_state.specs.declared.codes.Refusal.TheVariants.{MalformedAttribute, OutOfMemory}
-use Rattle.stun_state.specs.declared.codes.Refusal.TheVariants.{EmptyHandle, FullHandle}
-use Rattle.stun_state.specs.declared.codes.Refusal.TheVariants.{AlreadyInProgress}
-use Rattle.stun_state.specs.declared.codes.Refusal.TheVariants.{ProtocolViolation, Unauthorized}
-use Rattle.stun_state.specs.declared.codes.Refusal.TheVariants.{BadRequest, StaleNonce}
-use Rattle.stun_state.specs.declared.codes.Refusal.TheVariants.{UnsupportedFeature, NoWait}
-use Rattle.stun_state.specs.declared.codes.Refusal.TheVariants.{TooManyAddresses}
+use Rattle.stun_numbers.specs.declared.refusal.Refusal.{Refusal}
+use Rattle.stun_numbers.specs.declared.refusal.Refusal.TheVariants.{Truncated, NotStun, TooLarge}
+use Rattle.stun_numbers.specs.declared.refusal.Refusal.TheVariants.{NoIntegrity, MalformedIntegrity}
+use Rattle.stun_numbers.specs.declared.refusal.Refusal.TheVariants.{IntegrityFailed, BadArgument}
+use Rattle.stun_numbers.specs.declared.refusal.Refusal.TheVariants.{NotText, TextTooLong}
+use Rattle.stun_numbers.specs.declared.refusal.Refusal.TheVariants.{BufferTooSmall, NotAllowed}
+use Rattle.stun_numbers.specs.declared.refusal.Refusal.TheVariants.{Closed, AttributeExists}
+use Rattle.stun_numbers.specs.declared.refusal.Refusal.TheVariants.{MessageTooLong}
+use Rattle.stun_numbers.specs.declared.refusal.Refusal.TheVariants.{MissingAttribute}
+use Rattle.stun_numbers.specs.declared.refusal.Refusal.TheVariants.{MalformedAttribute, OutOfMemory}
+use Rattle.stun_numbers.specs.declared.refusal.Refusal.TheVariants.{EmptyHandle, FullHandle}
+use Rattle.stun_numbers.specs.declared.refusal.Refusal.TheVariants.{AlreadyInProgress}
+use Rattle.stun_numbers.specs.declared.refusal.Refusal.TheVariants.{ProtocolViolation, Unauthorized}
+use Rattle.stun_numbers.specs.declared.refusal.Refusal.TheVariants.{BadRequest, StaleNonce}
+use Rattle.stun_numbers.specs.declared.refusal.Refusal.TheVariants.{UnsupportedFeature, NoWait}
+use Rattle.stun_numbers.specs.declared.refusal.Refusal.TheVariants.{TooManyAddresses}
 
 -- the first fact holds, or the second where the refusal is that an allocation failed
 abbrev pub ForRefusal : Refusal → Type 0 → Type 0 → Type 0
 ForRefusal Truncated P Q = P
 ForRefusal NotStun P Q = P
 ForRefusal TooLarge P Q = P
+ForRefusal NoIntegrity P Q = P
+ForRefusal MalformedIntegrity P Q = P
 ForRefusal IntegrityFailed P Q = P
 ForRefusal BadArgument P Q = P
 ForRefusal NotText P Q = P
@@ -49,14 +51,9 @@ ForRefusal NoWait P Q = P
 ForRefusal TooManyAddresses P Q = P
 
 -- the first fact holds, or the second where an allocation failed
-abbrev pub OrMemory : {V : Type 0} → Result V Refusal → Type 0 → Type 0 → Type 0
-OrMemory (Ok value) P Q = P
-OrMemory (Err refusal) P Q = ForRefusal refusal P Q
-
--- an answer, unless something refuses
-abbrev pub unless_refused : {V : Type 0} → Option Refusal → Result V Refusal → Result V Refusal
-unless_refused None answer = answer
-unless_refused (Some refusal) answer = Err refusal
+abbrev pub CallOrMemory : {V : Type 0} → Result V Refusal → Type 0 → Type 0 → Type 0
+CallOrMemory (Ok value) P Q = P
+CallOrMemory (Err refusal) P Q = ForRefusal refusal P Q
 
 -- what is left, unless something refused
 abbrev pub kept_if_refused : {V : Type 0} → Option Refusal → V → V → V
@@ -88,11 +85,6 @@ after_start (Some start) before after = after start
 abbrev pub done_if_given : {V : Type 0} → Option V → Result (Unit {0}) Refusal
 done_if_given None = Err BadArgument
 done_if_given (Some value) = Ok tt
-
--- why bytes are no message
-abbrev pub message_refusal : Option StunParseError → Option Refusal
-message_refusal None = None
-message_refusal (Some error) = Some (refusal_of_parse error)
 
 -- why a text is refused, and why two are
 abbrev pub text_refusal : List ℕ → Option Refusal

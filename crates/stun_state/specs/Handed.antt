@@ -1,4 +1,4 @@
--- A verdict in two steps: whom a message names, and what the server answers that has just the user
+-- A verdict in two steps: whom a message names, and what the server returns that has just the user
 -- whom its caller hands in (RFC 8489, section 9.2.4).
 use Rattle.std.specs.Prelude.{ℕ, ℤ, ◌==◌, if◌then◌else◌, List, length}
 use Rattle.std.specs.Prelude.{Option, Some, None, Result, Ok, Err}
@@ -9,16 +9,18 @@ use Rattle.stun_auth.specs.Handed.{Named, by_hash, by_name, judged_by, just, wit
 use Rattle.stun_auth.specs.Reading.{reading_of}
 use Rattle.stun_auth.specs.Registered.{Registered, RegisteredUser, user_by_keys, user_by_password}
 use Rattle.stun_auth.specs.declared.server.stored_keys.StoredKeys.{StoredKeys}
-use Rattle.stun_auth.specs.Validation.{ServerSeen, after_message, answer, sight}
+use Rattle.stun_auth.specs.Validation.{ServerSeen, after_validation, answer, sight}
+use Rattle.stun_numbers.specs.Refusals.{message_refusal, refusal_or}
+use Rattle.stun_numbers.specs.Buffers.{buffer_after, within_room}
+use Rattle.stun_numbers.specs.declared.refusal.Refusal.{Refusal}
+use Rattle.stun_numbers.specs.declared.refusal.Refusal.TheVariants.{BadArgument}
 use Rattle.stun_state.specs.Addresses.{socket_address}
-use Rattle.stun_state.specs.Answers.{after_address, at_address, kept_if_refused, message_refusal}
-use Rattle.stun_state.specs.Answers.{text_refusal, texts_refusal, unless_refused}
+use Rattle.stun_state.specs.Answers.{after_address, at_address, kept_if_refused}
+use Rattle.stun_state.specs.Answers.{text_refusal, texts_refusal}
 use Rattle.stun_state.specs.Numbers.{algorithm_answer}
-use Rattle.stun_state.specs.Server.{room_refusal, validation_answer}
-use Rattle.stun_state.specs.Signing.{buffer_after, fitted, kept_after_signing, signed_for}
+use Rattle.stun_state.specs.Server.{room_refusal, server_validation_answer}
+use Rattle.stun_state.specs.Signing.{kept_after_signing, signed_for}
 use Rattle.stun_state.specs.declared.address.Address.{Address}
-use Rattle.stun_state.specs.declared.codes.Refusal.{Refusal}
-use Rattle.stun_state.specs.declared.codes.Refusal.TheVariants.{BadArgument}
 use Rattle.stun_state.specs.declared.handle.server.Server.{Server as Kept}
 
 -- ---- who asks
@@ -28,8 +30,8 @@ abbrev pub named_if : Option Refusal → Option Named → Option Named
 named_if None named = named
 named_if (Some refusal) named = None
 
-abbrev pub named_by : ServerSeen → List ℕ → SocketAddr → Option Named
-named_by s bytes from =
+abbrev pub named_in_bytes : ServerSeen → List ℕ → SocketAddr → Option Named
+named_in_bytes s bytes from =
     named_if (message_refusal (refusal bytes)) (judged_by (sight s from) (reading_of bytes))
 
 -- the bytes that tell it: a name, or its hash
@@ -42,7 +44,7 @@ abbrev pub naming_number : Named → ℕ
 naming_number (by_name name) = 1
 naming_number (by_hash hash) = 2
 
--- what is answered, where a buffer of so many bytes has room for them
+-- what is returned, where a buffer of so many bytes has room for them
 abbrev pub number_if : ℕ → Result (List ℕ) Refusal → Result ℕ Refusal
 number_if number (Ok bytes) = Ok number
 number_if number (Err refusal) = Err refusal
@@ -50,18 +52,18 @@ number_if number (Err refusal) = Err refusal
 abbrev pub naming_told : ℕ → Option Named → Result ℕ Refusal
 naming_told room None = Ok 0
 naming_told room (Some named) =
-    number_if (naming_number named) (fitted (Ok (naming_bytes named)) room)
+    number_if (naming_number named) (within_room (Ok (naming_bytes named)) room)
 
 abbrev pub naming_answer : ServerSeen → List ℕ → ℕ → SocketAddr → Result ℕ Refusal
 naming_answer s bytes room from =
-    unless_refused (message_refusal (refusal bytes))
+    refusal_or (message_refusal (refusal bytes))
     (naming_told room (judged_by (sight s from) (reading_of bytes)))
 
 -- the buffer with them at its front, and how many they are, also where they have no room
 abbrev pub naming_written : List ℕ → Option Named → List ℕ
 naming_written buffer None = buffer
 naming_written buffer (Some named) =
-    buffer_after (fitted (Ok (naming_bytes named)) (length buffer)) buffer
+    buffer_after (within_room (Ok (naming_bytes named)) (length buffer)) buffer
 
 abbrev pub naming_length : Option Named → ℕ → ℕ
 naming_length None before = before
@@ -72,7 +74,7 @@ naming_length (Some named) before = length (naming_bytes named)
 -- the user of a name who is known by a password. Both are texts, or are refused
 abbrev pub user_of_password : List ℕ → List ℕ → Result RegisteredUser Refusal
 user_of_password name password =
-    unless_refused (texts_refusal name password)
+    refusal_or (texts_refusal name password)
     (Ok (user_by_password (record { username = name; password = password })))
 
 -- a stored key of so many bytes as a caller gives it: none where it has no bytes, and refused where
@@ -98,7 +100,7 @@ user_known name (Err refusal) = Err refusal
 -- (RFC 8489, section 9.2.2), and that for HMAC-SHA256 of 32 (section 18.5.1)
 abbrev pub user_of_keys : List ℕ → List ℕ → List ℕ → Result RegisteredUser Refusal
 user_of_keys name sha1 sha256 =
-    unless_refused (text_refusal name)
+    refusal_or (text_refusal name)
     (user_known name (keys_given (key_given 16 sha1) (key_given 32 sha256)))
 
 -- the users of a server that has just this user
@@ -106,7 +108,7 @@ abbrev pub just_given : Registered → Result RegisteredUser Refusal → Result 
 just_given users (Ok user) = Ok (just users (Some user))
 just_given users (Err refusal) = Err refusal
 
--- what is answered with these users, and what is left; a refusal is answered, and leaves what was
+-- what is returned with these users, and what is left; a refusal is returned, and leaves what was
 -- there
 abbrev pub with_given : {V : Type 0} → Result Registered Refusal → (Registered → Result V Refusal)
     → Result V Refusal
@@ -119,14 +121,14 @@ left_with (Err refusal) before after = before
 
 -- ---- the verdict with a user
 
--- what is answered to bytes from an address. They are refused first where they are no message, then
--- where they come from one address too many, and then where the user is refused
+-- what is returned for bytes from an address. They are refused first where they are no message,
+-- then where they come from one address too many, and then where the user is refused
 abbrev pub validated_of : Kept → List ℕ → ℕ → List ℕ → Result RegisteredUser Refusal → SocketAddr
     → Result IntegrityAlgorithm Refusal
 validated_of k bytes now words user from =
-    unless_refused (message_refusal (refusal bytes))
-    (unless_refused (room_refusal k.server k.most_addresses from)
-    (with_given (just_given k.server.registered user) (λ users. validation_answer
+    refusal_or (message_refusal (refusal bytes))
+    (refusal_or (room_refusal k.server k.most_addresses from)
+    (with_given (just_given k.server.registered user) (λ users. server_validation_answer
     (answer (sight (with_users k.server users) from) now words (reading_of bytes)))))
 
 -- the server that they leave, with its own users
@@ -136,7 +138,7 @@ after_validating_of k bytes now words user from =
     kept_if_refused (message_refusal (refusal bytes)) k.server
     (kept_if_refused (room_refusal k.server k.most_addresses from) k.server
     (left_with (just_given k.server.registered user) k.server (λ users. with_users
-    (after_message (with_users k.server users) from now words (reading_of bytes))
+    (after_validation (with_users k.server users) from now words (reading_of bytes))
     k.server.registered)))
 
 -- the number that a caller gets, and the server that is kept then

@@ -1,24 +1,24 @@
 -- What the contracts of this crate say, in the order to read it.
 
--- the numbers that callers get and give
+-- the refusals for the reasons of authenticators, and the numbers that callers give
 pub mod Codes
 -- the addresses that callers give and get
 pub mod Addresses
--- the numbers that calls answer
+-- the numbers that calls return
 pub mod Numbers
--- what the calls on an agent answer and leave
+-- what the calls on an agent return and leave
 pub mod Agent
 -- what the calls on authenticators share
 pub mod Answers
--- what the calls on a server answer and leave
+-- what the calls on a server return and leave
 pub mod Server
 -- what signing makes of a message in a caller's buffer
 pub mod Signing
 -- a verdict in two steps, with a user whom the caller hands in
 pub mod Handed
--- what the calls on a client answer and leave
+-- what the calls on a client return and leave
 pub mod Client
--- which calls keep nothing more, and so answer no failed allocation
+-- which calls keep nothing more, and so return no failed allocation
 pub mod Memory
--- what no clause of a public call says: what private functions alone cite
+-- what no clause of a public call cites: what private functions alone use
 pub mod code

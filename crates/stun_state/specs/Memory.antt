@@ -1,4 +1,4 @@
--- Which calls keep nothing more, so that no failed allocation is answered; and which may keep
+-- Which calls keep nothing more, so that no failed allocation is returned; and which may keep
 -- something, so that one may be.
 use Rattle.std.specs.Prelude.{◌≡◌, ⊤, ◌||◌, not, is_some, Bool, true, ℕ}
 use Rattle.std.specs.Prelude.{List, Option, Some, None, MatchOption, Ok}
@@ -10,7 +10,7 @@ use Rattle.stun_auth.specs.Client.{ClientSide}
 use Rattle.stun_auth.specs.ClientStep.{IsResend}
 use Rattle.stun_auth.specs.Reading.{reading_of}
 use Rattle.stun_auth.specs.Validation.{ChangesNothing, sight}
-use Rattle.stun_state.specs.Agent.{requested}
+use Rattle.stun_state.specs.Agent.{request_answer}
 use Rattle.stun_state.specs.Answers.{at_address}
 use Rattle.stun_state.specs.Client.{step}
 use Rattle.stun_state.specs.Server.{room_refusal}
@@ -42,4 +42,4 @@ AsksAgain c bytes = (refusal bytes ≡ None) × IsResend (step c bytes).answer
 
 -- a request to an address is taken, so that it must be kept
 abbrev pub IsRequestTaken : Agent → List ℕ → Option SocketAddr → Type 0
-IsRequestTaken a bytes to = at_address to (requested a bytes) ≡ Ok tt
+IsRequestTaken a bytes to = at_address to (request_answer a bytes) ≡ Ok tt

@@ -1,4 +1,4 @@
--- The numbers that calls answer.
+-- The numbers that calls return.
 use Rattle.std.specs.Prelude.{◌≡◌, ◌⊎◌, ◌+◌, ◌&&◌, not, Bool, ℕ, ℤ, pos, int_lt, min}
 use Rattle.std.specs.Prelude.{if◌then◌else◌, Option, Some, None, Result, Ok, Err}
 use Rattle.stun_auth.specs.declared.client.answer.LongTermClientValidation.{
@@ -7,29 +7,30 @@ use Rattle.stun_auth.specs.declared.client.answer.LongTermClientValidation.{
 use Rattle.stun_auth.specs.declared.client.answer.LongTermClientValidation.TheVariants as Reading
 use Rattle.stun_base.specs.declared.keys.algorithm.IntegrityAlgorithm.{IntegrityAlgorithm}
 use Rattle.stun_base.specs.declared.keys.algorithm.IntegrityAlgorithm.TheVariants.{Sha256}
-use Rattle.stun_state.specs.Codes.{code_of, algorithm_number}
-use Rattle.stun_state.specs.declared.codes.Refusal.{Refusal}
-use Rattle.stun_state.specs.declared.codes.Refusal.TheVariants.{OutOfMemory}
+use Rattle.stun_numbers.specs.Refusals.{refusal_number}
+use Rattle.stun_numbers.specs.Algorithms.{algorithm_number}
+use Rattle.stun_numbers.specs.declared.refusal.Refusal.{Refusal}
+use Rattle.stun_numbers.specs.declared.refusal.Refusal.TheVariants.{OutOfMemory}
 
 -- 0, or the refusal's number
 abbrev pub done_answer : Result (Unit {0}) Refusal → ℤ
 done_answer (Ok done) = pos 0
-done_answer (Err refusal) = code_of refusal
+done_answer (Err refusal) = refusal_number refusal
 
 -- the number, or the refusal's
 abbrev pub number_answer : Result ℕ Refusal → ℤ
 number_answer (Ok number) = pos number
-number_answer (Err refusal) = code_of refusal
+number_answer (Err refusal) = refusal_number refusal
 
 -- how many bytes there are, which is below 2^63 of any buffer, or the refusal's number
 abbrev pub length_answer : Result ℕ Refusal → ℤ
 length_answer (Ok length) = pos (min length 9223372036854775807)
-length_answer (Err refusal) = code_of refusal
+length_answer (Err refusal) = refusal_number refusal
 
 -- the algorithm's number, or the refusal's
 abbrev pub algorithm_answer : Result IntegrityAlgorithm Refusal → ℤ
 algorithm_answer (Ok algorithm) = pos (algorithm_number algorithm)
-algorithm_answer (Err refusal) = code_of refusal
+algorithm_answer (Err refusal) = refusal_number refusal
 
 -- another request is asked for: 3 by a message that does not verify, and 3 more than the number of
 -- the algorithm by which it does
@@ -41,13 +42,13 @@ resend_number (Some algorithm) = 3 + algorithm_number algorithm
 abbrev pub reading_answer : Result LongTermClientValidation Refusal → ℤ
 reading_answer (Ok (Reading.Validated algorithm)) = pos (algorithm_number algorithm)
 reading_answer (Ok (Reading.ResendRequest digest)) = pos (resend_number digest)
-reading_answer (Err refusal) = code_of refusal
+reading_answer (Err refusal) = refusal_number refusal
 
 -- the algorithm's number, or 0 of none, or the refusal's number
 abbrev pub found_answer : Result (Option IntegrityAlgorithm) Refusal → ℤ
 found_answer (Ok (Some algorithm)) = pos (algorithm_number algorithm)
 found_answer (Ok None) = pos 0
-found_answer (Err refusal) = code_of refusal
+found_answer (Err refusal) = refusal_number refusal
 
 -- whether an answer of reading asks for another request: it is a number of `resend_number`
 abbrev pub is_resend_answer : ℤ → Bool
@@ -55,15 +56,15 @@ is_resend_answer answer =
     not (int_lt answer (pos (resend_number None)))
     && not (int_lt (pos (resend_number (Some Sha256))) answer)
 
--- a call answers this number and leaves this in its handle; or an allocation failed: it answers the
+-- a call returns this number and leaves this in its handle; or an allocation failed: it returns the
 -- number of that, and the handle is as before
 abbrev pub OrOutOfMemory : {S : Type 0} → ℤ → S → S → ℤ → S → Type 0
 OrOutOfMemory result before now number after =
-    ((result ≡ number) × (now ≡ after)) ⊎ ((result ≡ code_of OutOfMemory) × (now ≡ before))
+    ((result ≡ number) × (now ≡ after)) ⊎ ((result ≡ refusal_number OutOfMemory) × (now ≡ before))
 
--- a call answers this number, or that of an allocation that failed
+-- a call returns this number, or that of an allocation that failed
 abbrev pub IsOrOutOfMemory : ℤ → ℤ → Type 0
-IsOrOutOfMemory result number = (result ≡ number) ⊎ (result ≡ code_of OutOfMemory)
+IsOrOutOfMemory result number = (result ≡ number) ⊎ (result ≡ refusal_number OutOfMemory)
 
 -- what a call leaves of what was there: a refusal, whose number is below zero, leaves all of it
 abbrev pub left_by : {S : Type 0} → ℤ → S → S → S

@@ -1,4 +1,4 @@
--- What the calls on a server answer and leave, by the definitions of its authenticator (RFC 8489,
+-- What the calls on a server return and leave, by the definitions of its authenticator (RFC 8489,
 -- section 9.2.4).
 use Rattle.std.specs.Prelude.{ℕ, ℤ, List, ◌++◌, length, drop, max, nat_lt, ◌||◌, if◌then◌else◌}
 use Rattle.std.specs.Prelude.{is_some, Option, Some, None, Result, Ok, Err, option_and_then}
@@ -16,15 +16,16 @@ use Rattle.stun_auth.specs.Places.{with_change, with_client}
 use Rattle.stun_auth.specs.Reading.{reading_of}
 use Rattle.stun_auth.specs.Registered.{without_user}
 use Rattle.stun_auth.specs.Seen.{ClientSeen, PlaceSeen}
-use Rattle.stun_auth.specs.Validation.{Answer, ServerSeen, after_message, answer, sight}
+use Rattle.stun_auth.specs.Validation.{Answer, ServerSeen, after_validation, answer, sight}
+use Rattle.stun_numbers.specs.Refusals.{message_refusal, refusal_or}
+use Rattle.stun_numbers.specs.declared.refusal.Refusal.{Refusal}
+use Rattle.stun_numbers.specs.declared.refusal.Refusal.TheVariants.{BufferTooSmall}
+use Rattle.stun_numbers.specs.declared.refusal.Refusal.TheVariants.{TooManyAddresses}
 use Rattle.stun_state.specs.Addresses.{socket_address}
 use Rattle.stun_state.specs.Answers.{after_address, at_address, kept_if_refused}
-use Rattle.stun_state.specs.Answers.{message_refusal, unless_refused}
 use Rattle.stun_state.specs.Codes.{refusal_of_server}
 use Rattle.stun_state.specs.Numbers.{algorithm_answer}
 use Rattle.stun_state.specs.declared.address.Address.{Address}
-use Rattle.stun_state.specs.declared.codes.Refusal.{Refusal}
-use Rattle.stun_state.specs.declared.codes.Refusal.TheVariants.{BufferTooSmall, TooManyAddresses}
 use Rattle.stun_state.specs.declared.handle.server.Server.{Server as Kept}
 
 -- ---- settings
@@ -33,13 +34,14 @@ use Rattle.stun_state.specs.declared.handle.server.Server.{Server as Kept}
 abbrev pub UNBOUNDED : ℕ
 UNBOUNDED = 18446744073709551615
 
-abbrev pub with_algorithms : Option AlgorithmSet → ServerSeen → ServerSeen
-with_algorithms None s = s
-with_algorithms (Some set) s = record s { registered = record s.registered { algorithms = set } }
+abbrev pub server_with_algorithms : Option AlgorithmSet → ServerSeen → ServerSeen
+server_with_algorithms None s = s
+server_with_algorithms (Some set) s =
+    record s { registered = record s.registered { algorithms = set } }
 
-abbrev pub with_feature : Option Feature → ServerSeen → ServerSeen
-with_feature None s = s
-with_feature (Some feature) s = record s { feature = feature }
+abbrev pub server_with_feature : Option Feature → ServerSeen → ServerSeen
+server_with_feature None s = s
+server_with_feature (Some feature) s = record s { feature = feature }
 
 -- nonces last this long, and no shorter than they may
 abbrev pub with_expiry : ℕ → ServerSeen → ServerSeen
@@ -52,8 +54,8 @@ without_named refusal s name =
 abbrev pub without_client : ServerSeen → SocketAddr → ServerSeen
 without_client s address = record s { places = with_change s.places address (with_client None) }
 
--- what a step of forgetting answers that looks at so many addresses: 1 where another goes on, and 0
--- at the end
+-- what a step of forgetting returns, which looks at so many addresses: 1 where another goes on, and
+-- 0 at the end
 abbrev pub step_answer : ServerSeen → ℕ → Option SocketAddr → Result ℕ Refusal
 step_answer s most from = Ok (if is_some (next_address s from most) then 1 else 0)
 
@@ -63,43 +65,46 @@ step_answer s most from = Ok (if is_some (next_address s from most) then 1 else 
 abbrev pub nonce_at : ServerSeen → SocketAddr → Option (List ℕ)
 nonce_at s address = option_map (λ (p : PlaceSeen). p.nonce) (map.get s.places address)
 
-abbrev pub validation_answer : Answer → Result IntegrityAlgorithm Refusal
-validation_answer (Ok (Validated algorithm)) = Ok algorithm
-validation_answer (Err reason) = Err (refusal_of_server reason)
+abbrev pub server_validation_answer : Answer → Result IntegrityAlgorithm Refusal
+server_validation_answer (Ok (Validated algorithm)) = Ok algorithm
+server_validation_answer (Err reason) = Err (refusal_of_server reason)
 
--- an address is refused of which nothing is kept, where something is kept of so many as may be
+-- why an address is refused, if it is: nothing is kept of it, and as many addresses are kept as may
+-- be
 abbrev pub room_refusal : ServerSeen → ℕ → SocketAddr → Option Refusal
 room_refusal s most from =
     if nat_lt (map.len s.places) most || is_some (nonce_at s from) then None
     else Some TooManyAddresses
 
--- what is answered to bytes that came from an address
-abbrev pub validated : Kept → List ℕ → ℕ → List ℕ → SocketAddr → Result IntegrityAlgorithm Refusal
-validated k bytes now words from =
-    unless_refused (message_refusal (refusal bytes))
-    (unless_refused (room_refusal k.server k.most_addresses from)
-    (validation_answer (answer (sight k.server from) now words (reading_of bytes))))
+-- what is returned for bytes that came from an address
+abbrev pub server_validation : Kept → List ℕ → ℕ → List ℕ → SocketAddr
+    → Result IntegrityAlgorithm Refusal
+server_validation k bytes now words from =
+    refusal_or (message_refusal (refusal bytes))
+    (refusal_or (room_refusal k.server k.most_addresses from)
+    (server_validation_answer (answer (sight k.server from) now words (reading_of bytes))))
 
 -- the server that they leave
-abbrev pub after_validating : Kept → List ℕ → ℕ → List ℕ → SocketAddr → ServerSeen
-after_validating k bytes now words from =
+abbrev pub server_after_validation : Kept → List ℕ → ℕ → List ℕ → SocketAddr → ServerSeen
+server_after_validation k bytes now words from =
     kept_if_refused (message_refusal (refusal bytes)) k.server
     (kept_if_refused (room_refusal k.server k.most_addresses from) k.server
-    (after_message k.server from now words (reading_of bytes)))
+    (after_validation k.server from now words (reading_of bytes)))
 
 -- the number that a caller gets for bytes and an address, and the server that is kept then
 abbrev pub validation_number : Kept → List ℕ → Address → ℕ → List ℕ → ℤ
 validation_number k bytes from now words =
-    algorithm_answer (at_address (socket_address from) (validated k bytes now words))
+    algorithm_answer (at_address (socket_address from) (server_validation k bytes now words))
 
 abbrev pub kept_after_validating : Kept → List ℕ → Address → ℕ → List ℕ → ServerSeen
 kept_after_validating k bytes from now words =
-    after_address (socket_address from) k.server (after_validating k bytes now words)
+    after_address (socket_address from) k.server (server_after_validation k bytes now words)
 
 -- ---- who was validated
 
-abbrev pub client_at : ServerSeen → SocketAddr → Option ClientSeen
-client_at s address = option_and_then (λ (p : PlaceSeen). p.client) (map.get s.places address)
+abbrev pub client_of_address : ServerSeen → SocketAddr → Option ClientSeen
+client_of_address s address =
+    option_and_then (λ (p : PlaceSeen). p.client) (map.get s.places address)
 
 -- who is told, where a buffer of so many bytes has room for the name
 abbrev pub client_told : ℕ → Option ClientSeen → Result (Option IntegrityAlgorithm) Refusal
@@ -125,7 +130,7 @@ name_written buffer (Some c) = with_text buffer c.name
 -- the same at an address as a caller gives it
 abbrev pub client_found : ServerSeen → Address → ℕ → Result (Option IntegrityAlgorithm) Refusal
 client_found s address room =
-    at_address (socket_address address) (λ a. client_told room (client_at s a))
+    at_address (socket_address address) (λ a. client_told room (client_of_address s a))
 
 -- ---- nonces
 

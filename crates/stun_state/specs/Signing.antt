@@ -1,38 +1,24 @@
 -- What signing makes of a message in a caller's buffer: bytes, or the first refusal.
-use Rattle.std.specs.Prelude.{ℕ, ◌+◌, ◌-◌, Bool, true, List, ◌++◌, length, take, drop, find}
-use Rattle.std.specs.Prelude.{nat_lt, if◌then◌else◌, is_some, Option, Some, None, Result, Ok, Err}
-use Rattle.std.specs.Option.{option_or}
+use Rattle.std.specs.Prelude.{ℕ, ◌+◌, ◌-◌, Bool, true, List, length, take}
+use Rattle.std.specs.Prelude.{nat_lt, if◌then◌else◌, Result, Ok, Err}
 use Rattle.std.specs.declared.net.socket_addr.SocketAddr.{SocketAddr}
 use Rattle.stun_base.specs.Header.{HEADER_LENGTH}
 use Rattle.stun_base.specs.declared.wire.error.StunWriteError.{StunWriteError}
-use Rattle.stun_types.specs.Message.{refusal}
-use Rattle.stun_types.specs.Visible.{visible}
 use Rattle.stun_types.specs.Limits.{max_length}
-use Rattle.stun_types.specs.Writing.{is_set_apart}
 use Rattle.stun_auth.specs.Additions.{Page, added_all, growth, page_of}
 use Rattle.stun_auth.specs.Client.{ClientState}
 use Rattle.stun_auth.specs.ClientSigning.{client_additions}
 use Rattle.stun_base.specs.MessageType.{class_in, is_request, is_response}
 use Rattle.stun_auth.specs.ServerSigning.{after_signing, server_growth, server_signed}
 use Rattle.stun_auth.specs.Validation.{ServerSeen, sight}
+use Rattle.stun_numbers.specs.Refusals.{refusal_or, refusal_of_write}
+use Rattle.stun_numbers.specs.declared.refusal.Refusal.{Refusal}
+use Rattle.stun_numbers.specs.declared.refusal.Refusal.TheVariants.{BufferTooSmall}
+use Rattle.stun_numbers.specs.Buffers.{within_room}
+use Rattle.stun_numbers.specs.Messages.{base_refusal}
 use Rattle.stun_state.specs.Addresses.{socket_address}
-use Rattle.stun_state.specs.Answers.{after_address, at_address, message_refusal, unless_refused}
-use Rattle.stun_state.specs.Codes.{refusal_of_write}
+use Rattle.stun_state.specs.Answers.{after_address, at_address}
 use Rattle.stun_state.specs.declared.address.Address.{Address}
-use Rattle.stun_state.specs.declared.codes.Refusal.{Refusal}
-use Rattle.stun_state.specs.declared.codes.Refusal.TheVariants.{BadArgument, BufferTooSmall, Closed}
-
--- whether a message has an attribute after which no other may be added (RFC 8489, sections 14.5 to
--- 14.7)
-abbrev pub is_closed : List ℕ → Bool
-is_closed message = is_some (find (λ m. is_set_apart m.1.kind) (visible message))
-
--- why nothing can be added to the first `count` bytes of a buffer, if nothing can
-abbrev pub base_refusal : List ℕ → ℕ → Option Refusal
-base_refusal buffer count =
-    if nat_lt (length buffer) count then Some BadArgument
-    else option_or (message_refusal (refusal (take count buffer)))
-    (if is_closed (take count buffer) then Some Closed else None)
 
 -- whether a message that grows by so many bytes is longer than the length field can tell
 abbrev pub is_too_long : List ℕ → ℕ → Bool
@@ -42,21 +28,6 @@ is_too_long message more = nat_lt max_length (length message - HEADER_LENGTH + m
 abbrev pub message_of : Bool → Result Page StunWriteError → Result (List ℕ) Refusal
 message_of long (Ok page) = Ok page.bytes
 message_of long (Err error) = Err (refusal_of_write long error)
-
--- bytes for a buffer with so much room, which they must not exceed
-abbrev pub fitted : Result (List ℕ) Refusal → ℕ → Result (List ℕ) Refusal
-fitted (Ok bytes) room = if nat_lt room (length bytes) then Err BufferTooSmall else Ok bytes
-fitted (Err refusal) room = Err refusal
-
--- how many bytes were written
-abbrev pub length_of : Result (List ℕ) Refusal → Result ℕ Refusal
-length_of (Ok bytes) = Ok (length bytes)
-length_of (Err refusal) = Err refusal
-
--- the buffer afterwards: the bytes, then what was there after their places; a refusal leaves it
-abbrev pub buffer_after : Result (List ℕ) Refusal → List ℕ → List ℕ
-buffer_after (Ok bytes) buffer = bytes ++ drop (length bytes) buffer
-buffer_after (Err refusal) buffer = buffer
 
 -- ---- the server
 
@@ -73,7 +44,7 @@ server_signs s message room to =
 -- the same with the message in the first bytes of the buffer
 abbrev pub signed_by_server : ServerSeen → List ℕ → ℕ → SocketAddr → Result (List ℕ) Refusal
 signed_by_server s buffer count to =
-    unless_refused (base_refusal buffer count)
+    refusal_or (base_refusal buffer count)
     (server_signs s (take count buffer) (length buffer) to)
 
 -- the same with the address as a caller gives it, and the server that is kept once it is signed
@@ -96,5 +67,5 @@ client_signs state message =
 -- the same in its buffer
 abbrev pub signed_by_client : ClientState → List ℕ → ℕ → Result (List ℕ) Refusal
 signed_by_client state buffer count =
-    unless_refused (base_refusal buffer count)
-    (fitted (client_signs state (take count buffer)) (length buffer))
+    refusal_or (base_refusal buffer count)
+    (within_room (client_signs state (take count buffer)) (length buffer))

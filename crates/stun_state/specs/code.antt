@@ -1,8 +1,11 @@
--- Definitions that no clause of a public call says: what private functions and representations
--- alone cite. what a handle owns
+-- Definitions that no clause of a public call cites: what private functions and representations
+-- alone cite.
+
+-- what a handle owns
 pub mod Handle
 -- how much of its memory a message has taken
 pub mod Desk
+-- what a caller gives of a user
 pub mod Given
 -- what is known of a message that is to be signed
 pub mod Measured

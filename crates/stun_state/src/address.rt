@@ -1,11 +1,11 @@
 //! The addresses that callers give and get.
 
 ghost use Rattle.std.specs.Prelude.{◌≡◌, take, IfOk, IfErr, Some, None};
-ghost use Rattle.stun_state.specs.Addresses.{address_of, ipv4, ipv6};
+ghost use Rattle.stun_state.specs.Addresses.{caller_address, ipv4, ipv6};
 ghost use Rattle.stun_state.specs.Addresses.{socket_address, start_for, start_told};
 
-use crate::codes::Refusal;
 use std::net::{Ipv4Addr, Ipv6Addr, SocketAddr, SocketAddrV4, SocketAddrV6};
+use stun_numbers::refusal::Refusal;
 
 /// An address: 4 octets (IPv4) or 16 (IPv6) in network order at the front, and a port.
 #[repr(C)]
@@ -36,7 +36,7 @@ fn ipv6(octets: &[u8; 16], port: u16) -> SocketAddr
 }
 
 impl Address {
-    /// The address that a caller means, or `BadArgument` where its length is that of none.
+    /// The caller's address, or `BadArgument` if its length is neither 4 nor 16.
     pub fn socket(&self) -> Result<SocketAddr, Refusal>
         ensures ok { IfOk result (λ address. socket_address self.now ≡ Some address) }
         ensures err { IfErr result (λ refusal. (socket_address self.now ≡ None)
@@ -77,7 +77,7 @@ impl Address {
 
     /// An address as a caller gets it. Flow information and scope of an IPv6 address are not told.
     pub fn of(address: SocketAddr) -> Address
-        ensures { result ≡ address_of address }
+        ensures { result ≡ caller_address address }
     {
         match address {
             SocketAddr::V4(address) => {

@@ -1,27 +1,29 @@
 //! What the exports do with an agent (RFC 8489, section 6.2).
 
 ghost use Rattle.std.specs.Prelude.{◌≡◌, ◌≤◌, ◌++◌, ⊤, IsTrue, length, drop, true};
-ghost use Rattle.std.specs.Prelude.{false, Some, None, IfOk, IfErr, IfSome, OnErr, OnOk};
+ghost use Rattle.std.specs.Prelude.{Some, None, IfOk, IfErr, IfSome, OnErr, OnOk};
 ghost use Rattle.std.specs.Duration.{as_nanos};
 ghost use Rattle.std.specs.Option.{option_map};
 ghost use Rattle.byteorder.specs.Endian.{big_bytes};
 ghost use Rattle.stun_agent.specs.Agent.{after_message, after_poll, after_poll_transmit};
 ghost use Rattle.stun_agent.specs.Agent.{after_send, after_send_request, poll_answer, sent_by_poll};
-ghost use Rattle.stun_agent.specs.Transactions.{cancelled, silenced};
+ghost use Rattle.stun_agent.specs.Transactions.{with_cancellation, without_retransmissions};
 ghost use Rattle.stun_state.specs.Addresses.{socket_address};
-ghost use Rattle.stun_state.specs.Agent.{bytes_told, found, handled, id_in, id_told};
+ghost use Rattle.stun_state.specs.Agent.{bytes_told, outstanding_answer, receiving_answer, id_in};
+ghost use Rattle.stun_state.specs.Agent.{id_told};
 ghost use Rattle.stun_state.specs.Agent.{kept_after_configuring, kept_after_forgetting};
-ghost use Rattle.stun_state.specs.Agent.{kept_after_naming, known, made, made_with, moment_told};
-ghost use Rattle.stun_state.specs.Agent.{nanoseconds, peer_found, polled, refusal_of_agent};
-ghost use Rattle.stun_state.specs.Agent.{remote_given, requested, sent, sent_again, sent_to};
-ghost use Rattle.stun_state.specs.Agent.{statistics_answer, timeouts_refusal, told, told_of};
+ghost use Rattle.stun_state.specs.Agent.{kept_after_naming, peer_answer, agent_at};
+ghost use Rattle.stun_state.specs.Agent.{agent_with_timeouts, moment_told};
+ghost use Rattle.stun_state.specs.Agent.{nanoseconds, peer_found, polling_answer, refusal_of_agent};
+ghost use Rattle.stun_state.specs.Agent.{remote_given, request_answer, sending_answer, sent_again};
+ghost use Rattle.stun_state.specs.Agent.{sent_to};
+ghost use Rattle.stun_state.specs.Agent.{statistics_answer, timeouts_refusal, caller_statistics};
+ghost use Rattle.stun_state.specs.Agent.{caller_statistics_after};
 ghost use Rattle.stun_state.specs.Agent.{transport_numbered, unless_untimed, with_changed};
-ghost use Rattle.stun_state.specs.Answers.{OrMemory, at_address, done_if_given};
+ghost use Rattle.stun_state.specs.Answers.{CallOrMemory, at_address, done_if_given};
 ghost use Rattle.stun_state.specs.Memory.{IsRequestTaken, message_adds_none, naming_adds_none};
 
 use crate::address::Address;
-use crate::codes::Refusal;
-use crate::signing::put;
 use byteorder::{BigEndian, ByteOrder};
 use std::alloc::Global;
 use std::mem::size_of;
@@ -32,10 +34,10 @@ use stun_agent::stats::StunAgentStats;
 use stun_base::instant::Instant;
 use stun_base::transaction_id::TransactionId;
 use stun_base::transport::TransportType;
+use stun_numbers::buffer::put;
+use stun_numbers::id::{ID_LENGTH, transaction_id};
+use stun_numbers::refusal::Refusal;
 use stun_types::message::Message;
-
-/// How many bytes an id has.
-const ID_LENGTH: usize = 12;
 
 /// How many bytes a caller's time-outs have, and its statistics. Each begins with that number.
 const TIMEOUTS_SIZE: usize = size_of::<Timeouts>();
@@ -46,7 +48,7 @@ const STATISTICS_SIZE: usize = size_of::<Statistics>();
 #[repr(C)]
 #[derive(Debug, Clone, Copy, PartialEq, Eq)]
 pub struct Timeouts {
-    /// How many bytes the caller has for them.
+    /// How many bytes this struct has in the caller's program.
     pub size: usize,
     /// The wait after the first transmission. Each further wait is twice as long.
     pub initial: u64,
@@ -62,7 +64,7 @@ pub struct Timeouts {
 #[repr(C)]
 #[derive(Debug, Clone, Copy, PartialEq, Eq)]
 pub struct Statistics {
-    /// How many bytes the caller has for them.
+    /// How many bytes this struct has in the caller's program.
     pub size: usize,
     pub requests_sent: u64,
     pub requests_received: u64,
@@ -80,7 +82,7 @@ pub struct Statistics {
     pub round_trip_average: u64,
 }
 
-/// The refusal for an agent's error. An agent answers none of the last four.
+/// The refusal for an agent's error. An agent returns none of the last four.
 pub fn refusal_of(error: StunError) -> Refusal
     ensures { result ≡ refusal_of_agent error }
 {
@@ -109,21 +111,9 @@ pub fn transport_numbered(number: u32) -> Result<TransportType, Refusal>
     }
 }
 
-/// The id in these bytes, or `BadArgument` where they are not 12.
-fn id_of(bytes: &[u8]) -> Result<TransactionId, Refusal>
-    ensures ok { IfOk result (λ id. id_in bytes.now ≡ Some id) }
-    ensures err { IfErr result (λ refusal. (id_in bytes.now ≡ None)
-        × (refusal ≡ Refusal.BadArgument)) }
-{
-    if bytes.len() != ID_LENGTH {
-        return Err(Refusal::BadArgument);
-    }
-    Ok(TransactionId::from_u128(BigEndian::read_uint128(bytes, ID_LENGTH)).unwrap())
-}
-
 /// An agent that keeps statistics.
 pub fn new(alloc: Global, transport: u32, local: &Address) -> Result<StunAgent<Global>, Refusal>
-    ensures { result ≡ made (transport_numbered transport) (socket_address local.now) }
+    ensures { result ≡ agent_at (transport_numbered transport) (socket_address local.now) }
 {
     let transport = transport_numbered(transport)?;
     let local = local.socket()?;
@@ -134,8 +124,8 @@ pub fn new(alloc: Global, transport: u32, local: &Address) -> Result<StunAgent<G
     )
 }
 
-/// Refuses time-outs of another size, of which no other field is read, and those with which a
-/// request would be sent again without a wait.
+/// Fails with `BadArgument` if the time-outs have another size: then no other field is read. Fails
+/// with `NoWait` if a request would be sent again without a wait.
 fn check_timeouts(timeouts: &Timeouts) -> Result<(), Refusal>
     ensures ok { OnOk result (timeouts_refusal timeouts.now ≡ None) }
     ensures err { IfErr result (λ refusal. timeouts_refusal timeouts.now ≡ Some refusal) }
@@ -167,7 +157,8 @@ pub fn new_with(
     remote: &Address,
     timeouts: &Timeouts,
 ) -> Result<StunAgent<Global>, Refusal>
-    ensures { result ≡ made_with (made (transport_numbered transport) (socket_address local.now))
+    ensures { result
+        ≡ agent_with_timeouts (agent_at (transport_numbered transport) (socket_address local.now))
         remote.now timeouts.now }
 {
     let transport = transport_numbered(transport)?;
@@ -188,15 +179,15 @@ pub fn new_with(
     }
 }
 
-/// Keeps a request and counts it.
+/// Stores a request and counts it.
 pub fn send_request(
     agent: &mut StunAgent<Global>,
     message: &[u8],
     to: &Address,
     now: u64,
 ) -> Result<(), Refusal>
-    ensures answer { OrMemory result
-        (result ≡ at_address (socket_address to.now) (requested agent.old message.now))
+    ensures answer { CallOrMemory result
+        (result ≡ at_address (socket_address to.now) (request_answer agent.old message.now))
         (IsRequestTaken agent.old message.now (socket_address to.now)) }
     ensures ok { OnOk result (IfSome (socket_address to.now)
         (λ to. agent.new ≡ after_send_request agent.old message.now to now)) }
@@ -212,7 +203,8 @@ pub fn send_request(
 
 /// Counts a response or an indication that is sent.
 pub fn send(agent: &mut StunAgent<Global>, message: &[u8], to: &Address) -> Result<(), Refusal>
-    ensures answer { result ≡ at_address (socket_address to.now) (sent agent.old message.now) }
+    ensures answer { result
+        ≡ at_address (socket_address to.now) (sending_answer agent.old message.now) }
     ensures ok { OnOk result (agent.new ≡ after_send message.now agent.old) }
     ensures err { OnErr result (agent.new ≡ agent.old) }
 {
@@ -224,7 +216,7 @@ pub fn send(agent: &mut StunAgent<Global>, message: &[u8], to: &Address) -> Resu
     }
 }
 
-/// What is to be done at a moment: 0 and until when to wait, 1 or 2 and the id of the request that
+/// What is to be done now: 0 and until when to wait, or 1 or 2 and the id of the request that
 /// ended.
 pub fn poll(
     agent: &mut StunAgent<Global>,
@@ -232,7 +224,7 @@ pub fn poll(
     until: &mut u64,
     id: &mut [u8],
 ) -> Result<u32, Refusal>
-    ensures answer { result ≡ polled (length id.old) (poll_answer now agent.old) }
+    ensures answer { result ≡ polling_answer (length id.old) (poll_answer now agent.old) }
     ensures ok { OnOk result (agent.new ≡ after_poll now agent.old) }
     ensures until { OnOk result (until.new ≡ moment_told (poll_answer now agent.old) until.old) }
     ensures id { OnOk result (id.new ≡ id_told (poll_answer now agent.old) id.old) }
@@ -266,8 +258,8 @@ fn put_id(out: &mut [u8], id: TransactionId)
     BigEndian::write_uint128(out, id.as_u128(), ID_LENGTH);
 }
 
-/// The request that is to be sent again now, at the front of the buffer, and where to: how many
-/// bytes there are.
+/// Writes the request that is to be sent again now to the front of the buffer, and where it goes.
+/// Returns how many bytes it has.
 pub fn poll_transmit(
     agent: &mut StunAgent<Global>,
     now: u64,
@@ -283,32 +275,34 @@ pub fn poll_transmit(
     ensures err { OnErr result ((agent.new ≡ agent.old) × (out.new ≡ out.old)
         × (to.new ≡ to.old)) }
 {
-    let Some(again) = agent.poll_transmit_within(Instant::from_nanos(now), out.len())? else {
-        return Ok(0);
-    };
-    let bytes = again.data;
-    put(out, bytes);
-    *to = Address::of(again.to);
-    Ok(bytes.len())
+    match agent.poll_transmit_within(Instant::from_nanos(now), out.len()) {
+        Ok(Some(again)) => {
+            put(out, again.data);
+            *to = Address::of(again.to);
+            Ok(again.data.len())
+        }
+        Ok(None) => Ok(0),
+        Err(_) => Err(Refusal::BufferTooSmall),
+    }
 }
 
-/// Takes a message that came from an address: whether it was taken.
+/// Takes a message that came from an address. Returns whether it was taken.
 pub fn handle(
     agent: &mut StunAgent<Global>,
     message: &[u8],
     from: &Address,
     now: u64,
 ) -> Result<u32, Refusal>
-    ensures answer { OrMemory result
-        (result ≡ at_address (socket_address from.now) (handled agent.old message.now)) ⊤ }
+    ensures answer { CallOrMemory result
+        (result ≡ at_address (socket_address from.now) (receiving_answer agent.old message.now)) ⊤ }
     ensures ok { OnOk result (IfSome (socket_address from.now)
         (λ from. agent.new ≡ after_message (Some now) message.now from agent.old)) }
     ensures err { OnErr result (agent.new ≡ agent.old) }
 
-    // Where no address is added to those that are kept, no failed allocation is answered.
+    // If no address is added to those that are kept, no failed allocation is returned.
     ensures no_memory { IsTrue (message_adds_none agent.old message.now
         (socket_address from.now)) →
-        result ≡ at_address (socket_address from.now) (handled agent.old message.now) }
+        result ≡ at_address (socket_address from.now) (receiving_answer agent.old message.now) }
 {
     let from = from.socket()?;
     let message = Message::from_bytes(message)?;
@@ -316,13 +310,13 @@ pub fn handle(
     Ok(u32::from(is_taken))
 }
 
-/// Names an address as one whose messages were taken.
+/// Marks an address as a validated peer.
 pub fn validated_peer(agent: &mut StunAgent<Global>, peer: &Address) -> Result<(), Refusal>
-    ensures answer { OrMemory result (result ≡ done_if_given (socket_address peer.now)) ⊤ }
+    ensures answer { CallOrMemory result (result ≡ done_if_given (socket_address peer.now)) ⊤ }
     ensures ok { OnOk result (agent.new ≡ kept_after_naming agent.old peer.now) }
     ensures err { OnErr result (agent.new ≡ agent.old) }
 
-    // For an address that is kept already no failed allocation is answered.
+    // If the address is kept already, no failed allocation is returned.
     ensures there { IsTrue (naming_adds_none agent.old (socket_address peer.now)) →
         result ≡ done_if_given (socket_address peer.now) }
 {
@@ -330,14 +324,14 @@ pub fn validated_peer(agent: &mut StunAgent<Global>, peer: &Address) -> Result<(
     Ok(())
 }
 
-/// Whether a message from an address was taken, or the address was named as such.
+/// Whether an address is a validated peer: a message from it was taken, or it was marked as one.
 pub fn is_validated_peer(agent: &StunAgent<Global>, peer: &Address) -> Result<u32, Refusal>
-    ensures { result ≡ at_address (socket_address peer.now) (known agent.now) }
+    ensures { result ≡ at_address (socket_address peer.now) (peer_answer agent.now) }
 {
     Ok(u32::from(agent.is_validated_peer(peer.socket()?)))
 }
 
-/// Forgets that messages from an address were taken, or that it was named.
+/// Forgets a validated peer.
 pub fn forget_peer(agent: &mut StunAgent<Global>, peer: &Address) -> Result<(), Refusal>
     ensures answer { result ≡ done_if_given (socket_address peer.now) }
     ensures state { agent.new ≡ kept_after_forgetting agent.old peer.now }
@@ -352,10 +346,10 @@ pub fn is_outstanding(
     id: &[u8],
     peer: &mut Address,
 ) -> Result<u32, Refusal>
-    ensures answer { result ≡ found (id_in id.now) agent.now }
+    ensures answer { result ≡ outstanding_answer (id_in id.now) agent.now }
     ensures peer { peer.new ≡ peer_found (id_in id.now) agent.now peer.old }
 {
-    match agent.request_transaction(id_of(id)?) {
+    match agent.request_transaction(transaction_id(id)?) {
         Some(request) => {
             *peer = Address::of(request.peer_address());
             Ok(1)
@@ -366,10 +360,10 @@ pub fn is_outstanding(
 
 /// Cancels the request of an id.
 pub fn cancel(agent: &mut StunAgent<Global>, id: &[u8]) -> Result<u32, Refusal>
-    ensures answer { result ≡ found (id_in id.now) agent.old }
-    ensures state { agent.new ≡ with_changed cancelled (id_in id.now) agent.old }
+    ensures answer { result ≡ outstanding_answer (id_in id.now) agent.old }
+    ensures state { agent.new ≡ with_changed with_cancellation (id_in id.now) agent.old }
 {
-    match agent.mut_request_transaction(id_of(id)?) {
+    match agent.mut_request_transaction(transaction_id(id)?) {
         Some(mut request) => {
             request.cancel();
             Ok(1)
@@ -380,10 +374,10 @@ pub fn cancel(agent: &mut StunAgent<Global>, id: &[u8]) -> Result<u32, Refusal>
 
 /// Ends the retransmissions of the request of an id.
 pub fn cancel_retransmissions(agent: &mut StunAgent<Global>, id: &[u8]) -> Result<u32, Refusal>
-    ensures answer { result ≡ found (id_in id.now) agent.old }
-    ensures state { agent.new ≡ with_changed silenced (id_in id.now) agent.old }
+    ensures answer { result ≡ outstanding_answer (id_in id.now) agent.old }
+    ensures state { agent.new ≡ with_changed without_retransmissions (id_in id.now) agent.old }
 {
-    match agent.mut_request_transaction(id_of(id)?) {
+    match agent.mut_request_transaction(transaction_id(id)?) {
         Some(mut request) => {
             request.cancel_retransmissions();
             Ok(1)
@@ -392,16 +386,17 @@ pub fn cancel_retransmissions(agent: &mut StunAgent<Global>, id: &[u8]) -> Resul
     }
 }
 
-/// Gives the request of an id time-outs of its own.
+/// Sets the time-outs of the request of an id.
 pub fn configure(
     agent: &mut StunAgent<Global>,
     id: &[u8],
     timeouts: &Timeouts,
 ) -> Result<u32, Refusal>
-    ensures answer { result ≡ unless_untimed timeouts.now (found (id_in id.now) agent.old) }
+    ensures answer { result
+        ≡ unless_untimed timeouts.now (outstanding_answer (id_in id.now) agent.old) }
     ensures state { agent.new ≡ kept_after_configuring timeouts.now (id_in id.now) agent.old }
 {
-    let id = id_of(id)?;
+    let id = transaction_id(id)?;
     check_timeouts(timeouts)?;
     match agent.mut_request_transaction(id) {
         Some(mut request) => {
@@ -429,7 +424,7 @@ fn nanos(span: Option<Duration>) -> u64
 
 /// What was counted.
 fn told(stats: &StunAgentStats) -> Statistics
-    ensures { result ≡ told stats.now }
+    ensures { result ≡ caller_statistics stats.now }
 {
     Statistics {
         size: STATISTICS_SIZE,
@@ -456,7 +451,8 @@ pub fn tell_statistics(
     statistics: &mut Statistics,
 ) -> Result<(), Refusal>
     ensures answer { result ≡ statistics_answer statistics.old }
-    ensures ok { OnOk result (statistics.new ≡ told_of agent.now.statistics statistics.old) }
+    ensures ok { OnOk result
+        (statistics.new ≡ caller_statistics_after agent.now.statistics statistics.old) }
     ensures err { OnErr result (statistics.new ≡ statistics.old) }
 {
     if statistics.size != STATISTICS_SIZE {

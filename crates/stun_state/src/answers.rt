@@ -1,21 +1,22 @@
-//! The numbers that calls answer.
+//! The numbers that calls return.
 
 ghost use Rattle.std.specs.Prelude.{◌≡◌, pos};
 ghost use Rattle.stun_state.specs.Numbers.{algorithm_answer, done_answer, found_answer};
 ghost use Rattle.stun_state.specs.Numbers.{is_resend_answer, length_answer};
 ghost use Rattle.stun_state.specs.Numbers.{number_answer, reading_answer, resend_number};
 
-use crate::codes::{Refusal, algorithm_number};
 use stun_auth::auth::LongTermClientValidation;
 use stun_base::algorithm::IntegrityAlgorithm;
+use stun_numbers::algorithm::algorithm_number;
+use stun_numbers::refusal::Refusal;
 
-/// The number of a response that asks for another request, and that is not rightly signed; and the
-/// last number of one that is.
+/// The number of a response that asks for another request and whose digest does not verify.
 const RESEND: i64 = 3;
 
+/// The greatest number of one whose digest verifies.
 const RESEND_SHA256: i64 = 5;
 
-/// The greatest number that a call answers.
+/// The greatest number that a call returns.
 const MOST: usize = 9_223_372_036_854_775_807;
 
 /// 0, or the refusal.

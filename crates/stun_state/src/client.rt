@@ -10,21 +10,29 @@ ghost use Rattle.stun_base.specs.Header.{BeginsWithHeader};
 ghost use Rattle.stun_base.specs.MessageType.{class_in, is_request};
 ghost use Rattle.stun_types.specs.Limits.{LENGTH_LIMIT as length_limit};
 ghost use Rattle.stun_types.specs.Message.{IsMessage};
-ghost use Rattle.stun_state.specs.Answers.{OrMemory, done_if_given, texts_refusal};
-ghost use Rattle.stun_state.specs.Client.{after_validating, step, validated, validation_answer};
-ghost use Rattle.stun_state.specs.Client.{with_algorithms, with_credentials, with_feature};
+ghost use Rattle.stun_numbers.specs.Buffers.{buffer_after, within_room, length_of};
+ghost use Rattle.stun_state.specs.Answers.{CallOrMemory, done_if_given, texts_refusal};
+ghost use Rattle.stun_state.specs.Client.{client_after_validation, step, client_validation};
+ghost use Rattle.stun_state.specs.Client.{client_validation_answer};
+ghost use Rattle.stun_state.specs.Client.{client_with_algorithms, with_credentials};
+ghost use Rattle.stun_state.specs.Client.{client_with_feature};
 ghost use Rattle.stun_state.specs.Codes.{algorithm_or_none, algorithms_numbered, feature_numbered};
 ghost use Rattle.stun_state.specs.Memory.{AsksAgain};
-ghost use Rattle.stun_state.specs.Signing.{buffer_after, client_signs, fitted, is_too_long};
-ghost use Rattle.stun_state.specs.Signing.{length_of, message_of, signed_by_client};
+ghost use Rattle.stun_state.specs.Signing.{client_signs, is_too_long};
+ghost use Rattle.stun_state.specs.Signing.{message_of, signed_by_client};
 
-use crate::codes::{Refusal, algorithm_number, feature_numbered};
-use crate::signing::{SHORT, base_message, fill, is_too_long, writer_of};
-use crate::text::{copied, text};
+use crate::codes::{client_refusal, feature_numbered};
+use crate::signing::{SHORT, is_too_long, writer_of};
+use crate::text::copied;
 use std::alloc::Global;
 use stun_auth::auth::{LongTermClientAuth, LongTermClientValidation};
 use stun_base::algorithm::IntegrityAlgorithm;
 use stun_base::credentials::LongTermCredentials;
+use stun_numbers::algorithm::algorithm_number;
+use stun_numbers::buffer::fill;
+use stun_numbers::message::base_message;
+use stun_numbers::refusal::Refusal;
+use stun_numbers::text::text;
 use stun_types::limits::LENGTH_LIMIT;
 use stun_types::message::Message;
 use stun_types::prelude::*;
@@ -36,7 +44,7 @@ pub fn new(alloc: Global) -> LongTermClientAuth<Global>
     LongTermClientAuth::new(alloc)
 }
 
-/// Whose name and password are used.
+/// Sets the user name and the password.
 pub fn set_credentials(
     alloc: Global,
     client: &mut LongTermClientAuth<Global>,
@@ -45,7 +53,7 @@ pub fn set_credentials(
 ) -> Result<(), Refusal>
     ensures ok { OnOk result (client.new ≡ with_credentials name.now password.now client.old) }
     ensures accepted { OnOk result (texts_refusal name.now password.now ≡ None) }
-    ensures err { IfErr result (λ refusal. OrMemory result
+    ensures err { IfErr result (λ refusal. CallOrMemory result
         (texts_refusal name.now password.now ≡ Some refusal)
         (texts_refusal name.now password.now ≡ None)) }
     ensures refused { OnErr result (client.new ≡ client.old) }
@@ -57,13 +65,14 @@ pub fn set_credentials(
     Ok(())
 }
 
-/// Which algorithms the client supports: 1 is HMAC-SHA1, 2 HMAC-SHA256, 3 both.
+/// Sets the algorithms that the client supports: 1 is HMAC-SHA1, 2 HMAC-SHA256, 3 both.
 pub fn set_algorithms(
     client: &mut LongTermClientAuth<Global>,
     algorithms: u32,
 ) -> Result<(), Refusal>
     ensures answer { result ≡ done_if_given (algorithms_numbered algorithms) }
-    ensures state { client.new ≡ with_algorithms (algorithms_numbered algorithms) client.old }
+    ensures state { client.new
+        ≡ client_with_algorithms (algorithms_numbered algorithms) client.old }
 {
     match algorithms {
         1 => client.set_supported_integrity(IntegrityAlgorithm::Sha1),
@@ -77,14 +86,14 @@ pub fn set_algorithms(
     Ok(())
 }
 
-/// Whether the user's name is sent as its hash: 0 where the server can read that, 1 always, 2
+/// Sets whether the user's name is sent as its hash: 0 if the server can read that, 1 always, 2
 /// never.
 pub fn set_anonymous_username(
     client: &mut LongTermClientAuth<Global>,
     feature: u32,
 ) -> Result<(), Refusal>
     ensures answer { result ≡ done_if_given (feature_numbered feature) }
-    ensures state { client.new ≡ with_feature (feature_numbered feature) client.old }
+    ensures state { client.new ≡ client_with_feature (feature_numbered feature) client.old }
 {
     client.set_anonymous_username(feature_numbered(feature)?);
     Ok(())
@@ -111,7 +120,7 @@ pub fn sign(
     }
 }
 
-/// Signs a message that is not long then.
+/// Signs a message that has no more than `SHORT` bytes then.
 #[inline(never)]
 fn sign_short(
     client: &mut LongTermClientAuth<Global>,
@@ -126,9 +135,9 @@ fn sign_short(
         (growth (client_additions true client.old.state)) }
     requires short { length (take count buffer.old)
         + growth (client_additions true client.old.state) ≤ 2048 }
-    ensures answer { result ≡ length_of (fitted
+    ensures answer { result ≡ length_of (within_room
         (client_signs client.old.state (take count buffer.old)) (length buffer.old)) }
-    ensures written { buffer.new ≡ buffer_after (fitted
+    ensures written { buffer.new ≡ buffer_after (within_room
         (client_signs client.old.state (take count buffer.old)) (length buffer.old)) buffer.old }
     ensures state { client.new ≡ client.old }
 {
@@ -150,9 +159,9 @@ fn sign_long(
     requires limit { length (take count buffer.old) ≤ length_limit }
     requires long { is_long ≡ is_too_long (take count buffer.old)
         (growth (client_additions true client.old.state)) }
-    ensures answer { result ≡ length_of (fitted
+    ensures answer { result ≡ length_of (within_room
         (client_signs client.old.state (take count buffer.old)) (length buffer.old)) }
-    ensures written { buffer.new ≡ buffer_after (fitted
+    ensures written { buffer.new ≡ buffer_after (within_room
         (client_signs client.old.state (take count buffer.old)) (length buffer.old)) buffer.old }
     ensures state { client.new ≡ client.old }
 {
@@ -198,14 +207,15 @@ pub fn signing_algorithm(client: &LongTermClientAuth<Global>) -> u32
     }
 }
 
-/// What a response says.
+/// Reads a response: whether it is accepted, or asks for another request.
 pub fn validate(
     client: &mut LongTermClientAuth<Global>,
     message: &[u8],
 ) -> Result<LongTermClientValidation, Refusal>
-    ensures answer { OrMemory result (result ≡ validated client.old message.now)
+    ensures answer { CallOrMemory result (result ≡ client_validation client.old message.now)
         (AsksAgain client.old message.now) }
-    ensures state { OrMemory result (client.new ≡ after_validating client.old message.now)
+    ensures state { CallOrMemory result
+        (client.new ≡ client_after_validation client.old message.now)
         (client.new ≡ client.old) }
     ensures refused { OnErr result (client.new ≡ client.old) }
 {
@@ -213,21 +223,21 @@ pub fn validate(
     validate_message(client, &message)
 }
 
-/// What a message says.
+/// Reads a message.
 fn validate_message(
     client: &mut LongTermClientAuth<Global>,
     message: &Message<'_>,
 ) -> Result<LongTermClientValidation, Refusal>
-    ensures answer { OrMemory result (result ≡ validation_answer
+    ensures answer { CallOrMemory result (result ≡ client_validation_answer
         (step client.old message.now).answer)
         (IsResend (step client.old message.now).answer) }
-    ensures state { OrMemory result (client.new
+    ensures state { CallOrMemory result (client.new
         ≡ record client.old { state = (step client.old message.now).state })
         (client.new ≡ client.old) }
     ensures refused { OnErr result (client.new ≡ client.old) }
 {
     match client.validate_incoming_message(message) {
         Ok(validation) => Ok(validation),
-        Err(error) => Err(Refusal::from(error.reason())),
+        Err(error) => Err(client_refusal(error.reason())),
     }
 }

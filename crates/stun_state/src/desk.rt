@@ -11,8 +11,8 @@ use stun_types::prelude::*;
 
 /// Writes a message to lent memory. It does not allocate.
 ///
-/// It refuses what a writer refuses that grows to the longest message. Where that is no refusal but
-/// the memory is short, it tells that an allocation fails.
+/// It refuses what a writer refuses that grows to the longest message. If that one would not refuse
+/// but the memory is short, it fails with `OutOfMemory`.
 #[derive(Drop)]
 pub struct Desk<'a> {
     memory: &'a mut [u8],

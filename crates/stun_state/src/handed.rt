@@ -4,32 +4,33 @@
 ghost use Rattle.std.specs.Prelude.{◌≡◌, ◌≤◌, ◌+◌, ◌-◌, ◌^◌, ◌<◌, ⊤, length, take};
 ghost use Rattle.std.specs.Prelude.{Some, None, Ok, Err, IfOk, IfErr, OnErr, OnOk};
 ghost use Rattle.stun_auth.specs.Additions.{WantsMemory, page_of};
-ghost use Rattle.stun_auth.specs.Handed.{just, with_users};
+ghost use Rattle.stun_auth.specs.Handed.{with_users};
 ghost use Rattle.stun_auth.specs.ServerSigning.{after_signing, server_additions};
 ghost use Rattle.stun_auth.specs.ServerSigning.{server_growth, server_signed};
 ghost use Rattle.stun_auth.specs.Reading.{reading_of};
-ghost use Rattle.stun_auth.specs.Validation.{after_message, answer, sight};
+ghost use Rattle.stun_auth.specs.Validation.{after_validation, answer, sight};
 ghost use Rattle.stun_base.specs.Header.{BeginsWithHeader};
 ghost use Rattle.stun_base.specs.MessageType.{class_in, is_response};
 ghost use Rattle.stun_types.specs.Limits.{LENGTH_LIMIT as length_limit};
+ghost use Rattle.stun_numbers.specs.Buffers.{buffer_after, length_of};
 ghost use Rattle.stun_state.specs.Addresses.{socket_address};
-ghost use Rattle.stun_state.specs.Answers.{OrMemory, after_address, at_address};
+ghost use Rattle.stun_state.specs.Answers.{CallOrMemory, after_address, at_address};
 ghost use Rattle.stun_state.specs.Handed.{just_given, key_given, kept_after_signing_of};
 ghost use Rattle.stun_state.specs.Handed.{kept_after_validating_of, keys_given};
-ghost use Rattle.stun_state.specs.Handed.{named_by, naming_answer, naming_length};
+ghost use Rattle.stun_state.specs.Handed.{named_in_bytes, naming_answer, naming_length};
 ghost use Rattle.stun_state.specs.Handed.{naming_written, signed_of, validated_of};
 ghost use Rattle.stun_state.specs.code.Given.{user_given};
-ghost use Rattle.stun_state.specs.Server.{validation_answer};
-ghost use Rattle.stun_state.specs.Signing.{buffer_after, length_of, message_of};
+ghost use Rattle.stun_state.specs.Server.{server_validation_answer};
+ghost use Rattle.stun_state.specs.Signing.{message_of};
 ghost use Rattle.stun_state.specs.Signing.{server_signs, signed_by_server};
 ghost use Rattle.stun_state.specs.code.Measured.{IsMeasured};
 
 use crate::address::Address;
-use crate::codes::Refusal;
+use crate::codes::server_refusal;
 use crate::handle::server::Server;
 use crate::server::{check_room, measure, validated_algorithm};
-use crate::signing::{SHORT, base_message, fill, put, writer_of};
-use crate::text::{copied, text};
+use crate::signing::{SHORT, writer_of};
+use crate::text::copied;
 use std::alloc::Global;
 use std::net::SocketAddr;
 use stun_auth::auth::{LongTermServerAuth, LongTermServerUser, NamedUser, StoredKeys};
@@ -37,6 +38,10 @@ use stun_base::algorithm::IntegrityAlgorithm;
 use stun_base::credentials::LongTermCredentials;
 use stun_base::instant::Instant;
 use stun_base::words::WordSource;
+use stun_numbers::buffer::{fill, put};
+use stun_numbers::message::base_message;
+use stun_numbers::refusal::Refusal;
+use stun_numbers::text::text;
 use stun_types::limits::LENGTH_LIMIT;
 use stun_types::message::Message;
 use stun_types::prelude::*;
@@ -51,9 +56,9 @@ pub(crate) enum Given<'a> {
     Keys(&'a [u8], &'a [u8]),
 }
 
-/// By whose key a message from an address is judged: 1 by a name, 2 by its hash, which is at the
-/// front of the buffer then, or 0 where nobody is meant; and how long it is, also where the buffer
-/// has no room for it.
+/// By whose key a message from an address is judged: 1 by a name, 2 by its hash, or 0 where nobody
+/// is meant. The name or the hash is written to the front of the buffer, and its length also where
+/// the buffer has no room for it.
 pub fn named_user(
     server: &LongTermServerAuth<Global>,
     message: &[u8],
@@ -64,9 +69,9 @@ pub fn named_user(
     ensures answer { result ≡ at_address (socket_address from.now)
         (naming_answer server.now message.now (length name.old)) }
     ensures written { name.new ≡ after_address (socket_address from.now) name.old
-        (λ from. naming_written name.old (named_by server.now message.now from)) }
+        (λ from. naming_written name.old (named_in_bytes server.now message.now from)) }
     ensures length { name_length.new ≡ after_address (socket_address from.now) name_length.old
-        (λ from. naming_length (named_by server.now message.now from) name_length.old) }
+        (λ from. naming_length (named_in_bytes server.now message.now from) name_length.old) }
 {
     let from = from.socket()?;
     let message = Message::from_bytes(message)?;
@@ -85,8 +90,8 @@ pub fn named_user(
     }
 }
 
-/// A key as a caller gives it: none where it has no bytes, or `BadArgument` where it has not the
-/// length of one.
+/// A key as a caller gives it: none if it has no bytes, or `BadArgument` if it has another length
+/// than a key.
 fn key_of<const N: usize>(bytes: &[u8]) -> Result<Option<[u8; N]>, Refusal>
     ensures { result ≡ key_given N bytes.now }
 {
@@ -117,9 +122,10 @@ fn prepared(
     name: &[u8],
     given: Given<'_>,
 ) -> Result<LongTermServerUser<Global>, Refusal>
-    ensures ok { IfOk result (λ user. just_given server.now.registered (user_given name.now given.entry)
+    ensures ok { IfOk result (λ user. just_given server.now.registered
+        (user_given name.now given.entry)
         ≡ Ok user) }
-    ensures err { IfErr result (λ refusal. OrMemory result
+    ensures err { IfErr result (λ refusal. CallOrMemory result
         (just_given server.now.registered (user_given name.now given.entry) ≡ Err refusal) ⊤) }
 {
     let name = text(name)?;
@@ -137,7 +143,7 @@ fn prepared(
     }
 }
 
-/// Who signed a message, where the server has just the user of a name.
+/// Validates a message. The server has just the user of a name.
 pub(crate) fn validate(
     alloc: Global,
     kept: &mut Server,
@@ -148,10 +154,10 @@ pub(crate) fn validate(
     name: &[u8],
     given: Given<'_>,
 ) -> Result<IntegrityAlgorithm, Refusal>
-    ensures answer { OrMemory result
+    ensures answer { CallOrMemory result
         (result ≡ at_address (socket_address from.now)
         (validated_of kept.old message.now now words.now (user_given name.now given.entry))) ⊤ }
-    ensures state { OrMemory result
+    ensures state { CallOrMemory result
         (kept.new ≡ record kept.old {
           server = kept_after_validating_of kept.old message.now from.now now words.now
               (user_given name.now given.entry);
@@ -166,7 +172,7 @@ pub(crate) fn validate(
     validate_message(&mut kept.server, &message, from, moment, *words, &mut user)
 }
 
-/// Who signed a message, where the server has just a user who is prepared.
+/// Validates a message. The server has just a user who is prepared.
 fn validate_message(
     server: &mut LongTermServerAuth<Global>,
     message: &Message<'_>,
@@ -175,23 +181,24 @@ fn validate_message(
     words: [u32; 16],
     user: &mut LongTermServerUser<Global>,
 ) -> Result<IntegrityAlgorithm, Refusal>
-    ensures answer { OrMemory result
-        (result ≡ validation_answer (answer (sight (with_users server.old user.old) from) now words
+    ensures answer { CallOrMemory result
+        (result ≡ server_validation_answer
+        (answer (sight (with_users server.old user.old) from) now words
         (reading_of message.now))) ⊤ }
-    ensures state { OrMemory result
-        (server.new ≡ with_users (after_message (with_users server.old user.old) from now words
+    ensures state { CallOrMemory result
+        (server.new ≡ with_users (after_validation (with_users server.old user.old) from now words
         (reading_of message.now)) server.old.registered)
         (server.new ≡ server.old) }
 {
     let mut source = WordSource::new(words);
     match server.validate_incoming_message_of(message, from, now, &mut source, user) {
         Ok(validation) => Ok(validated_algorithm(validation)),
-        Err(error) => Err(Refusal::from(error.reason())),
+        Err(error) => Err(server_refusal(error.reason())),
     }
 }
 
-/// Signs the message in the first `length` bytes of a buffer, which goes to an address, where the
-/// server has just the user of a name. A refusal leaves the buffer.
+/// Signs the message in the first `length` bytes of a buffer, which goes to an address. The server
+/// has just the user of a name. A refusal leaves the buffer.
 pub(crate) fn sign(
     alloc: Global,
     server: &mut LongTermServerAuth<Global>,
@@ -201,10 +208,11 @@ pub(crate) fn sign(
     name: &[u8],
     given: Given<'_>,
 ) -> Result<usize, Refusal>
-    ensures answer { OrMemory result (result ≡ length_of
+    ensures answer { CallOrMemory result (result ≡ length_of
         (signed_of server.old buffer.old length to.now (user_given name.now given.entry))) ⊤ }
-    ensures written { OrMemory result (buffer.new ≡ buffer_after
-        (signed_of server.old buffer.old length to.now (user_given name.now given.entry)) buffer.old)
+    ensures written { CallOrMemory result (buffer.new ≡ buffer_after
+        (signed_of server.old buffer.old length to.now (user_given name.now given.entry))
+        buffer.old)
         (buffer.new ≡ buffer.old) }
     ensures state { OnOk result (server.new ≡ kept_after_signing_of server.old buffer.old length
         to.now (user_given name.now given.entry)) }
@@ -243,7 +251,7 @@ fn sign_with(
     }
 }
 
-/// Signs a message that is not long then.
+/// Signs a message that has no more than `SHORT` bytes then.
 #[inline(never)]
 fn sign_short(
     server: &mut LongTermServerAuth<Global>,

@@ -1,8 +1,8 @@
 //! The calls with state for programs in C and Rust, which `include/stunp_state.h` declares.
 //!
-//! Each takes what its handle keeps, calls the crates below, and puts it back. The clauses say what
-//! a call answers, writes and leaves in the words of those crates: `kept` is what the handle kept,
-//! and `handle.new` what it keeps.
+//! Each call takes the value out of its handle, calls the crates below with it, and puts it back.
+//! The clauses say what a call returns, writes and leaves in the words of those crates: `kept` is
+//! what the handle kept, and `handle.new` what it keeps.
 #![tactic(auto)]
 
 mod address;

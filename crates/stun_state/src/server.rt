@@ -12,27 +12,30 @@ ghost use Rattle.stun_auth.specs.ServerSigning.{after_signing, server_additions}
 ghost use Rattle.stun_auth.specs.ServerSigning.{server_growth, server_signed};
 ghost use Rattle.stun_base.specs.Header.{BeginsWithHeader};
 ghost use Rattle.stun_types.specs.Limits.{LENGTH_LIMIT as length_limit};
-ghost use Rattle.stun_auth.specs.Validation.{ChangesNothing, after_message};
+ghost use Rattle.stun_auth.specs.Validation.{ChangesNothing, after_validation};
 ghost use Rattle.stun_auth.specs.Validation.{answer, new_server, sight};
+ghost use Rattle.stun_numbers.specs.Buffers.{buffer_after, length_of};
 ghost use Rattle.stun_state.specs.Addresses.{socket_address, start_for, start_told};
-ghost use Rattle.stun_state.specs.Answers.{OrMemory, after_address, after_start, at_address};
+ghost use Rattle.stun_state.specs.Answers.{CallOrMemory, after_address, after_start, at_address};
 ghost use Rattle.stun_state.specs.Answers.{at_start, done_if_given, text_refusal, texts_refusal};
 ghost use Rattle.stun_state.specs.Codes.{algorithms_numbered, feature_numbered};
 ghost use Rattle.stun_state.specs.Memory.{LeavesServer};
-ghost use Rattle.stun_state.specs.Signing.{buffer_after, is_too_long, length_of};
+ghost use Rattle.stun_state.specs.Signing.{is_too_long};
 ghost use Rattle.stun_state.specs.Signing.{message_of, server_signs, signed_by_server};
 ghost use Rattle.stun_state.specs.code.Measured.{IsMeasured};
-ghost use Rattle.stun_state.specs.Server.{client_at, client_told, kept_after_validating};
+ghost use Rattle.stun_state.specs.Server.{client_of_address, client_told, kept_after_validating};
 ghost use Rattle.stun_state.specs.Server.{name_length_of, name_written, nonce_at, nonce_told};
-ghost use Rattle.stun_state.specs.Server.{nonce_written, room_refusal, step_answer, validated};
-ghost use Rattle.stun_state.specs.Server.{validation_answer, with_algorithms, with_expiry};
-ghost use Rattle.stun_state.specs.Server.{with_feature, without_client, without_named};
+ghost use Rattle.stun_state.specs.Server.{nonce_written, room_refusal, step_answer};
+ghost use Rattle.stun_state.specs.Server.{server_validation};
+ghost use Rattle.stun_state.specs.Server.{server_validation_answer, server_with_algorithms};
+ghost use Rattle.stun_state.specs.Server.{with_expiry};
+ghost use Rattle.stun_state.specs.Server.{server_with_feature, without_client, without_named};
 
 use crate::address::Address;
-use crate::codes::{Refusal, feature_numbered};
+use crate::codes::{feature_numbered, server_refusal};
 use crate::handle::server::Server;
-use crate::signing::{SHORT, base_message, is_response, is_too_long, put, writer_of};
-use crate::text::{copied, text};
+use crate::signing::{SHORT, is_response, is_too_long, writer_of};
+use crate::text::copied;
 use std::alloc::Global;
 use std::net::SocketAddr;
 use std::time::Duration;
@@ -41,6 +44,10 @@ use stun_base::algorithm::IntegrityAlgorithm;
 use stun_base::credentials::LongTermCredentials;
 use stun_base::instant::Instant;
 use stun_base::words::WordSource;
+use stun_numbers::buffer::put;
+use stun_numbers::message::base_message;
+use stun_numbers::refusal::Refusal;
+use stun_numbers::text::text;
 use stun_types::limits::LENGTH_LIMIT;
 use stun_types::message::Message;
 use stun_types::prelude::*;
@@ -52,20 +59,22 @@ const SHORTEST_EXPIRY: u64 = 30_000_000_000;
 pub fn new(alloc: Global, realm: &[u8]) -> Result<LongTermServerAuth<Global>, Refusal>
     ensures ok { IfOk result (λ server. server ≡ new_server realm.now) }
     ensures accepted { OnOk result (text_refusal realm.now ≡ None) }
-    ensures err { IfErr result (λ refusal. OrMemory result (text_refusal realm.now ≡ Some refusal)
+    ensures err { IfErr result
+        (λ refusal. CallOrMemory result (text_refusal realm.now ≡ Some refusal)
         (text_refusal realm.now ≡ None)) }
 {
     let realm = copied(alloc, text(realm)?)?;
     Ok(LongTermServerAuth::new(alloc, realm))
 }
 
-/// Which algorithms the server supports: 1 is HMAC-SHA1, 2 HMAC-SHA256, 3 both.
+/// Sets the algorithms that the server supports: 1 is HMAC-SHA1, 2 HMAC-SHA256, 3 both.
 pub fn set_algorithms(
     server: &mut LongTermServerAuth<Global>,
     algorithms: u32,
 ) -> Result<(), Refusal>
     ensures answer { result ≡ done_if_given (algorithms_numbered algorithms) }
-    ensures state { server.new ≡ with_algorithms (algorithms_numbered algorithms) server.old }
+    ensures state { server.new
+        ≡ server_with_algorithms (algorithms_numbered algorithms) server.old }
 {
     match algorithms {
         1 => server.set_supported_integrity(IntegrityAlgorithm::Sha1),
@@ -79,20 +88,20 @@ pub fn set_algorithms(
     Ok(())
 }
 
-/// Whether users may be named by a hash: 0 and 1 where the client wants it, 2 never.
+/// Sets whether users may be named by a hash: 0 and 1 if the client wants it, 2 never.
 pub fn set_anonymous_username(
     server: &mut LongTermServerAuth<Global>,
     feature: u32,
 ) -> Result<(), Refusal>
     ensures answer { result ≡ done_if_given (feature_numbered feature) }
-    ensures state { server.new ≡ with_feature (feature_numbered feature) server.old }
+    ensures state { server.new ≡ server_with_feature (feature_numbered feature) server.old }
 {
     let feature = feature_numbered(feature)?;
     server.set_anonymous_username(feature)?;
     Ok(())
 }
 
-/// How long a nonce lasts, in nanoseconds, 30 seconds at the least.
+/// Sets how long a nonce lasts, in nanoseconds: 30 seconds at the least.
 pub fn set_nonce_expiry(server: &mut LongTermServerAuth<Global>, nanoseconds: u64)
     ensures { server.new ≡ with_expiry nanoseconds server.old }
 {
@@ -112,7 +121,7 @@ pub fn add_user(
           (record { username = name.now; password = password.now });
     }) }
     ensures accepted { OnOk result (texts_refusal name.now password.now ≡ None) }
-    ensures err { IfErr result (λ refusal. OrMemory result
+    ensures err { IfErr result (λ refusal. CallOrMemory result
         (texts_refusal name.now password.now ≡ Some refusal)
         (texts_refusal name.now password.now ≡ None)) }
     ensures refused { OnErr result (server.new ≡ server.old) }
@@ -154,15 +163,15 @@ pub fn forget(server: &mut LongTermServerAuth<Global>, at: &Address) -> Result<(
     Ok(())
 }
 
-/// Forgets each address without a client whose nonce expired before a moment.
+/// Forgets each address without a client whose nonce expired before a time.
 pub fn forget_expired(server: &mut LongTermServerAuth<Global>, now: u64)
     ensures { server.new ≡ after_forgetting server.old now }
 {
     server.forget_expired(Instant::from_nanos(now));
 }
 
-/// Forgets what `forget_expired` does, at no more than `most` addresses from one on: whether
-/// another call is to go on, and where.
+/// Forgets what `forget_expired` does, at no more than `most` addresses from one on. Returns
+/// whether another call is to go on, and writes where.
 pub fn forget_expired_within(
     server: &mut LongTermServerAuth<Global>,
     now: u64,
@@ -181,8 +190,8 @@ pub fn forget_expired_within(
     Ok(u32::from(next.is_some()))
 }
 
-/// Who was validated last at an address: the algorithm of the key, the user's name at the front of
-/// the buffer, and how long that is, also where the buffer has no room for it.
+/// Who was validated last at an address: the algorithm of the key, and the user's name at the front
+/// of the buffer. The length of the name is written also where the buffer has no room for it.
 pub fn client(
     server: &LongTermServerAuth<Global>,
     at: &Address,
@@ -190,11 +199,11 @@ pub fn client(
     name_length: &mut usize,
 ) -> Result<Option<IntegrityAlgorithm>, Refusal>
     ensures answer { result ≡ at_address (socket_address at.now)
-        (λ a. client_told (length name.old) (client_at server.now a)) }
+        (λ a. client_told (length name.old) (client_of_address server.now a)) }
     ensures written { name.new ≡ after_address (socket_address at.now) name.old
-        (λ a. name_written name.old (client_at server.now a)) }
+        (λ a. name_written name.old (client_of_address server.now a)) }
     ensures length { name_length.new ≡ after_address (socket_address at.now) name_length.old
-        (λ a. name_length_of (client_at server.now a) name_length.old) }
+        (λ a. name_length_of (client_of_address server.now a) name_length.old) }
 {
     let address = at.socket()?;
     let Some((client, algorithm)) = server.client(address) else {
@@ -302,7 +311,7 @@ pub fn measure(
     })
 }
 
-/// Signs a message that is not long then.
+/// Signs a message that has no more than `SHORT` bytes then.
 #[inline(never)]
 fn sign_short(
     server: &mut LongTermServerAuth<Global>,
@@ -389,7 +398,8 @@ fn sign_in<'m>(
     }
 }
 
-/// Who signed a message that came from an address. A refusal may make a nonce for the address.
+/// Validates a message that came from an address, and returns the algorithm of its digest. A
+/// refusal may make a nonce for the address.
 pub fn validate(
     kept: &mut Server,
     message: &[u8],
@@ -397,20 +407,20 @@ pub fn validate(
     now: u64,
     words: &[u32; 16],
 ) -> Result<IntegrityAlgorithm, Refusal>
-    ensures answer { OrMemory result
+    ensures answer { CallOrMemory result
         (result ≡ at_address (socket_address from.now)
-        (validated kept.old message.now now words.now)) ⊤ }
-    ensures state { OrMemory result
+        (server_validation kept.old message.now now words.now)) ⊤ }
+    ensures state { CallOrMemory result
         (kept.new ≡ record kept.old {
           server = kept_after_validating kept.old message.now from.now now words.now;
         })
         (kept.new ≡ kept.old) }
 
-    // Where nothing of the server changes, no failed allocation is answered.
+    // If nothing of the server changes, no failed allocation is returned.
     ensures unchanged { LeavesServer kept.old message.now now words.now
         (socket_address from.now) →
         result ≡ at_address (socket_address from.now)
-        (validated kept.old message.now now words.now) }
+        (server_validation kept.old message.now now words.now) }
 {
     let from = from.socket()?;
     let message = Message::from_bytes(message)?;
@@ -419,7 +429,7 @@ pub fn validate(
     validate_message(&mut kept.server, &message, from, moment, *words)
 }
 
-/// Refuses an address of which nothing is kept, where something is of as many as may be.
+/// Fails with `TooManyAddresses` for a new address if as many addresses are kept as may be.
 pub fn check_room(
     server: &LongTermServerAuth<Global>,
     most: usize,
@@ -434,7 +444,7 @@ pub fn check_room(
     Err(Refusal::TooManyAddresses)
 }
 
-/// Who signed a message.
+/// Validates a message.
 fn validate_message(
     server: &mut LongTermServerAuth<Global>,
     message: &Message<'_>,
@@ -442,20 +452,20 @@ fn validate_message(
     now: Instant,
     words: [u32; 16],
 ) -> Result<IntegrityAlgorithm, Refusal>
-    ensures answer { OrMemory result
-        (result ≡ validation_answer (answer (sight server.old from) now words
+    ensures answer { CallOrMemory result
+        (result ≡ server_validation_answer (answer (sight server.old from) now words
         (reading_of message.now))) ⊤ }
-    ensures state { OrMemory result
-        (server.new ≡ after_message server.old from now words (reading_of message.now))
+    ensures state { CallOrMemory result
+        (server.new ≡ after_validation server.old from now words (reading_of message.now))
         (server.new ≡ server.old) }
     ensures unchanged { ChangesNothing (sight server.old from) now words (reading_of message.now) →
-        result ≡ validation_answer (answer (sight server.old from) now words
+        result ≡ server_validation_answer (answer (sight server.old from) now words
         (reading_of message.now)) }
 {
     let mut source = WordSource::new(words);
     match server.validate_incoming_message(message, from, now, &mut source) {
         Ok(validation) => Ok(validated_algorithm(validation)),
-        Err(error) => Err(Refusal::from(error.reason())),
+        Err(error) => Err(server_refusal(error.reason())),
     }
 }
 

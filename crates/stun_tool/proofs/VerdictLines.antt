@@ -10,29 +10,29 @@ use Rattle.stun_base.specs.declared.wire.error.StunParseError.TheVariants.{Missi
 use Rattle.stun_base.specs.declared.wire.error.StunParseError.TheVariants.{InvalidAttributeData}
 use Rattle.stun_base.specs.declared.keys.algorithm.IntegrityAlgorithm.{IntegrityAlgorithm}
 use Rattle.stun_base.specs.declared.keys.algorithm.IntegrityAlgorithm.TheVariants.{Sha1, Sha256}
-use Rattle.stun_types.specs.Integrity.{refusal_of, is_well_formed, verified_algorithm}
+use Rattle.stun_types.specs.Integrity.{deciding_refusal, is_well_formed, verified_algorithm}
 use Rattle.stun_types.specs.Integrity.{integrity_refusal, deciding}
-use Rattle.stun_types.specs.Message.{first_refusal}
-use Rattle.stun_types.specs.Walk.{Member, taken, walk}
+use Rattle.stun_types.specs.Message.{either_refusal}
+use Rattle.stun_types.specs.Walk.{Member, attributes_length, walk}
 use Rattle.stun_cli.specs.declared.verdict.Verdict.{Verdict}
 use Rattle.stun_cli.specs.declared.verdict.Verdict.TheVariants.{Valid, OtherDigest, NoIntegrity}
 use Rattle.stun_cli.specs.declared.verdict.Verdict.TheVariants.{MalformedIntegrity, NotAMessage}
 use Rattle.stun_cli.specs.declared.verdict.Verdict.TheVariants.{BadInput}
 use Rattle.stun_cli.specs.Output.{AppendsBeginning}
 use Rattle.stun_cli.specs.Verdict.{verdict_on_integrity, verdict_on_refusal, verdict_without_digest}
-use Rattle.stun_tool.specs.Verdict.{verdict_under, line_of, printed_lines}
+use Rattle.stun_tool.specs.Verdict.{verdict_under, check_line, printed_lines}
 
 abbrev IsListed : Verdict → Type 0
-IsListed verdict = Contains printed_lines (line_of verdict)
+IsListed verdict = Contains printed_lines (check_line verdict)
 
 without_digest-listed : (well_formed : Bool) (m : Member) → is_well_formed m.1 ≡ well_formed
-    → IsListed (verdict_without_digest (refusal_of (Some m)))
+    → IsListed (verdict_without_digest (deciding_refusal (Some m)))
 without_digest-listed true m is = rw is (2, lit< tt, refl)
 without_digest-listed false m is = rw is (4, lit< tt, refl)
 
 -- whatever the deciding member is
 on_integrity-listed : (standing : Option IntegrityAlgorithm) (deciding : Option Member)
-    → IsListed (verdict_on_integrity standing (refusal_of deciding))
+    → IsListed (verdict_on_integrity standing (deciding_refusal deciding))
 on_integrity-listed (Some Sha1) deciding = (0, lit< tt, refl)
 on_integrity-listed (Some Sha256) deciding = (1, lit< tt, refl)
 on_integrity-listed None None = (3, lit< tt, refl)
@@ -41,7 +41,7 @@ on_integrity-listed None (Some m) = without_digest-listed (is_well_formed m.1) m
 -- whichever test refuses the bytes first
 on_refusal-listed : (short stun cut long filled : Bool) (verdict : Verdict) → IsListed verdict
     → IsListed (verdict_on_refusal
-    (first_refusal (if short then Some Truncated else if stun then None else Some NotStun)
+    (either_refusal (if short then Some Truncated else if stun then None else Some NotStun)
     (if cut then Some Truncated else if long then Some TooLarge else if filled then None
     else Some Truncated))
     verdict)
@@ -58,18 +58,18 @@ verdict_under-listed bytes password =
     on_refusal-listed (nat_lt (length bytes) HEADER_LENGTH) (is_stun bytes)
     (nat_lt (length bytes) (HEADER_LENGTH + length_field bytes))
     (nat_lt (HEADER_LENGTH + length_field bytes) (length bytes))
-    (HEADER_LENGTH + taken (walk bytes) == length bytes)
+    (HEADER_LENGTH + attributes_length (walk bytes) == length bytes)
     (verdict_on_integrity (verified_algorithm bytes password) (integrity_refusal bytes))
     (on_integrity-listed (verified_algorithm bytes password) (deciding bytes))
 
 -- so that verdict has a listed line
 pub verdict_listed : (verdict : Verdict) (bytes password : List ℕ)
-    → verdict ≡ verdict_under bytes password → Contains printed_lines (line_of verdict)
+    → verdict ≡ verdict_under bytes password → Contains printed_lines (check_line verdict)
 verdict_listed verdict bytes password is =
     subst IsListed (sym is) (verdict_under-listed bytes password)
 
 -- no line is empty
-line-not_empty : (verdict : Verdict) → 0 < length (line_of verdict)
+line-not_empty : (verdict : Verdict) → 0 < length (check_line verdict)
 line-not_empty (Valid Sha1) = lit< tt
 line-not_empty (Valid Sha256) = lit< tt
 line-not_empty OtherDigest = lit< tt
@@ -84,5 +84,5 @@ line-not_empty BadInput = lit< tt
 
 -- so that a writer to which nothing was written holds a beginning of it
 pub nothing_printed : (before : Option (List ℕ)) (verdict : Verdict)
-    → AppendsBeginning before before (line_of verdict)
+    → AppendsBeginning before before (check_line verdict)
 nothing_printed before verdict = (0, line-not_empty verdict, Appends-nil before)

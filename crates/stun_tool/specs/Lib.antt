@@ -6,5 +6,5 @@ pub mod Check
 pub mod Verdict
 -- what the digits of an input read
 pub mod Input
--- what no clause of a public call says: codings of models, views of structs, steps of the code
+-- what no clause of a public call cites: codings of models, views of structs, steps of the code
 pub mod code

@@ -25,19 +25,20 @@ abbrev pub verdict_of_input : List ℕ → List ℕ → Verdict
 verdict_of_input input password = verdict_of_read (bytes_read input) password
 
 -- the line for a verdict
-abbrev pub line_of : Verdict → List ℕ
-line_of (Valid Sha1) = codes "valid MESSAGE-INTEGRITY" ++ 10 ∷ []
-line_of (Valid Sha256) = codes "valid MESSAGE-INTEGRITY-SHA256" ++ 10 ∷ []
-line_of OtherDigest = codes "invalid" ++ 10 ∷ []
-line_of NoIntegrity = codes "no integrity" ++ 10 ∷ []
-line_of MalformedIntegrity = codes "malformed integrity" ++ 10 ∷ []
-line_of (NotAMessage error) = refusal_line error
-line_of BadInput = codes "bad input" ++ 10 ∷ []
+abbrev pub check_line : Verdict → List ℕ
+check_line (Valid Sha1) = codes "valid MESSAGE-INTEGRITY" ++ 10 ∷ []
+check_line (Valid Sha256) = codes "valid MESSAGE-INTEGRITY-SHA256" ++ 10 ∷ []
+check_line OtherDigest = codes "invalid" ++ 10 ∷ []
+check_line NoIntegrity = codes "no integrity" ++ 10 ∷ []
+check_line MalformedIntegrity = codes "malformed integrity" ++ 10 ∷ []
+check_line (NotAMessage error) = refusal_line error
+check_line BadInput = codes "bad input" ++ 10 ∷ []
 
 -- the lines that are ever printed
 abbrev pub printed_lines : List (List ℕ)
 printed_lines =
-    line_of (Valid Sha1) ∷ line_of (Valid Sha256) ∷ line_of OtherDigest ∷ line_of NoIntegrity
-    ∷ line_of MalformedIntegrity
-    ∷ line_of (NotAMessage Truncated) ∷ line_of (NotAMessage NotStun)
-    ∷ line_of (NotAMessage TooLarge) ∷ line_of BadInput ∷ []
+    check_line (Valid Sha1) ∷ check_line (Valid Sha256) ∷ check_line OtherDigest
+    ∷ check_line NoIntegrity
+    ∷ check_line MalformedIntegrity
+    ∷ check_line (NotAMessage Truncated) ∷ check_line (NotAMessage NotStun)
+    ∷ check_line (NotAMessage TooLarge) ∷ check_line BadInput ∷ []

@@ -10,11 +10,11 @@ use stun_cli::input::{CountedRead, read_to_end};
 use stun_cli::output::write_text;
 use stun_cli::status::Status;
 
-/// Reads a message as hexadecimal digits, and prints in a line whether its integrity verifies under
-/// the password, which is the one word and whose bytes are the key (RFC 8489, section 9.1.1).
+/// Reads a message as hexadecimal digits, and prints whether its integrity verifies, in one line.
+/// The one word is the password, whose bytes are the key (RFC 8489, section 9.1.1).
 ///
-/// Where a read, a write or a growth fails, or the reader's end does not come within 1048576 reads,
-/// it answers `Failed`, and at most a beginning of the line is there.
+/// Returns `Failed` if a read, a write or an allocation fails, or if the end does not come within
+/// 1048576 reads. A beginning of the line may then be printed, but never the whole.
 #[tactic(auto, using(crate::proofs::VerdictLines::nothing_printed))]
 pub fn check<R: CountedRead, W: Write, A: Allocator + Copy>(
     alloc: A,

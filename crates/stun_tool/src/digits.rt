@@ -17,8 +17,9 @@ fn digits<A: Allocator>(alloc: A, input: &[u8]) -> Result<Vec<u8, A>, AllocError
         .collect(alloc)
 }
 
-/// The bytes that the input spells, two hexadecimal digits of either case for each, with white
-/// space anywhere. `None` where another byte is among them, or their number is odd.
+/// The bytes that the input spells: two hexadecimal digits of either case for each, and white space
+/// anywhere. `None` if there is another byte, or an odd number of digits. Fails if an allocation
+/// fails.
 pub fn read_digits<A: Allocator + Copy>(
     alloc: A,
     input: &[u8],

@@ -32,11 +32,13 @@ use stun_cli::status::Status;
 use stun_cli::words::words_of;
 
 /// What is written for wrong words.
-const USAGE: &str =
-    "usage: stun_tool check PASSWORD | schedule TRANSPORT INITIAL_MS MAX_MS RETRANSMITS FINAL_MS [answer MS FROM] | negotiate CLIENT_ALGORITHMS CLIENT_FEATURE SERVER_ALGORITHMS SERVER_FEATURE | serve REALM\n";
+const USAGE: &str = "usage: stun_tool check PASSWORD \
+    | schedule TRANSPORT INITIAL_MS MAX_MS RETRANSMITS FINAL_MS [answer MS FROM] \
+    | negotiate CLIENT_ALGORITHMS CLIENT_FEATURE SERVER_ALGORITHMS SERVER_FEATURE \
+    | serve REALM\n";
 
-/// Runs the command that the words name. For wrong words it writes the usage to `errors`, and does
-/// nothing else.
+/// Runs the command that the words name. For wrong words it writes the usage to `errors`, and
+/// nothing else is done.
 fn run<R: CountedRead, W: Write, E: Write>(
     alloc: Global,
     words: &[String],

@@ -35,16 +35,19 @@ pub struct Side {
     feature: Feature,
 }
 
-/// Prints what a new client and a new server come to that know one user: `validated` and the
-/// algorithm where the client is accepted, or `already validated` where its first request is, which
-/// are answers; or `refused` and the reason where a side gives up, which is a refusal (RFC 8489,
-/// section 9.2). No call is made between theirs, both requests are read at moment 0, and all random
-/// words are 0.
+/// Prints how a new client and a new server of one user agree (RFC 8489, section 9.2). No call is
+/// made between theirs. Both requests are read at moment 0, and all random numbers are 0.
 ///
-/// The words are the algorithms of the client, `sha1`, `sha256`, or both in the order of adding and
-/// parted by a comma; whether it names users by a hash, `auto`, `required` or `disabled`; and the
-/// same of the server. Other words are wrong; then nothing is read or printed. Where a write fails
-/// or an allocation fails it answers `Failed`, and nothing more is printed. Nothing is read.
+/// The words are those of the client, and then the same of the server:
+///
+/// - its algorithms: `sha1`, `sha256`, or both with a comma, in the order of adding;
+/// - whether users are named by a hash: `auto`, `required` or `disabled`.
+///
+/// A good answer is `validated` and the algorithm, or `already validated` if the first request is
+/// accepted. A refusal is `refused` and the reason for which a side gives up.
+///
+/// Returns `NotJudged` for other words, and prints nothing. Returns `Failed` if a write or an
+/// allocation fails, and prints nothing more. It reads nothing.
 pub fn negotiate<R: CountedRead, W: Write, A: Allocator + Copy>(
     alloc: A,
     words: &[String],
@@ -98,7 +101,7 @@ fn side_of(algorithms: &str, hashing: &str) -> Option<Side> {
     })
 }
 
-/// What the two sides come to.
+/// The outcome of the meeting of both sides.
 fn outcome_of<A: Allocator + Copy>(
     alloc: A,
     client: Side,

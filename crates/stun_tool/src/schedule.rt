@@ -40,19 +40,25 @@ pub struct Response {
     from: SocketAddr,
 }
 
-/// Prints when a request is sent, and when it times out: one Binding request with id 1 at moment 0,
-/// from 10.0.0.1:12345 to 10.0.0.2:3478 (RFC 8489, sections 6.2.1 and 6.2.2). There is a line `sent
-/// MS` for each transmission and last `timed out MS`, in whole milliseconds rounded down.
+/// Prints when a Binding request is sent, and when it times out (RFC 8489, sections 6.2.1 and
+/// 6.2.2). Its id is 1, and it goes at moment 0 from 10.0.0.1:12345 to 10.0.0.2:3478. There is a
+/// line `sent MS` for each transmission, and last `timed out MS`, in whole milliseconds rounded
+/// down.
 ///
-/// The words are the transport, `udp` or `tcp`, the wait after the first transmission in
-/// milliseconds, the longest wait between two in milliseconds or `-` for none, the number of
-/// transmissions, at most 1000, and the wait after the last one in milliseconds. Then may come
-/// `answer`, a moment in milliseconds up to `Instant::MAX`, and an IPv4 address with a port: at
-/// that moment a success response with id 1 comes from there. There is a line `received MS` for it
-/// in its place where it ends the request, and nothing after that, or else `ignored MS`.
+/// The words are these, with times in milliseconds:
 ///
-/// Other words are wrong; then nothing is read or printed. Where a write or an allocation fails it
-/// answers `Failed`, and nothing more is printed. Nothing is read.
+/// - the transport, `udp` or `tcp`;
+/// - the wait after the first transmission;
+/// - the longest wait between two, or `-` for none;
+/// - how many transmissions there are, at most 1000;
+/// - the wait after the last one.
+///
+/// Then may come `answer`, a moment up to `Instant::MAX`, and an IPv4 address with a port. At that
+/// moment a success response with id 1 comes from there. If it ends the request, there is a line
+/// `received MS` for it, and nothing after that. Else there is a line `ignored MS` in its place.
+///
+/// Returns `NotJudged` for other words, and prints nothing. Returns `Failed` if a write or an
+/// allocation fails, and prints nothing more. It reads nothing.
 pub fn schedule<R: CountedRead, W: Write>(
     alloc: Global,
     words: &[String],

@@ -7,7 +7,7 @@ use std::time::Duration;
 use stun_cli::failure::Failure;
 use stun_proto::replay::ServerCall;
 
-/// What a script is.
+/// What a script reads as.
 #[derive(Debug, Drop)]
 pub enum Script {
     /// The calls of its lines.
@@ -16,7 +16,8 @@ pub enum Script {
     WrongLine(usize),
 }
 
-/// Reads a script. Its lines end with a line feed or the end of the input; empty ones are skipped.
+/// Reads a script. Its lines end with a line feed or the end of the input, and empty ones are
+/// skipped. Fails if an allocation fails.
 pub fn read_script(alloc: Global, script: &[u8]) -> Result<Script, Failure> {
     let mut calls = Vec::new(alloc);
     let mut number: usize = 0;
@@ -55,7 +56,7 @@ fn read_line(alloc: Global, line: &[u8]) -> Result<Option<ServerCall>, AllocErro
     }
 }
 
-/// The call that a command with these words is.
+/// The call of a command with these words.
 fn call_of(
     alloc: Global,
     command: &str,

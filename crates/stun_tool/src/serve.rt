@@ -15,13 +15,15 @@ use stun_proto::auth::LongTermServerAuth;
 use stun_proto::replay;
 use stun_proto::replay::{ServerCall, ServerReply};
 
-/// Runs a script of calls at a new long-term server of a realm, which is the one word, and prints a
-/// line for each reply (RFC 8489, section 9.2.4).
+/// Runs a script of calls at a new long-term server, and prints a line for each reply (RFC 8489,
+/// section 9.2.4). The one word is the realm.
 ///
-/// Where a line is no call, only `wrong line N` is printed for the first such one, nothing is run,
-/// and the answer is `Refused`; refusals by the server are answers. Where a read, a write or a
-/// growth fails, or the reader's end does not come within 1048576 reads, it answers `Failed`, and
-/// nothing more is printed.
+/// If a line is no call, only `wrong line N` is printed, for the first such line. Nothing is run,
+/// and it returns `Refused`. Refusals by the server are good answers.
+///
+/// Returns `NotJudged` for other words, and prints nothing. Returns `Failed` if a read, a write or
+/// an allocation fails, or if the end does not come within 1048576 reads. It then prints nothing
+/// more.
 pub fn serve<R: CountedRead, W: Write>(
     alloc: Global,
     words: &[String],
@@ -46,7 +48,7 @@ pub fn serve<R: CountedRead, W: Write>(
     }
 }
 
-/// Prints what a script comes to, and tells whether it was run.
+/// Prints the replies to a script, or which line is wrong. Returns whether the script was run.
 fn print_script<W: Write>(
     alloc: Global,
     realm: &str,

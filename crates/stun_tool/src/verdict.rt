@@ -1,6 +1,7 @@
 //! What `check` says of an input.
 ghost use Rattle.std.specs.Prelude.{◌≡◌, Contains, IfOk};
-ghost use Rattle.stun_tool.specs.Verdict.{verdict_under, verdict_of_input, line_of, printed_lines};
+ghost use Rattle.stun_tool.specs.Verdict.{verdict_under, verdict_of_input, check_line};
+ghost use Rattle.stun_tool.specs.Verdict.{printed_lines};
 
 use crate::digits::read_digits;
 use std::alloc::Allocator;
@@ -10,7 +11,7 @@ use stun_types::message::{IntegrityAlgorithm, Message};
 
 /// The line that is printed for a verdict.
 pub fn line(verdict: Verdict) -> &'static str
-    ensures { result.now ≡ line_of verdict }
+    ensures { result.now ≡ check_line verdict }
 {
     match verdict {
         Verdict::Valid(IntegrityAlgorithm::Sha1) => "valid MESSAGE-INTEGRITY\n",
@@ -44,7 +45,7 @@ pub fn verdict_on_input<A: Allocator + Copy>(
     password: &[u8],
 ) -> Result<Verdict, Failure>
     ensures value { IfOk result (λ verdict. verdict ≡ verdict_of_input input.now password.now) }
-    ensures listed { IfOk result (λ verdict. Contains printed_lines (line_of verdict)) }
+    ensures listed { IfOk result (λ verdict. Contains printed_lines (check_line verdict)) }
 {
     match read_digits(alloc, input)? {
         Some(bytes) => Ok(verdict_on(bytes.as_slice(), password)),

@@ -1,4 +1,4 @@
-//! What single words mean, of a command or of a script.
+//! The meaning of single words, of a command or of a script.
 
 use std::net::{SocketAddr, SocketAddrV4};
 use stun_proto::Instant;
@@ -8,7 +8,7 @@ use stun_types::message::IntegrityAlgorithm;
 /// The nanoseconds of a millisecond.
 const NANOS_PER_MILLI: u64 = 1_000_000;
 
-/// The number that decimal digits spell, where it takes no more than 64 bits.
+/// The number that decimal digits spell, if it has no more than 64 bits.
 pub fn number(word: &str) -> Option<u64> {
     if word.bytes().all(|byte| byte.is_ascii_digit()) {
         word.parse::<u64>().ok()

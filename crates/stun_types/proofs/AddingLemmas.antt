@@ -16,11 +16,12 @@ use Rattle.stun_base.specs.Header.{HEADER_LENGTH, type_field, length_field}
 use Rattle.stun_base.specs.Header.{cookie_field, transaction_id_field}
 use Rattle.stun_types.specs.Attribute.{TypedValue, padded_length, attribute_length}
 use Rattle.stun_types.specs.Attribute.{has_attribute, first_attribute, kind_field}
-use Rattle.stun_types.specs.Grammar.{BeginsWith, type_length_value, spelled}
+use Rattle.stun_types.specs.Grammar.{BeginsWith, type_length_value, spelled_message}
 use Rattle.stun_types.specs.Grammar.{spelled_attribute, spelled_attributes}
 use Rattle.stun_types.specs.Message.{IsMessage, with_length}
-use Rattle.stun_types.specs.Visible.{before, counts, has_kind, visible}
-use Rattle.stun_types.specs.Walk.{Member, next_place, walk_up_to, walk_from, walk, taken}
+use Rattle.stun_types.specs.Visible.{before, is_visible, has_kind, visible}
+use Rattle.stun_types.specs.Walk.{Member, next_place, walk_up_to, walk_from, walk}
+use Rattle.stun_types.specs.Walk.{attributes_length}
 use Rattle.stun_types.specs.code.Walk.{IsInside}
 use Rattle.stun_types.specs.Writing.{HasOneMore, IsAddable, IsOpen}
 use Rattle.stun_types.specs.Writing.{is_set_apart, length_with, with_attribute}
@@ -54,7 +55,7 @@ first_attribute-append (x ∷ y ∷ z ∷ w ∷ bytes) tail whole =
 -- a walk to the end goes on in bytes that go on
 pub walk_up_to-extended : (most place : ℕ) (bytes longer tail : List ℕ)
     → drop place longer ≡ drop place bytes ++ tail
-    → place + taken (walk_up_to most place bytes) ≡ length bytes
+    → place + attributes_length (walk_up_to most place bytes) ≡ length bytes
     → walk_from place longer ≡ walk_up_to most place bytes ++ walk_from (length bytes) longer
 unfolding walk_up_to
 walk_up_to-extended zero place bytes longer tail same filled =
@@ -66,7 +67,7 @@ walk_up_to-extended (suc most) place bytes longer tail same filled =
     let ih = walk_up_to-extended most (next_place place bytes) bytes longer tail in
     let first = sum_by-cons (λ n. attribute_length (length n.1.value)) m others in
     elim (has_attribute (drop place bytes)) as (λ whole. has_attribute (drop place bytes) ≡ whole
-    → place + taken (cond whole (m ∷ others) []) ≡ length bytes
+    → place + attributes_length (cond whole (m ∷ others) []) ≡ length bytes
     → walk_from place longer ≡ cond whole (m ∷ others) [] ++ walk_from (length bytes) longer) [
       | true ↦ λ whole filled.
           let again = first_attribute-append (drop place bytes) tail whole in
@@ -189,7 +190,7 @@ IsMessage-added message attribute is_message addable =
     let fits : n < 2 ^ 16 = omega (arith, addable.value) in
     let kept = raised message (spelled_attribute attribute) n whole fits in
     let count = length-spelled_attribute attribute in
-    let walked = ap taken (walk-added message attribute is_message addable) in
+    let walked = ap attributes_length (walk-added message attribute is_message addable) in
     let both =
     sum_by-append (λ (n : Member). attribute_length (length n.1.value)) (walk message)
     ((length message, attribute) ∷ []) in
@@ -238,9 +239,10 @@ HideNone-open message is_open =
     record { integrity = parts.0; integrity_sha256 = parts.1; fingerprint = is_open.no_fingerprint }
 
 -- where nothing before it hides it, an attribute counts
-counts-shown : (members : List Member) (m : Member) → HideNone (before m.0 members)
-    → counts members m ≡ true
-counts-shown members m shown = rw (shown.integrity, shown.integrity_sha256, shown.fingerprint) refl
+is_visible-shown : (members : List Member) (m : Member) → HideNone (before m.0 members)
+    → is_visible members m ≡ true
+is_visible-shown members m shown =
+    rw (shown.integrity, shown.integrity_sha256, shown.fingerprint) refl
 
 HideNone-before : (place : ℕ) (members : List Member) → HideNone members
     → HideNone (before place members)
@@ -251,14 +253,14 @@ HideNone-before place members none = record {
 }
 
 -- one more attribute does not hide what is at its place or before
-counts-added : (members : List Member) (last m : Member) → HideNone members → m.0 ≤ last.0
-    → counts (members ++ last ∷ []) m ≡ true
-counts-added members last m none earlier =
+is_visible-added : (members : List Member) (last m : Member) → HideNone members → m.0 ≤ last.0
+    → is_visible (members ++ last ∷ []) m ≡ true
+is_visible-added members last m none earlier =
     let later : nat_lt last.0 m.0 ≡ false = grind arith in
     let same : before m.0 (members ++ last ∷ []) ≡ before m.0 members =
     filter-append (λ n. nat_lt n.0 m.0) members (last ∷ [])
     ∙ rw later (append-nil (before m.0 members)) in
-    counts-shown (members ++ last ∷ []) m
+    is_visible-shown (members ++ last ∷ []) m
     (subst HideNone (sym same) (HideNone-before m.0 members none))
 
 -- a filter keeps what passes its test
@@ -273,9 +275,9 @@ pub visible-open : (message : List ℕ) → IsOpen message → visible message �
 unfolding visible
 visible-open message is_open =
     let none = HideNone-open message is_open in
-    filter-all (IsInside message) (counts (walk message)) (walk message)
+    filter-all (IsInside message) (is_visible (walk message)) (walk message)
     (walk_up_to-within (length message) HEADER_LENGTH message (omega arith))
-    (λ m within. counts-shown (walk message) m (HideNone-before m.0 (walk message) none))
+    (λ m within. is_visible-shown (walk message) m (HideNone-before m.0 (walk message) none))
 
 -- and so does one that is added
 visible-added : (message longer : List ℕ) (attribute : TypedValue) → IsOpen message
@@ -286,13 +288,13 @@ visible-added message longer attribute is_open walked =
     let members = walk message in
     let last : Member = (length message, attribute) in
     let none = HideNone-open message is_open in
-    let test = counts (members ++ last ∷ []) in
+    let test = is_visible (members ++ last ∷ []) in
     let earlier =
     filter-all (IsInside message) test members
     (walk_up_to-within (length message) HEADER_LENGTH message (omega arith))
-    (λ m within. counts-added members last m none (omega (arith, within.whole))) in
-    let last_counts : test last ≡ true = counts-added members last last none (omega arith) in
-    ap (λ ms. filter (counts ms) ms) walked
+    (λ m within. is_visible-added members last m none (omega (arith, within.whole))) in
+    let last_counts : test last ≡ true = is_visible-added members last last none (omega arith) in
+    ap (λ ms. filter (is_visible ms) ms) walked
     ∙ (filter-append test members (last ∷ [])
     ∙ rw (earlier, last_counts, visible-open message is_open) refl)
 
@@ -350,28 +352,30 @@ IsOpen-added message attribute is_open addable other =
     }
 
 -- a message that was only written is written so with one attribute more
-pub with_attribute-spelled : (message_type transaction_id : ℕ) (attributes : List TypedValue)
+pub with_attribute-spelled_message : (message_type transaction_id : ℕ)
+    (attributes : List TypedValue)
     (attribute : TypedValue)
-    → with_attribute (spelled message_type transaction_id attributes) attribute
-    ≡ spelled message_type transaction_id (attributes ++ attribute ∷ [])
-with_attribute-spelled message_type transaction_id attributes attribute =
+    → with_attribute (spelled_message message_type transaction_id attributes) attribute
+    ≡ spelled_message message_type transaction_id (attributes ++ attribute ∷ [])
+with_attribute-spelled_message message_type transaction_id attributes attribute =
     let behind = spelled_attributes attributes in
     let more : spelled_attributes (attributes ++ attribute ∷ [])
     ≡ behind ++ spelled_attribute attribute =
     flat_map-append spelled_attribute attributes (attribute ∷ [])
     ∙ ap (λ xs. behind ++ xs) (append-nil (spelled_attribute attribute)) in
     let count = length-spelled_attribute attribute in
-    let sum : length_with (spelled message_type transaction_id attributes) (length attribute.value)
+    let sum : length_with (spelled_message message_type transaction_id attributes)
+    (length attribute.value)
     ≡ length (behind ++ spelled_attribute attribute) =
     omega (arith, count, length-append behind (spelled_attribute attribute)) in
     rw (more, sum) refl
 
 -- a message without attributes is open
-pub IsOpen-spelled : (message_type transaction_id : ℕ) → message_type < 2 ^ 14
-    → IsOpen (spelled message_type transaction_id [])
-    × (walk (spelled message_type transaction_id []) ≡ [])
-IsOpen-spelled message_type transaction_id fits =
-    let message = spelled message_type transaction_id [] in
+pub IsOpen-spelled_message : (message_type transaction_id : ℕ) → message_type < 2 ^ 14
+    → IsOpen (spelled_message message_type transaction_id [])
+    × (walk (spelled_message message_type transaction_id []) ≡ [])
+IsOpen-spelled_message message_type transaction_id fits =
+    let message = spelled_message message_type transaction_id [] in
     let written = finds_what_is_written message_type transaction_id [] fits tt (omega arith) in
     let none : walk message ≡ [] = walk_from-end HEADER_LENGTH message refl in (
       record { is_message = written.0; no_integrity = rw none refl; no_fingerprint = rw none refl },

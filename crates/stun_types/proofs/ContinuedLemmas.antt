@@ -13,10 +13,10 @@ use Rattle.stun_types.specs.Attribute.{attribute_length, has_attribute, first_at
 use Rattle.stun_types.specs.Integrity.{deciding, first_of}
 use Rattle.stun_types.specs.Message.{with_length}
 use Rattle.stun_types.specs.Tail.{AgreeUpToIntegrity, IsContinuedAnew, place_behind}
-use Rattle.stun_types.specs.Visible.{counts, visible}
-use Rattle.stun_types.specs.Walk.{Member, taken, walk}
+use Rattle.stun_types.specs.Visible.{is_visible, visible}
+use Rattle.stun_types.specs.Walk.{Member, attributes_length, walk}
 use Rattle.stun_types.proofs.AddingLemmas.{first_attribute-append}
-use Rattle.stun_types.proofs.HiddenLemmas.{Counted, counted_behind, counts-front, decider}
+use Rattle.stun_types.proofs.HiddenLemmas.{Counted, counted_behind, is_visible-front, decider}
 use Rattle.stun_types.proofs.HiddenLemmas.{visible-divided, visible-relengthed, walk-relengthed}
 use Rattle.stun_types.proofs.ReachedLemmas.{Reaches, first_attribute-take, length-front}
 use Rattle.stun_types.proofs.WalkLemmas.{whole_within}
@@ -106,7 +106,7 @@ shared bytes others m reaches same =
     record {
       reaches = record {
         behind = behind;
-        filled = ap (λ ms. HEADER_LENGTH + taken ms) walked ∙ reaches.filled;
+        filled = ap (λ ms. HEADER_LENGTH + attributes_length ms) walked ∙ reaches.filled;
         whole = ap has_attribute (sym parts) ∙ goes_on.0;
         attribute_is = ap first_attribute (sym parts)
             ∙ (goes_on.1
@@ -128,7 +128,7 @@ shared bytes others m reaches same =
 
 -- the member counts in the other message too, after the same attributes
 visible-shared : (bytes others : List ℕ) (m : Member) → Reaches HEADER_LENGTH bytes m
-    → counts (walk bytes) m ≡ true → ShareMember bytes others m
+    → is_visible (walk bytes) m ≡ true → ShareMember bytes others m
     → visible others ≡ visible (take m.0 bytes) ++ m ∷ counted_behind others m
 visible-shared bytes others m reaches counted share =
     let long = length-front reaches in
@@ -139,10 +139,10 @@ visible-shared bytes others m reaches counted share =
     let shown : visible (take m.0 others) ≡ visible (take m.0 bytes) =
     sym (visible-relengthed (take m.0 others) 0 share.long)
     ∙ (ap visible (sym share.before) ∙ visible-relengthed (take m.0 bytes) 0 front_long) in
-    let counted_other : counts (walk others) m ≡ true =
-    counts-front others m m share.reaches (omega arith)
-    ∙ (ap (λ ms. counts ms m) walked
-    ∙ (sym (counts-front bytes m m reaches (omega arith)) ∙ counted)) in
+    let counted_other : is_visible (walk others) m ≡ true =
+    is_visible-front others m m share.reaches (omega arith)
+    ∙ (ap (λ ms. is_visible ms m) walked
+    ∙ (sym (is_visible-front bytes m m reaches (omega arith)) ∙ counted)) in
     visible-divided others m share.reaches counted_other
     ∙ ap (λ ms. ms ++ m ∷ counted_behind others m) shown
 

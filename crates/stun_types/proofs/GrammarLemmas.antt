@@ -12,10 +12,11 @@ use Rattle.byteorder.specs.Endian.{big_bytes}
 use Rattle.byteorder.specs.Numbers.{big_number-reads_back}
 use Rattle.stun_types.specs.Attribute.{TypedValue, padded_length, attribute_length, kind_field}
 use Rattle.stun_types.specs.Attribute.{value_length_field, has_attribute, first_attribute}
-use Rattle.stun_types.specs.Walk.{Member, next_place, walk_up_to, walk_from, taken, attributes_of}
+use Rattle.stun_types.specs.Walk.{Member, next_place, walk_up_to, walk_from, attributes_length}
+use Rattle.stun_types.specs.Walk.{attributes_of}
 use Rattle.stun_types.specs.Grammar.{BeginsWith, type_length_value, AreSpelled, SpellsWhatIsFound}
 use Rattle.stun_types.specs.Grammar.{FindsWhatIsSpelled, spelled_attribute, spelled_attributes}
-use Rattle.stun_types.specs.Grammar.{spelled, IsSpellable, FindsWhatIsWritten}
+use Rattle.stun_types.specs.Grammar.{spelled_message, IsSpellable, FindsWhatIsWritten}
 use Rattle.std.specs.List.{AllByRecursion}
 use Rattle.stun_types.proofs.WalkLemmas.{walk_from-step, walk_from-end}
 use Rattle.stun_types.proofs.HeaderLemmas.{HasFields, is_stun-fields}
@@ -54,14 +55,14 @@ first_padding bytes =
     (drop (value_length_field bytes) (drop 4 bytes))
 
 -- the front is the attribute that is there, its padding, and the others
-pub front-spelled : (bytes : List ℕ) → AreBytes bytes → has_attribute bytes ≡ true →
+pub front-spelled_message : (bytes : List ℕ) → AreBytes bytes → has_attribute bytes ≡ true →
     bytes ≡ type_length_value (first_attribute bytes) ++ first_padding bytes
     ++ drop (attribute_length (length (first_attribute bytes).value)) bytes
-front-spelled [] fits whole = cc
-front-spelled (x ∷ []) fits whole = cc
-front-spelled (x ∷ y ∷ []) fits whole = cc
-front-spelled (x ∷ y ∷ z ∷ []) fits whole = cc
-front-spelled (x ∷ y ∷ z ∷ w ∷ xs) fits whole =
+front-spelled_message [] fits whole = cc
+front-spelled_message (x ∷ []) fits whole = cc
+front-spelled_message (x ∷ y ∷ []) fits whole = cc
+front-spelled_message (x ∷ y ∷ z ∷ []) fits whole = cc
+front-spelled_message (x ∷ y ∷ z ∷ w ∷ xs) fits whole =
     let n = z * 256 + (w * 1 + 0) in
     let long = length-first_value (x ∷ y ∷ z ∷ w ∷ xs) whole in
     let others : drop (attribute_length n) (x ∷ y ∷ z ∷ w ∷ xs) ≡ drop (padded_length n) xs =
@@ -102,7 +103,7 @@ begins_with place bytes fits whole =
     let length_fits = AreBytes-drop 2 front front_fits in
     let behind = drop-drop (attribute_length (length (first_attribute front).value)) place bytes in
     record {
-      spelled = front-spelled front front_fits whole
+      spelled = front-spelled_message front front_fits whole
           ∙ ap (λ rest. type_length_value (first_attribute front) ++ first_padding front ++ rest)
           behind;
       padded = length-first_padding front whole;
@@ -112,7 +113,7 @@ begins_with place bytes fits whole =
 
 -- a walk that reaches the end of the bytes has spelled them
 pub AreSpelled-walk_up_to : (most place : ℕ) (bytes : List ℕ) → AreBytes bytes
-    → place + taken (walk_up_to most place bytes) ≡ length bytes
+    → place + attributes_length (walk_up_to most place bytes) ≡ length bytes
     → AreSpelled (map (λ m. m.1) (walk_up_to most place bytes)) (drop place bytes)
 unfolding walk_up_to
 AreSpelled-walk_up_to zero place bytes fits filled = drop_all place bytes (omega (arith, filled))
@@ -125,7 +126,7 @@ AreSpelled-walk_up_to (suc most) place bytes fits filled =
     (whole ≡ true
     → BeginsWith (first_attribute (drop place bytes)) (first_padding (drop place bytes))
     (drop (next_place place bytes) bytes) (drop place bytes))
-    → place + taken (cond whole (m ∷ others) []) ≡ length bytes
+    → place + attributes_length (cond whole (m ∷ others) []) ≡ length bytes
     → AreSpelled (map (λ n. n.1) (cond whole (m ∷ others) [])) (drop place bytes)) [
       | true ↦ λ at filled. (
         first_padding (drop place bytes),
@@ -169,11 +170,14 @@ read_again attribute padding rest bytes begins =
 walked_again : (attributes : List TypedValue) (place : ℕ) (bytes : List ℕ) → place ≤ length bytes
     → AreSpelled attributes (drop place bytes) →
     (attributes_of (walk_from place bytes) ≡ attributes)
-    × (place + taken (walk_from place bytes) ≡ length bytes)
+    × (place + attributes_length (walk_from place bytes) ≡ length bytes)
 walked_again [] place bytes within spelled =
     let none : has_attribute (drop place bytes) ≡ false = rw spelled refl in
-    let end = walk_from-end place bytes none in
-    (rw end refl, omega (arith, ap taken end, ap length spelled, length-drop place bytes))
+    let end = walk_from-end place bytes none in (
+      rw end refl,
+      omega
+          (arith, ap attributes_length end, ap length spelled, length-drop place bytes),
+    )
 walked_again (attribute ∷ others) place bytes within spelled =
     let again = read_again attribute spelled.0 spelled.1 (drop place bytes) spelled.2 in
     let step = walk_from-step place bytes again.whole in
@@ -190,7 +194,7 @@ walked_again (attribute ∷ others) place bytes within spelled =
     sum_by-cons (λ n. attribute_length (length n.1.value)) m
     (walk_from (next_place place bytes) bytes) in (
       ap attributes_of step ∙ rw (again.attribute_is, ih.0) refl,
-      omega (arith, ap taken step, first, ih.1),
+      omega (arith, ap attributes_length step, first, ih.1),
     )
 
 pub spells_what_is_found : (bytes : List ℕ) → AreBytes bytes → SpellsWhatIsFound bytes
@@ -240,7 +244,7 @@ length-spelled_attributes (attribute ∷ others) =
 pub finds_what_is_written : (message_type transaction_id : ℕ) (attributes : List TypedValue)
     → FindsWhatIsWritten message_type transaction_id attributes
 finds_what_is_written message_type transaction_id attributes type_fits fit length_fits =
-    let bytes = spelled message_type transaction_id attributes in
+    let bytes = spelled_message message_type transaction_id attributes in
     let behind = spelled_attributes attributes in
     let stated : length_field bytes ≡ length behind =
     big_number-reads_back 2 (length behind) (drop 4 bytes) length_fits in

@@ -15,7 +15,7 @@ use Rattle.stun_types.specs.Attribute.{attribute_length, has_attribute, first_at
 use Rattle.stun_types.specs.Integrity.{deciding, first_of}
 use Rattle.stun_types.specs.Message.{with_length}
 use Rattle.stun_types.specs.Tail.{besides_fingerprint, place_behind}
-use Rattle.stun_types.specs.Visible.{before, counts, counts_behind, has_kind, visible}
+use Rattle.stun_types.specs.Visible.{before, is_visible, is_visible_after, has_kind, visible}
 use Rattle.stun_types.specs.Walk.{Member, next_place, walk_up_to, walk_from, walk}
 use Rattle.stun_types.specs.code.Walk.{IsInside}
 use Rattle.stun_types.proofs.IntegrityLemmas.{walk_up_to-within}
@@ -125,31 +125,31 @@ before-front bytes m place reaches earlier =
     ∙ rw (at, behind) (append-nil (before place front)))
 
 -- so whether an attribute up to the member counts is told by these bytes
-pub counts-front : (bytes : List ℕ) (m n : Member) → Reaches HEADER_LENGTH bytes m → n.0 ≤ m.0
-    → counts (walk bytes) n ≡ counts (walk (take m.0 bytes)) n
-counts-front bytes m n reaches earlier =
+pub is_visible-front : (bytes : List ℕ) (m n : Member) → Reaches HEADER_LENGTH bytes m → n.0 ≤ m.0
+    → is_visible (walk bytes) n ≡ is_visible (walk (take m.0 bytes)) n
+is_visible-front bytes m n reaches earlier =
     let same = before-front bytes m n.0 reaches earlier in
-    λ i. counts_behind (has_kind MESSAGE_INTEGRITY (same i))
+    λ i. is_visible_after (has_kind MESSAGE_INTEGRITY (same i))
     (has_kind MESSAGE_INTEGRITY_SHA256 (same i)) (has_kind FINGERPRINT (same i)) n.1.kind
 
 -- what counts behind a member
 abbrev pub counted_behind : List ℕ → Member → List Member
-counted_behind bytes m = filter (counts (walk bytes)) (walk_from (place_behind m) bytes)
+counted_behind bytes m = filter (is_visible (walk bytes)) (walk_from (place_behind m) bytes)
 
 -- what counts: what does of the bytes before a member that counts, the member, and what does behind
 -- it
 pub visible-divided : (bytes : List ℕ) (m : Member) → Reaches HEADER_LENGTH bytes m
-    → counts (walk bytes) m ≡ true
+    → is_visible (walk bytes) m ≡ true
     → visible bytes ≡ visible (take m.0 bytes) ++ m ∷ counted_behind bytes m
 unfolding visible
 visible-divided bytes m reaches counted =
     let front = take m.0 bytes in
-    let test = counts (walk bytes) in
+    let test = is_visible (walk bytes) in
     let long = length-front reaches in
-    let earlier : filter test (walk front) ≡ filter (counts (walk front)) (walk front) =
-    filter-agree (IsInside front) test (counts (walk front)) (walk front)
+    let earlier : filter test (walk front) ≡ filter (is_visible (walk front)) (walk front) =
+    filter-agree (IsInside front) test (is_visible (walk front)) (walk front)
     (walk_up_to-within (length front) HEADER_LENGTH front (omega arith))
-    (λ n within. counts-front bytes m n reaches (omega (arith, within.whole, long))) in
+    (λ n within. is_visible-front bytes m n reaches (omega (arith, within.whole, long))) in
     ap (filter test) (walk-divided bytes m reaches)
     ∙ (filter-append test (walk front) (m ∷ walk_from (place_behind m) bytes)
     ∙ rw (earlier, counted) refl)
@@ -196,7 +196,7 @@ hidden-sha256 bytes m reaches is =
     let rest = walk_from (place_behind m) bytes in
     let later = walk_up_to-reaches (length bytes) (place_behind m) bytes in
     filter-none (Reaches (place_behind m) bytes) (Reaches (place_behind m) bytes)
-    (counts (walk bytes)) (λ n. not (n.1.kind == FINGERPRINT)) rest later later
+    (is_visible (walk bytes)) (λ n. not (n.1.kind == FINGERPRINT)) rest later later
     (λ n reached again shown.
     let there =
     seen bytes m MESSAGE_INTEGRITY_SHA256 n.0 reaches is (omega (arith, reached.behind)) in
@@ -211,7 +211,7 @@ hidden-integrity : (bytes : List ℕ) (m : Member) → Reaches HEADER_LENGTH byt
     → besides_fingerprint (counted_behind bytes m) ≡ []
 hidden-integrity bytes m reaches is none =
     let rest = walk_from (place_behind m) bytes in
-    let test = counts (walk bytes) in
+    let test = is_visible (walk bytes) in
     filter-none (Reaches (place_behind m) bytes)
     (λ n. test n ≡ true → (n.1.kind == MESSAGE_INTEGRITY_SHA256) ≡ false) test
     (λ n. not (n.1.kind == FINGERPRINT)) rest
@@ -229,15 +229,16 @@ hidden-integrity bytes m reaches is none =
 -- a member of a type is reached and counts
 abbrev pub Counted : List ℕ → ℕ → Member → Type 0
 Counted bytes kind m =
-    (Reaches HEADER_LENGTH bytes m × (counts (walk bytes) m ≡ true)) × ((m.1.kind == kind) ≡ true)
+    (Reaches HEADER_LENGTH bytes m × (is_visible (walk bytes) m ≡ true))
+    × ((m.1.kind == kind) ≡ true)
 
 first_of-counted : (kind : ℕ) (bytes : List ℕ)
     → IfSome (first_of kind (visible bytes)) (Counted bytes kind)
 unfolding visible
 first_of-counted kind bytes =
-    found_passing (λ m. Reaches HEADER_LENGTH bytes m × (counts (walk bytes) m ≡ true))
+    found_passing (λ m. Reaches HEADER_LENGTH bytes m × (is_visible (walk bytes) m ≡ true))
     (λ m. m.1.kind == kind) (visible bytes)
-    (passing (Reaches HEADER_LENGTH bytes) (counts (walk bytes)) (walk bytes)
+    (passing (Reaches HEADER_LENGTH bytes) (is_visible (walk bytes)) (walk bytes)
     (walk_up_to-reaches (length bytes) HEADER_LENGTH bytes))
 
 -- of two that may be there, the one that is taken
@@ -261,7 +262,7 @@ decider bytes m decides =
 
 -- besides FINGERPRINT, what counts before the deciding attribute and this one count
 shown_with : (bytes : List ℕ) (m : Member) → Reaches HEADER_LENGTH bytes m
-    → counts (walk bytes) m ≡ true → not (m.1.kind == FINGERPRINT) ≡ true
+    → is_visible (walk bytes) m ≡ true → not (m.1.kind == FINGERPRINT) ≡ true
     → besides_fingerprint (counted_behind bytes m) ≡ [] → besides_fingerprint (visible bytes)
     ≡ besides_fingerprint (visible (take m.0 bytes)) ++ m ∷ []
 shown_with bytes m reaches counted other hidden =
@@ -339,4 +340,5 @@ walk-relengthed (x ∷ y ∷ z ∷ w ∷ bytes) n long =
 pub visible-relengthed : (bytes : List ℕ) (n : ℕ) → 20 ≤ length bytes
     → visible (with_length bytes n) ≡ visible bytes
 unfolding visible
-visible-relengthed bytes n long = ap (λ ms. filter (counts ms) ms) (walk-relengthed bytes n long)
+visible-relengthed bytes n long =
+    ap (λ ms. filter (is_visible ms) ms) (walk-relengthed bytes n long)

@@ -14,8 +14,8 @@ use Rattle.stun_base.specs.Header.{HEADER_LENGTH}
 use Rattle.stun_types.specs.Attribute.{has_attribute, first_attribute}
 use Rattle.stun_types.specs.Walk.{Member, next_place, walk_up_to, walk}
 use Rattle.stun_types.specs.code.Walk.{IsInside}
-use Rattle.stun_types.specs.Visible.{counts, visible}
-use Rattle.stun_types.specs.Integrity.{first_of, deciding, covered}
+use Rattle.stun_types.specs.Visible.{is_visible, visible}
+use Rattle.stun_types.specs.Integrity.{first_of, deciding, covered_bytes}
 use Rattle.stun_types.proofs.WalkLemmas.{whole_within}
 
 -- what holds of each element holds of the one that is found
@@ -56,7 +56,7 @@ pub visible-within : (bytes : List ℕ) → AllByRecursion (IsInside bytes) (vis
 unfolding visible
 visible-within bytes =
     recursion_from_All (IsInside bytes) _
-    (All-filter (counts (walk bytes)) (IsInside bytes) (walk bytes)
+    (All-filter (is_visible (walk bytes)) (IsInside bytes) (walk bytes)
     (All-from_recursion (IsInside bytes) _
     (walk_up_to-within (length bytes) HEADER_LENGTH bytes (omega arith))))
 
@@ -93,7 +93,7 @@ take-header (suc (suc p)) (x ∷ y ∷ bytes) h = refl
 pub covered_pieces : (bytes : List ℕ) (place count : ℕ) → 20 ≤ place
     → concat
     ((take 2 bytes ++ big_bytes 2 (place + 4 + count - 20)) ∷ take (place - 4) (drop 4 bytes) ∷ [])
-    ≡ covered bytes place count
+    ≡ covered_bytes bytes place count
 covered_pieces bytes place count behind =
     let front = take-header place bytes behind in
     let sum : 4 + (place - 4) ≡ place = omega arith in

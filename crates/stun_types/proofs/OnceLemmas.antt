@@ -5,10 +5,11 @@ use Rattle.std.specs.Prelude.{◌||◌, ◌==◌}
 use Rattle.stun_base.specs.Attributes.{MESSAGE_INTEGRITY, MESSAGE_INTEGRITY_SHA256, FINGERPRINT}
 use Rattle.stun_base.specs.Header.{HEADER_LENGTH}
 use Rattle.stun_types.specs.Attribute.{has_attribute, first_attribute}
-use Rattle.stun_types.specs.Visible.{before, counts, counts_behind, has_kind, of_kind, visible}
-use Rattle.stun_types.specs.code.Visible.{visible_from, HasPassed}
+use Rattle.stun_types.specs.Visible.{before, is_visible, is_visible_after, has_kind, of_kind}
+use Rattle.stun_types.specs.Visible.{visible}
+use Rattle.stun_types.specs.code.Visible.{visible_from, HasSeenKinds}
 use Rattle.stun_types.specs.Walk.{Member, next_place, walk}
-use Rattle.stun_types.proofs.VisibleLemmas.{HasPassed-none, HasPassed-step}
+use Rattle.stun_types.proofs.VisibleLemmas.{HasSeenKinds-none, HasSeenKinds-step}
 use Rattle.stun_types.proofs.VisibleLemmas.{has_kind-append, visible_from-end}
 use Rattle.stun_types.proofs.VisibleLemmas.{visible_from-header, visible_from-step}
 use Rattle.stun_types.proofs.WalkLemmas.{before-step, has_attribute-past_end}
@@ -29,13 +30,13 @@ bound true true true m others few first = let no : true ≡ false = first refl r
 
 -- a member of this type counts only where none of the type is before it
 abbrev pub CountsFirst : ℕ → List ℕ → Type 0
-CountsFirst kind bytes = (m : Member) → counts (walk bytes) m ≡ true → (m.1.kind == kind) ≡ true
+CountsFirst kind bytes = (m : Member) → is_visible (walk bytes) m ≡ true → (m.1.kind == kind) ≡ true
     → has_kind kind (before m.0 (walk bytes)) ≡ false
 
 -- from a place on, at most one of such a type counts, and none where one is before
 once_from : (kind most place : ℕ) (bytes : List ℕ) {integrity integrity_sha256 fingerprint : Bool}
     → CountsFirst kind bytes
-    → HasPassed place integrity integrity_sha256 fingerprint bytes → length bytes ≤ place + most
+    → HasSeenKinds place integrity integrity_sha256 fingerprint bytes → length bytes ≤ place + most
     → length (of_kind kind (visible_from place bytes))
     ≤ cond (has_kind kind (before place (walk bytes))) 0 1
 once_from kind zero place bytes first passed past =
@@ -49,7 +50,7 @@ once_from kind (suc most) place bytes first passed past =
     ≤ cond (has_kind kind (before place (walk bytes))) 0 1) [
       | true ↦ λ whole.
           let more =
-          once_from kind most (next_place place bytes) bytes first (HasPassed-step passed whole)
+          once_from kind most (next_place place bytes) bytes first (HasSeenKinds-step passed whole)
           (omega (arith, past)) in
           let seen : has_kind kind (before (next_place place bytes) (walk bytes))
           ≡ (has_kind kind (before place (walk bytes)) || (m.1.kind == kind)) =
@@ -68,8 +69,8 @@ once_from kind (suc most) place bytes first passed past =
           (of_kind kind rest)) [ true ↦ refl | false ↦ refl ] in
           subst (λ ms. length ms ≤ cond (has_kind kind (before place (walk bytes))) 0 1)
           (sym (ap (of_kind kind) (visible_from-step place bytes whole)
-          ∙ split (counts (walk bytes) m)))
-          (bound (counts (walk bytes) m) (m.1.kind == kind)
+          ∙ split (is_visible (walk bytes) m)))
+          (bound (is_visible (walk bytes) m) (m.1.kind == kind)
           (has_kind kind (before place (walk bytes))) m (of_kind kind rest) few (first m))
       | false ↦ λ none. rw (visible_from-end place bytes none) (omega arith)
     ] refl
@@ -79,7 +80,8 @@ once : (kind : ℕ) (bytes : List ℕ) → CountsFirst kind bytes
     → length (of_kind kind (visible bytes)) ≤ 1
 once kind bytes first =
     let from =
-    once_from kind (length bytes) HEADER_LENGTH bytes first (HasPassed-none bytes) (omega arith) in
+    once_from kind (length bytes) HEADER_LENGTH bytes first (HasSeenKinds-none bytes)
+    (omega arith) in
     let seen : (b : Bool) → cond b 0 1 ≤ 1 =
     λ b. elim b as (λ s. cond s 0 1 ≤ 1) [ true ↦ omega arith | false ↦ omega arith ] in
     let few =
@@ -88,30 +90,30 @@ once kind bytes first =
     from in
     omega (arith, few, seen (has_kind kind (before HEADER_LENGTH (walk bytes))))
 
-integrity_first : (i s f : Bool) (kind : ℕ) → counts_behind i s f kind ≡ true
+integrity_first : (i s f : Bool) (kind : ℕ) → is_visible_after i s f kind ≡ true
     → (kind == MESSAGE_INTEGRITY) ≡ true → i ≡ false
 integrity_first false s f kind shown same = refl
 integrity_first true s f kind shown same =
     let is : kind ≡ MESSAGE_INTEGRITY = grind (arith, same) in
-    let hidden : (f s : Bool) → counts_behind true s f MESSAGE_INTEGRITY ≡ false =
-    λ f s. elim f as (λ f. counts_behind true s f MESSAGE_INTEGRITY ≡ false) [
+    let hidden : (f s : Bool) → is_visible_after true s f MESSAGE_INTEGRITY ≡ false =
+    λ f s. elim f as (λ f. is_visible_after true s f MESSAGE_INTEGRITY ≡ false) [
       | true ↦ refl
-      | false ↦ elim s as (λ s. counts_behind true s false MESSAGE_INTEGRITY ≡ false)
+      | false ↦ elim s as (λ s. is_visible_after true s false MESSAGE_INTEGRITY ≡ false)
           [ true ↦ refl | false ↦ refl ]
     ] in
-    let none : true ≡ false = sym shown ∙ (ap (counts_behind true s f) is ∙ hidden f s) in cc
+    let none : true ≡ false = sym shown ∙ (ap (is_visible_after true s f) is ∙ hidden f s) in cc
 
-integrity_sha256_first : (i s f : Bool) (kind : ℕ) → counts_behind i s f kind ≡ true
+integrity_sha256_first : (i s f : Bool) (kind : ℕ) → is_visible_after i s f kind ≡ true
     → (kind == MESSAGE_INTEGRITY_SHA256) ≡ true → s ≡ false
 integrity_sha256_first i false f kind shown same = refl
 integrity_sha256_first i true f kind shown same =
     let is : kind ≡ MESSAGE_INTEGRITY_SHA256 = grind (arith, same) in
-    let hidden : (f : Bool) → counts_behind i true f MESSAGE_INTEGRITY_SHA256 ≡ false =
-    λ f. elim f as (λ f. counts_behind i true f MESSAGE_INTEGRITY_SHA256 ≡ false)
+    let hidden : (f : Bool) → is_visible_after i true f MESSAGE_INTEGRITY_SHA256 ≡ false =
+    λ f. elim f as (λ f. is_visible_after i true f MESSAGE_INTEGRITY_SHA256 ≡ false)
     [ true ↦ refl | false ↦ refl ] in
-    let none : true ≡ false = sym shown ∙ (ap (counts_behind i true f) is ∙ hidden f) in cc
+    let none : true ≡ false = sym shown ∙ (ap (is_visible_after i true f) is ∙ hidden f) in cc
 
-fingerprint_first : (i s f : Bool) (kind : ℕ) → counts_behind i s f kind ≡ true → f ≡ false
+fingerprint_first : (i s f : Bool) (kind : ℕ) → is_visible_after i s f kind ≡ true → f ≡ false
 fingerprint_first i s false kind shown = refl
 fingerprint_first i s true kind shown = cc
 

@@ -8,7 +8,8 @@ use Rattle.std.proofs.lemmas.List.{drop-append-le, drop-take, length-take, lengt
 use Rattle.std.proofs.lemmas.List.Sums.{sum_by-cons}
 use Rattle.stun_base.specs.Header.{HEADER_LENGTH}
 use Rattle.stun_types.specs.Attribute.{attribute_length, has_attribute, first_attribute, kind_field}
-use Rattle.stun_types.specs.Walk.{Member, next_place, walk_up_to, walk_from, walk, taken}
+use Rattle.stun_types.specs.Walk.{Member, next_place, walk_up_to, walk_from, walk}
+use Rattle.stun_types.specs.Walk.{attributes_length}
 use Rattle.stun_types.proofs.AddingLemmas.{walk_up_to-extended}
 use Rattle.stun_types.proofs.GrammarLemmas.{length-first_value}
 use Rattle.stun_types.proofs.WalkLemmas.{has_attribute-past_end, has_attribute-within}
@@ -45,7 +46,7 @@ first_attribute-take (suc (suc (suc (suc n)))) (x ∷ y ∷ z ∷ w ∷ bytes) w
 -- a walk from a place reaches a member: it fills the bytes before it
 pub record Reaches (place : ℕ) (bytes : List ℕ) (m : Member) : Type 0 where
   pub behind : place ≤ m.0
-  pub filled : place + taken (walk_from place (take m.0 bytes)) ≡ m.0
+  pub filled : place + attributes_length (walk_from place (take m.0 bytes)) ≡ m.0
   pub whole : has_attribute (drop m.0 bytes) ≡ true
   pub attribute_is : first_attribute (drop m.0 bytes) ≡ m.1
 
@@ -84,8 +85,8 @@ Reaches-earlier place bytes m whole later =
     ∷ walk_from (next_place place front) front ≡ first ∷ others =
     λ i. (place, attribute_is i)
     ∷ walk_from (place + attribute_length (length (attribute_is i).value)) front in
-    let all : taken (walk_from place front) ≡ taken (first ∷ others) =
-    ap taken (walk_from-step place front here ∙ moved) in
+    let all : attributes_length (walk_from place front) ≡ attributes_length (first ∷ others) =
+    ap attributes_length (walk_from-step place front here ∙ moved) in
     let more = sum_by-cons (λ n. attribute_length (length n.1.value)) first others in
     record {
       behind = omega (arith, behind);

@@ -5,7 +5,7 @@ use Rattle.std.specs.Option.{option_map}
 use Rattle.stun_types.specs.Walk.{walk_up_to}
 use Rattle.stun_types.specs.Visible.{visible}
 use Rattle.stun_types.specs.Message.{refusal}
-use Rattle.stun_types.specs.Integrity.{deciding, covered}
+use Rattle.stun_types.specs.Integrity.{deciding, covered_bytes}
 
 sample : List ℕ
 sample =
@@ -33,13 +33,13 @@ unfolding sample walk_up_to
 refusal-sample = refl
 
 -- the digest covers 76 bytes, with the length field 0x0050
-covered-sample : take 4 (covered sample 76 20) ≡ 0x00 ∷ 0x01 ∷ 0x00 ∷ 0x50 ∷ []
+covered_bytes-sample : take 4 (covered_bytes sample 76 20) ≡ 0x00 ∷ 0x01 ∷ 0x00 ∷ 0x50 ∷ []
 unfolding sample
-covered-sample = refl
+covered_bytes-sample = refl
 
-length-covered-sample : length (covered sample 76 20) ≡ 76
+length-covered_bytes-sample : length (covered_bytes sample 76 20) ≡ 76
 unfolding sample
-length-covered-sample = refl
+length-covered_bytes-sample = refl
 
 deciding-sample : option_map (λ m. m.0) (deciding sample) ≡ Some 76
 unfolding sample visible walk_up_to

@@ -8,11 +8,13 @@ use Rattle.stun_base.specs.Attributes.{MESSAGE_INTEGRITY, MESSAGE_INTEGRITY_SHA2
 use Rattle.stun_base.specs.Header.{HEADER_LENGTH}
 use Rattle.stun_types.specs.Attribute.{TypedValue, has_attribute, first_attribute}
 use Rattle.stun_types.specs.Integrity.{deciding, first_of}
-use Rattle.stun_types.specs.Visible.{counts_behind, counts, visible}
+use Rattle.stun_types.specs.Visible.{is_visible_after, is_visible, visible}
 use Rattle.stun_types.specs.Walk.{Member, next_place, walk_up_to, walk}
-use Rattle.stun_types.specs.code.Visible.{visible_from, HasPassed}
-use Rattle.stun_types.proofs.VisibleLemmas.{StandsAt, HasPassed-none, HasPassed-step, HasPassed-and}
-use Rattle.stun_types.proofs.VisibleLemmas.{counts-passed, visible_from-header, visible_from-end}
+use Rattle.stun_types.specs.code.Visible.{visible_from, HasSeenKinds}
+use Rattle.stun_types.proofs.VisibleLemmas.{StandsAt, HasSeenKinds-none, HasSeenKinds-step}
+use Rattle.stun_types.proofs.VisibleLemmas.{HasSeenKinds-and}
+use Rattle.stun_types.proofs.VisibleLemmas.{is_visible-passed, visible_from-header}
+use Rattle.stun_types.proofs.VisibleLemmas.{visible_from-end}
 use Rattle.stun_types.proofs.VisibleLemmas.{visible_from-step, visible_from-shown}
 
 -- ---- what is shown behind more
@@ -51,10 +53,10 @@ in_threes true false true b' false c' = refl
 in_threes true false false b' c c' = refl
 
 -- a type counts behind attributes and others where it counts behind each
-pub counts_behind-or : (i s f a b c : Bool) (kind : ℕ)
-    → counts_behind (i || a) (s || b) (f || c) kind
-    ≡ (counts_behind i s f kind && counts_behind a b c kind)
-counts_behind-or i s f a b c kind =
+pub is_visible_after-or : (i s f a b c : Bool) (kind : ℕ)
+    → is_visible_after (i || a) (s || b) (f || c) kind
+    ≡ (is_visible_after i s f kind && is_visible_after a b c kind)
+is_visible_after-or i s f a b c kind =
     let x = (kind == FINGERPRINT) in
     let y = (kind == MESSAGE_INTEGRITY_SHA256) in
     (λ j. not-or f c j && unless-or s b x j && unless-or_either i a y x j)
@@ -81,17 +83,17 @@ first_of-past sought {place} {behind = behind} {bytes = bytes} stands other =
     let on : first_of sought rest ≡ first_of sought (visible_from behind bytes) =
     rw (stands.behind_is, stands.attribute_is) refl in
     ap (first_of sought) (visible_from-step place bytes stands.whole)
-    ∙ (either (counts (walk bytes) m) ∙ on)
+    ∙ (either (is_visible (walk bytes) m) ∙ on)
 
 -- one of the type is it, where it counts
 pub first_of-here : (sought : ℕ) {place kind behind : ℕ} {i s f : Bool}
     {bytes : List ℕ} {attribute : TypedValue}
-    → HasPassed place i s f bytes → StandsAt place bytes attribute kind behind
-    → (kind == sought) ≡ true → counts_behind i s f sought ≡ true
+    → HasSeenKinds place i s f bytes → StandsAt place bytes attribute kind behind
+    → (kind == sought) ≡ true → is_visible_after i s f sought ≡ true
     → first_of sought (visible_from place bytes) ≡ Some (place, attribute)
 first_of-here sought {kind = kind} {i = i} {s} {f} passed stands same shown =
     let is : kind ≡ sought = eqb-true kind sought same in
-    let counted : counts_behind i s f kind ≡ true = ap (counts_behind i s f) is ∙ shown in
+    let counted : is_visible_after i s f kind ≡ true = ap (is_visible_after i s f) is ∙ shown in
     let found = rw stands.kind_is at same in
     ap (first_of sought) (visible_from-shown passed stands counted) ∙ rw found refl
 
@@ -113,24 +115,24 @@ skipped sought test m others hidden rest =
     ] hidden
 
 shut : (most place : ℕ) (bytes : List ℕ) (sought : ℕ) (i s f : Bool)
-    → HasPassed place i s f bytes → counts_behind i s f sought ≡ false
-    → first_of sought (filter (counts (walk bytes)) (walk_up_to most place bytes)) ≡ None
+    → HasSeenKinds place i s f bytes → is_visible_after i s f sought ≡ false
+    → first_of sought (filter (is_visible (walk bytes)) (walk_up_to most place bytes)) ≡ None
 unfolding walk_up_to
 shut zero place bytes sought i s f passed hidden = refl
 shut (suc most) place bytes sought i s f passed hidden =
-    let test = counts (walk bytes) in
+    let test = is_visible (walk bytes) in
     let m : Member = (place, first_attribute (drop place bytes)) in
     let kind = m.1.kind in
     let others : List Member = walk_up_to most (next_place place bytes) bytes in
-    let still : (a b c : Bool) → counts_behind (i || a) (s || b) (f || c) sought ≡ false =
-    λ a b c. counts_behind-or i s f a b c sought ∙ rw hidden refl in
+    let still : (a b c : Bool) → is_visible_after (i || a) (s || b) (f || c) sought ≡ false =
+    λ a b c. is_visible_after-or i s f a b c sought ∙ rw hidden refl in
     let uncounted : (kind == sought) ≡ true → test m ≡ false =
-    λ same. counts-passed passed
-    ∙ (ap (counts_behind i s f) (eqb-true kind sought same) ∙ hidden) in
+    λ same. is_visible-passed passed
+    ∙ (ap (is_visible_after i s f) (eqb-true kind sought same) ∙ hidden) in
     elim (has_attribute (drop place bytes)) as (λ whole. has_attribute (drop place bytes) ≡ whole
     → first_of sought (filter test (cond whole (m ∷ others) [])) ≡ None) [
       | true ↦ λ whole. skipped sought test m others uncounted
-          (shut most (next_place place bytes) bytes sought _ _ _ (HasPassed-step passed whole)
+          (shut most (next_place place bytes) bytes sought _ _ _ (HasSeenKinds-step passed whole)
           (still (kind == MESSAGE_INTEGRITY) (kind == MESSAGE_INTEGRITY_SHA256)
           (kind == FINGERPRINT)))
       | false ↦ λ none. refl
@@ -138,7 +140,7 @@ shut (suc most) place bytes sought i s f passed hidden =
 
 -- none of a type is found behind what hides it
 pub first_of-shut : {place : ℕ} {i s f : Bool} {bytes : List ℕ} (sought : ℕ)
-    → HasPassed place i s f bytes → counts_behind i s f sought ≡ false
+    → HasSeenKinds place i s f bytes → is_visible_after i s f sought ≡ false
     → first_of sought (visible_from place bytes) ≡ None
 unfolding visible_from
 first_of-shut {place} {i} {s} {f} {bytes} sought passed hidden =
@@ -149,7 +151,7 @@ first_of-shut {place} {i} {s} {f} {bytes} sought passed hidden =
 -- whether one type is shown behind an attribute of another
 abbrev pub shows : ℕ → ℕ → Bool
 shows kind sought =
-    counts_behind (kind == MESSAGE_INTEGRITY) (kind == MESSAGE_INTEGRITY_SHA256)
+    is_visible_after (kind == MESSAGE_INTEGRITY) (kind == MESSAGE_INTEGRITY_SHA256)
     (kind == FINGERPRINT) sought
 
 -- it is not before a place, and nothing before the place hides it
@@ -157,8 +159,8 @@ pub record IsSought (sought place : ℕ) (bytes : List ℕ) : Type 0 where
   pub integrity : Bool
   pub integrity_sha256 : Bool
   pub fingerprint : Bool
-  pub passed : HasPassed place integrity integrity_sha256 fingerprint bytes
-  pub shown : counts_behind integrity integrity_sha256 fingerprint sought ≡ true
+  pub passed : HasSeenKinds place integrity integrity_sha256 fingerprint bytes
+  pub shown : is_visible_after integrity integrity_sha256 fingerprint sought ≡ true
   pub left : first_of sought (visible bytes) ≡ first_of sought (visible_from place bytes)
 
 pub IsSought-header : (sought : ℕ) (bytes : List ℕ) → IsSought sought HEADER_LENGTH bytes
@@ -166,7 +168,7 @@ IsSought-header sought bytes = record {
   integrity = false;
   integrity_sha256 = false;
   fingerprint = false;
-  passed = HasPassed-none bytes;
+  passed = HasSeenKinds-none bytes;
   shown = refl;
   left = ap (first_of sought) (sym (visible_from-header bytes));
 }
@@ -180,12 +182,12 @@ IsSought-found {sought} so stands same =
 
 -- what is shown behind one attribute more
 shown-and : {sought place : ℕ} {bytes : List ℕ} (so : IsSought sought place bytes) (kind : ℕ)
-    → counts_behind (so.integrity || (kind == MESSAGE_INTEGRITY))
+    → is_visible_after (so.integrity || (kind == MESSAGE_INTEGRITY))
     (so.integrity_sha256 || (kind == MESSAGE_INTEGRITY_SHA256))
     (so.fingerprint || (kind == FINGERPRINT)) sought
     ≡ shows kind sought
 shown-and {sought} so kind =
-    counts_behind-or so.integrity so.integrity_sha256 so.fingerprint (kind == MESSAGE_INTEGRITY)
+    is_visible_after-or so.integrity so.integrity_sha256 so.fingerprint (kind == MESSAGE_INTEGRITY)
     (kind == MESSAGE_INTEGRITY_SHA256) (kind == FINGERPRINT) sought
     ∙ (λ j. so.shown j && shows kind sought)
 
@@ -198,7 +200,7 @@ IsSought-past {sought} {kind = kind} so stands other shown = record {
   integrity = so.integrity || (kind == MESSAGE_INTEGRITY);
   integrity_sha256 = so.integrity_sha256 || (kind == MESSAGE_INTEGRITY_SHA256);
   fingerprint = so.fingerprint || (kind == FINGERPRINT);
-  passed = HasPassed-and so.passed stands refl refl refl;
+  passed = HasSeenKinds-and so.passed stands refl refl refl;
   shown = shown-and so kind ∙ shown;
   left = so.left ∙ first_of-past sought stands other;
 }
@@ -209,7 +211,7 @@ pub IsSought-hidden : {sought place kind behind : ℕ}
     → IsSought sought place bytes → StandsAt place bytes attribute kind behind
     → (kind == sought) ≡ false → shows kind sought ≡ false → first_of sought (visible bytes) ≡ None
 IsSought-hidden {sought} {kind = kind} so stands other hidden =
-    let all = HasPassed-and so.passed stands refl refl refl in
+    let all = HasSeenKinds-and so.passed stands refl refl refl in
     so.left
     ∙ (first_of-past sought stands other ∙ first_of-shut sought all (shown-and so kind ∙ hidden))
 
@@ -232,17 +234,17 @@ decides weaker members =
 
 -- the weaker one was passed at this place, or not, and nothing else that hides one that decides
 pub record IsUndecided (weaker : Option ℕ) (place : ℕ) (bytes : List ℕ) : Type 0 where
-  pub passed : HasPassed place (is_some weaker) false false bytes
+  pub passed : HasSeenKinds place (is_some weaker) false false bytes
   pub left : deciding bytes ≡ decides (member_at bytes weaker) (visible_from place bytes)
 
 pub IsUndecided-header : (bytes : List ℕ) → IsUndecided None HEADER_LENGTH bytes
 IsUndecided-header bytes = record {
-  passed = HasPassed-none bytes;
+  passed = HasSeenKinds-none bytes;
   left = ap (decides None) (sym (visible_from-header bytes));
 }
 
 stronger_counts : (integrity : Bool)
-    → counts_behind integrity false false MESSAGE_INTEGRITY_SHA256 ≡ true
+    → is_visible_after integrity false false MESSAGE_INTEGRITY_SHA256 ≡ true
 stronger_counts true = refl
 stronger_counts false = refl
 
@@ -283,7 +285,7 @@ pub IsUndecided-fingerprint : {weaker : Option ℕ} {place kind behind : ℕ}
     → (kind == FINGERPRINT) ≡ true → deciding bytes ≡ member_at bytes weaker
 IsUndecided-fingerprint {kind = kind} so stands same =
     let is : kind ≡ FINGERPRINT = eqb-true kind FINGERPRINT same in
-    let all = HasPassed-and so.passed stands refl refl (sym same) in
+    let all = HasSeenKinds-and so.passed stands refl refl (sym same) in
     let no_stronger = first_of-shut MESSAGE_INTEGRITY_SHA256 all refl in
     let no_weaker = first_of-shut MESSAGE_INTEGRITY all refl in
     unless_found so (first_of-past MESSAGE_INTEGRITY_SHA256 stands (rw is refl) ∙ no_stronger)
@@ -304,7 +306,7 @@ IsUndecided-other {weaker} {kind = kind} {bytes = bytes} so stands no_stronger n
     let stronger = first_of-past MESSAGE_INTEGRITY_SHA256 stands no_stronger in
     let weak = first_of-past MESSAGE_INTEGRITY stands no_weaker in
     record {
-      passed = HasPassed-and so.passed stands unchanged (sym no_stronger) (sym no_print);
+      passed = HasSeenKinds-and so.passed stands unchanged (sym no_stronger) (sym no_print);
       left = so.left ∙ (λ j. option_or (stronger j) (option_or (member_at bytes weaker) (weak j)));
     }
 
@@ -323,7 +325,7 @@ IsUndecided-weaker {place = place} {bytes = bytes} undecided stands no_stronger 
     ∙ ap (λ attribute. Some (place, attribute)) stands.attribute_is in
     let stronger = first_of-past MESSAGE_INTEGRITY_SHA256 stands no_stronger in
     record {
-      passed = HasPassed-and so.passed stands (sym same) (sym no_stronger) (sym no_print);
+      passed = HasSeenKinds-and so.passed stands (sym same) (sym no_stronger) (sym no_print);
       left = so.left ∙ (λ j. option_or (stronger j) (here j));
     }
 
@@ -342,6 +344,6 @@ IsUndecided-again {weaker} {place} {behind = behind} {bytes} so stands no_strong
     by (Some earlier) so passed =
         let stronger = first_of-past MESSAGE_INTEGRITY_SHA256 stands no_stronger in
         record {
-          passed = HasPassed-and so.passed stands refl (sym no_stronger) (sym no_print);
+          passed = HasSeenKinds-and so.passed stands refl (sym no_stronger) (sym no_print);
           left = so.left ∙ (λ j. option_or (stronger j) (member_at bytes (Some earlier)));
         }

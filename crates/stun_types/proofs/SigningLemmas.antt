@@ -14,7 +14,7 @@ use Rattle.stun_base.specs.Attributes.{MESSAGE_INTEGRITY, MESSAGE_INTEGRITY_SHA2
 use Rattle.stun_base.specs.declared.keys.algorithm.IntegrityAlgorithm.{IntegrityAlgorithm}
 use Rattle.stun_base.specs.declared.keys.algorithm.IntegrityAlgorithm.TheVariants.{Sha1, Sha256}
 use Rattle.stun_types.specs.Grammar.{spelled_attribute}
-use Rattle.stun_types.specs.Integrity.{integrity_algorithm, covered, deciding}
+use Rattle.stun_types.specs.Integrity.{integrity_algorithm, covered_bytes, deciding}
 use Rattle.stun_types.specs.Integrity.{first_of, is_digest, verified_at, verified_by}
 use Rattle.stun_types.specs.Message.{with_length}
 use Rattle.stun_types.specs.Visible.{visible}
@@ -67,10 +67,10 @@ find_none test (x ∷ xs) none =
     rw (parts.0, find_none test xs parts.1) refl
 
 -- what the attribute at the end covers is the same once it is there
-covered-again : (message tail : List ℕ) (raised count : ℕ) → 20 ≤ length message
-    → covered (with_length message raised ++ tail) (length message) count
-    ≡ covered message (length message) count
-covered-again message tail raised count long =
+covered_bytes-again : (message tail : List ℕ) (raised count : ℕ) → 20 ≤ length message
+    → covered_bytes (with_length message raised ++ tail) (length message) count
+    ≡ covered_bytes message (length message) count
+covered_bytes-again message tail raised count long =
     let n = length message + 4 + count - 20 in
     let front : take (length message) (with_length message raised ++ tail)
     ≡ with_length message raised =
@@ -118,13 +118,13 @@ same xs = nat_list_eq_equiv.refl xs
 -- a whole value that is the digest of what it covers is found to be
 is_digest-equal : (bytes key : List ℕ) (m : Member)
     → length m.1.value ≡ digest_length (integrity_algorithm m.1)
-    → m.1.value ≡ digest (integrity_algorithm m.1) key (covered bytes m.0 (length m.1.value))
+    → m.1.value ≡ digest (integrity_algorithm m.1) key (covered_bytes bytes m.0 (length m.1.value))
     → is_digest bytes key m ≡ true
 is_digest-equal bytes key m whole equal =
     let long : (length m.1.value == digest_length (integrity_algorithm m.1)) ≡ true =
     grind (arith, whole) in
     let matches : pointwise nat_eq m.1.value
-    (digest (integrity_algorithm m.1) key (covered bytes m.0 (length m.1.value))) ≡ true =
+    (digest (integrity_algorithm m.1) key (covered_bytes bytes m.0 (length m.1.value))) ≡ true =
     ap (λ v. pointwise nat_eq m.1.value v) (sym equal) ∙ same m.1.value in
     rw (long, matches) refl
 
@@ -132,13 +132,13 @@ is_digest-equal bytes key m whole equal =
 covers-signed : (message : List ℕ) (algorithm : IntegrityAlgorithm) (key : List ℕ)
     → 20 ≤ length message
     → covered_at_end message algorithm
-    ≡ covered (with_integrity message algorithm key) (length message)
+    ≡ covered_bytes (with_integrity message algorithm key) (length message)
     (length (integrity_attribute message algorithm key).value)
 covers-signed message algorithm key long =
     let attribute = integrity_attribute message algorithm key in
     let count = length-digest algorithm key (covered_at_end message algorithm) in
-    ap (covered message (length message)) (sym count)
-    ∙ sym (covered-again message (spelled_attribute attribute)
+    ap (covered_bytes message (length message)) (sym count)
+    ∙ sym (covered_bytes-again message (spelled_attribute attribute)
     (length_with message (length attribute.value)) (length attribute.value) long)
 
 -- the digest that was written verifies

@@ -6,7 +6,7 @@ use Rattle.std.specs.Option.{option_or, option_and_then}
 use Rattle.std.proofs.lemmas.List.{length-take-le}
 use Rattle.stun_base.specs.Attributes.{MESSAGE_INTEGRITY, MESSAGE_INTEGRITY_SHA256}
 use Rattle.stun_base.specs.declared.keys.algorithm.IntegrityAlgorithm.{IntegrityAlgorithm}
-use Rattle.stun_types.specs.Integrity.{covered, deciding, first_of, verified_at, verified_by}
+use Rattle.stun_types.specs.Integrity.{covered_bytes, deciding, first_of, verified_at, verified_by}
 use Rattle.stun_types.specs.Message.{with_length}
 use Rattle.stun_types.specs.Visible.{visible}
 use Rattle.stun_types.specs.Walk.{Member}
@@ -34,11 +34,11 @@ long_before bytes m decides =
     omega (arith, long, within.behind_header)
 
 -- where the length field alone differs before it, the same is covered
-covered-same : (bytes others : List ℕ) (m : Member) (count : ℕ) → 20 ≤ length (take m.0 bytes)
+covered_bytes-same : (bytes others : List ℕ) (m : Member) (count : ℕ) → 20 ≤ length (take m.0 bytes)
     → 20 ≤ length (take m.0 others)
     → with_length (take m.0 bytes) 0 ≡ with_length (take m.0 others) 0
-    → covered bytes m.0 count ≡ covered others m.0 count
-covered-same bytes others m count long other_long same =
+    → covered_bytes bytes m.0 count ≡ covered_bytes others m.0 count
+covered_bytes-same bytes others m count long other_long same =
     let n = m.0 + 4 + count - 20 in
     sym (with_length-again (take m.0 bytes) 0 n long)
     ∙ (ap (λ xs. with_length xs n) same ∙ with_length-again (take m.0 others) 0 n other_long)
@@ -50,7 +50,7 @@ pub verified_by-tail : (keys : IntegrityAlgorithm → List ℕ) (bytes others : 
     → verified_by keys bytes ≡ verified_by keys others
 verified_by-tail keys bytes others m decides other_decides same =
     let covers =
-    covered-same bytes others m (length m.1.value) (long_before bytes m decides)
+    covered_bytes-same bytes others m (length m.1.value) (long_before bytes m decides)
     (long_before others m other_decides) same in
     ap (option_and_then (verified_at keys bytes)) decides
     ∙ (rw covers refl ∙ sym (ap (option_and_then (verified_at keys others)) other_decides))

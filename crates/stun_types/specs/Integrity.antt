@@ -1,7 +1,7 @@
 -- Whether the keyed digest of a message verifies (RFC 8489, sections 14.5, 14.6 and 9.2.4).
 use Rattle.std.specs.Prelude.{ℕ, ◌+◌, ◌-◌, ◌%◌, Bool, List, length, take, find, nat_eq}
 use Rattle.std.specs.Prelude.{nat_le, ◌==◌, ◌&&◌, ◌||◌, Option, Some, None, if◌then◌else◌}
-use Rattle.std.specs.Option.{option_or, option_and_then}
+use Rattle.std.specs.Option.{option_and_then, option_map, option_or}
 use Rattle.std.specs.Cmp.Lexicographic.{pointwise}
 use Rattle.stun_base.specs.declared.wire.error.StunParseError.TheVariants.{MissingAttribute}
 use Rattle.stun_base.specs.declared.wire.error.StunParseError.TheVariants.{InvalidAttributeData}
@@ -30,20 +30,24 @@ deciding bytes =
 -- what an integrity attribute at a place covers, with a value of so many bytes (sections 14.5 and
 -- 14.6). It is the bytes before the attribute, with the length field of a message that ends after
 -- it
-abbrev pub covered : List ℕ → ℕ → ℕ → List ℕ
-covered bytes place count =
+abbrev pub covered_bytes : List ℕ → ℕ → ℕ → List ℕ
+covered_bytes bytes place count =
     with_length (take place bytes) (place + ATTRIBUTE_HEADER_LENGTH + count - HEADER_LENGTH)
 
 -- the algorithm of an integrity attribute
 abbrev pub integrity_algorithm : TypedValue → IntegrityAlgorithm
 integrity_algorithm attribute = if attribute.kind == MESSAGE_INTEGRITY_SHA256 then Sha256 else Sha1
 
+-- the algorithm of the attribute whose digest decides
+abbrev pub deciding_algorithm : List ℕ → Option IntegrityAlgorithm
+deciding_algorithm bytes = option_map (λ m. integrity_algorithm m.1) (deciding bytes)
+
 -- whether the value of a member is the whole digest of what it covers, under a key
 abbrev pub is_digest : List ℕ → List ℕ → Member → Bool
 is_digest bytes key m =
     (length m.1.value == digest_length (integrity_algorithm m.1))
     && pointwise nat_eq m.1.value
-    (digest (integrity_algorithm m.1) key (covered bytes m.0 (length m.1.value)))
+    (digest (integrity_algorithm m.1) key (covered_bytes bytes m.0 (length m.1.value)))
 
 -- the algorithm of a member, if its value is the digest under the key for that algorithm
 abbrev pub verified_at : (IntegrityAlgorithm → List ℕ) → List ℕ → Member → Option IntegrityAlgorithm
@@ -80,10 +84,11 @@ is_integrity attribute =
     && is_well_formed attribute
 
 -- why no digest verifies, by the deciding member
-abbrev pub refusal_of : Option Member → ValidateError
-refusal_of None = Parse (MissingAttribute (record { 0 = MESSAGE_INTEGRITY }))
-refusal_of (Some m) = if is_well_formed m.1 then IntegrityFailed else Parse InvalidAttributeData
+abbrev pub deciding_refusal : Option Member → ValidateError
+deciding_refusal None = Parse (MissingAttribute (record { 0 = MESSAGE_INTEGRITY }))
+deciding_refusal (Some m) =
+    if is_well_formed m.1 then IntegrityFailed else Parse InvalidAttributeData
 
 -- why no digest of a message verifies
 abbrev pub integrity_refusal : List ℕ → ValidateError
-integrity_refusal bytes = refusal_of (deciding bytes)
+integrity_refusal bytes = deciding_refusal (deciding bytes)

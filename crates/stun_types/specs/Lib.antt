@@ -44,5 +44,5 @@ pub mod ErrorCodeLaws
 pub mod XorMappedAddressLaws
 -- laws: which attributes are equal
 pub mod Equality
--- what no clause of a public call says: codings of models, views of structs, steps of the code
+-- what no clause of a public call cites: codings of models, views of structs, steps of the code
 pub mod code

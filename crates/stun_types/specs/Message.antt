@@ -5,7 +5,7 @@ use Rattle.byteorder.specs.Endian.{big_bytes}
 use Rattle.stun_base.specs.declared.wire.error.StunParseError.{StunParseError}
 use Rattle.stun_base.specs.declared.wire.error.StunParseError.TheVariants.{Truncated, TooLarge}
 use Rattle.stun_base.specs.Header.{HEADER_LENGTH, BeginsWithHeader, header_refusal, length_field}
-use Rattle.stun_types.specs.Walk.{walk, taken}
+use Rattle.stun_types.specs.Walk.{walk, attributes_length}
 pub use Rattle.stun_types.specs.Limits.{LENGTH_LIMIT}
 
 -- the bytes with the length field of their header set
@@ -16,21 +16,21 @@ with_length bytes n = take 2 bytes ++ big_bytes 2 n ++ drop 4 bytes
 pub record IsMessage (bytes : List ℕ) : Type 0 where
   pub header : BeginsWithHeader bytes
   pub stated : HEADER_LENGTH + length_field bytes ≡ length bytes
-  pub filled : HEADER_LENGTH + taken (walk bytes) ≡ length bytes
+  pub filled : HEADER_LENGTH + attributes_length (walk bytes) ≡ length bytes
 
 -- why bytes after a right header are no message
 abbrev pub data_refusal : List ℕ → Option StunParseError
 data_refusal bytes =
     if nat_lt (length bytes) (HEADER_LENGTH + length_field bytes) then Some Truncated
     else if nat_lt (HEADER_LENGTH + length_field bytes) (length bytes) then Some TooLarge
-    else if HEADER_LENGTH + taken (walk bytes) == length bytes then None
+    else if HEADER_LENGTH + attributes_length (walk bytes) == length bytes then None
     else Some Truncated
 
 -- the first of `first`, and where it is none of `second`
-abbrev pub first_refusal : Option StunParseError → Option StunParseError → Option StunParseError
-first_refusal (Some error) second = Some error
-first_refusal None second = second
+abbrev pub either_refusal : Option StunParseError → Option StunParseError → Option StunParseError
+either_refusal (Some error) second = Some error
+either_refusal None second = second
 
 -- why bytes are no message: what is wrong with the header comes first
 abbrev pub refusal : List ℕ → Option StunParseError
-refusal bytes = first_refusal (header_refusal bytes) (data_refusal bytes)
+refusal bytes = either_refusal (header_refusal bytes) (data_refusal bytes)

@@ -19,19 +19,19 @@ abbrev pub before : ℕ → List Member → List Member
 before place members = filter (λ m. nat_lt m.0 place) members
 
 -- whether an attribute of a type is visible, by which of the three types come before it
-abbrev pub counts_behind : Bool → Bool → Bool → ℕ → Bool
-counts_behind integrity integrity_sha256 fingerprint kind =
+abbrev pub is_visible_after : Bool → Bool → Bool → ℕ → Bool
+is_visible_after integrity integrity_sha256 fingerprint kind =
     not fingerprint
     && (not integrity_sha256 || (kind == FINGERPRINT))
     && (not integrity || (kind == MESSAGE_INTEGRITY_SHA256) || (kind == FINGERPRINT))
 
 -- whether a member is visible after the members before it
-abbrev pub counts : List Member → Member → Bool
-counts members m =
-    counts_behind (has_kind MESSAGE_INTEGRITY (before m.0 members))
+abbrev pub is_visible : List Member → Member → Bool
+is_visible members m =
+    is_visible_after (has_kind MESSAGE_INTEGRITY (before m.0 members))
     (has_kind MESSAGE_INTEGRITY_SHA256 (before m.0 members))
     (has_kind FINGERPRINT (before m.0 members)) m.1.kind
 
 -- the visible attributes of a message
 unfoldable pub visible : List ℕ → List Member
-visible bytes = filter (counts (walk bytes)) (walk bytes)
+visible bytes = filter (is_visible (walk bytes)) (walk bytes)

@@ -10,13 +10,13 @@ use Rattle.stun_base.specs.declared.keys.algorithm.IntegrityAlgorithm.{Integrity
 use Rattle.stun_base.specs.declared.keys.algorithm.IntegrityAlgorithm.TheVariants.{Sha1, Sha256}
 use Rattle.stun_base.specs.declared.wire.error.StunWriteError.{StunWriteError}
 use Rattle.stun_base.specs.declared.wire.message_type.MessageClass.{MessageClass}
-use Rattle.stun_base.specs.declared.wire.error.StunWriteError.TheVariants.{NotAllowed}
+use Rattle.stun_base.specs.declared.wire.error.StunWriteError.TheVariants.{NotAllowed, TooLarge}
 use Rattle.stun_base.specs.declared.wire.error.StunWriteError.TheVariants.{MessageIntegrityExists}
-use Rattle.stun_base.specs.declared.wire.error.StunWriteError.TheVariants.{AttributeExists, OutOfMemory}
-use Rattle.stun_base.specs.declared.wire.error.StunWriteError.TheVariants.{TooLarge, TooSmall}
+use Rattle.stun_base.specs.declared.wire.error.StunWriteError.TheVariants.{AttributeExists}
+use Rattle.stun_base.specs.declared.wire.error.StunWriteError.TheVariants.{OutOfMemory, TooSmall}
 use Rattle.stun_types.specs.Attribute.{TypedValue, attribute_length}
-use Rattle.stun_types.specs.Grammar.{spelled, spelled_attribute}
-use Rattle.stun_types.specs.Integrity.{covered, verified_by}
+use Rattle.stun_types.specs.Grammar.{spelled_message, spelled_attribute}
+use Rattle.stun_types.specs.Integrity.{covered_bytes, verified_by}
 use Rattle.stun_types.specs.Message.{IsMessage, with_length}
 use Rattle.stun_types.specs.Visible.{has_kind, visible}
 use Rattle.stun_types.specs.Walk.{walk}
@@ -39,7 +39,7 @@ integrity_kind Sha256 = MESSAGE_INTEGRITY_SHA256
 
 -- what an integrity attribute at the end of a message covers
 abbrev pub covered_at_end : List ℕ → IntegrityAlgorithm → List ℕ
-covered_at_end message algorithm = covered message (length message) (digest_length algorithm)
+covered_at_end message algorithm = covered_bytes message (length message) (digest_length algorithm)
 
 -- the integrity attribute at the end of a message: its value is the digest of what it covers
 -- (sections 14.5 and 14.6)
@@ -132,12 +132,12 @@ VerifiesAfter before after algorithm key =
 -- a spelled message is spelled with one attribute more after the call
 abbrev pub SpellsOneMore : List ℕ → List ℕ → TypedValue → Type 0
 SpellsOneMore before after attribute =
-    (kind id : ℕ) (list : List TypedValue) → before ≡ spelled kind id list
-    → after ≡ spelled kind id (list ++ attribute ∷ [])
+    (kind id : ℕ) (list : List TypedValue) → before ≡ spelled_message kind id list
+    → after ≡ spelled_message kind id (list ++ attribute ∷ [])
 
 -- a message of a class and a method, without attributes
 abbrev pub empty_message : MessageClass → ℕ → ℕ → List ℕ
-empty_message class method id = spelled (type_number class method) id []
+empty_message class method id = spelled_message (type_number class method) id []
 
 -- a message of a class that answers another, with its method and id and without attributes
 abbrev pub empty_answer : MessageClass → List ℕ → List ℕ

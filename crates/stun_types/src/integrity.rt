@@ -11,7 +11,8 @@ ghost use Rattle.stun_types.specs.Attribute.{ATTRIBUTE_HEADER_LENGTH as attribut
 ghost use Rattle.stun_types.specs.Visible.{visible};
 ghost use Rattle.stun_types.specs.code.Walk.{IsInside};
 ghost use Rattle.stun_types.specs.Integrity.{first_of as first_member_of, integrity_algorithm};
-ghost use Rattle.stun_types.specs.Integrity.{deciding, is_digest, is_integrity, is_well_formed};
+ghost use Rattle.stun_types.specs.Integrity.{deciding, deciding_algorithm, is_digest};
+ghost use Rattle.stun_types.specs.Integrity.{is_integrity, is_well_formed};
 ghost use Rattle.stun_types.specs.Integrity.{verified_algorithm, verified_by, integrity_refusal};
 
 pub(crate) mod digest_key;
@@ -53,6 +54,18 @@ fn integrity_algorithm(attribute: &RawAttribute<'_>) -> IntegrityAlgorithm
     } else {
         IntegrityAlgorithm::Sha1
     }
+}
+
+/// The algorithm of the attribute whose digest decides whether these bytes of a message verify:
+/// that of the first visible MESSAGE-INTEGRITY-SHA256, or without one that of the first visible
+/// MESSAGE-INTEGRITY (RFC 8489, sections 14.5 and 14.6). It looks at no value, and does not
+/// allocate.
+pub fn deciding_algorithm(bytes: &[u8]) -> Option<IntegrityAlgorithm>
+    ensures { result ≡ deciding_algorithm bytes.now }
+{
+    let place = deciding_place(bytes)?;
+    let attribute = RawAttribute::at(bytes, place)?;
+    Some(integrity_algorithm(&attribute))
 }
 
 /// Whether the value of an integrity attribute has a length of its type. A SHA-256 digest may be

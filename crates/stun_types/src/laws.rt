@@ -9,7 +9,7 @@ ghost use Rattle.stun_base.specs.Attributes.{FINGERPRINT, MESSAGE_INTEGRITY};
 ghost use Rattle.stun_base.specs.Attributes.{MESSAGE_INTEGRITY_SHA256};
 ghost use Rattle.stun_base.specs.Header.{transaction_id_field, type_field};
 ghost use Rattle.stun_types.specs.Attribute.{TypedValue};
-ghost use Rattle.stun_types.specs.Grammar.{spelled, SpellsWhatIsFound};
+ghost use Rattle.stun_types.specs.Grammar.{spelled_message, SpellsWhatIsFound};
 ghost use Rattle.stun_types.specs.Grammar.{FindsWhatIsSpelled, FindsWhatIsWritten};
 ghost use Rattle.stun_types.specs.Integrity.{deciding, verified_algorithm, verified_by};
 ghost use Rattle.stun_types.specs.Limits.{max_length};
@@ -48,8 +48,8 @@ pub fn each_hiding_attribute_counts_once()
 /// again unless that one is an integrity attribute.
 pub fn writing_adds_one_attribute()
     ensures begun { (message_type transaction_id : ℕ) → message_type < 2 ^ 14
-        → IsOpen (spelled message_type transaction_id [])
-        × (walk (spelled message_type transaction_id []) ≡ []) }
+        → IsOpen (spelled_message message_type transaction_id [])
+        × (walk (spelled_message message_type transaction_id []) ≡ []) }
     ensures shown { (message : List ℕ) → IsOpen message → visible message ≡ walk message }
     ensures added { (message : List ℕ) (attribute : TypedValue)
         → IsOpen message → IsAddable message attribute
@@ -59,8 +59,8 @@ pub fn writing_adds_one_attribute()
         → is_set_apart attribute.kind ≡ false → IsOpen (with_attribute message attribute) }
     ensures spelled { (message_type transaction_id : ℕ) (attributes : List TypedValue)
         (attribute : TypedValue)
-        → with_attribute (spelled message_type transaction_id attributes) attribute
-        ≡ spelled message_type transaction_id (attributes ++ attribute ∷ []) }
+        → with_attribute (spelled_message message_type transaction_id attributes) attribute
+        ≡ spelled_message message_type transaction_id (attributes ++ attribute ∷ []) }
 {}
 
 /// A signed message verifies. It has its integrity attribute, and no other attribute more.

@@ -7,7 +7,7 @@ ghost use Rattle.stun_base.specs.Credentials.{same_text, same_text_equivalence};
 ghost use Rattle.stun_base.specs.Header.{HEADER_LENGTH as header_length};
 ghost use Rattle.stun_base.specs.Header.{type_field, transaction_id_field};
 ghost use Rattle.stun_base.specs.MessageType.{class_in, method_of, IsResponse};
-ghost use Rattle.stun_types.specs.Grammar.{spelled};
+ghost use Rattle.stun_types.specs.Grammar.{spelled_message};
 ghost use Rattle.stun_types.specs.Integrity.{first_of as first_member_of};
 ghost use Rattle.stun_types.specs.Limits.{LENGTH_LIMIT};
 ghost use Rattle.stun_types.specs.Message.{IsMessage, refusal};
@@ -20,6 +20,7 @@ pub(crate) mod attributes_iter;
 pub(crate) mod walk;
 
 use crate::attribute::{AttributeFromRaw, AttributeStaticType};
+pub use crate::integrity::deciding_algorithm;
 use crate::integrity::first_of;
 pub use crate::message::attributes_iter::MessageAttributesIter;
 use crate::message::walk::kind_at;
@@ -126,7 +127,7 @@ impl<'a> Message<'a> {
         mut writer: W,
     ) -> Result<W, StunWriteError>
         requires { W.bytes writer ≡ [] }
-        ensures bytes { IfOk result (λ built. W.bytes built ≡ spelled message_type id []) }
+        ensures bytes { IfOk result (λ built. W.bytes built ≡ spelled_message message_type id []) }
         ensures open { IfOk result (λ built. IsOpen (W.bytes built)) }
         ensures empty { IfOk result (λ built. walk (W.bytes built) ≡ []) }
         ensures room { IfOk result (λ built. W.room built + header_length ≡ W.room writer) }

@@ -23,8 +23,8 @@ impl Write for FailingWriter {
     }
 }
 
-/// What is handed to a writer that fails after so many calls, under each option of a formatter in
-/// turn, what comes after the failure too.
+/// What is handed to a writer that fails after `calls` calls, under each option of a formatter in
+/// turn. What comes after the failure is part of it.
 fn cut<T: Debug>(alloc: Global, value: &T, calls: u32) -> String {
     let mut writer = FailingWriter {
         text: String::new(alloc),
@@ -47,8 +47,8 @@ fn cut<T: Debug>(alloc: Global, value: &T, calls: u32) -> String {
     text
 }
 
-/// What is written of a value: plainly, in lines, within a width, inside another value, where the
-/// writer fails, and under each option where it does not, whatever the answer is.
+/// What is written of a value: as it is, in lines, within a width, and inside another value. Then
+/// with a writer that fails, and under each option with one that does not, whatever the answer is.
 pub fn shown<T: Debug>(alloc: Global, value: &T) -> Result<[String; 8], Fail> {
     let nested = Some(value);
     Ok([

@@ -13,8 +13,8 @@ pub fn bytes_of(alloc: Global, digits: &str) -> Result<Vec<u8>, Fail> {
     Ok(hex::decode(alloc, pairs.as_slice())?)
 }
 
-/// A Binding request with id 1 that states so many bytes after its header (RFC 8489, section 5),
-/// and then these bytes.
+/// A Binding request with id 1 whose header states `stated` bytes after it (RFC 8489, section 5).
+/// Then come these bytes.
 pub fn request_with(alloc: Global, stated: u16, attributes: &[u8]) -> Result<Vec<u8>, Fail> {
     let mut bytes = bytes_of(alloc, "0001")?;
     bytes.extend_from_slice(&stated.to_be_bytes())?;

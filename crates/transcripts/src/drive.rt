@@ -98,7 +98,7 @@ impl<'a> Drive<'a> {
         }
     }
 
-    /// A run was refused memory after so many of its events.
+    /// A run ended after some of its events, since an allocation failed.
     fn stop(&mut self, stopped: Stopped) {
         self.come = self.come.saturating_add(stopped.done);
         self.is_broken = true;
@@ -112,7 +112,7 @@ impl<'a> Drive<'a> {
         }
     }
 
-    /// Keeps the steps that a broken run lost, before so many that are given.
+    /// Keeps the steps that a broken run lost, before the last `given` ones.
     fn keep_lost(&mut self, until: Instant, given: usize) -> Result<(), Trouble> {
         let events = self.events.as_slice();
         let Ok(whole) = run_over(self.alloc, &mut self.twin, events, until)? else {
@@ -249,7 +249,7 @@ fn is_validated(drive: &Drive<'_>, word: &str, answer: &mut String) -> Result<()
 }
 
 /// `drive by-hand until TIME`: a new agent meets all events, each by a call of its own. It must
-/// take the same steps, come to the same statistics and await the same moment.
+/// take the same steps, count the same statistics and await the same moment.
 fn compare(drive: &Drive<'_>, until: Instant, answer: &mut String) -> Result<(), Trouble> {
     let mut agent = new_agent(drive.alloc, drive.transport);
     let events = drive.events.as_slice();

@@ -1,9 +1,9 @@
 //! A client and a server that meet: `meet NAME WORDS`.
 //!
-//! A meeting that is refused memory is left after some of its steps. Where it is made again, a
-//! client that has taken up the challenge signs its first request: what the server says of the
-//! second is then said of the first. The answer is told as that of the whole meeting, and the calls
-//! between, of which some may be lacking, are made once more.
+//! A meeting in which an allocation is refused ends after some of its steps. If it is made again, a
+//! client that has kept the challenge signs its first request. What the server says of the second
+//! is then said of the first. The answer is told as that of the whole meeting. The calls between,
+//! of which some may be lacking, are made once more.
 
 use crate::runs::Runs;
 use crate::serve::server_call;
@@ -84,9 +84,9 @@ fn signs(runs: &Runs<'_>) -> bool {
     runs.scene.stage.client.message_signature_bytes() != 0
 }
 
-/// `meet run ID ID TIME TIME`: the client and the server meet, by requests of these ids, which the
-/// server reads at these times and which each draw the stage's random words. The client has the
-/// stage's address.
+/// `meet run ID ID TIME TIME`: the client and the server meet, by requests of these ids. The server
+/// reads them at these times, and each draws the stage's random numbers. The client has the stage's
+/// address.
 fn run(
     runs: &mut Runs<'_>,
     ids: [TransactionId; 2],
@@ -110,7 +110,7 @@ fn run(
     }
 }
 
-/// What the two come to, with these calls between.
+/// The outcome of their meeting, with these calls between.
 fn met(
     stage: &mut Stage<'_>,
     meeting: &Meeting,
@@ -152,9 +152,9 @@ fn whole(runs: &mut Runs<'_>, outcome: Outcome) -> Result<Outcome, Trouble> {
     Ok(of_second(outcome))
 }
 
-/// What is said of a first request that is signed, as it is said of the second of a whole meeting:
-/// an accepted one is accepted already, and one that is refused brings a challenge that the client
-/// does not take up again.
+/// What is said of a first request that is signed, as it is said of the second of a whole meeting.
+/// An accepted one is accepted already. A refused one brings a challenge that the client does not
+/// answer again.
 fn of_second(outcome: Outcome) -> Outcome {
     match outcome {
         Outcome::AlreadyValidated(algorithm) => Outcome::Validated(algorithm),

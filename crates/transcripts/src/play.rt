@@ -9,7 +9,7 @@ use std::alloc::{AllocError, Global};
 
 /// How the line in question is played.
 #[derive(Clone, Copy, PartialEq, Eq)]
-pub enum Turn {
+pub enum LineTurn {
     /// Not at all.
     Without,
     /// Its nth allocation is refused.
@@ -22,13 +22,13 @@ pub enum Turn {
 #[derive(Clone, Copy)]
 pub struct Cut {
     pub line: usize,
-    pub turn: Turn,
+    pub turn: LineTurn,
     pub nth: u64,
 }
 
 /// What became of the line in question.
 #[derive(Clone, Copy, PartialEq, Eq)]
-pub struct Refusal {
+pub struct LineOutcome {
     /// Whether an allocation was refused.
     pub is_met: bool,
     /// Whether that was answered.
@@ -37,7 +37,7 @@ pub struct Refusal {
     pub is_run: bool,
 }
 
-const NO_REFUSAL: Refusal = Refusal {
+const NO_REFUSAL: LineOutcome = LineOutcome {
     is_met: false,
     is_right: false,
     is_run: false,
@@ -98,7 +98,7 @@ fn play_line(runs: &mut Runs<'_>, line: &str, text: &mut String) -> Result<(), A
 }
 
 /// Makes a call whose nth allocation is refused.
-fn refuse(runs: &mut Runs<'_>, call: &str, nth: u64) -> Result<Refusal, AllocError> {
+fn refuse(runs: &mut Runs<'_>, call: &str, nth: u64) -> Result<LineOutcome, AllocError> {
     let work = runs.scene.stage.work;
     let mut answer = String::new(runs.scene.stage.source.alloc);
     runs.scene.stage.nth = nth;
@@ -107,7 +107,7 @@ fn refuse(runs: &mut Runs<'_>, call: &str, nth: u64) -> Result<Refusal, AllocErr
     answer_to(runs, call, &mut answer)?;
     runs.scene.stage.nth = 0;
     runs.scene.stage.work = work;
-    Ok(Refusal {
+    Ok(LineOutcome {
         is_met: runs.scene.stage.is_refused,
         is_right: answer.as_str() == OUT_OF_MEMORY,
         is_run: runs.scene.stage.is_run,
@@ -120,18 +120,18 @@ fn play_cut(
     line: &str,
     cut: Cut,
     text: &mut String,
-) -> Result<Refusal, AllocError> {
+) -> Result<LineOutcome, AllocError> {
     if !is_played(line) || like(line).is_some() {
         return Ok(NO_REFUSAL);
     }
     let call = Line::of(line).call;
     match cut.turn {
-        Turn::Without => {
+        LineTurn::Without => {
             pass(runs, call)?;
             Ok(NO_REFUSAL)
         }
-        Turn::Refused => refuse(runs, call, cut.nth),
-        Turn::Again => {
+        LineTurn::Refused => refuse(runs, call, cut.nth),
+        LineTurn::Again => {
             let refusal = refuse(runs, call, cut.nth)?;
             play_line(runs, line, text)?;
             Ok(refusal)
@@ -144,7 +144,7 @@ fn play_lines(
     paragraph: &str,
     cut: Option<Cut>,
     text: &mut String,
-) -> Result<Refusal, AllocError> {
+) -> Result<LineOutcome, AllocError> {
     let mut refusal = NO_REFUSAL;
     for (at, line) in paragraph.split('\n').enumerate() {
         if at > 0 {
@@ -165,7 +165,7 @@ pub fn play(
     page: Page<'_>,
     cut: Option<Cut>,
     text: &mut String,
-) -> Result<Refusal, AllocError> {
+) -> Result<LineOutcome, AllocError> {
     let transcript = page.transcript;
     let mut runs = Runs::new(Source { alloc, transcript }, heap);
     play_lines(&mut runs, page.text, cut, text)

@@ -7,7 +7,7 @@
 //! A run of many calls is left after some of them: where it is made again, it makes the others, and
 //! all goes on as written.
 
-use crate::play::{Cut, Refusal, Turn, play};
+use crate::play::{Cut, LineOutcome, LineTurn, play};
 use player::page::{Page, line_count};
 use player::stage::Heap;
 use std::alloc::{AllocError, Global};
@@ -41,11 +41,11 @@ fn compare(
     page: Page<'_>,
     cut: Cut,
     wanted: &str,
-) -> Result<Refusal, AllocError> {
+) -> Result<LineOutcome, AllocError> {
     let live = heap.live();
     let mut text = String::new(alloc);
     let refusal = play(alloc, heap, page, Some(cut), &mut text)?;
-    Ok(Refusal {
+    Ok(LineOutcome {
         is_met: refusal.is_met,
         is_right: refusal.is_right && text.as_str() == wanted && heap.live() == live,
         is_run: refusal.is_run,
@@ -62,7 +62,7 @@ fn refuse_one(
     without: &str,
     tally: &mut Tally,
 ) -> Result<bool, AllocError> {
-    let turn = Turn::Again;
+    let turn = LineTurn::Again;
     let again = compare(alloc, heap, page, Cut { line, turn, nth }, page.text)?;
     if !again.is_met {
         return Ok(false);
@@ -71,7 +71,7 @@ fn refuse_one(
         tally.note(line, again.is_right);
         return Ok(true);
     }
-    let turn = Turn::Refused;
+    let turn = LineTurn::Refused;
     let alone = compare(alloc, heap, page, Cut { line, turn, nth }, without)?;
     tally.note(line, again.is_right && alone.is_right);
     Ok(true)
@@ -86,7 +86,7 @@ fn refuse_line(
     tally: &mut Tally,
 ) -> Result<(), AllocError> {
     let mut without = String::new(alloc);
-    let turn = Turn::Without;
+    let turn = LineTurn::Without;
     let _ = play(
         alloc,
         heap,

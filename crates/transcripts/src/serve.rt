@@ -64,7 +64,7 @@ impl Serving {
         }
     }
 
-    /// A run was refused memory after so many of its calls.
+    /// A run ended after some of its calls, since an allocation failed.
     fn stop(&mut self, stopped: Stopped) {
         self.made = self.made.saturating_add(stopped.done);
         self.is_broken = true;
@@ -78,7 +78,7 @@ impl Serving {
         }
     }
 
-    /// Keeps the replies that a broken run lost, before so many that are given.
+    /// Keeps the replies that a broken run lost, before the last `given` ones.
     fn keep_lost(&mut self, given: usize) -> Result<(), Trouble> {
         let Ok(whole) = serve(self.alloc, &mut self.twin, self.calls.as_slice()) else {
             return Err(Trouble::Memory);

@@ -1,7 +1,7 @@
 //! The programs and tests that are exported with the crate, over the same files as the crate.
 #![forbid(unsafe_code)]
-// The sources of programs and tests may have what nobody calls or reads, imports of traits that
-// Rust finds without them, and a process that a macro is no longer handed.
+// The sources of programs and tests may have what nobody calls or reads. They may import traits
+// that Rust finds without, and take a process that a macro is no longer handed.
 #![allow(dead_code, unused_imports, unused_variables)]
 // The crate's own files are for Rust 1.85, which has no such call.
 #![allow(clippy::manual_is_multiple_of)]

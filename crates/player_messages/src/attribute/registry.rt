@@ -12,7 +12,7 @@ use stun_types::attribute::{
 };
 use stun_types::prelude::*;
 
-/// `attribute takes LENGTH`: how many bytes an attribute takes whose value has so many.
+/// `attribute takes LENGTH`: how many bytes an attribute takes whose value has LENGTH bytes.
 pub fn takes(words: &[&str], answer: &mut String) -> Result<(), Trouble> {
     let [word] = words else {
         return Err(Trouble::Words);

@@ -101,8 +101,8 @@ fn push_refusal(
     Ok(push_parse_error(error, answer)?)
 }
 
-/// Adds what both readers answer to bytes: the message, or the refusal, behind `header,` where a
-/// header is read.
+/// Adds what both readers make of bytes: the message, or the refusal. `header,` comes before a
+/// refusal if a header is read.
 pub fn push_read(alloc: Global, bytes: &[u8], answer: &mut String) -> Result<(), Trouble> {
     let header = MessageHeader::from_bytes(bytes).err();
     match Message::from_bytes(bytes) {

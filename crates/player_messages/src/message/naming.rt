@@ -70,7 +70,7 @@ pub fn type_of(stage: &mut Stage<'_>, words: &[&str], answer: &mut String) -> Re
     Ok(())
 }
 
-/// `message ids COUNT`: so many ids, one after another from the words that are drawn.
+/// `message ids COUNT`: COUNT ids, one after another from the numbers that are drawn.
 pub fn ids(stage: &mut Stage<'_>, words: &[&str], answer: &mut String) -> Result<(), Trouble> {
     let [count] = words else {
         return Err(Trouble::Words);

@@ -42,7 +42,7 @@ impl Agent<'_> {
         push_lent(alloc, lent, self.way, &self.asked, answer)
     }
 
-    /// The same, where there is room for so many bytes.
+    /// The same, if there is room for `room` bytes.
     fn push_transmit_within(
         &mut self,
         alloc: Global,

@@ -138,7 +138,7 @@ pub fn in_vector(
     }
 }
 
-/// `write begin-in ROOM BEGINNING`: a message in a slice of so many bytes, up to 256.
+/// `write begin-in ROOM BEGINNING`: a message in a slice of ROOM bytes, up to 256.
 pub fn in_slice(scene: &mut Scene<'_>, words: &[&str], answer: &mut String) -> Result<(), Trouble> {
     let [length, words @ ..] = words else {
         return Err(Trouble::Words);

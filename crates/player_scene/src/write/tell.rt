@@ -68,7 +68,7 @@ fn push_whether(is_so: bool, answer: &mut String) -> Result<(), Trouble> {
     Ok(answer.push_str(if is_so { "yes" } else { "no" })?)
 }
 
-/// `write bytes LENGTH`: the first, so many.
+/// `write bytes LENGTH`: the first LENGTH bytes.
 fn first_bytes(
     alloc: Global,
     message: &[u8],

@@ -20,18 +20,18 @@ abbrev pub below : {A : Type 0} → Node A → List Deadline
 below node = items node.left ++ items node.right
 
 -- ---- its order
--- where the greater half of the ids from `low` on and below `high` begins
+-- where the greater half of the ids from `low` to `high` begins
 abbrev pub middle : ℕ → ℕ → ℕ
 middle low high = low + (high - low) / 2
 
 abbrev pub IsWithin : ℕ → ℕ → Deadline → Type 0
 IsWithin low high d = (low ≤ d.id) × (d.id < high)
 
--- none of them is sooner
+-- none of them is earlier
 abbrev pub IsFirst : Deadline → List Deadline → Type 0
 IsFirst d ds = AllByRecursion (λ (e : Deadline). d.moment ≤ e.moment) ds
 
--- its id is in the range, and nothing on its two sides is sooner
+-- its id is in the range, and nothing on its two sides is earlier
 pub record IsTop (low high : ℕ) (d : Deadline) (lesser_ids greater_ids : List Deadline) : Type
     0 where
   pub within : IsWithin low high d
@@ -57,7 +57,8 @@ height (Held' d p left right) = max (height left) (height right) + 1
 abbrev pub height_below : {A : Type 0} → Node A → ℕ
 height_below node = max (height node.left) (height node.right)
 
--- each path halves the ids, so that it has no more nodes than an id has bits, and one
+-- each node of a path halves the ids, so that it has at most one for each bit of an id, and one
+-- more
 pub record IsWhole {A : Type 0} (root : Link A) : Type 0 where
   pub tree : IsTree 0 (2 ^ 96) root
   pub distinct : AreDistinct (items root)
@@ -74,7 +75,7 @@ pub record IsAlone {A : Type 0} (node : Node A) : Type 0 where
   pub right : node.right ≡ Empty
 
 -- ---- putting and taking
--- the sooner one is at the top, and the other one is left: both stay as they are, or change places
+-- the earlier one is at the top, and the later one is left: both stay, or they change places
 pub record IsExchanged (d old new left : Deadline) : Type 0 where
   pub least : new.moment ≤ left.moment
   pub either : ((new ≡ old) × (left ≡ d)) ⊎ ((new ≡ d) × (left ≡ old))
@@ -85,18 +86,18 @@ is_no_later [] es = false
 is_no_later (d ∷ ds) [] = true
 is_no_later (d ∷ ds) (e ∷ es) = nat_le d.moment e.moment
 
--- the deadline of an id is taken out, if there is one
+-- the deadline of an id is removed, if there is one
 abbrev pub TakesOut : ℕ → List Deadline → Option Deadline → List Deadline → Type 0
 TakesOut id old taken new =
     MatchOption taken ((entries_at id old ≡ []) × (new ≡ old))
     (λ d. (d.id ≡ id) × IsPermutation old (d ∷ new))
 
--- the first one is taken out, if there is any
+-- the first one is removed, if there is any
 abbrev pub TakesFirst : List Deadline → Option Deadline → List Deadline → Type 0
 TakesFirst [] taken new = (taken ≡ None) × (new ≡ [])
 TakesFirst (d ∷ ds) taken new = (taken ≡ Some d) × IsPermutation ds new
 
--- the first of the deadlines below a node is taken out
+-- the first of the deadlines below a node is removed
 pub record IsNextTaken {A : Type 0} (d : Deadline) (old new : Node A) : Type 0 where
   pub permutes : IsPermutation (below old) (d ∷ below new)
   pub sides : (low high : ℕ) → IsBelow low high old → IsBelow low high new
@@ -108,15 +109,15 @@ abbrev pub TakesNext : {A : Type 0} → Node A → Option Deadline → Node A �
 TakesNext old taken new = MatchOption taken (IsAlone old × (new ≡ old)) (λ d. IsNextTaken d old new)
 
 -- the first of these, if there is any
-abbrev pub first_of : List Deadline → Option Deadline
-first_of [] = None
-first_of (d ∷ ds) = Some d
+abbrev pub first_deadline : List Deadline → Option Deadline
+first_deadline [] = None
+first_deadline (d ∷ ds) = Some d
 
--- the sooner of the two first ones below a node, if there is any
+-- the earlier of the two first ones below a node, if there is any
 abbrev pub next_of : {A : Type 0} → Node A → Option Deadline
 next_of node =
-    if is_no_later (items node.left) (items node.right) then first_of (items node.left)
-    else first_of (items node.right)
+    if is_no_later (items node.left) (items node.right) then first_deadline (items node.left)
+    else first_deadline (items node.right)
 
 -- it leads to nothing, or to a node that nothing is below
 abbrev pub IsLast : {A : Type 0} → Link A → Type 0
@@ -139,8 +140,8 @@ abbrev pub first_has_come : ℕ → List Deadline → Bool
 first_has_come now [] = false
 first_has_come now (d ∷ ds) = nat_le d.moment now
 
--- how many nodes may be read to find an id from `low` on, where paths have so many: those of two
--- paths, and those of one where there is no such id, or where none is passed
+-- how many nodes may be read to find an id from `low` on, if paths have this many: those of two
+-- paths, but of one if there is no such id, or if none has passed
 pub record IsSearch (last : Option ℕ) (low path : ℕ) (found : Option ℕ) (old new : ℕ) : Type 0 where
   pub two : new ≤ old + 2 * path
   pub none : found ≡ None → new ≤ old + path

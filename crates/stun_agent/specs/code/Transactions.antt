@@ -8,7 +8,7 @@ use Rattle.stun_agent.specs.declared.state.transaction.Change.TheVariants.{Silen
 use Rattle.stun_agent.specs.declared.state.transaction.Change.TheVariants.{Configure}
 use Rattle.stun_agent.specs.Timing.{settings_of}
 use Rattle.stun_agent.specs.Transactions.{Transaction, Transactions, repeats}
-use Rattle.stun_agent.specs.Transactions.{silenced, cancelled, configured}
+use Rattle.stun_agent.specs.Transactions.{without_retransmissions, with_cancellation, with_settings}
 use Rattle.stun_agent.specs.code.Deadlines.{deadline_of}
 
 -- the outstanding requests, and the transport that carries them
@@ -20,19 +20,19 @@ pub record Outstanding : Type 0 where
 abbrev pub contents : Transaction → List ℕ × SocketAddr
 contents t = (t.bytes, t.to)
 
--- how many bytes of a transaction are sent again, where it is
+-- how many bytes of a transaction are sent again, if it is
 abbrev pub length_sent : Transaction → Option ℕ
 length_sent t = if repeats t.sending then Some (length t.bytes) else None
 
--- what is told of one that ends: its id, and whether it was still sent again
+-- what is returned of one that ends: its id, and whether it was still sent again
 abbrev pub id_and_repeats : ℕ × Transaction → ℕ × Bool
 id_and_repeats e = (e.0, repeats e.1.sending)
 
 -- what a change of its user makes of a transaction
-abbrev pub after_change : Change → Transaction → Transaction
-after_change Silence t = silenced t
-after_change Cancel t = cancelled t
-after_change (Configure settings) t = configured (settings_of settings) t
+abbrev pub changed_transaction : Change → Transaction → Transaction
+changed_transaction Silence t = without_retransmissions t
+changed_transaction Cancel t = with_cancellation t
+changed_transaction (Configure settings) t = with_settings (settings_of settings) t
 
 -- what a transaction awaits before a change and after it
 abbrev pub deadlines_around : TransportType → (Transaction → Transaction) → ℕ → Transaction

@@ -1,4 +1,4 @@
-//! How an agent is made.
+//! The builder of an agent.
 ghost use Rattle.std.specs.Prelude.{◌≡◌, Some};
 ghost use Rattle.std.specs.Duration.{as_nanos};
 ghost use Rattle.stun_agent.specs.Agent.{Agent, statistics_if};
@@ -46,7 +46,8 @@ impl<A: Allocator> Model for StunAgentBuilder<A> {
 }
 
 impl<A: Allocator + Copy> StunAgentBuilder<A> {
-    /// Names the one address that the agent is to send to. Receiving does not look at it.
+    /// Sets the fixed peer: the one address that the agent sends to. It does not restrict whose
+    /// messages are accepted.
     pub fn remote_addr(mut self, addr: SocketAddr) -> Self
         ensures { result ≡ record self { remote_addr = Some addr } }
     {
@@ -54,9 +55,9 @@ impl<A: Allocator + Copy> StunAgentBuilder<A> {
         self
     }
 
-    /// Sets when requests are sent again and given up: the wait after the first transmission, the
-    /// longest wait between two, how many transmissions there are over UDP, and the wait after the
-    /// last one.
+    /// Sets when requests are sent again and when they end: the wait after the first transmission,
+    /// the longest wait between two, how many transmissions there are over UDP, and the wait after
+    /// the last one.
     pub fn request_retransmits(
         mut self,
         initial: Duration,
@@ -82,7 +83,7 @@ impl<A: Allocator + Copy> StunAgentBuilder<A> {
         self
     }
 
-    /// Whether the agent keeps statistics.
+    /// Sets whether the agent keeps statistics.
     pub fn stats(mut self, stats: bool) -> Self
         ensures { result ≡ record self { statistics = statistics_if stats } }
     {

@@ -24,11 +24,13 @@ use stun_base::transaction_id::TransactionId;
 impl<A: Allocator + Copy> StunAgent<A> {
     ghost use Rattle.stun_agent.specs.AgentLends.{ends_as, ends_if_ok_as};
 
-    /// Ends at most one request, the one of the least id among those that are cancelled or past
-    /// their end, and else says when to poll again: at the least moment that a request awaits, at
-    /// most an hour from `now`, and never before `now`. Poll again after an end, after each other
-    /// call, and at that moment. Does not allocate. How often it reads the deadlines of requests is
-    /// bounded at `poll_counted`, which it calls.
+    /// Ends at most one request, or returns when to poll again.
+    ///
+    /// It ends the request of the least id among those that are cancelled or whose last wait is
+    /// over. If there is none, it returns the next time that a request awaits: not before `now`,
+    /// and at most an hour after it. Poll again at that time, after an end, and after each other
+    /// call. Does not allocate. `poll_counted`, which it calls, bounds how often it reads
+    /// deadlines.
     pub fn poll(&mut self, now: Instant) -> StunAgentPollRet
         ensures answer { result ≡ poll_answer now self.old }
         ensures after { self.new ≡ after_poll now self.old }
@@ -46,10 +48,10 @@ impl<A: Allocator + Copy> StunAgent<A> {
         answer
     }
 
-    /// As `poll`, which is this call with a blank of its own, and how often the deadlines of
-    /// requests were read to find what ends or until when to wait: at most once more than there are
-    /// requests that are cancelled or await at most `now`, and at most 195 times. The count takes
-    /// no bytes, and contracts alone see it.
+    /// As `poll`, which is this call with a blank of its own. It also returns how often it read the
+    /// deadlines of requests. That is at most once more than there are requests that are cancelled
+    /// or await at most `now`, and at most 195 times. The count takes no bytes, and
+    /// contracts alone see it.
     pub fn poll_counted<L: Ledger>(
         &mut self,
         now: Instant,
@@ -74,8 +76,8 @@ impl<A: Allocator + Copy> StunAgent<A> {
         }
     }
 
-    /// The least moment that a request which is not cancelled awaits, to be sent again or to end,
-    /// if there is any. Does not allocate.
+    /// The next time that a request awaits, to be sent again or to end, if there is any. Cancelled
+    /// requests do not count. Does not allocate.
     pub fn next_awaited(&self) -> Option<Instant>
         ensures least { result ≡ next_awaited self.now.transport self.now.transactions }
         ensures kept { AreKept self.now.transactions }
@@ -83,9 +85,10 @@ impl<A: Allocator + Copy> StunAgent<A> {
         self.outstanding.next_awaited()
     }
 
-    /// Lends the bytes of at most one request that is to be sent again: of the least id among those
-    /// whose timeout has passed and that are still sent. Ask again until it answers `None`. Does
-    /// not allocate and copies nothing.
+    /// Returns the bytes of at most one request that is due to be sent again (borrowed from the
+    /// agent). Of the requests that are still sent again and whose timeout has passed, it is the
+    /// one of the least id. Call it again until it returns `None`. Does not allocate and copies
+    /// nothing.
     pub fn poll_transmit(&mut self, now: Instant) -> Option<Transmit<&[u8]>>
         ensures* after { sem 𝓛 (ends_as A.row A.Allocator self.entry
             (after_poll_transmit now self.old)) }
@@ -109,8 +112,8 @@ impl<A: Allocator + Copy> StunAgent<A> {
         })
     }
 
-    /// As `poll_transmit`, where the bytes fit into `room`. Where they do not, the agent is as
-    /// before, and no transmission is lost.
+    /// As `poll_transmit`, if the bytes fit into `room`. If they do not, it fails with `NoRoom`:
+    /// the agent is unchanged, and no transmission is lost.
     pub fn poll_transmit_within(
         &mut self,
         now: Instant,
@@ -144,9 +147,9 @@ impl<A: Allocator + Copy> StunAgent<A> {
         }))
     }
 
-    /// What `poll_transmit` would lend at this moment, with the agent left as it is: for a caller
-    /// that has to know the length before it takes the bytes, as for a buffer of its own. Does not
-    /// allocate and copies nothing.
+    /// What `poll_transmit` would return at this time; the agent stays unchanged. It is for a
+    /// caller that must know the length before it takes the bytes, as for a buffer of its own. Does
+    /// not allocate and copies nothing.
     pub fn next_transmit(&self, now: Instant) -> Option<Transmit<&[u8]>>
         ensures sent { option_map lent_datagram result
             ≡ option_map (λ e. datagram_of self.now e.1) (sent_by_poll now self.now) }
@@ -160,8 +163,8 @@ impl<A: Allocator + Copy> StunAgent<A> {
         })
     }
 
-    /// Passes the slots that are due, counts the request that is to be sent again, and tells its
-    /// id. Where that has more bytes than there is room for, nothing changes.
+    /// As `Outstanding::pass_due_slots`, and counts the request that is to be sent again; returns
+    /// its id. If its bytes do not fit into the room, nothing changes.
     fn pass_and_count(
         &mut self,
         now: Instant,

@@ -1,8 +1,8 @@
-//! Receiving: responses end their requests, and senders are validated.
+//! Receiving: a response ends its request, and the sender is marked as validated.
 ghost use Rattle.std.specs.Prelude.{◌≡◌, ◌||◌, length, not, IsTrue};
 ghost use Rattle.std.specs.Prelude.{IsOk, IfOk, OnOk, OnErr, Some, None};
 ghost use Rattle.std.specs.Option.{is_some};
-ghost use Rattle.stun_agent.specs.Agent.{with_validated, without_validated, answered};
+ghost use Rattle.stun_agent.specs.Agent.{with_validated, without_validated, answered_request};
 ghost use Rattle.stun_agent.specs.Agent.{takes_message, after_message, after_response};
 ghost use Rattle.stun_agent.specs.Peers.{is_peer};
 
@@ -15,15 +15,16 @@ use stun_base::message_type::MessageClass;
 use stun_types::message::Message;
 
 impl<A: Allocator + Copy> StunAgent<A> {
-    /// Whether a message from this address was taken, or the address was named by `validated_peer`.
+    /// Whether the address is marked as validated: by an accepted message from it, or by
+    /// `validated_peer`.
     pub fn is_validated_peer(&self, addr: SocketAddr) -> bool
         ensures { result ≡ is_peer addr self.now.peers }
     {
         self.peers.contains(&addr)
     }
 
-    /// Names an address as one whose messages were taken. Where an allocation fails, the agent is
-    /// as before. For an address that is there already nothing is allocated.
+    /// Marks an address as validated. This does not restrict whose messages are accepted. If an
+    /// allocation fails, the agent is unchanged. No allocation if the address is already marked.
     pub fn validated_peer(&mut self, addr: SocketAddr) -> Result<(), AllocError>
         ensures ok { OnOk result (self.new ≡ with_validated addr self.old) }
         ensures err { OnErr result (self.new ≡ self.old) }
@@ -33,40 +34,40 @@ impl<A: Allocator + Copy> StunAgent<A> {
         Ok(())
     }
 
-    /// How many addresses are noted as validated, so that a caller can bound them. It does not walk
-    /// and does not allocate.
+    /// How many addresses are marked as validated, so that a caller can limit them. It reads a
+    /// stored number, and does not allocate.
     pub fn validated_peer_count(&self) -> usize
         ensures { result ≡ length self.now.peers }
     {
         self.peers.len()
     }
 
-    /// Forgets that messages from an address were taken, whoever noted it. Other addresses,
-    /// requests and statistics stay as they are. A request to it that is outstanding stays so, and
-    /// its response notes the address again. It does not allocate.
+    /// Removes the mark from an address, whoever set it. Other addresses, requests and statistics
+    /// stay unchanged. A request to it stays outstanding, and its response marks the address again.
+    /// Does not allocate.
     pub fn forget_validated_peer(&mut self, addr: SocketAddr)
         ensures { self.new ≡ without_validated addr self.old }
     {
         self.peers.remove(&addr);
     }
 
-    /// Takes a message from an address, and tells whether it was taken.
+    /// Hands in a message from an address, and returns whether it is accepted.
     ///
-    /// A response is taken where a request of its transaction is outstanding and went to the very
-    /// address that the response comes from. The request ends, and the address is validated.
-    /// Another response answers `false` and changes nothing. A request or an indication is taken,
-    /// and its address validated.
+    /// A response is accepted if a request of its transaction is outstanding and was sent to the
+    /// very address that the response comes from. The request ends, and the address is marked as
+    /// validated. For another response it returns `false`, and nothing changes. A request or an
+    /// indication is accepted, and its address is marked.
     ///
-    /// Ask the authenticator before: the agent checks no digest. Whoever can send from the address
-    /// that was asked and knows the id of the request, which is in the clear, else ends it by a
-    /// forged response.
+    /// Ask the authenticator first: the agent checks no digest. Otherwise a forged response can end
+    /// a request. Its sender needs the id of the request, which is in the clear, and must send from
+    /// the address that was asked.
     ///
-    /// Where an allocation fails to note the address, the agent is as before, and a response's
-    /// request is still outstanding. An address that is noted already, and a message that is not
-    /// taken, do not allocate.
+    /// If an allocation fails, the agent is unchanged: the address is not marked, and a response's
+    /// request stays outstanding. No allocation if the address is already marked, or the message is
+    /// not accepted.
     ///
-    /// A noted address stays until `forget_validated_peer`: bound from how many addresses you hand
-    /// in messages, or forget those that you are done with.
+    /// An address stays marked until `forget_validated_peer`. Limit from how many addresses you
+    /// hand in messages, or forget those that you are done with.
     pub fn handle_stun_message(
         &mut self,
         msg: &Message<'_>,
@@ -81,8 +82,8 @@ impl<A: Allocator + Copy> StunAgent<A> {
         self.receive(msg, from, None)
     }
 
-    /// As `handle_stun_message`, at a moment: a response counts a round trip where `poll_transmit`
-    /// has passed no timeout of its request, which over TCP it never does.
+    /// As `handle_stun_message`, at a time. A response counts a round trip if `poll_transmit` has
+    /// passed no timeout of its request. Over TCP it never passes one.
     pub fn handle_stun_message_with_time(
         &mut self,
         msg: &Message<'_>,
@@ -98,7 +99,7 @@ impl<A: Allocator + Copy> StunAgent<A> {
         self.receive(msg, from, Some(now))
     }
 
-    /// Takes a message, at a moment where one is told.
+    /// Receives a message, at a time if one is given.
     fn receive(
         &mut self,
         msg: &Message<'_>,
@@ -128,18 +129,19 @@ impl<A: Allocator + Copy> StunAgent<A> {
         }
     }
 
-    /// Takes a response, where it answers an outstanding request that went to its sender.
+    /// Accepts a response if it answers an outstanding request that was sent to its sender.
     fn receive_response(
         &mut self,
         msg: &Message<'_>,
         from: SocketAddr,
         moment: Option<Instant>,
     ) -> Result<bool, AllocError>
-        ensures answer { IfOk result (λ taken. taken ≡ is_some (answered msg.now from self.old)) }
+        ensures answer { IfOk result
+            (λ taken. taken ≡ is_some (answered_request msg.now from self.old)) }
         ensures ok { OnOk result (self.new ≡ after_response moment msg.now from self.old) }
         ensures err { OnErr result (self.new ≡ self.old) }
         ensures no_memory { IsTrue (is_peer from self.old.peers || not
-            (is_some (answered msg.now from self.old))) → IsOk result }
+            (is_some (answered_request msg.now from self.old))) → IsOk result }
     {
         let id = msg.transaction_id();
         let round_trip = match self.outstanding.get(id) {

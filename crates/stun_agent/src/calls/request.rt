@@ -1,12 +1,13 @@
-//! The handles by which a user looks at a request, cancels it or gives it other timeouts.
+//! The handles by which a user reads a request, cancels it or sets its timeouts.
 ghost use Rattle.std.specs.Prelude.{◌≡◌, IfSome, Ok};
 ghost use Rattle.std.specs.Borrow.{sem};
 ghost use Rattle.std.specs.Duration.{as_nanos, max_nanos};
 ghost use Rattle.std.specs.Option.{option_map};
 ghost use Rattle.stun_agent.specs.Agent.{with_transactions};
 ghost use Rattle.stun_agent.specs.Requests.{StaysWith, rests, peer_and_integrity, lends_agent};
-ghost use Rattle.stun_agent.specs.Transactions.{at, changed, silenced, cancelled, configured};
-ghost use Rattle.stun_agent.specs.code.Transactions.{after_change};
+ghost use Rattle.stun_agent.specs.Transactions.{at, with_change_at, without_retransmissions};
+ghost use Rattle.stun_agent.specs.Transactions.{with_cancellation, with_settings};
+ghost use Rattle.stun_agent.specs.code.Transactions.{changed_transaction};
 
 use crate::agent::StunAgent;
 use crate::state::rto::RequestRto;
@@ -26,8 +27,8 @@ pub struct StunRequest<'a, A: Allocator = Global> {
     integrity: Option<IntegrityAlgorithm>,
 }
 
-/// An outstanding request that can be changed. What it says of its peer and its integrity stays
-/// when it ends.
+/// An outstanding request that can be changed. Its peer and its integrity can still be read once it
+/// has ended.
 #[derive(Drop)]
 #[derive_where(Debug)]
 pub struct StunRequestMut<'a, A: Allocator = Global> {
@@ -70,7 +71,7 @@ impl<A: Allocator + Copy> StunAgent<A> {
         })
     }
 
-    /// Where a request was sent, and the algorithm of its integrity.
+    /// The address that a request was sent to, and the algorithm of its integrity.
     fn peer_of(&self, id: TransactionId) -> Option<(SocketAddr, Option<IntegrityAlgorithm>)>
         ensures { result ≡ option_map peer_and_integrity (at id self.now.transactions) }
     {
@@ -78,10 +79,10 @@ impl<A: Allocator + Copy> StunAgent<A> {
         Some((request.to(), request.integrity()))
     }
 
-    /// Changes a request, where it is outstanding.
+    /// Changes a request, if it is outstanding.
     fn change(&mut self, id: TransactionId, change: Change)
         ensures { self.new ≡ with_transactions self.old
-            (changed (after_change change) id self.old.transactions) }
+            (with_change_at (changed_transaction change) id self.old.transactions) }
     {
         self.outstanding.change(id, change);
     }
@@ -96,7 +97,7 @@ impl<'a, A: Allocator + Copy> StunRequest<'a, A> {
     }
 
     /// The algorithm that the request was signed with when it was sent: that of the integrity
-    /// attribute whose digest decides.
+    /// attribute that decides.
     pub fn integrity(&self) -> Option<IntegrityAlgorithm>
         ensures { result ≡ self.now.integrity }
     {
@@ -137,7 +138,7 @@ impl<'a, A: Allocator + Copy> StunRequestMut<'a, A> {
     }
 
     /// The algorithm that the request was signed with when it was sent: that of the integrity
-    /// attribute whose digest decides.
+    /// attribute that decides.
     pub fn integrity(&self) -> Option<IntegrityAlgorithm>
         ensures { result ≡ self.now.integrity }
     {
@@ -159,28 +160,30 @@ impl<'a, A: Allocator + Copy> StunRequestMut<'a, A> {
         self.agent
     }
 
-    /// Sends the request no more. It is still waited for, until its last wait is over, and then
-    /// ends as cancelled. Does not allocate, and does nothing where the request is no longer
+    /// Stops the retransmissions of the request. It stays outstanding until its last wait is over,
+    /// and then ends as cancelled. Does not allocate, and does nothing if the request is no longer
     /// outstanding.
     pub fn cancel_retransmissions(&mut self)
-        ensures { StaysWith self.old self.new (changed silenced self.old.id self.old.agent.now.transactions) }
+        ensures { StaysWith self.old self.new
+            (with_change_at without_retransmissions self.old.id self.old.agent.now.transactions) }
     {
         self.agent.change(self.id, Change::Silence);
     }
 
-    /// Sends the request no more, and ends it at the next `poll` that reaches it; a response that
-    /// comes before is still taken. Does not allocate, and does nothing where the request is no
-    /// longer outstanding.
+    /// Stops the retransmissions of the request, and ends it at the next `poll` that reaches it. A
+    /// response that comes before is still accepted. Does not allocate, and does nothing if the
+    /// request is no longer outstanding.
     pub fn cancel(&mut self)
-        ensures { StaysWith self.old self.new (changed cancelled self.old.id self.old.agent.now.transactions) }
+        ensures { StaysWith self.old self.new
+            (with_change_at with_cancellation self.old.id self.old.agent.now.transactions) }
     {
         self.agent.change(self.id, Change::Cancel);
     }
 
     /// Replaces the timeouts of the request: the wait after the first transmission, how many
     /// transmissions there are over UDP, and the wait after the last one. Waits between
-    /// transmissions have no maximum. The timeouts that have passed, and the moment of the last
-    /// one, stay. Does not allocate, and does nothing where the request is no longer outstanding.
+    /// transmissions have no maximum. The timeouts that have passed, and the time of the last one,
+    /// stay. Does not allocate, and does nothing if the request is no longer outstanding.
     pub fn configure_timeout(
         &mut self,
         initial: Duration,
@@ -188,7 +191,7 @@ impl<'a, A: Allocator + Copy> StunRequestMut<'a, A> {
         last_retransmit: Duration,
     )
         ensures { StaysWith self.old self.new
-            (changed (configured (record {
+            (with_change_at (with_settings (record {
               initial = as_nanos initial;
               maximum = max_nanos;
               transmissions = retransmits;
@@ -208,7 +211,7 @@ impl<'a, A: Allocator + Copy> StunRequestMut<'a, A> {
         max: Duration,
     )
         ensures { StaysWith self.old self.new
-            (changed (configured (record {
+            (with_change_at (with_settings (record {
               initial = as_nanos initial;
               maximum = as_nanos max;
               transmissions = retransmits;

@@ -11,7 +11,6 @@ ghost use Rattle.stun_agent.specs.Datagrams.{parts, lent_datagram};
 ghost use Rattle.stun_agent.specs.Transactions.{IsRequestOf, at};
 
 use crate::agent::StunAgent;
-use crate::calls::integrity::integrity_of;
 use crate::calls::transmit::Transmit;
 use crate::error::StunError;
 use crate::state::address::is_same;
@@ -24,14 +23,15 @@ use stun_base::header::MessageHeader;
 use stun_base::instant::Instant;
 use stun_base::message_type::MessageClass;
 use stun_base::transaction_id::TransactionId;
+use stun_types::message::deciding_algorithm;
 
 impl<A: Allocator + Copy> StunAgent<A> {
     ghost use Rattle.stun_agent.specs.AgentLends.{ends_if_ok_as};
 
-    /// What is to be sent of bytes that are no message of STUN. Nothing is counted.
+    /// Wraps bytes that are not a STUN message in a `Transmit`. Nothing is counted.
     ///
-    /// The error is `ProtocolViolation` where the agent is to speak to another address. Then the
-    /// bytes are dropped.
+    /// Fails with `ProtocolViolation` if the agent has a fixed peer and `to` is another address.
+    /// The bytes are then dropped.
     pub fn send_data<T: OwnedBytes + Drop>(
         &self,
         bytes: T,
@@ -45,7 +45,7 @@ impl<A: Allocator + Copy> StunAgent<A> {
         Ok(Transmit::new(bytes, self.outstanding.transport(), self.local_addr, to))
     }
 
-    /// Refuses every address but the one that the agent is to speak to, where there is one.
+    /// Refuses every address but the fixed peer, if there is one.
     fn check_address(&self, to: SocketAddr) -> Result<(), StunError>
         ensures { MatchOption (address_refusal self.now to) (result ≡ Ok tt)
             (λ error. result ≡ Err error) }
@@ -62,12 +62,15 @@ impl<A: Allocator + Copy> StunAgent<A> {
         }
     }
 
-    /// What is to be sent of an indication or a response. Where statistics are kept it is counted.
+    /// Wraps an indication or a response in a `Transmit`, and counts it if statistics are kept.
     ///
-    /// The errors, in the order in which they are looked for: `ParseError` where the bytes do not
-    /// begin with a header, `ProtocolViolation` for a request, `ProtocolViolation` where the agent
-    /// is to speak to another address. After an error the agent is as before, and the message is
-    /// dropped. Does not allocate. The moment is not used: the Rust crate's call has it.
+    /// The errors, in the order in which they are looked for:
+    /// - `ParseError` if the bytes do not begin with a header;
+    /// - `ProtocolViolation` for a request;
+    /// - `ProtocolViolation` if the agent has a fixed peer and `to` is another address.
+    ///
+    /// After an error the agent is unchanged, and the message is dropped. Does not allocate. The
+    /// time is not used: the Rust crate's call has it.
     pub fn send<T: OwnedBytes + Drop>(
         &mut self,
         msg: T,
@@ -87,14 +90,17 @@ impl<A: Allocator + Copy> StunAgent<A> {
         Ok(Transmit::new(msg, self.outstanding.transport(), self.local_addr, to))
     }
 
-    /// Keeps a request, and lends its bytes to be sent.
+    /// Stores a request, and returns its bytes for sending (borrowed from the agent).
     ///
     /// The agent awaits its response from `now` on: `poll_transmit` sends it again, and `poll` ends
-    /// it. The errors, in the order in which they are looked for: `ParseError` where the bytes do
-    /// not begin with a header, `ProtocolViolation` for another class, `ProtocolViolation` where
-    /// the agent is to speak to another address, `AlreadyInProgress` where a request of its
-    /// transaction is outstanding, `OutOfMemory` where the bytes cannot be kept. After an error the
-    /// agent is as before, and the message is dropped.
+    /// it. The errors, in the order in which they are looked for:
+    /// - `ParseError` if the bytes do not begin with a header;
+    /// - `ProtocolViolation` for another class;
+    /// - `ProtocolViolation` if the agent has a fixed peer and `to` is another address;
+    /// - `AlreadyInProgress` if a request of its transaction is outstanding;
+    /// - `OutOfMemory` if the bytes cannot be stored.
+    ///
+    /// After an error the agent is unchanged, and the message is dropped.
     pub fn send_request<T: OwnedBytes + Drop>(
         &mut self,
         msg: T,
@@ -120,7 +126,7 @@ impl<A: Allocator + Copy> StunAgent<A> {
         })
     }
 
-    /// Keeps and counts a request, and tells its id. It changes nothing where it refuses.
+    /// Stores and counts a request, and returns its id. If it fails, nothing changes.
     fn keep_request(
         &mut self,
         bytes: &[u8],
@@ -137,13 +143,13 @@ impl<A: Allocator + Copy> StunAgent<A> {
     {
         let id = self.id_to_ask(bytes, to)?;
         let kept = Vec::from_slice(self.alloc, bytes)?;
-        let request = Transaction::new(kept, to, integrity_of(bytes), self.settings, now);
+        let request = Transaction::new(kept, to, deciding_algorithm(bytes), self.settings, now);
         self.outstanding.insert(self.alloc, id, request)?;
         counting::count_sent(&mut self.stats, MessageClass::Request, bytes.len());
         Ok(id)
     }
 
-    /// The class of a message that may be sent and wants no answer.
+    /// The class of an indication or response that may be sent.
     fn class_to_send(&self, bytes: &[u8], to: SocketAddr) -> Result<MessageClass, StunError>
         ensures accepted { OnOk result (sending_refusal self.now bytes.now to ≡ None) }
         ensures class { IfOk result (λ class. class ≡ class_in bytes.now) }
@@ -175,7 +181,7 @@ impl<A: Allocator + Copy> StunAgent<A> {
     }
 }
 
-/// The class of a message that wants no answer.
+/// The class of an indication or response. A request is refused.
 fn class_of_answerless(bytes: &[u8]) -> Result<MessageClass, StunError>
     ensures { MatchOption (class_refusal bytes.now) (result ≡ Ok (class_in bytes.now))
         (λ error. result ≡ Err error) }

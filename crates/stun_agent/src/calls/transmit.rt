@@ -1,4 +1,4 @@
-//! Bytes that the caller is to send.
+//! Bytes for the caller to send.
 ghost use Rattle.std.specs.Prelude.{◌≡◌, length, IsOk, IfOk, Ok, Some};
 ghost use Rattle.stun_base.specs.Data.{IsOwned};
 
@@ -8,23 +8,23 @@ use std::net::SocketAddr;
 use stun_base::data::{Data, OwnedBytes};
 use stun_base::transport::TransportType;
 
-/// Bytes that the caller is to send, by this transport, between these addresses.
+/// Bytes for the caller to send, by this transport, between these addresses.
 #[derive(Debug, Drop)]
 pub struct Transmit<T: OwnedBytes> {
-    /// The bytes, lent or owned.
+    /// The bytes, borrowed or owned.
     pub data: T,
-    /// What carries them.
+    /// The transport that carries them.
     pub transport: TransportType,
     /// The address that sends them.
     pub from: SocketAddr,
-    /// The address that they go to.
+    /// The address that they are sent to.
     pub to: SocketAddr,
 }
 
 impl<T: OwnedBytes> Transmit<T> {
     ghost use Rattle.stun_agent.specs.Datagrams.{parts};
 
-    /// What is to be sent, of its four parts.
+    /// Makes it of its four parts.
     pub fn new(data: T, transport: TransportType, from: SocketAddr, to: SocketAddr) -> Self
         ensures { parts result ≡ («data», transport, from, to) }
     {
@@ -36,7 +36,7 @@ impl<T: OwnedBytes> Transmit<T> {
         }
     }
 
-    /// The same with what a closure makes of the data: transport and addresses stay.
+    /// Replaces the data by what a closure makes of it. Transport and addresses stay.
     pub fn reinterpret_data<O: OwnedBytes, F: FnOnce(T) -> O>(self, f: F) -> Transmit<O>
         requires { F.pre f (parts self).0 }
         ensures made { F.post f (parts self).0 (parts result).0 }
@@ -57,9 +57,9 @@ impl<T: OwnedBytes> Transmit<T> {
 impl<'a, A: Allocator> Transmit<Data<'a, A>> {
     ghost use Rattle.stun_agent.specs.Datagrams.{parts, datagram};
 
-    /// The same with owned bytes. Owned bytes move as they are and do not allocate. Borrowed bytes
-    /// are copied into memory of `alloc`; the one error is that this allocation fails, and then all
-    /// is dropped.
+    /// The same with owned bytes. Owned bytes move unchanged and do not allocate. Borrowed bytes
+    /// are copied into memory from `alloc`. It fails only if this allocation fails, and then drops
+    /// all.
     pub fn into_owned<'b>(self, alloc: A) -> Result<Transmit<Data<'b, A>>, AllocError>
         ensures same { IfOk result (λ owned. datagram owned ≡ datagram self.entry) }
         ensures owned { IfOk result (λ owned. IsOwned (parts owned).0) }
@@ -76,7 +76,7 @@ impl<'a, A: Allocator> Transmit<Data<'a, A>> {
     }
 }
 
-/// As `Transmit(UDP: 10.0.0.1:3478 -> 10.0.0.2:3478 of 20 bytes)`.
+/// Reads as `Transmit(UDP: 10.0.0.1:3478 -> 10.0.0.2:3478 of 20 bytes)`.
 impl<T: OwnedBytes> fmt::Display for Transmit<T> {
     ghost use Rattle.stun_agent.specs.Datagrams.{text_of_datagram};
 

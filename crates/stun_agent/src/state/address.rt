@@ -1,10 +1,10 @@
-//! Whether two addresses are one, by the definition that contracts cite.
+//! Equality of addresses, by the definition that contracts cite.
 ghost use Rattle.std.specs.Prelude.{◌≡◌};
 ghost use Rattle.stun_base.specs.Address.{same_address};
 
 use std::net::SocketAddr;
 
-/// Whether two addresses are one.
+/// Whether two addresses are equal.
 pub(crate) fn is_same(one: SocketAddr, other: SocketAddr) -> bool
     ensures { result ≡ same_address one other }
 {

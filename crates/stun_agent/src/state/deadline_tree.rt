@@ -1,4 +1,4 @@
-//! Deadlines in a tree, which is a heap by their moments and a radix tree by their ids.
+//! Deadlines in a tree: a heap by their times, and a radix tree by their ids.
 ghost use Rattle.std.specs.Prelude.{◌≡◌, ℕ, [], ◌∷◌, ◌+◌, ◌≤◌, fold, map};
 ghost use Rattle.std.specs.Prelude.{None, IfOk, IfSome, IsPermutation};
 ghost use Rattle.std.specs.Option.{is_some};
@@ -7,7 +7,7 @@ ghost use Rattle.stun_agent.specs.code.Deadlines.{early, entries_at, is_passed, 
 ghost use Rattle.stun_agent.specs.code.DeadlineTree.{items, below, middle, height, height_below};
 ghost use Rattle.stun_agent.specs.code.DeadlineTree.{is_no_later, IsAlone, IsExchanged, IsLast};
 ghost use Rattle.stun_agent.specs.code.DeadlineTree.{IsTree, IsBelow, IsWithin, TakesFirst};
-ghost use Rattle.stun_agent.specs.code.DeadlineTree.{TakesNext, TakesOut, first_of, next_of};
+ghost use Rattle.stun_agent.specs.code.DeadlineTree.{TakesNext, TakesOut, first_deadline, next_of};
 ghost use Rattle.stun_agent.specs.code.DeadlineTree.{IsSearch, least_come, first_has_come, with_id};
 ghost use Rattle.stun_agent.specs.declared.state.deadline_tree.Link.TheVariants.{Empty};
 
@@ -19,9 +19,9 @@ use std::sync::ledger::Ledger;
 use stun_base::instant::Instant;
 use stun_base::transaction_id::TransactionId;
 
-/// Deadlines, each with an id of its own. To put one or to take one goes down one path, which has
-/// at most 97 nodes, one for each bit of an id and one more. It allocates nothing: an entry brings
-/// its node along.
+/// Deadlines, each with an id of its own. Adding one and removing one go down one path. A path has
+/// at most 97 nodes: one for each bit of an id, and one more. Neither allocates, since an entry
+/// brings its node along.
 #[derive(Drop)]
 #[derive_where(Debug)]
 pub(crate) struct DeadlineTree<A: Allocator = Global> {
@@ -49,7 +49,7 @@ impl<A: Allocator> DeadlineTree<A> {
         DeadlineTree { root: Link::Empty }
     }
 
-    /// The first moment.
+    /// The first time that is awaited.
     pub(crate) fn earliest(&self) -> Option<Instant>
         ensures { result ≡ fold sooner None (map (λ d. d.moment) self.now) }
     {
@@ -59,7 +59,7 @@ impl<A: Allocator> DeadlineTree<A> {
         }
     }
 
-    /// Puts in an entry, of an id that is not there.
+    /// Adds an entry, of an id that is not there.
     pub(crate) fn put(&mut self, entry: Entry<A>)
         requires { entries_at entry.id self.old ≡ [] }
         ensures { IsPermutation (entry ∷ self.old) self.new }
@@ -68,15 +68,15 @@ impl<A: Allocator> DeadlineTree<A> {
         put(&mut self.root, 0, IDS, &mut deadline, node);
     }
 
-    /// Takes out the entry of an id.
+    /// Removes the entry of an id.
     pub(crate) fn take(&mut self, id: TransactionId) -> Option<Entry<A>>
         ensures { TakesOut id self.old result self.new }
     {
         take(&mut self.root, 0, IDS, id)
     }
 
-    /// The least id after `last` among those whose moment has come. No node is read whose own
-    /// moment has not come.
+    /// The least id after `last` among those whose time has come. It reads no node whose own time
+    /// has not come.
     pub(crate) fn least_come<L: Ledger>(
         &self,
         now: Instant,
@@ -84,7 +84,7 @@ impl<A: Allocator> DeadlineTree<A> {
         reads: &mut Reads<L>,
     ) -> Option<TransactionId>
         ensures answer { result ≡ least_come now last.now self.now }
-        // It reads none that is late, and no more than one path has, or two where ids are passed.
+        // It reads only nodes whose time has come: at most one path, or two after a `last`.
         ensures work { reads.new ≤ reads.old + early now self.now }
         ensures paths { reads.new ≤ reads.old + 194 }
         ensures path { last.now ≡ None → reads.new ≤ reads.old + 97 }
@@ -135,7 +135,7 @@ impl<A: Allocator> Entry<A> {
         self.deadline
     }
 
-    /// Puts another deadline in place of this one.
+    /// Replaces the deadline.
     pub(crate) fn set(&mut self, deadline: Deadline)
         ensures { self.new ≡ deadline }
     {
@@ -143,7 +143,7 @@ impl<A: Allocator> Entry<A> {
     }
 }
 
-/// Nothing, or a deadline and the node of those that are below it. None of these is sooner.
+/// Nothing, or a deadline and the node of those below it. None of these is earlier.
 #[cycle(deadline_tree)]
 #[derive(Drop)]
 #[derive_where(Debug)]
@@ -152,7 +152,7 @@ enum Link<A: Allocator> {
     Held(Deadline, Box<Node<A>, A>),
 }
 
-/// What is below a deadline: that of the lesser half of the ids, and that of the greater half.
+/// What is below a deadline: the lesser half of the ids on the left, the greater half on the right.
 #[cycle(deadline_tree)]
 #[derive(Drop)]
 #[derive_where(Debug)]
@@ -161,17 +161,17 @@ struct Node<A: Allocator> {
     right: Link<A>,
 }
 
-/// Ids are below this.
+/// All ids are below this number.
 const IDS: u128 = 1 << 96;
 
-/// Where the greater half begins of the ids from `low` on that are below `high`.
+/// Where the greater half of the ids from `low` to `high` begins.
 fn middle(low: u128, high: u128) -> u128
     ensures { result ≡ middle low high }
 {
     low + high.saturating_sub(low) / 2
 }
 
-/// Puts a deadline below a link, with its node.
+/// Adds a deadline, with its node, below a link.
 fn put<A: Allocator>(
     link: &mut Link<A>,
     low: u128,
@@ -199,7 +199,7 @@ fn put<A: Allocator>(
     }
 }
 
-/// Leaves the sooner of two deadlines at the top, and the other one in its place.
+/// Leaves the earlier of two deadlines at the top, and the later one in `deadline`.
 fn leave_sooner(top: &mut Deadline, deadline: &mut Deadline)
     ensures { IsExchanged deadline.old top.old top.new deadline.new }
 {
@@ -208,7 +208,7 @@ fn leave_sooner(top: &mut Deadline, deadline: &mut Deadline)
     }
 }
 
-/// Takes out the entry of an id from below a link.
+/// Removes the entry of an id from below a link.
 fn take<A: Allocator>(
     link: &mut Link<A>,
     low: u128,
@@ -237,12 +237,12 @@ fn take<A: Allocator>(
     }
 }
 
-/// Takes out the deadline that a link leads to, and returns a node. The sooner of the two below it
-/// comes in its place.
+/// Removes the deadline that a link leads to, and returns a node. The earlier of the two below it
+/// takes its place.
 #[cycle(take_first)]
 fn take_first<A: Allocator>(link: &mut Link<A>) -> Option<Box<Node<A>, A>>
-    ensures taken { TakesFirst (items link.old) (first_of (items link.old)) (items link.new) }
-    ensures some { is_some result ≡ is_some (first_of (items link.old)) }
+    ensures taken { TakesFirst (items link.old) (first_deadline (items link.old)) (items link.new) }
+    ensures some { is_some result ≡ is_some (first_deadline (items link.old)) }
     ensures alone { IfSome result (λ node. IsAlone node.value) }
     ensures tree { (low high : ℕ) → IsTree low high link.old → IsTree low high link.new }
 {
@@ -258,7 +258,7 @@ fn take_first<A: Allocator>(link: &mut Link<A>) -> Option<Box<Node<A>, A>>
     }
 }
 
-/// Takes out the sooner of the two deadlines below a node, and returns another node.
+/// Removes the earlier of the two deadlines below a node, and returns another node.
 #[cycle(take_first)]
 fn take_next<A: Allocator>(node: &mut Node<A>) -> Option<Box<Node<A>, A>>
     ensures taken { TakesNext node.old (next_of node.old) node.new }
@@ -272,7 +272,7 @@ fn take_next<A: Allocator>(node: &mut Node<A>) -> Option<Box<Node<A>, A>>
     }
 }
 
-/// The sooner of the two deadlines below a node.
+/// The earlier of the two deadlines below a node.
 fn next<A: Allocator>(node: &Node<A>) -> Option<Deadline>
     ensures { result ≡ next_of node.now }
 {
@@ -285,7 +285,7 @@ fn next<A: Allocator>(node: &Node<A>) -> Option<Deadline>
 
 /// The deadline that a link leads to.
 fn first<A: Allocator>(link: &Link<A>) -> Option<Deadline>
-    ensures { result ≡ first_of (items link.now) }
+    ensures { result ≡ first_deadline (items link.now) }
 {
     match link {
         Link::Empty => None,
@@ -293,7 +293,7 @@ fn first<A: Allocator>(link: &Link<A>) -> Option<Deadline>
     }
 }
 
-/// Whether a link leads to a deadline, and the other one to none that is sooner.
+/// Whether a link leads to a deadline, and the other one to none that is earlier.
 fn is_no_later<A: Allocator>(link: &Link<A>, other: &Link<A>) -> bool
     ensures { result ≡ is_no_later (items link.now) (items other.now) }
 {
@@ -304,11 +304,11 @@ fn is_no_later<A: Allocator>(link: &Link<A>, other: &Link<A>) -> bool
     }
 }
 
-/// Takes the last node off a link.
+/// Removes the last node from a link.
 fn unlink<A: Allocator>(link: &mut Link<A>) -> Option<Box<Node<A>, A>>
     requires { IsLast link.old }
-    ensures taken { TakesFirst (items link.old) (first_of (items link.old)) [] }
-    ensures some { is_some result ≡ is_some (first_of (items link.old)) }
+    ensures taken { TakesFirst (items link.old) (first_deadline (items link.old)) [] }
+    ensures some { is_some result ≡ is_some (first_deadline (items link.old)) }
     ensures alone { IfSome result (λ node. IsAlone node.value) }
     ensures empty { link.new ≡ Empty }
 {
@@ -318,8 +318,8 @@ fn unlink<A: Allocator>(link: &mut Link<A>) -> Option<Box<Node<A>, A>>
     }
 }
 
-/// The least id among those below a link whose moment has come, and this one. It goes down one
-/// path: where one on the left has come, none on the right is less.
+/// The least id among those below a link whose time has come, and this one. It goes down one path:
+/// if one on the left has come, none on the right is less.
 fn least_of_all<A: Allocator, L: Ledger>(
     link: &Link<A>,
     now: Instant,
@@ -358,7 +358,7 @@ fn has_come<A: Allocator>(link: &Link<A>, now: Instant) -> bool
     }
 }
 
-/// The least id after `last` among those below a link whose moment has come.
+/// The least id after `last` among those below a link whose time has come.
 #[cycle(least_come)]
 fn least_come<A: Allocator, L: Ledger>(
     link: &Link<A>,
@@ -385,8 +385,8 @@ fn least_come<A: Allocator, L: Ledger>(
     }
 }
 
-/// The least id after `last` among those below a node whose moment has come. All ids on the left
-/// are less than those on the right, and none of them is after a `last` in the greater half.
+/// The least id after `last` among those below a node whose time has come. All ids on the left are
+/// less than those on the right, and none of them is after a `last` in the greater half.
 #[cycle(least_come)]
 fn least_below<A: Allocator, L: Ledger>(
     node: &Node<A>,
@@ -422,7 +422,7 @@ fn is_past(last: Option<TransactionId>, middle: u128) -> bool
     }
 }
 
-/// The lesser id, where this one is after `last`.
+/// The lesser of two ids, if the second is after `last`, and else the first.
 fn with_id(
     least: Option<TransactionId>,
     last: Option<TransactionId>,

@@ -1,4 +1,4 @@
-//! What outstanding requests await, in a tree for each kind.
+//! The deadlines of outstanding requests, in a tree for each kind.
 ghost use Rattle.std.specs.Prelude.{◌≡◌, [], ◌∷◌, ◌+◌, ◌<◌, ◌≤◌, codes};
 ghost use Rattle.std.specs.Prelude.{Some, IsSomeAnd, IsPermutation};
 ghost use Rattle.std.specs.Fmt.{WritesOnOk};
@@ -20,13 +20,13 @@ use stun_base::transaction_id::TransactionId;
 pub(crate) enum DeadlineKind {
     /// It is to be sent again, or would be if it were not silent.
     Slot,
-    /// Its last wait ends.
+    /// It is to end, after its last wait.
     End,
     /// It is cancelled, and ends at the next poll that reaches it.
     Cancelled,
 }
 
-/// The moment that a request awaits. A cancelled one awaits moment zero.
+/// The time that a request awaits. A cancelled one awaits time zero.
 #[derive(Clone, Copy, Debug, PartialEq, Eq)]
 pub(crate) struct Deadline {
     pub(crate) id: TransactionId,
@@ -35,7 +35,7 @@ pub(crate) struct Deadline {
 }
 
 /// Deadlines, in a tree for each kind, since each question is about one or two kinds. A contract
-/// sees them in one list, in no order.
+/// sees one list of them, in no order.
 #[derive(Drop)]
 #[derive_where(Debug)]
 pub(crate) struct DeadlineIndex<A: Allocator = Global> {
@@ -68,7 +68,7 @@ impl<A: Allocator> DeadlineIndex<A> {
         }
     }
 
-    /// Puts in the deadline of a request that has none here. Does not allocate.
+    /// Adds the deadline of a request that has none here. Does not allocate.
     pub(crate) fn put(&mut self, entry: Entry<A>)
         requires { entries_at entry.id self.old ≡ [] }
         ensures { IsPermutation (entry ∷ self.old) self.new }
@@ -80,7 +80,7 @@ impl<A: Allocator> DeadlineIndex<A> {
         }
     }
 
-    /// Takes out the deadline that a request has.
+    /// Removes the deadline of a request.
     pub(crate) fn take(&mut self, deadline: Deadline) -> Option<Entry<A>>
         requires { entries_at deadline.id self.old ≡ deadline ∷ [] }
         ensures { IsSomeAnd result
@@ -93,8 +93,7 @@ impl<A: Allocator> DeadlineIndex<A> {
         }
     }
 
-    /// Puts another deadline of a request in place of the one that it has, where it is another one.
-    /// Does not allocate.
+    /// Replaces the deadline of a request, if the new one differs. Does not allocate.
     pub(crate) fn replace(&mut self, before: Deadline, after: Deadline)
         requires there { entries_at before.id self.old ≡ before ∷ [] }
         requires same { after.id ≡ before.id }
@@ -109,7 +108,7 @@ impl<A: Allocator> DeadlineIndex<A> {
         }
     }
 
-    /// The first moment, and nothing of whose it is.
+    /// The first time that is awaited.
     fn earliest(&self) -> Option<Instant>
         ensures { result ≡ earliest self.now }
     {
@@ -117,7 +116,7 @@ impl<A: Allocator> DeadlineIndex<A> {
         first(awaited, self.cancelled.earliest())
     }
 
-    /// Whether the first moment has come.
+    /// Whether the first time has come.
     pub(crate) fn has_come(&self, now: Instant) -> bool
         ensures { result ≡ has_come now self.now }
     {
@@ -127,9 +126,9 @@ impl<A: Allocator> DeadlineIndex<A> {
         }
     }
 
-    /// The least id among those whose end has come, and the first moment; and how often this index
-    /// was read to tell both: once itself, where the first deadline of each tree stands, and each
-    /// node that was read.
+    /// The least id among those whose end has come, the first time that is awaited, and how often
+    /// the index was read for both. The index itself counts once, with the first deadline of each
+    /// tree, and so does each node that was read.
     pub(crate) fn find_ended<L: Ledger>(
         &self,
         now: Instant,
@@ -148,7 +147,7 @@ impl<A: Allocator> DeadlineIndex<A> {
         (least(ended, cancelled), self.earliest(), reads)
     }
 
-    /// The least id, after `last`, of a request whose slot is due.
+    /// The least id, after `last`, of a request whose timeout is due.
     pub(crate) fn least_due(
         &self,
         now: Instant,
@@ -173,7 +172,7 @@ impl<A: Allocator> DeadlineIndex<A> {
         self.slots.least_come(now, last, &mut reads)
     }
 
-    /// The first moment of a request that is not cancelled.
+    /// The first time that a request awaits. Cancelled requests do not count.
     pub(crate) fn first_awaited(&self) -> Option<Instant>
         ensures { result ≡ first_awaited self.now }
     {
@@ -181,7 +180,7 @@ impl<A: Allocator> DeadlineIndex<A> {
     }
 }
 
-/// The sooner of two moments that may be there.
+/// The earlier of two times, each of which may be absent.
 fn first(one: Option<Instant>, other: Option<Instant>) -> Option<Instant>
     ensures { result ≡ lesser one other }
 {
@@ -192,7 +191,7 @@ fn first(one: Option<Instant>, other: Option<Instant>) -> Option<Instant>
     }
 }
 
-/// The lesser of two ids that may be there.
+/// The lesser of two ids, each of which may be absent.
 fn least(one: Option<TransactionId>, other: Option<TransactionId>) -> Option<TransactionId>
     ensures { result ≡ lesser one other }
 {
@@ -203,8 +202,9 @@ fn least(one: Option<TransactionId>, other: Option<TransactionId>) -> Option<Tra
     }
 }
 
-/// How often an index of deadlines was read: itself once, where the first deadline of each tree
-/// stands, and each node that was read. It takes no bytes, and only what reads raises it.
+/// How often an index of deadlines was read. The index itself counts once, with the first deadline
+/// of each tree, and so does each node that was read. It takes no bytes, and only reading raises
+/// it.
 #[derive(Drop)]
 pub struct Reads<L: Ledger> {
     book: Book<L>,
@@ -232,7 +232,7 @@ impl<L: Ledger> fmt::Debug for Reads<L> {
 }
 
 impl<L: Ledger> Reads<L> {
-    /// A count of a ledger that nobody has used.
+    /// A count at zero, of a ledger that nobody has used.
     fn new(blank: Blank) -> Self
         requires { IsUnused blank.name blank.parts L.name L.parts }
         ensures { result ≡ 0 }

@@ -1,12 +1,12 @@
-//! The requests that wait, with the index of what they await: each call keeps both together.
+//! The outstanding requests, with the index of their deadlines. Each call keeps both in step.
 ghost use Rattle.std.specs.Prelude.{◌≡◌, ◌+◌, ◌≤◌, ◌<◌, [], length, Some, None};
 ghost use Rattle.std.specs.Prelude.{IfSome, IsSomeAnd, IfOk, OnOk, OnErr};
 ghost use Rattle.std.specs.Option.{option_map, option_copied};
 ghost use Rattle.stun_agent.specs.Deadlines.{early_requests, most_reads, IsUnused};
-ghost use Rattle.stun_agent.specs.Transactions.{AreKept, at, with, without, changed};
+ghost use Rattle.stun_agent.specs.Transactions.{AreKept, at, with, without, with_change_at};
 ghost use Rattle.stun_agent.specs.Transactions.{first_over, wake_up, next_awaited};
 ghost use Rattle.stun_agent.specs.Transactions.{next_sent, after_slots, IsNamed};
-ghost use Rattle.stun_agent.specs.code.Transactions.{contents, id_and_repeats, after_change};
+ghost use Rattle.stun_agent.specs.code.Transactions.{contents, id_and_repeats, changed_transaction};
 
 use crate::error::NoRoom;
 use crate::state::deadline_tree::Entry;
@@ -22,11 +22,11 @@ use stun_base::instant::Instant;
 use stun_base::transaction_id::TransactionId;
 use stun_base::transport::TransportType;
 
-/// An agent asks to be polled at least so often.
+/// An agent is to be polled at least this often.
 const LONGEST_WAIT_SECONDS: u64 = 3600;
 
-/// The requests that wait for their responses, by their ids, the transport that carries them, and
-/// what they await, by the moments. A contract sees the requests and the transport.
+/// The outstanding requests by their ids, the transport that carries them, and their deadlines by
+/// time. A contract sees the requests and the transport.
 #[derive(Drop)]
 #[derive_where(Debug)]
 pub(crate) struct Outstanding<A: Allocator = Global> {
@@ -69,7 +69,7 @@ impl<A: Allocator + Copy> Outstanding<A> {
         self.requests.get(&id)
     }
 
-    /// Keeps a request at an id that has none. Where an allocation fails, nothing changes.
+    /// Stores a request at an id that has none. If an allocation fails, nothing changes.
     pub(crate) fn insert(
         &mut self,
         alloc: A,
@@ -78,7 +78,9 @@ impl<A: Allocator + Copy> Outstanding<A> {
     ) -> Result<(), AllocError>
         requires named { IsNamed (id, request) }
         requires absent { at id self.old.requests ≡ None }
-        ensures ok { OnOk result (self.new ≡ record self.old { requests = with id request self.old.requests }) }
+        ensures ok { OnOk result (self.new ≡ record self.old {
+          requests = with id request self.old.requests;
+        }) }
         ensures there { OnOk result (at id self.new.requests ≡ Some request) }
         ensures err { OnErr result (self.new ≡ self.old) }
     {
@@ -92,7 +94,7 @@ impl<A: Allocator + Copy> Outstanding<A> {
         }
     }
 
-    /// Takes a request out.
+    /// Removes a request and its deadline.
     pub(crate) fn remove(&mut self, id: TransactionId) -> Option<Transaction<A>>
         ensures answer { result ≡ at id self.old.requests }
         ensures after { self.new ≡ record self.old { requests = without id self.old.requests } }
@@ -102,8 +104,9 @@ impl<A: Allocator + Copy> Outstanding<A> {
         Some(request)
     }
 
-    /// The id of the request that is to end, and whether it was still sent again; when to poll
-    /// again, where none is to end; and how often deadlines, which alone decide both, were read.
+    /// Returns the id of the request that is to end, and whether it was still sent again; when to
+    /// poll again, if none ends; and how often deadlines were read. Deadlines alone decide the
+    /// first two.
     pub(crate) fn find_over<L: Ledger>(
         &self,
         now: Instant,
@@ -127,7 +130,7 @@ impl<A: Allocator + Copy> Outstanding<A> {
         )
     }
 
-    /// The least moment that a request which is not cancelled awaits.
+    /// The next time that a request awaits. Cancelled requests do not count.
     pub(crate) fn next_awaited(&self) -> Option<Instant>
         ensures least { result ≡ next_awaited self.now.transport self.now.requests }
         ensures kept { AreKept self.now.requests }
@@ -135,8 +138,9 @@ impl<A: Allocator + Copy> Outstanding<A> {
         self.deadlines.first_awaited()
     }
 
-    /// Passes the slots that are due, and tells of the request that is to be sent again its id and
-    /// how many bytes it has. Where that is more than there is room for, nothing changes.
+    /// Passes the timeouts (slots) that are due, by ascending ids, up to that of a request to send
+    /// again. Returns its id and how many bytes it has. If these do not fit into the room, it
+    /// fails, and nothing changes.
     pub(crate) fn pass_due_slots(
         &mut self,
         now: Instant,
@@ -170,7 +174,7 @@ impl<A: Allocator + Copy> Outstanding<A> {
         Ok(transactions::pass_slots(&mut self.requests, &mut self.deadlines, self.transport, now))
     }
 
-    /// Refuses where `pass_due_slots` would send more bytes than there is room for.
+    /// Fails if `pass_due_slots` would send more bytes than there is room for.
     fn check_room(&self, now: Instant, room: Option<usize>) -> Result<(), NoRoom>
         ensures ok { OnOk result (IfSome room (λ r.
             IfSome (next_sent self.now.transport now self.now.requests)
@@ -210,10 +214,10 @@ impl<A: Allocator + Copy> Outstanding<A> {
         None
     }
 
-    /// Changes a request, where it is there. Does not allocate.
+    /// Changes a request, if it is outstanding. Does not allocate.
     pub(crate) fn change(&mut self, id: TransactionId, change: Change)
         ensures { self.new ≡ record self.old {
-          requests = changed (after_change change) id self.old.requests;
+          requests = with_change_at (changed_transaction change) id self.old.requests;
         } }
     {
         let Some((before, after)) = transactions::change(

@@ -1,4 +1,4 @@
-//! When a request is sent again, and when it is given up.
+//! When a request is sent again, and when it ends.
 ghost use Rattle.std.specs.Prelude.{◌≡◌, ◌≤◌, ◌*◌, ◌^◌};
 ghost use Rattle.std.specs.Duration.{as_nanos, max_nanos};
 ghost use Rattle.stun_agent.specs.Timing.{settings_of, default_settings, timeout, slots};
@@ -10,7 +10,7 @@ use stun_base::transport::TransportType;
 /// After so many doublings even one nanosecond is past the longest `Duration`.
 const DOUBLINGS: u32 = 94;
 
-/// When a request is sent again, and when it is given up (RFC 8489, sections 6.2.1 and 6.2.2).
+/// When a request is sent again, and when it ends (RFC 8489, sections 6.2.1 and 6.2.2).
 #[derive(Clone, Copy, Debug, PartialEq, Eq)]
 pub struct RequestRto {
     /// The wait after the first transmission (RTO in section 6.2.1). Each further wait is twice as
@@ -50,7 +50,7 @@ impl RequestRto {
         }
     }
 
-    /// The wait after transmission `i`, counted from 0: `initial * 2^i`, and at most `max`.
+    /// The wait after transmission `i`, counted from 0: `initial * 2^i`, but at most `max`.
     pub fn timeout(&self, i: u32) -> Duration
         ensures { as_nanos result ≡ timeout (settings_of self.now) i }
     {
@@ -58,7 +58,7 @@ impl RequestRto {
     }
 
     /// The wait from the last transmission to the end. Over TCP it is as long as all waits over UDP
-    /// together, and at most `Duration::MAX`.
+    /// together, but at most `Duration::MAX`.
     pub fn final_wait(&self, transport: TransportType) -> Duration
         ensures { as_nanos result ≡ final_wait transport (settings_of self.now) }
     {
@@ -92,7 +92,7 @@ impl RequestRto {
         }
     }
 
-    /// From transmission `DOUBLINGS` on the timeouts are all alike, so that few turns add them up.
+    /// From transmission `DOUBLINGS` on all timeouts are equal, so a short loop adds them up.
     fn sum_of_timeouts(&self) -> u128
         ensures value { result ≡ sum_of_timeouts (settings_of self.now)
             (repetitions (settings_of self.now)) }

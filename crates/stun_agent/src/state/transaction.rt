@@ -1,12 +1,12 @@
-//! One request that waits: its bytes, its timeouts, and what it awaits.
-ghost use Rattle.std.specs.Prelude.{◌≡◌, IsTrue};
+//! One outstanding request: its bytes, its timeouts, and its deadline.
+ghost use Rattle.std.specs.Prelude.{◌≡◌, ◌<◌};
 ghost use Rattle.stun_base.specs.Address.{same_address};
 ghost use Rattle.stun_agent.specs.code.Deadlines.{deadline_of};
-ghost use Rattle.stun_agent.specs.code.Transactions.{length_sent, after_change};
-ghost use Rattle.stun_agent.specs.Timing.{settings_of};
+ghost use Rattle.stun_agent.specs.code.Transactions.{length_sent, changed_transaction};
+ghost use Rattle.stun_agent.specs.Timing.{settings_of, repetitions};
 ghost use Rattle.stun_agent.specs.Transactions.{repeats, is_cancelled, after_silence};
-ghost use Rattle.stun_agent.specs.Transactions.{new_transaction, has_slots, awaited};
-ghost use Rattle.stun_agent.specs.Transactions.{is_due, after_slot, round_trip};
+ghost use Rattle.stun_agent.specs.Transactions.{new_transaction, has_slots, awaited_moment};
+ghost use Rattle.stun_agent.specs.Transactions.{after_slot, round_trip};
 
 use crate::state::address::is_same;
 use crate::state::deadlines::{Deadline, DeadlineKind};
@@ -24,7 +24,7 @@ use stun_base::transport::TransportType;
 pub(crate) enum Sending {
     /// It is sent again while timeouts are left.
     Repeats,
-    /// It is sent no more, and is waited for.
+    /// It is sent no more, and its response is awaited.
     Silent,
     /// It ends at the next poll that reaches it.
     Cancelled,
@@ -43,7 +43,7 @@ impl Sending {
         matches!(&self, Sending::Cancelled)
     }
 
-    /// The same once retransmissions are cancelled.
+    /// The state after its retransmissions are cancelled.
     fn silenced(self) -> Sending
         ensures { result ≡ after_silence self }
     {
@@ -55,10 +55,10 @@ impl Sending {
     }
 }
 
-/// What the user of a request changes of it.
+/// What the user changes in a request.
 #[derive(Clone, Copy, Debug, PartialEq, Eq)]
 pub(crate) enum Change {
-    /// It is sent no more, and is waited for.
+    /// It is sent no more, and its response is awaited.
     Silence,
     /// It ends, as cancelled, at the next poll that reaches it.
     Cancel,
@@ -66,7 +66,8 @@ pub(crate) enum Change {
     Configure(RequestRto),
 }
 
-/// A request that waits for its response.
+/// A request that awaits its response. `slot` counts the timeouts that have passed: each is the
+/// slot of one retransmission. `last` is the time of the last one, at first that of sending.
 #[derive(Drop)]
 #[derive_where(Debug)]
 pub(crate) struct Transaction<A: Allocator = Global> {
@@ -142,7 +143,7 @@ impl<A: Allocator> Transaction<A> {
         self.integrity
     }
 
-    /// The nanoseconds between sending it and a moment, where no timeout has passed.
+    /// The nanoseconds from sending it to this time, if no timeout has passed.
     pub(crate) fn round_trip(&self, moment: Option<Instant>) -> Option<u64>
         ensures { result ≡ round_trip moment self.now }
     {
@@ -160,7 +161,7 @@ impl<A: Allocator> Transaction<A> {
     }
 
     pub(crate) fn change(&mut self, change: Change)
-        ensures { self.new ≡ after_change change self.old }
+        ensures { self.new ≡ changed_transaction change self.old }
     {
         match change {
             Change::Silence => self.sending = self.sending.silenced(),
@@ -184,9 +185,9 @@ impl<A: Allocator> Transaction<A> {
         self.sending.is_cancelled()
     }
 
-    /// The moment at which it is sent again, or ends.
+    /// The time at which it is sent again, or ends.
     pub(crate) fn awaited(&self, transport: TransportType) -> Instant
-        ensures { result ≡ awaited transport self.now }
+        ensures { result ≡ awaited_moment transport self.now }
     {
         let wait = if self.has_slots(transport) {
             self.settings.timeout(self.slot)
@@ -196,7 +197,7 @@ impl<A: Allocator> Transaction<A> {
         self.last + wait
     }
 
-    /// What it awaits, under its id.
+    /// What it awaits, with its id.
     pub(crate) fn deadline(&self, id: TransactionId, transport: TransportType) -> Deadline
         ensures { result ≡ deadline_of transport (id, self.now) }
     {
@@ -219,7 +220,7 @@ impl<A: Allocator> Transaction<A> {
         }
     }
 
-    /// How many bytes are sent again of it, where it is.
+    /// How many bytes it has, if it is sent again.
     pub(crate) fn length_sent(&self) -> Option<usize>
         ensures { result ≡ length_sent self.now }
     {
@@ -230,13 +231,12 @@ impl<A: Allocator> Transaction<A> {
         }
     }
 
-    /// Takes the slot that is due.
-    pub(crate) fn take_slot(&mut self, transport: TransportType, now: Instant)
-        requires { IsTrue (is_due transport now self.old) }
+    /// Passes the timeout that is due.
+    pub(crate) fn take_slot(&mut self, now: Instant)
+        requires { self.old.slot < repetitions self.old.settings }
         ensures { self.new ≡ after_slot now self.old }
     {
-        let slots = self.settings.slots(transport);
-        prove!(self.slot < slots);
+        prove!(self.slot < self.settings.retransmits);
         self.slot += 1;
         self.last = now;
     }

@@ -1,13 +1,13 @@
-//! Steps over the map of requests and the index of deadlines.
+//! Steps that change the map of requests and the index of deadlines together.
 ghost use Rattle.std.specs.Prelude.{◌≡◌, length, Some, None, IfSome, IsTrue, MatchOption};
 ghost use Rattle.std.specs.Ordering.{nat_cmp};
 ghost use Rattle.std.specs.BTreeMap.{get};
 ghost use Rattle.std.specs.Option.{option_map};
-ghost use Rattle.stun_agent.specs.code.Deadlines.{IsIndexOf};
+ghost use Rattle.stun_agent.specs.code.Deadlines.{IsDeadlineIndexOf};
 ghost use Rattle.stun_agent.specs.Transactions.{repeats, IsAscending, at, sooner, is_due};
-ghost use Rattle.stun_agent.specs.Transactions.{next_sent, after_slot, after_slots, changed};
+ghost use Rattle.stun_agent.specs.Transactions.{next_sent, after_slot, after_slots, with_change_at};
 ghost use Rattle.stun_agent.specs.code.Transactions.{contents, length_sent};
-ghost use Rattle.stun_agent.specs.code.Transactions.{after_change, deadlines_around};
+ghost use Rattle.stun_agent.specs.code.Transactions.{changed_transaction, deadlines_around};
 
 use crate::state::deadlines::{Deadline, DeadlineIndex};
 use crate::state::transaction::{Change, Transaction};
@@ -19,7 +19,7 @@ use stun_base::transport::TransportType;
 
 pub(crate) type Transactions<A> = BTreeMap<TransactionId, Transaction<A>, A>;
 
-/// The transaction of an id that is told, with whether it is still sent again.
+/// Pairs a transaction id with whether its request is still sent again.
 pub(crate) fn with_repeats<A: Allocator>(
     all: &Transactions<A>,
     told: Option<TransactionId>,
@@ -36,7 +36,7 @@ pub(crate) fn with_repeats<A: Allocator>(
     }
 }
 
-/// The lesser of a moment that may be there and another one.
+/// The earlier of two times, of which the first one may be absent.
 pub(crate) fn sooner(least: Option<Instant>, moment: Instant) -> Instant
     ensures { Some result ≡ sooner least moment }
 {
@@ -46,15 +46,15 @@ pub(crate) fn sooner(least: Option<Instant>, moment: Instant) -> Instant
     }
 }
 
-/// Passes the slots that are due, up to the one of the transaction that is sent again, and tells
-/// its id and how many bytes it has.
+/// Passes the timeouts (slots) that are due, by ascending ids, up to that of a request to send
+/// again. Returns its id and how many bytes it has.
 pub(crate) fn pass_slots<A: Allocator>(
     all: &mut Transactions<A>,
     deadlines: &mut DeadlineIndex<A>,
     transport: TransportType,
     now: Instant,
 ) -> Option<(TransactionId, usize)>
-    requires index { IsIndexOf transport all.old.entries deadlines.old }
+    requires index { IsDeadlineIndexOf transport all.old.entries deadlines.old }
     requires ascending { IsAscending all.old.entries }
     ensures sent { result ≡ option_map (λ e. (e.0, length e.1.bytes))
         (next_sent transport now all.old.entries) }
@@ -62,7 +62,7 @@ pub(crate) fn pass_slots<A: Allocator>(
         (option_map (λ s. s.0) result) all.old.entries }
     ensures kept { IfSome result (λ s. option_map contents (get nat_cmp all.new s.0)
         ≡ option_map (λ e. contents e.1) (next_sent transport now all.old.entries)) }
-    ensures index { IsIndexOf transport all.new.entries deadlines.new }
+    ensures index { IsDeadlineIndexOf transport all.new.entries deadlines.new }
 {
     let mut last = None;
     while let Some(id) = deadlines.least_due(now, &last) {
@@ -74,8 +74,7 @@ pub(crate) fn pass_slots<A: Allocator>(
     None
 }
 
-/// Passes the slot of the transaction at an id, and tells how many bytes it has where it is sent
-/// again.
+/// Passes the timeout of one request. Returns how many bytes it has, if it is sent again.
 fn pass_slot<A: Allocator>(
     all: &mut Transactions<A>,
     deadlines: &mut DeadlineIndex<A>,
@@ -83,20 +82,20 @@ fn pass_slot<A: Allocator>(
     now: Instant,
     id: TransactionId,
 ) -> Option<usize>
-    requires index { IsIndexOf transport all.old.entries deadlines.old }
+    requires index { IsDeadlineIndexOf transport all.old.entries deadlines.old }
     requires due { IfSome (at id all.old.entries) (λ t. IsTrue (is_due transport now t)) }
     ensures sent { MatchOption (at id all.old.entries) (result ≡ None)
         (λ t. result ≡ length_sent t) }
-    ensures after { all.new.entries ≡ changed (after_slot now) id all.old.entries }
-    ensures index { IsIndexOf transport all.new.entries deadlines.new }
+    ensures after { all.new.entries ≡ with_change_at (after_slot now) id all.old.entries }
+    ensures index { IsDeadlineIndexOf transport all.new.entries deadlines.new }
 {
     let (before, after, sent) = take_slot(all, transport, now, id)?;
     deadlines.replace(before, after);
     sent
 }
 
-/// Lets the transaction at an id take its slot, and tells what it awaited before and awaits now,
-/// and how many bytes it has where it is sent again.
+/// Passes the timeout of one request in the map alone. Returns its deadlines before and after, and
+/// how many bytes it has, if it is sent again.
 fn take_slot<A: Allocator>(
     all: &mut Transactions<A>,
     transport: TransportType,
@@ -107,11 +106,11 @@ fn take_slot<A: Allocator>(
     ensures told { option_map (λ r. (r.0, r.1)) result
         ≡ option_map (deadlines_around transport (after_slot now) id) (at id all.old.entries) }
     ensures sent { option_map (λ r. r.2) result ≡ option_map length_sent (at id all.old.entries) }
-    ensures after { all.new.entries ≡ changed (after_slot now) id all.old.entries }
+    ensures after { all.new.entries ≡ with_change_at (after_slot now) id all.old.entries }
 {
     let transaction = all.get_mut(&id)?;
     let before = transaction.deadline(id, transport);
-    transaction.take_slot(transport, now);
+    transaction.take_slot(now);
     Some((
         before,
         transaction.deadline(id, transport),
@@ -119,17 +118,17 @@ fn take_slot<A: Allocator>(
     ))
 }
 
-/// Changes the transaction at an id, where there is one, and tells what it awaited before and
-/// awaits now.
+/// Changes the request at an id, if there is one. Returns its deadlines before and after.
 pub(crate) fn change<A: Allocator>(
     all: &mut Transactions<A>,
     transport: TransportType,
     id: TransactionId,
     change: Change,
 ) -> Option<(Deadline, Deadline)>
-    ensures told { result ≡ option_map (deadlines_around transport (after_change change) id)
+    ensures told { result ≡ option_map (deadlines_around transport (changed_transaction change) id)
         (at id all.old.entries) }
-    ensures after { all.new.entries ≡ changed (after_change change) id all.old.entries }
+    ensures after { all.new.entries
+        ≡ with_change_at (changed_transaction change) id all.old.entries }
 {
     let transaction = all.get_mut(&id)?;
     let before = transaction.deadline(id, transport);

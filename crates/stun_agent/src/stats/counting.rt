@@ -1,17 +1,18 @@
-//! What is counted, where statistics are kept.
+//! Counts for an agent, if it keeps statistics.
 ghost use Rattle.std.specs.Prelude.{◌≡◌, if◌then◌else◌};
 ghost use Rattle.std.specs.Option.{option_map};
 ghost use Rattle.stun_agent.specs.Agent.{sending_tally};
-ghost use Rattle.stun_agent.specs.Statistics.{counted, request_sent_again};
+ghost use Rattle.stun_agent.specs.Statistics.{statistics_after, request_sent_again};
 ghost use Rattle.stun_agent.specs.Statistics.{request_received, indication_received};
-ghost use Rattle.stun_agent.specs.Statistics.{response_received, timed_out, cancelled};
+ghost use Rattle.stun_agent.specs.Statistics.{response_received, request_timed_out};
+ghost use Rattle.stun_agent.specs.Statistics.{request_cancelled};
 
 use crate::stats::StunAgentStats;
 use stun_base::message_type::MessageClass;
 
 /// Counts a message of a class and so many bytes that is sent for the first time.
 pub(crate) fn count_sent(stats: &mut Option<StunAgentStats>, class: MessageClass, bytes: usize)
-    ensures { stats.new ≡ option_map (counted (sending_tally class bytes)) stats.old }
+    ensures { stats.new ≡ option_map (statistics_after (sending_tally class bytes)) stats.old }
 {
     let Some(stats) = stats else {
         return;
@@ -26,7 +27,7 @@ pub(crate) fn count_sent(stats: &mut Option<StunAgentStats>, class: MessageClass
 
 /// Counts the bytes of a request that is sent again.
 pub(crate) fn count_sent_again(stats: &mut Option<StunAgentStats>, bytes: usize)
-    ensures { stats.new ≡ option_map (counted (request_sent_again bytes)) stats.old }
+    ensures { stats.new ≡ option_map (statistics_after (request_sent_again bytes)) stats.old }
 {
     let Some(stats) = stats else {
         return;
@@ -36,7 +37,7 @@ pub(crate) fn count_sent_again(stats: &mut Option<StunAgentStats>, bytes: usize)
 
 /// Counts a request of so many bytes that is received.
 pub(crate) fn count_request_received(stats: &mut Option<StunAgentStats>, bytes: usize)
-    ensures { stats.new ≡ option_map (counted (request_received bytes)) stats.old }
+    ensures { stats.new ≡ option_map (statistics_after (request_received bytes)) stats.old }
 {
     let Some(stats) = stats else {
         return;
@@ -46,7 +47,7 @@ pub(crate) fn count_request_received(stats: &mut Option<StunAgentStats>, bytes: 
 
 /// Counts an indication of so many bytes that is received.
 pub(crate) fn count_indication_received(stats: &mut Option<StunAgentStats>, bytes: usize)
-    ensures { stats.new ≡ option_map (counted (indication_received bytes)) stats.old }
+    ensures { stats.new ≡ option_map (statistics_after (indication_received bytes)) stats.old }
 {
     let Some(stats) = stats else {
         return;
@@ -54,14 +55,14 @@ pub(crate) fn count_indication_received(stats: &mut Option<StunAgentStats>, byte
     stats.count_indication_received(bytes as u64);
 }
 
-/// Counts a response of so many bytes to an outstanding request, and its round trip where it is
-/// known.
+/// Counts a response of so many bytes to an outstanding request, and its round trip if it is known.
 pub(crate) fn count_response_received(
     stats: &mut Option<StunAgentStats>,
     bytes: usize,
     round_trip: Option<u64>,
 )
-    ensures { stats.new ≡ option_map (counted (response_received bytes round_trip)) stats.old }
+    ensures { stats.new
+        ≡ option_map (statistics_after (response_received bytes round_trip)) stats.old }
 {
     let Some(stats) = stats else {
         return;
@@ -69,9 +70,12 @@ pub(crate) fn count_response_received(
     stats.count_response_received(bytes as u64, round_trip);
 }
 
-/// Counts the end of a request that no response took: a time-out while it was still sent again.
+/// Counts the end of a request without a response: a time-out if it was still sent again, and else
+/// a cancellation.
 pub(crate) fn count_end(stats: &mut Option<StunAgentStats>, repeats: bool)
-    ensures { stats.new ≡ option_map (counted (if repeats then timed_out else cancelled)) stats.old }
+    ensures { stats.new
+        ≡ option_map (statistics_after (if repeats then request_timed_out else request_cancelled))
+        stats.old }
 {
     let Some(stats) = stats else {
         return;

@@ -1,4 +1,4 @@
-//! Counters at their greatest values, to which no run of calls comes in any time.
+//! Counters at their greatest values, which no test reaches by calls.
 use crate::stats::StunAgentStats;
 use std::test::Fail;
 use std::time::Duration;
@@ -46,7 +46,7 @@ fn a_full_counter_stays_at_its_greatest_value(rt: HostRuntime) -> Result<(), Fai
     Ok(())
 }
 
-/// The last bytes that fit are counted, and of those that do not fit as many as there is room for.
+/// Bytes are counted up to the greatest value, and the rest is left out.
 #[test]
 fn a_counter_fills_up(rt: HostRuntime) -> Result<(), Fail> {
     let mut stats = StunAgentStats::default();

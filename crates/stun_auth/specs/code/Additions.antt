@@ -1,4 +1,4 @@
--- What adding one attribute after another comes to, as the code tells it.
+-- The outcome of adding one attribute after another.
 use Rattle.std.specs.Prelude.{◌≡◌, ℕ, ◌+◌, ◌≤◌, List, Result, Ok, Err, OnOk}
 use Rattle.stun_base.specs.declared.wire.error.StunWriteError.{StunWriteError}
 use Rattle.stun_auth.specs.Additions.{Addition, Page, UnlessMemory, WantsMemory, added_all, growth}
@@ -8,8 +8,8 @@ abbrev pub outcome_of : {V : Type 0} → Result V StunWriteError → Page → Re
 outcome_of (Ok value) page = Ok page
 outcome_of (Err reason) page = Err reason
 
--- a call answers what the additions come to on the page before it, and a failed allocation only
--- where one is needed for them
+-- a call returns the outcome of the additions on the page before it. It returns a failed allocation
+-- only where they need one
 abbrev pub IsOutcome : List Addition → Page → ℕ → Result (Unit {0}) StunWriteError → Page → Type 0
 IsOutcome list page reserved result page_after =
     UnlessMemory result (outcome_of result page_after ≡ added_all list page)

@@ -6,8 +6,8 @@ use Rattle.stun_types.specs.PasswordAlgorithms.{integrity_of}
 use Rattle.stun_auth.specs.Client.{Naming, plain, hashed, Challenge, ClientState}
 use Rattle.stun_auth.specs.Client.{initial, authenticating, authenticated}
 use Rattle.stun_auth.specs.ClientSigning.{kept_challenge}
-use Rattle.stun_auth.specs.ClientStep.{kept}
-use Rattle.stun_auth.specs.declared.client.challenge.Refusal.{Refusal}
+use Rattle.stun_auth.specs.ClientStep.{new_challenge}
+use Rattle.stun_auth.specs.declared.client.challenge.ChallengeRefusal.{ChallengeRefusal}
 use Rattle.stun_auth.specs.declared.client.challenge.UserNaming.{UserNaming}
 use Rattle.stun_auth.specs.declared.client.challenge.UserNaming.TheVariants.{Plain, Hashed}
 use Rattle.stun_auth.specs.declared.client.challenge.KeptChallenge.{KeptChallenge}
@@ -43,9 +43,10 @@ KeepsShortTexts state =
 -- the challenge that an offer comes to
 abbrev pub offer_kept : Feature → Offer → Challenge
 offer_kept feature o =
-    kept feature (record { username = o.username.now; password = o.password.now }) o.realm.now
+    new_challenge feature (record { username = o.username.now; password = o.password.now })
+    o.realm.now
     o.nonce.now (option_map (map integrity_of) o.list) o.algorithm
 
-abbrev pub offer_seen : Feature → Result Offer Refusal → Result Challenge Refusal
+abbrev pub offer_seen : Feature → Result Offer ChallengeRefusal → Result Challenge ChallengeRefusal
 offer_seen feature (Ok o) = Ok (offer_kept feature o)
 offer_seen feature (Err refusal) = Err refusal

@@ -1,10 +1,10 @@
 -- The refusals of a client as the code groups them.
-use Rattle.stun_auth.specs.declared.client.challenge.Refusal.{Refusal}
-use Rattle.stun_auth.specs.declared.client.challenge.Refusal.TheVariants as Refused
+use Rattle.stun_auth.specs.declared.client.challenge.ChallengeRefusal.{ChallengeRefusal}
+use Rattle.stun_auth.specs.declared.client.challenge.ChallengeRefusal.TheVariants as Refused
 
 -- the refusals by their names
 abbrev pub ClientRefusal : Type 0
-ClientRefusal = Refusal
+ClientRefusal = ChallengeRefusal
 
 abbrev pub unsupported_feature : ClientRefusal
 unsupported_feature = Refused.UnsupportedFeature

@@ -1,5 +1,5 @@
--- What the code comes to at an address where a message needs a nonce: the place, the verdict, the
--- client, and what is left.
+-- How the code judges a message that needs a nonce: the place, the verdict, the client, and what is
+-- left.
 use Rattle.std.specs.Prelude.{◌≡◌, ℕ, List, [], if◌then◌else◌, Option, Some, None}
 use Rattle.std.specs.FinMap as map
 use Rattle.std.specs.String.{string_bytes}
@@ -7,7 +7,7 @@ use Rattle.std.specs.declared.net.socket_addr.SocketAddr.{SocketAddr}
 use Rattle.std.specs.declared.result.Result.{Result}
 use Rattle.std.specs.declared.result.Result.TheVariants.{Ok, Err}
 use Rattle.stun_auth.specs.declared.feature.Feature.{Feature}
-use Rattle.stun_auth.specs.declared.server.reason.Refusal.{Refusal}
+use Rattle.stun_auth.specs.declared.server.reason.VerdictRefusal.{VerdictRefusal}
 use Rattle.stun_auth.specs.declared.server.reason.LongTermServerValidation.TheVariants.{Validated}
 use Rattle.stun_auth.specs.declared.server.validation.Judgement.{Judgement}
 use Rattle.stun_auth.specs.declared.server.validation.Judgement.TheVariants.{Refused, Known, New}
@@ -17,20 +17,20 @@ use Rattle.stun_auth.specs.code.Places.{client_seen}
 use Rattle.stun_auth.specs.Feature.{is_possible}
 use Rattle.stun_auth.specs.Places.{PlacesSeen, with_change}
 use Rattle.stun_auth.specs.Reading.{Reading}
-use Rattle.stun_auth.specs.Reasons.{reason_of}
+use Rattle.stun_auth.specs.Reasons.{server_reason}
 use Rattle.stun_auth.specs.Registered.{Registered, name_with_hash}
-use Rattle.stun_auth.specs.Seen.{ClientSeen, PlaceSeen, renewed}
+use Rattle.stun_auth.specs.Seen.{ClientSeen, PlaceSeen, renewed_place}
 use Rattle.stun_auth.specs.Nonces.{nonce_of}
-use Rattle.stun_auth.specs.Server.{stands_at, verdict}
+use Rattle.stun_auth.specs.Server.{has_current_nonce, verdict}
 use Rattle.stun_auth.specs.Validation.{Answer, ServerSeen, answer_to, with_accepted}
 use Rattle.stun_base.specs.Moments.{moment_after}
 
 -- a verdict as the code gives it
-abbrev pub judged : Result Accepted Refusal → Result ClientSeen Refusal
-judged (Ok a) = Ok (record { name = a.name.now; algorithm = a.algorithm })
-judged (Err refusal) = Err refusal
+abbrev pub verdict_seen : Result Accepted VerdictRefusal → Result ClientSeen VerdictRefusal
+verdict_seen (Ok a) = Ok (record { name = a.name.now; algorithm = a.algorithm })
+verdict_seen (Err refusal) = Err refusal
 
--- the name that a message gives, whether that user is present or not
+-- the name that a message gives, whether that user is registered or not
 abbrev pub name_by : Option (List ℕ) → Option (List ℕ) → Registered → Feature → Option (List ℕ)
 name_by (Some hash) username users feature =
     if is_possible feature then name_with_hash users hash else None
@@ -43,19 +43,19 @@ name_in users feature r = name_by r.userhash r.username users feature
 abbrev pub renewal_seen : {A : Type 0} → Renewal A → List ℕ × ℕ
 renewal_seen renewal = (string_bytes renewal.nonce.text, renewal.expires)
 
--- the place at which a message is judged: with the new nonce, if one was made, and else as it is
+-- the place that a message is judged under: with the new nonce if one was made, and else as it is
 -- kept
 abbrev pub place_with : Option PlaceSeen → Option (List ℕ × ℕ) → PlaceSeen
-place_with None None = renewed None [] 0
-place_with None (Some new) = renewed None new.0 new.1
+place_with None None = renewed_place None [] 0
+place_with None (Some new) = renewed_place None new.0 new.1
 place_with (Some place) None = place
-place_with (Some place) (Some new) = renewed (Some place) new.0 new.1
+place_with (Some place) (Some new) = renewed_place (Some place) new.0 new.1
 
--- the answer that is told of what a message came to
-abbrev pub answered : {A : Type 0} → Judgement A → Answer
-answered (Refused refusal) = Err (reason_of refusal)
-answered (Known a) = Ok (Validated a)
-answered (New client) = Ok (Validated client.algorithm)
+-- the answer for an outcome
+abbrev pub judgement_answer : {A : Type 0} → Judgement A → Answer
+judgement_answer (Refused refusal) = Err (server_reason refusal)
+judgement_answer (Known a) = Ok (Validated a)
+judgement_answer (New client) = Ok (Validated client.algorithm)
 
 -- the client who is not kept yet
 abbrev pub client_in : {A : Type 0} → Judgement A → Option ClientSeen
@@ -74,18 +74,19 @@ abbrev pub places_left : {A : Type 0} → PlacesSeen → SocketAddr → Option (
     → PlacesSeen
 places_left places from None judged = with_change places from (λ p. place_left p judged)
 places_left places from (Some new) judged =
-    map.insert places from (place_left (renewed (map.get places from) new.0 new.1) judged)
+    map.insert places from (place_left (renewed_place (map.get places from) new.0 new.1) judged)
 
 -- the nonce that is made for a server's address where none is current
 abbrev pub new_nonce : ServerSeen → ℕ → List ℕ → Option PlaceSeen → Option (List ℕ × ℕ)
 new_nonce s now words place =
-    if stands_at now place then None
+    if has_current_nonce now place then None
     else Some (nonce_of s.registered.algorithms s.feature words, moment_after now s.expiry)
 
--- what a message came to at a place tells and leaves what the verdict does
+-- an outcome answers and leaves what the verdict does
 pub record IsJudged {A : Type 0} (users : Registered) (feature : Feature) (r : Reading)
     (place : PlaceSeen) (judged : Judgement A) : Type 0 where
-  pub answer : answered judged ≡ answer_to (verdict users feature place.nonce place.offered r)
+  pub answer : judgement_answer judged
+      ≡ answer_to (verdict users feature place.nonce place.offered r)
   pub left : place_left place judged
       ≡ with_accepted place (verdict users feature place.nonce place.offered r)
 

@@ -1,4 +1,4 @@
--- The last attribute of each type that is read of a message, and the code that an ERROR-CODE tells.
+-- The last attribute of each type that is read of a message, and the code of an ERROR-CODE.
 use Rattle.std.specs.Prelude.{ℕ, ◌==◌, ◌||◌, if◌then◌else◌, List, Option, Some, None}
 use Rattle.std.specs.List.{find}
 use Rattle.std.specs.Option.{is_some, option_and_then, option_map, option_or}
@@ -31,8 +31,8 @@ last_attributes members = record {
 
 -- with one attribute more, which is the last of its type; of the integrity attributes the first of
 -- its type is kept
-abbrev pub with_attribute : LastAttributes → Member → LastAttributes
-with_attribute last m = record {
+abbrev pub with_member : LastAttributes → Member → LastAttributes
+with_member last m = record {
   error_code = if m.1.kind == ERROR_CODE then Some m.1 else last.error_code;
   realm = if m.1.kind == REALM then Some m.1 else last.realm;
   nonce = if m.1.kind == NONCE then Some m.1 else last.nonce;
@@ -48,8 +48,8 @@ with_attribute last m = record {
   has_integrity = is_integrity m.1 || last.has_integrity;
 }
 
--- the code that the last ERROR-CODE of a message of a class tells
-abbrev pub error_in : MessageClass → Option TypedValue → Option ℕ
-error_in class attribute =
+-- the code of the last ERROR-CODE of a message of a class
+abbrev pub last_error_code : MessageClass → Option TypedValue → Option ℕ
+last_error_code class attribute =
     if is_error class
     then option_map (λ (e : CodeAndReason). e.code) (option_and_then error_of attribute) else None

@@ -7,7 +7,7 @@ use Rattle.std.specs.FinMap as fin
 use Rattle.std.specs.FinSet as set
 use Rattle.std.specs.Str.{bytes_eq}
 use Rattle.std.specs.String.{string_bytes}
-use Rattle.stun_base.specs.Keys.{userhash}
+use Rattle.stun_base.specs.Keys.{userhash_of}
 use Rattle.stun_auth.specs.Registered.{UserSecret, name_cmp}
 
 -- pairs of a hash and a name are ordered by the hash and then by the name
@@ -35,8 +35,8 @@ IsLeastNamed names hash (Some least) =
     × ((name : List ℕ) → set.contains names (hash, name) ≡ true
     → is_gt (name_cmp least name) ≡ false)
 
--- the names are those of the present users, each with its hash at the realm
-abbrev pub IsIndexOf : List ℕ → fin.FinMap name_cmp UserSecret → HashedNames → Type 0
-IsIndexOf realm secrets names =
+-- the names are those of the registered users, each with its hash at the realm
+abbrev pub IsNameIndexOf : List ℕ → fin.FinMap name_cmp UserSecret → HashedNames → Type 0
+IsNameIndexOf realm secrets names =
     (hash name : List ℕ) → set.contains names (hash, name)
-    ≡ (bytes_eq hash (userhash name realm) && fin.contains_key secrets name)
+    ≡ (bytes_eq hash (userhash_of name realm) && fin.contains_key secrets name)

@@ -8,12 +8,12 @@ use Rattle.std.specs.FinMap as fin
 use Rattle.std.specs.String.{string_bytes}
 use Rattle.std.specs.declared.net.socket_addr.SocketAddr.{SocketAddr}
 use Rattle.stun_base.specs.Address.{address_cmp}
-use Rattle.stun_auth.specs.declared.server.places.Client.{Client}
+use Rattle.stun_auth.specs.declared.server.places.ValidatedUser.{ValidatedUser}
 use Rattle.stun_auth.specs.declared.server.places.Place.{Place}
-use Rattle.stun_auth.specs.Seen.{ClientSeen, PlaceSeen, renewed}
+use Rattle.stun_auth.specs.Seen.{ClientSeen, PlaceSeen, renewed_place}
 use Rattle.stun_auth.specs.Places.{PlacesSeen, with_client}
 
-abbrev pub client_seen : {A : Type 0} → Client A → ClientSeen
+abbrev pub client_seen : {A : Type 0} → ValidatedUser A → ClientSeen
 client_seen c = record { name = string_bytes c.name; algorithm = c.algorithm }
 
 abbrev pub place_seen : {A : Type 0} → Place A → PlaceSeen
@@ -27,8 +27,8 @@ place_seen p = record {
 -- a place with a new nonce, and with a new client if there is one
 abbrev pub renewed_with : Option PlaceSeen → List ℕ → ℕ → Option ClientSeen → PlaceSeen
 renewed_with place nonce expires client =
-    with_client (option_or client (renewed place nonce expires).client)
-    (renewed place nonce expires)
+    with_client (option_or client (renewed_place place nonce expires).client)
+    (renewed_place place nonce expires)
 
 -- an address is the first that has a place, from a start on; or none has one there
 abbrev pub IsFirstFrom : PlacesSeen → Bound SocketAddr → Option SocketAddr → Type 0

@@ -4,9 +4,9 @@ use Rattle.std.specs.Option.{option_copied, option_map}
 use Rattle.stun_types.specs.Integrity.{verified_algorithm}
 use Rattle.stun_types.specs.PasswordAlgorithms.{integrity_of}
 use Rattle.stun_auth.specs.Reading as spec
-use Rattle.stun_auth.specs.declared.message.reading.Reading.{Reading}
+use Rattle.stun_auth.specs.declared.message.reading.MessageReading.{MessageReading}
 
-abbrev pub reading_seen : Reading → spec.Reading
+abbrev pub reading_seen : MessageReading → spec.Reading
 reading_seen r = record {
   class = r.class;
   error = r.error;

@@ -5,8 +5,9 @@ use Rattle.stun_auth.specs.ShortTerm.{Secret}
 use Rattle.stun_auth.specs.declared.short_term.KeptPassword.{KeptPassword}
 
 -- the password and the algorithm
-abbrev pub secret_of : {A : Type 0} → Option (KeptPassword A) → Option Secret
-secret_of kept = option_map (λ k. record { password = k.credentials; algorithm = k.algorithm }) kept
+abbrev pub short_term_secret : {A : Type 0} → Option (KeptPassword A) → Option Secret
+short_term_secret kept =
+    option_map (λ k. record { password = k.credentials; algorithm = k.algorithm }) kept
 
 -- the key is the password's bytes
 abbrev pub KeyIsPassword : {A : Type 0} → Option (KeptPassword A) → Type 0

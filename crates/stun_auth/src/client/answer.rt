@@ -1,4 +1,4 @@
-//! What a long-term client answers to a message.
+//! What a long-term client returns for a message, and why it refuses one.
 ghost use Rattle.std.specs.Prelude.{◌≡◌, None};
 
 use std::marker::Model;
@@ -6,40 +6,39 @@ use stun_base::algorithm::IntegrityAlgorithm;
 use stun_base::error::ValidateError;
 use thiserror::Error;
 
-/// What a client makes of a message that it does not refuse.
+/// What a client returns for a message that it does not refuse.
 #[derive(Clone, Copy, Debug, PartialEq, Eq)]
 pub enum LongTermClientValidation {
-    /// The request is to be signed and sent again, under a new transaction id. Hand the message to
-    /// the agent too, so that the request that it answers ends.
+    /// Sign the request and send it again, under a new transaction id. Hand the message to the
+    /// agent too, so that the request that it answers ends.
     ///
-    /// The algorithm is there if the message itself was signed under the key that was kept before
-    /// it.
+    /// The algorithm is there if the message itself verifies under the key that was kept before it.
     ResendRequest(Option<IntegrityAlgorithm>),
-    /// The digest of this algorithm verifies under the kept key.
+    /// The message's digest, of this algorithm, verifies under the kept key.
     Validated(IntegrityAlgorithm),
 }
 
-/// Why a client refuses a message.
+/// Why a client refuses a message (RFC 8489, section 9.2.5).
 #[derive(Clone, Copy, Debug, PartialEq, Eq, Error)]
 pub enum LongTermClientAuthErrorReason {
-    /// A challenge that cannot be taken up: realm, nonce, credentials or algorithms are missing, or
-    /// it is the one that was answered already.
+    /// A challenge that the client cannot answer: realm, nonce, credentials or a list of algorithms
+    /// are missing. Or it is the one that the client is answering already.
     #[error("The message is not sufficiently authenticated")]
     Unauthorized,
-    /// No digest verifies under the kept key.
+    /// No digest verifies under the kept key, or there is no key yet.
     #[error("The message failed integrity checks")]
     IntegrityFailed,
-    /// A challenge without a supported algorithm, or without the hashed user names that are
-    /// required.
+    /// A challenge without a supported algorithm, or one that does not allow hashed user names
+    /// where they are required.
     #[error("A required feature is not supported")]
     UnsupportedFeature,
-    /// An allocation fails for what a challenge asks to keep.
+    /// An allocation failed, for what the client was to keep of a challenge.
     #[error("Out of memory")]
     OutOfMemory,
 }
 
-/// Kept from the Rust crate: no call here uses it. Whatever the error is, the reason is
-/// `IntegrityFailed`.
+/// Kept from the Rust crate: no call here uses it. The reason is `IntegrityFailed`, whatever the
+/// error is.
 impl From<ValidateError> for LongTermClientAuthErrorReason {
     ghost use Rattle.std.specs.Prelude.{◌≡◌};
     ghost use Rattle.stun_auth.specs.declared.client.answer.LongTermClientAuthErrorReason.TheVariants.{IntegrityFailed};
@@ -51,7 +50,9 @@ impl From<ValidateError> for LongTermClientAuthErrorReason {
     }
 }
 
-/// A refusal of a client. Contracts see its reason.
+/// A refusal of a message by a client.
+///
+/// Contracts see its reason.
 #[derive(Clone, Copy, Debug, PartialEq, Eq, Error)]
 #[error("{reason}")]
 pub struct LongTermClientAuthError {
@@ -69,7 +70,7 @@ impl Model for LongTermClientAuthError {
 }
 
 impl LongTermClientAuthError {
-    /// The refusal for this reason.
+    /// The refusal of this reason.
     pub(crate) fn new(reason: LongTermClientAuthErrorReason) -> Self
         ensures { result ≡ reason }
     {
@@ -83,7 +84,7 @@ impl LongTermClientAuthError {
         self.reason
     }
 
-    /// Always `None`: no digest is told of a message that is refused.
+    /// Always `None`: no digest is known of a message that is refused.
     pub fn integrity(&self) -> Option<IntegrityAlgorithm>
         ensures { result ≡ None }
     {

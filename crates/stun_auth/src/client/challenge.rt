@@ -1,26 +1,26 @@
-//! A server's challenge, as a client takes it up and keeps it (RFC 8489, section 9.2.5).
+//! A server's challenge, as a client answers and keeps it (RFC 8489, section 9.2.5).
 ghost use Rattle.std.specs.Prelude.{◌≡◌, ◌≤◌, IfOk, Ok, Err, Some, None, length, map};
 ghost use Rattle.std.specs.Option.{option_map};
 ghost use Rattle.stun_types.specs.Limits.{TEXT_LIMIT};
 ghost use Rattle.stun_types.specs.PasswordAlgorithms.{integrity_of};
 ghost use Rattle.stun_auth.specs.ClientStep.{choose, choose_by_list, choose_without_bits};
 ghost use Rattle.stun_auth.specs.ClientStep.{first_supported, is_required, list_or_none};
-ghost use Rattle.stun_auth.specs.ClientStep.{naming_of, unless};
+ghost use Rattle.stun_auth.specs.ClientStep.{naming_of, unless_missing};
 ghost use Rattle.stun_auth.specs.Nonces.{asks_for_userhash};
 ghost use Rattle.stun_auth.specs.code.Supported.{in_order};
 
 use crate::feature::Feature;
+use crate::limited_text::LimitedText;
 use crate::message::nonce::NonceSecurityBits;
-use crate::short_text::ShortText;
 use crate::supported::Supported;
 use std::alloc::{AllocError, Allocator};
 use stun_base::key::{long_term_key, userhash};
 use stun_types::attribute::{PasswordAlgorithmValue, PasswordAlgorithms};
 use stun_types::message::{IntegrityAlgorithm, PreparedKey};
 
-/// Why a client does not take up a challenge.
+/// Why a client refuses a challenge.
 #[derive(Clone, Copy, Debug, PartialEq, Eq)]
-pub(crate) enum Refusal {
+pub(crate) enum ChallengeRefusal {
     Unauthorized,
     UnsupportedFeature,
 }
@@ -36,15 +36,15 @@ pub(crate) enum UserNaming<A: Allocator> {
 #[derive(Drop)]
 pub(crate) struct KeptChallenge<A: Allocator> {
     pub(crate) naming: UserNaming<A>,
-    pub(crate) realm: ShortText<A>,
-    pub(crate) nonce: ShortText<A>,
+    pub(crate) realm: LimitedText<A>,
+    pub(crate) nonce: LimitedText<A>,
     pub(crate) algorithms: Vec<PasswordAlgorithmValue, A>,
     pub(crate) algorithm: IntegrityAlgorithm,
     pub(crate) key: PreparedKey<A>,
 }
 
-/// A challenge that is to be taken up: the user it is for, what the message says, and the algorithm
-/// it comes to.
+/// A challenge the client will answer: for which user, what the message says, and the algorithm
+/// that the client chose.
 #[derive(Drop)]
 pub(crate) struct Offer<'a, 'm> {
     pub(crate) username: &'a str,
@@ -85,8 +85,8 @@ impl Offer<'_, '_> {
     {
         let hashes = asks_for_userhash(self.nonce) && feature.is_possible();
         let naming = UserNaming::new(alloc, hashes, self.username, self.realm)?;
-        let realm = ShortText::copied(alloc, self.realm)?;
-        let nonce = ShortText::copied(alloc, self.nonce)?;
+        let realm = LimitedText::copied(alloc, self.realm)?;
+        let nonce = LimitedText::copied(alloc, self.nonce)?;
         let algorithms = copied(alloc, &self.list)?;
         let key = long_term_key(
             alloc,
@@ -106,7 +106,7 @@ impl Offer<'_, '_> {
     }
 }
 
-/// The algorithms of a server's list, and none where there is no list.
+/// A copy of a server's list, empty where there is none.
 fn copied<A: Allocator>(
     alloc: A,
     list: &Option<PasswordAlgorithms>,
@@ -120,7 +120,7 @@ fn copied<A: Allocator>(
     }
 }
 
-/// The algorithms of a list.
+/// A copy of a list.
 fn listed<A: Allocator>(
     alloc: A,
     list: &PasswordAlgorithms,
@@ -157,24 +157,24 @@ fn first_supported(supported: Supported, list: &PasswordAlgorithms) -> Option<In
     None
 }
 
-/// The algorithm that a server's list comes to, or that none comes to where the nonce asks for a
-/// choice.
+/// Picks the algorithm from a server's list. Without a list it is HMAC-SHA1, and `Unauthorized` if
+/// the nonce requires a choice.
 fn choose_by_list(
     supported: Supported,
     asks: bool,
     list: &Option<PasswordAlgorithms>,
-) -> Result<IntegrityAlgorithm, Refusal>
+) -> Result<IntegrityAlgorithm, ChallengeRefusal>
     ensures { result ≡ choose_by_list (in_order supported) asks
         (option_map (map integrity_of) list.now) }
 {
     match list {
         Some(list) => match first_supported(supported, list) {
             Some(algorithm) => Ok(algorithm),
-            None => Err(Refusal::UnsupportedFeature),
+            None => Err(ChallengeRefusal::UnsupportedFeature),
         },
         None => {
             if asks {
-                Err(Refusal::Unauthorized)
+                Err(ChallengeRefusal::Unauthorized)
             } else {
                 Ok(IntegrityAlgorithm::Sha1)
             }
@@ -182,18 +182,18 @@ fn choose_by_list(
     }
 }
 
-/// A choice, unless a required feature is missing.
+/// Fails with `UnsupportedFeature` if a required feature is missing.
 fn unless(
     missing: bool,
-    choice: Result<IntegrityAlgorithm, Refusal>,
-) -> Result<IntegrityAlgorithm, Refusal>
-    ensures { result ≡ unless missing choice }
+    choice: Result<IntegrityAlgorithm, ChallengeRefusal>,
+) -> Result<IntegrityAlgorithm, ChallengeRefusal>
+    ensures { result ≡ unless_missing missing choice }
 {
     match choice {
         Err(refusal) => Err(refusal),
         Ok(algorithm) => {
             if missing {
-                Err(Refusal::UnsupportedFeature)
+                Err(ChallengeRefusal::UnsupportedFeature)
             } else {
                 Ok(algorithm)
             }
@@ -201,27 +201,27 @@ fn unless(
     }
 }
 
-/// The algorithm where the nonce has no security bits.
+/// Picks the algorithm where the nonce has no security bits: HMAC-SHA1, and no hashed name.
 fn choose_without_bits(
     supported: Supported,
     feature: Feature,
-) -> Result<IntegrityAlgorithm, Refusal>
+) -> Result<IntegrityAlgorithm, ChallengeRefusal>
     ensures { result ≡ choose_without_bits (in_order supported) feature }
 {
     if is_required(feature) || !supported.contains(IntegrityAlgorithm::Sha1) {
-        Err(Refusal::UnsupportedFeature)
+        Err(ChallengeRefusal::UnsupportedFeature)
     } else {
         Ok(IntegrityAlgorithm::Sha1)
     }
 }
 
-/// The algorithm that a challenge comes to.
+/// Picks the algorithm for a challenge with this nonce and this list.
 pub(crate) fn choose(
     supported: Supported,
     feature: Feature,
     nonce: &str,
     list: &Option<PasswordAlgorithms>,
-) -> Result<IntegrityAlgorithm, Refusal>
+) -> Result<IntegrityAlgorithm, ChallengeRefusal>
     ensures { result ≡ choose (in_order supported) feature nonce.now
         (option_map (map integrity_of) list.now) }
 {

@@ -1,4 +1,4 @@
-//! What a client's signing adds to a message (RFC 8489, section 9.2.5).
+//! Signing what a client sends (RFC 8489, section 9.2.5).
 ghost use Rattle.std.specs.Prelude.{◌≡◌, ◌≤◌, ◌<◌, ◌+◌, ◌-◌, ◌^◌, length, min};
 ghost use Rattle.std.specs.Prelude.{Bool, true, false, IfOk, IsOk, Ok, ◌*◌};
 ghost use Rattle.std.specs.Option.{option_map};
@@ -7,14 +7,14 @@ ghost use Rattle.stun_base.specs.MessageType.{class_in, is_request};
 ghost use Rattle.stun_types.specs.Attribute.{attribute_length};
 ghost use Rattle.stun_auth.specs.code.AddedAttribute.{attribute_of};
 ghost use Rattle.stun_auth.specs.Additions.{UnlessMemory, WantsMemory};
-ghost use Rattle.stun_auth.specs.Additions.{added_all, growth, page_in, written};
+ghost use Rattle.stun_auth.specs.Additions.{added_all, growth, page_in, written_page};
 ghost use Rattle.stun_auth.specs.code.Additions.{IsAdded, IsOutcome};
 ghost use Rattle.stun_auth.specs.code.ClientKept.{KeepsShortTexts, challenge_seen};
 ghost use Rattle.stun_auth.specs.code.ClientKept.{naming_seen, state_seen};
 ghost use Rattle.stun_auth.specs.ClientSigning.{algorithm_choice, challenge_additions};
 ghost use Rattle.stun_auth.specs.ClientSigning.{client_additions, identity, kept_challenge};
 ghost use Rattle.stun_auth.specs.ClientSigning.{name_attribute, signing_algorithm};
-ghost use Rattle.stun_auth.specs.Signed.{ClientMaySign, added_by_client};
+ghost use Rattle.stun_auth.specs.Signed.{IsSignableAtClient, added_by_client};
 
 use crate::client::challenge::{KeptChallenge, UserNaming};
 use crate::client::{LongTermClientAuth, State};
@@ -62,7 +62,7 @@ impl<A: Allocator> KeptChallenge<A> {
         add(writer, self.naming.attribute())
     }
 
-    /// Adds the server's list and the algorithm, where they are to be named.
+    /// Adds the server's list and the chosen algorithm, where they must be named.
     fn add_algorithm_choice<W: MessageWrite>(&self, writer: &mut W) -> Result<(), StunWriteError>
         requires { 20 ≤ length (W.bytes writer.old) }
         ensures header { 20 ≤ length (W.bytes writer.new) }
@@ -84,7 +84,7 @@ impl<A: Allocator> KeptChallenge<A> {
         }
     }
 
-    /// Adds what a message of a class is to have, and the integrity attribute under the kept key.
+    /// Adds what a message needs, and the integrity attribute under the kept key.
     fn sign<W: MessageWrite>(&self, writer: &mut W, is_request: bool) -> Result<(), StunWriteError>
         requires { 20 ≤ length (W.bytes writer.old) }
         ensures { IsOutcome (challenge_additions is_request (challenge_seen self.now))
@@ -110,7 +110,7 @@ impl<A: Allocator> KeptChallenge<A> {
         add_integrity(writer, &self.key, self.algorithm)
     }
 
-    /// How many bytes signing adds to a request, as far as a `usize` reaches.
+    /// How many bytes signing adds to a request, at most 2^64 - 1.
     fn signature_bytes(&self) -> usize
         ensures { result ≡ min (growth (challenge_additions true (challenge_seen self.now)))
             (2 ^ 64 - 1) }
@@ -120,7 +120,7 @@ impl<A: Allocator> KeptChallenge<A> {
             .saturating_add(integrity_bytes(self.algorithm))
     }
 
-    /// How many bytes nonce, realm and the name of the user take, as far as a `usize` reaches.
+    /// How many bytes nonce, realm and the name of the user take, at most 2^64 - 1.
     fn identity_bytes(&self) -> usize
         ensures { result ≡ min (growth (identity (challenge_seen self.now))) (2 ^ 64 - 1) }
     {
@@ -129,7 +129,7 @@ impl<A: Allocator> KeptChallenge<A> {
             .saturating_add(self.naming.bytes())
     }
 
-    /// How many bytes the choice of the algorithm takes, as far as a `usize` reaches.
+    /// How many bytes the choice of the algorithm takes, at most 2^64 - 1.
     fn choice_bytes(&self) -> usize
         ensures { result ≡ min (growth (algorithm_choice
             (challenge_seen self.now).algorithms self.now.algorithm)) (2 ^ 64 - 1) }
@@ -145,7 +145,7 @@ impl<A: Allocator> KeptChallenge<A> {
 }
 
 impl<A: Allocator> State<A> {
-    /// What is kept of the challenge that was taken up.
+    /// The challenge that the client keeps.
     fn kept(&self) -> Option<&KeptChallenge<A>>
         ensures { option_map (λ kept. challenge_seen kept.now) result
             ≡ kept_challenge (state_seen self.now) }
@@ -167,9 +167,11 @@ fn is_request<W: MessageWrite>(writer: &W) -> bool
 }
 
 impl<A: Allocator> LongTermClientAuth<A> {
-    /// The algorithm whose integrity attribute a signing would add now: `None` before a challenge
-    /// was taken up, where it adds nothing. Ask after each `ResendRequest`, where HMAC-SHA1 is not
-    /// to be used (see `set_supported_integrity`).
+    /// The algorithm of the integrity attribute that signing would add now. `None` before a first
+    /// challenge, where it adds nothing.
+    ///
+    /// Ask it after each `ResendRequest`, if HMAC-SHA1 is not to be used (see
+    /// `set_supported_integrity`).
     pub fn signing_algorithm(&self) -> Option<IntegrityAlgorithm>
         ensures value { result ≡ signing_algorithm self.now.state }
         ensures added { (request : Bool)
@@ -182,8 +184,8 @@ impl<A: Allocator> LongTermClientAuth<A> {
         }
     }
 
-    /// How many bytes signing adds to a request, as far as a `usize` reaches: 0 before a challenge
-    /// was taken up.
+    /// How many bytes `sign_outgoing_message` adds to a request, at most 2^64 - 1. It is 0 before a
+    /// first challenge.
     pub fn message_signature_bytes(&self) -> usize
         ensures { result ≡ min (growth (client_additions true self.now.state)) (2 ^ 64 - 1) }
     {
@@ -193,20 +195,31 @@ impl<A: Allocator> LongTermClientAuth<A> {
         }
     }
 
-    /// Adds to a message what the challenge that was taken up asks for, and the integrity attribute
-    /// under its key.
+    /// Adds to a message what the kept challenge asks for, and the integrity attribute under its
+    /// key (RFC 8489, section 9.2.5).
     ///
-    /// A request gets NONCE, REALM and USERNAME or USERHASH; a message of any class
-    /// PASSWORD-ALGORITHMS where the server sent a list, PASSWORD-ALGORITHM where it did or the
-    /// digest is HMAC-SHA256, and the integrity attribute. Before a challenge was taken up the
-    /// message stays as it is. The first refusal in the order of the attributes is answered,
-    /// `TooLarge` for a text past its limit included; it drops the writer and leaves the client.
-    /// The writer holds a message without FINGERPRINT.
+    /// Before a first challenge the message stays as it is. Else it gets, in this order:
+    ///
+    /// - in a request: NONCE, REALM, and USERNAME or USERHASH;
+    /// - where the server sent a list: PASSWORD-ALGORITHMS, which repeats it;
+    /// - where the server sent a list, or the digest is HMAC-SHA256: PASSWORD-ALGORITHM;
+    /// - MESSAGE-INTEGRITY or MESSAGE-INTEGRITY-SHA256.
+    ///
+    /// The writer must hold a message without FINGERPRINT. The errors are those of the attributes,
+    /// in their order:
+    ///
+    /// - `MessageIntegrityExists` or `AttributeExists`: the message has integrity, or one of them,
+    ///   already.
+    /// - `TooLarge`: the message gets too long, or the user name has more than 513 bytes.
+    /// - `TooSmall`: the writer has no room.
+    /// - `OutOfMemory`: an allocation failed.
+    ///
+    /// A failure drops the writer. The client stays as it was, in any case.
     pub fn sign_outgoing_message<W: MessageWrite>(&mut self, writer: W) -> Result<W, StunWriteError>
         requires { BeginsWithHeader (W.bytes writer) }
         ensures answer { let additions = client_additions
             (is_request (class_in (W.bytes writer))) self.old.state in
-            UnlessMemory result (written W.bytes W.room result
+            UnlessMemory result (written_page W.bytes W.room result
             ≡ added_all additions (page_in W.bytes W.room writer))
             (WantsMemory additions (page_in W.bytes W.room writer) (W.reserved writer)) }
         ensures grows { IfOk result (λ signed. length (W.bytes signed)
@@ -215,7 +228,7 @@ impl<A: Allocator> LongTermClientAuth<A> {
 
         // What is reserved already does not allocate.
         ensures succeeds { let request = is_request (class_in (W.bytes writer)) in
-            ClientMaySign request self.old.state (W.bytes writer) (W.room writer)
+            IsSignableAtClient request self.old.state (W.bytes writer) (W.room writer)
             → growth (client_additions request self.old.state) ≤ W.reserved writer
             → IsOk result }
         ensures stays { self.new ≡ self.old }
@@ -226,20 +239,20 @@ impl<A: Allocator> LongTermClientAuth<A> {
         self.signed(writer)
     }
 
-    /// The nonce and the realm that are kept are within their limits, as those of a message are.
-    /// For the proof alone: it brings in what the types of the fields promise.
+    /// The kept nonce and realm are within their limits, as those of a message are. For the proof
+    /// alone: it brings in what the types of the fields promise.
     fn keeps_short_texts(&self)
         ensures { KeepsShortTexts self.now.state }
     {
         let _ = &self.state;
     }
 
-    /// The message with what the challenge that was taken up asks for.
+    /// The message with what the kept challenge asks for.
     fn signed<W: MessageWrite>(&self, writer: W) -> Result<W, StunWriteError>
         requires { BeginsWithHeader (W.bytes writer) }
         ensures { let additions = client_additions
             (is_request (class_in (W.bytes writer))) self.now.state in
-            UnlessMemory result (written W.bytes W.room result
+            UnlessMemory result (written_page W.bytes W.room result
             ≡ added_all additions (page_in W.bytes W.room writer))
             (WantsMemory additions (page_in W.bytes W.room writer) (W.reserved writer)) }
     {
@@ -251,16 +264,20 @@ impl<A: Allocator> LongTermClientAuth<A> {
         Ok(writer)
     }
 
-    /// Signs a message of which the caller knows that nothing but a failed allocation refuses it:
-    /// it has no integrity attribute, no FINGERPRINT and none that signing adds, the user name is
-    /// within its limit of 513 bytes, and writer and length field have room for what is added. The
-    /// message is the one that `sign_outgoing_message` gives.
+    /// Signs a message that the caller knows to be signable. The message is the one that
+    /// `sign_outgoing_message` gives.
+    ///
+    /// A signable message has no integrity attribute, no FINGERPRINT, and none of the attributes
+    /// that signing adds. Its writer and its length field have room for what is added. The user
+    /// name has at most 513 bytes.
+    ///
+    /// Fails if an allocation fails. The client stays as it was, in any case.
     pub fn sign_outgoing_message_unchecked<W: MessageWrite>(
         &mut self,
         writer: W,
     ) -> Result<W, AllocError>
         requires header { BeginsWithHeader (W.bytes writer) }
-        requires signable { ClientMaySign (is_request
+        requires signable { IsSignableAtClient (is_request
             (class_in (W.bytes writer))) self.old.state (W.bytes writer)
             (W.room writer) }
         ensures signed { IfOk result (λ signed. Ok (page_in W.bytes W.room signed)

@@ -1,9 +1,9 @@
-//! What signing adds to a message, one after another.
+//! Adding attributes to a message, one after another, and integrity last.
 ghost use Rattle.std.specs.Prelude.{◌≡◌, ◌≤◌, ◌<◌, ◌+◌, ◌*◌, ◌^◌, ◌∷◌, [], false, length};
 ghost use Rattle.stun_base.specs.Algorithm.{digest_length};
 ghost use Rattle.stun_types.specs.Attribute.{attribute_length};
 ghost use Rattle.stun_auth.specs.code.AddedAttribute.{attribute_of};
-ghost use Rattle.stun_auth.specs.Additions.{attribute, integrity, is_too_long, page_in};
+ghost use Rattle.stun_auth.specs.Additions.{attribute, integrity, is_text_too_long, page_in};
 ghost use Rattle.stun_auth.specs.code.Additions.{IsAdded, IsOutcome};
 
 use std::alloc::Allocator;
@@ -26,7 +26,7 @@ pub(crate) enum AddedAttribute<'a> {
     PasswordAlgorithm(IntegrityAlgorithm),
 }
 
-/// Adds an attribute. A text past its limit is refused as `TooLarge` before the writer is asked.
+/// Adds an attribute. A text past its limit fails with `TooLarge`, before the writer is asked.
 pub(crate) fn add<W: MessageWrite>(
     writer: &mut W,
     added: AddedAttribute<'_>,
@@ -56,9 +56,11 @@ pub(crate) fn add<W: MessageWrite>(
 #[tactic(auto, unfolding(crate::specs::Additions::added_one))]
 fn add_made<W: MessageWrite, M: Attribute>(writer: &mut W, made: &M) -> Result<(), StunWriteError>
     requires header { 20 ≤ length (W.bytes writer.old) }
-    requires within_limit { is_too_long (record { kind = M.kind made.now; value = M.value made.now }) ≡ false }
+    requires within_limit { is_text_too_long
+        (record { kind = M.kind made.now; value = M.value made.now }) ≡ false }
     ensures header { 20 ≤ length (W.bytes writer.new) }
-    ensures added { IsAdded (attribute (record { kind = M.kind made.now; value = M.value made.now }) ∷ [])
+    ensures added { IsAdded
+        (attribute (record { kind = M.kind made.now; value = M.value made.now }) ∷ [])
         (page_in W.bytes W.room writer.old) (W.reserved writer.old) result
         (page_in W.bytes W.room writer.new) (W.reserved writer.new) }
 {
@@ -90,7 +92,7 @@ pub(crate) fn integrity_bytes(algorithm: IntegrityAlgorithm) -> usize
     }
 }
 
-/// How many bytes an attribute takes whose value has so many.
+/// How many bytes an attribute takes whose value has `length` bytes.
 pub(crate) fn attribute_bytes(length: usize) -> usize
     requires { length < 2 ^ 63 }
     ensures { result ≡ attribute_length length }

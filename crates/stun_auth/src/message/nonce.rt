@@ -9,26 +9,27 @@ ghost use Rattle.stun_auth.specs.Feature.{is_possible};
 
 use crate::algorithm_set::AlgorithmSet;
 use crate::feature::Feature;
-use crate::short_text::ShortText;
+use crate::limited_text::LimitedText;
 use base64::engine::general_purpose::STANDARD;
 use rand_core::Rng;
 use std::alloc::{AllocError, Allocator};
 use std::marker::Model;
 use stun_base::algorithm::IntegrityAlgorithm;
 
-/// What a nonce begins with that carries security bits (RFC 8489, section 9.2).
+/// What a nonce that carries security bits begins with, the nonce cookie (RFC 8489, section 9.2).
 pub const LONG_TERM_RFC8489_NONCE_COOKIE: &str = "obMatJos2";
 
-/// The number of bytes of the cookie and of the four letters after it.
+/// How many bytes the cookie and the four letters after it have.
 const FRONT_LENGTH: usize = 13;
 
-/// The bit of the first byte that means password algorithms (section 18.1).
+/// The bit of the first byte that asks for password algorithms (section 18.1).
 const PASSWORD_ALGORITHMS: u8 = 0x80;
 
-/// The bit of the first byte that means anonymous user names (section 18.1).
+/// The bit of the first byte that allows hashed user names (section 18.1).
 const USERNAME_ANONYMITY: u8 = 0x40;
 
-/// The 24 security bits of a nonce, as three bytes in the order in which they are there.
+/// The 24 security bits of a nonce, as three bytes in their order (RFC 8489, sections 9.2 and
+/// 18.1).
 ///
 /// Contracts see the three bytes.
 #[derive(Clone, Copy, Debug, Default, PartialEq, Eq, Hash)]
@@ -50,22 +51,23 @@ impl NonceSecurityBits {
     ghost use Rattle.std.specs.Prelude.{Some};
     ghost use Rattle.stun_auth.specs.Nonces.{first_has, with_first_bit, spelled_bits};
 
-    /// The bits of these bytes.
+    /// The security bits that are these three bytes.
     pub fn from_bytes(bytes: [u8; 3]) -> NonceSecurityBits
         ensures { result ≡ bytes }
     {
         NonceSecurityBits { bytes }
     }
 
-    /// The three bytes.
+    /// The three bytes, the one with both assigned bits first.
     pub fn bytes(&self) -> [u8; 3]
         ensures { result ≡ self.now }
     {
         self.bytes
     }
 
-    /// The bits of a nonce: the four letters after the cookie, where they are base64 of three
-    /// bytes.
+    /// The security bits of a nonce: its four letters after the cookie, as base64 of three bytes
+    /// (RFC 8489, section 9.2). `None` where it does not begin with the cookie, or where the
+    /// letters are no base64.
     #[tactic(auto, unfolding(crate::specs::Nonces::security_bits))]
     pub fn from_nonce(nonce: &str) -> Option<NonceSecurityBits>
         ensures { result ≡ security_bits nonce.now }
@@ -81,7 +83,8 @@ impl NonceSecurityBits {
         }
     }
 
-    /// The cookie and the four letters of the bits, which a nonce begins with.
+    /// What a nonce with these bits begins with, 13 bytes: the cookie, and the bits as four letters
+    /// of base64. Fails if an allocation fails.
     #[tactic(auto, unfolding(crate::specs::Nonces::spelled_bits))]
     pub fn as_string<A: Allocator>(&self, alloc: A) -> Result<String<A>, AllocError>
         ensures { IfOk result (λ text. string_bytes text ≡ spelled_bits self.now) }
@@ -92,14 +95,14 @@ impl NonceSecurityBits {
         Ok(text)
     }
 
-    /// Whether password algorithms are meant to be chosen.
+    /// Whether clients are to choose a password algorithm (RFC 8489, section 18.1).
     pub fn password_algorithms(&self) -> bool
         ensures { result ≡ first_has 0x80 (Some self.now) }
     {
         self.bytes[0] & PASSWORD_ALGORITHMS != 0
     }
 
-    /// Says whether password algorithms are meant to be chosen.
+    /// Sets whether clients are to choose a password algorithm.
     pub fn set_password_algorithms(&mut self, enabled: bool)
         ensures { self.new ≡ with_first_bit 0x80 enabled self.old }
     {
@@ -110,14 +113,14 @@ impl NonceSecurityBits {
         }
     }
 
-    /// Whether user names may be sent as their hash.
+    /// Whether user names may be sent as their hash (RFC 8489, section 18.1).
     pub fn username_anonymity(&self) -> bool
         ensures { result ≡ first_has 0x40 (Some self.now) }
     {
         self.bytes[0] & USERNAME_ANONYMITY != 0
     }
 
-    /// Says whether user names may be sent as their hash.
+    /// Sets whether user names may be sent as their hash.
     pub fn set_username_anonymity(&mut self, enabled: bool)
         ensures { self.new ≡ with_first_bit 0x40 enabled self.old }
     {
@@ -197,7 +200,7 @@ fn security_byte(algorithms: AlgorithmSet, feature: Feature) -> u8
     for_algorithms + for_userhash
 }
 
-/// The nonce of sixteen random words.
+/// The nonce that is made of sixteen random words.
 fn nonce_of_words<A: Allocator + Copy>(
     alloc: A,
     algorithms: AlgorithmSet,
@@ -217,8 +220,8 @@ fn nonce_of_words<A: Allocator + Copy>(
     if !begins_with_cookie(text.as_bytes()) {
         return Ok(text);
     }
-    // By chance the letters begin with the cookie, which would read as security bits that nobody
-    // set. Another first letter ends that.
+    // By chance the letters begin with the cookie, and would read as security bits that nobody set.
+    // Another first letter prevents that.
     let (_, others) = words.split_at(1);
     text.clear();
     text.push('p')?;
@@ -226,19 +229,20 @@ fn nonce_of_words<A: Allocator + Copy>(
     Ok(text)
 }
 
-/// A new nonce, of the next sixteen words of the source.
+/// A new nonce, made of the next sixteen words of the source.
 ///
-/// It asks for password algorithms exactly where HMAC-SHA256 is supported, and for hashed names
-/// exactly where these are possible. Where it asks for neither it carries no security bits.
+/// It asks for password algorithms if and only if HMAC-SHA256 is supported. It allows hashed names
+/// if and only if the feature does. Where it does neither, it carries no security bits.
 pub(crate) fn make_nonce<A: Allocator + Copy, R: Rng>(
     alloc: A,
     algorithms: AlgorithmSet,
     feature: Feature,
     rng: &mut R,
-) -> Result<ShortText<A>, AllocError>
+) -> Result<LimitedText<A>, AllocError>
     ensures nonce { IfOk result (λ nonce. string_bytes nonce.text
         ≡ nonce_of algorithms feature (next_words 16 (R.stream rng.old))) }
-    ensures asks_for_algorithms { IfOk result (λ nonce. asks_for_algorithms (string_bytes nonce.text)
+    ensures asks_for_algorithms { IfOk result (λ nonce.
+        asks_for_algorithms (string_bytes nonce.text)
         ≡ contains IntegrityAlgorithm.Sha256 algorithms) }
     ensures asks_for_userhash { IfOk result (λ nonce. asks_for_userhash (string_bytes nonce.text)
         ≡ is_possible feature) }
@@ -246,5 +250,5 @@ pub(crate) fn make_nonce<A: Allocator + Copy, R: Rng>(
 {
     let words = draw_words(rng);
     let text = nonce_of_words(alloc, algorithms, feature, &words)?;
-    Ok(ShortText::new(text))
+    Ok(LimitedText::new(text))
 }

@@ -1,4 +1,4 @@
-//! What an authenticator reads of a message, in one walk: the last visible attribute of each kind,
+//! What an authenticator reads of a message, in one walk: the last visible attribute of each type,
 //! where it is well formed.
 //!
 //! Nothing here allocates.
@@ -16,7 +16,8 @@ ghost use Rattle.stun_types.specs.Visible.{visible};
 ghost use Rattle.stun_base.specs.MessageType.{is_response, is_success};
 ghost use Rattle.stun_auth.specs.Reading.{reading_of, verified_under};
 ghost use Rattle.stun_auth.specs.Validation.{is_complete, is_malformed};
-ghost use Rattle.stun_auth.specs.code.LastAttributes.{error_in, last_attributes, with_attribute};
+ghost use Rattle.stun_auth.specs.code.LastAttributes.{last_error_code, last_attributes};
+ghost use Rattle.stun_auth.specs.code.LastAttributes.{with_member};
 
 use std::alloc::Allocator;
 use std::marker::Model;
@@ -29,8 +30,8 @@ use stun_types::attribute::{
 use stun_types::message::{Message, MessageClass};
 use stun_types::prelude::AttributeFromRaw;
 
-/// The last visible attribute of each type that is read, and the integrity attributes, with their
-/// places.
+/// The last visible attribute of each type that is read. Of the integrity attributes it is the
+/// first of each type, with its place.
 #[derive(Drop)]
 struct LastAttributes<'a> {
     error_code: Option<RawAttribute<'a>>,
@@ -47,7 +48,7 @@ struct LastAttributes<'a> {
 }
 
 impl<'a> LastAttributes<'a> {
-    /// Those of a message, in one walk of it.
+    /// The last attributes of a message, in one walk of it.
     fn of(message: &Message<'a>) -> Self
         ensures { result ≡ last_attributes (visible message.now) }
     {
@@ -71,7 +72,7 @@ impl<'a> LastAttributes<'a> {
 
     /// Takes one attribute more, which is then the last of its type.
     fn note(&mut self, place: usize, attribute: RawAttribute<'a>)
-        ensures { self.new ≡ with_attribute self.old (place, attribute.entry) }
+        ensures { self.new ≡ with_member self.old (place, attribute.entry) }
     {
         let kind = attribute.get_type();
         if kind == AttributeType::USERNAME {
@@ -102,8 +103,7 @@ impl<'a> LastAttributes<'a> {
     }
 }
 
-/// A message with the attribute whose digest decides, which was found as the message was read.
-/// Contracts see the message.
+/// A message, with the integrity attribute whose digest decides. Contracts see the message.
 #[derive(Drop)]
 struct Signature<'a, 'm> {
     message: &'m Message<'a>,
@@ -137,7 +137,7 @@ impl Signature<'_, '_> {
     }
 }
 
-/// What an attribute reads as, where it is there and well formed.
+/// An attribute as a value of type `A`, if it is there and well formed.
 fn read<'a, A: AttributeFromRaw<'a>>(attribute: Option<RawAttribute<'a>>) -> Option<A>
     ensures { result ≡ option_and_then A.reading attribute.entry }
 {
@@ -149,7 +149,7 @@ fn read<'a, A: AttributeFromRaw<'a>>(attribute: Option<RawAttribute<'a>>) -> Opt
 
 /// The code of an error response.
 fn error(class: MessageClass, attribute: Option<RawAttribute<'_>>) -> Option<u16>
-    ensures { result ≡ error_in class attribute.entry }
+    ensures { result ≡ last_error_code class attribute.entry }
 {
     match class {
         MessageClass::Error => match read::<ErrorCode<'_>>(attribute) {
@@ -162,7 +162,8 @@ fn error(class: MessageClass, attribute: Option<RawAttribute<'_>>) -> Option<u16
 
 /// The text of a REALM.
 fn realm<'a>(attribute: Option<RawAttribute<'a>>) -> Option<&'a str>
-    ensures text { option_copied result ≡ option_and_then (text_of REALM TEXT_LIMIT) attribute.entry }
+    ensures text { option_copied result
+        ≡ option_and_then (text_of REALM TEXT_LIMIT) attribute.entry }
     ensures short { option_map_or (λ text. length text.now) result 0 ≤ TEXT_LIMIT }
 {
     match read::<Realm<'a>>(attribute) {
@@ -173,7 +174,8 @@ fn realm<'a>(attribute: Option<RawAttribute<'a>>) -> Option<&'a str>
 
 /// The text of a NONCE.
 fn nonce<'a>(attribute: Option<RawAttribute<'a>>) -> Option<&'a str>
-    ensures text { option_copied result ≡ option_and_then (text_of NONCE TEXT_LIMIT) attribute.entry }
+    ensures text { option_copied result
+        ≡ option_and_then (text_of NONCE TEXT_LIMIT) attribute.entry }
     ensures short { option_map_or (λ text. length text.now) result 0 ≤ TEXT_LIMIT }
 {
     match read::<Nonce<'a>>(attribute) {
@@ -184,7 +186,8 @@ fn nonce<'a>(attribute: Option<RawAttribute<'a>>) -> Option<&'a str>
 
 /// The text of a USERNAME.
 fn username<'a>(attribute: Option<RawAttribute<'a>>) -> Option<&'a str>
-    ensures { option_copied result ≡ option_and_then (text_of USERNAME USERNAME_LIMIT) attribute.entry }
+    ensures { option_copied result
+        ≡ option_and_then (text_of USERNAME USERNAME_LIMIT) attribute.entry }
 {
     match read::<Username<'a>>(attribute) {
         Some(username) => Some(username.username()),
@@ -204,7 +207,8 @@ fn userhash(attribute: Option<RawAttribute<'_>>) -> Option<[u8; 32]>
 
 /// The algorithm whose key the chosen password algorithm makes.
 fn algorithm(attribute: Option<RawAttribute<'_>>) -> Option<IntegrityAlgorithm>
-    ensures { result ≡ option_map integrity_of (option_and_then password_algorithm_in attribute.entry) }
+    ensures { result
+        ≡ option_map integrity_of (option_and_then password_algorithm_in attribute.entry) }
 {
     match read::<PasswordAlgorithm>(attribute) {
         Some(chosen) => Some(chosen.algorithm().as_integrity()),
@@ -212,10 +216,10 @@ fn algorithm(attribute: Option<RawAttribute<'_>>) -> Option<IntegrityAlgorithm>
     }
 }
 
-/// What is read of a message (RFC 8489, sections 9.2.4 and 9.2.5): each attribute is its last
-/// visible one, where that is well formed. It borrows the message.
+/// What is read of a message (RFC 8489, sections 9.2.4 and 9.2.5). Each attribute is the last
+/// visible one of its type, if that is well formed.
 #[derive(Drop)]
-pub(crate) struct Reading<'a, 'm> {
+pub(crate) struct MessageReading<'a, 'm> {
     signature: Signature<'a, 'm>,
     class: MessageClass,
     /// The code of an error response.
@@ -234,7 +238,7 @@ pub(crate) struct Reading<'a, 'm> {
     ghost short_nonce: { option_map_or (λ text. length text.now) nonce 0 ≤ TEXT_LIMIT },
 }
 
-impl<'a, 'm> Reading<'a, 'm> {
+impl<'a, 'm> MessageReading<'a, 'm> {
     ghost use Rattle.stun_auth.specs.code.ReadingSeen.{reading_seen};
 
     /// Reads a message, in one walk of its attributes.
@@ -244,7 +248,7 @@ impl<'a, 'm> Reading<'a, 'm> {
     {
         let last = LastAttributes::of(message);
         let class = message.class();
-        Reading {
+        MessageReading {
             signature: Signature {
                 message,
                 decides: last.integrity_sha256.or(last.integrity),
@@ -261,14 +265,14 @@ impl<'a, 'm> Reading<'a, 'm> {
         }
     }
 
-    /// Whether it is of a response.
+    /// Whether the message is a response.
     pub(crate) fn is_response(&self) -> bool
         ensures { result ≡ is_response (reading_seen self.now).class }
     {
         matches!(self.class, MessageClass::Success | MessageClass::Error)
     }
 
-    /// Whether it is of a success response.
+    /// Whether the message is a success response.
     pub(crate) fn is_success(&self) -> bool
         ensures { result ≡ is_success (reading_seen self.now).class }
     {
@@ -284,7 +288,7 @@ impl<'a, 'm> Reading<'a, 'm> {
             && (self.userhash.is_some() || self.username.is_some())
     }
 
-    /// Whether integrity is there, and one of REALM, NONCE and the name is not.
+    /// Whether the message has integrity, but lacks REALM, NONCE or a name.
     pub(crate) fn is_malformed(&self) -> bool
         ensures { result ≡ is_malformed (reading_seen self.now) }
     {

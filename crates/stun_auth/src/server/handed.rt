@@ -1,5 +1,5 @@
-//! A verdict in two steps, for a server that looks its users up elsewhere: who asks, and then the
-//! verdict with that user handed in (RFC 8489, section 9.2.4).
+//! Judging a message by a user whom the caller looks up elsewhere, such as in a data base (RFC
+//! 8489, section 9.2.4). The first step tells whom a message names, and the second judges it.
 //!
 //! ```text
 //! let Some(named) = server.named_user(&message, from) else { .. validate_incoming_message .. };
@@ -15,20 +15,20 @@ ghost use Rattle.std.specs.String.{string_bytes};
 ghost use Rattle.stun_base.specs.Header.{BeginsWithHeader};
 ghost use Rattle.stun_base.specs.MessageType.{class_in, is_response as is_response_class};
 ghost use Rattle.stun_base.specs.Words.{next_words, after_words};
-ghost use Rattle.stun_auth.specs.Additions.{UnlessMemory, WantsMemory, page_in, written};
+ghost use Rattle.stun_auth.specs.Additions.{UnlessMemory, WantsMemory, page_in, written_page};
 ghost use Rattle.stun_auth.specs.Handed.{judged_by, just, named_in, named_seen, with_users};
 ghost use Rattle.stun_auth.specs.Reading.{reading_of};
-ghost use Rattle.stun_auth.specs.Reasons.{OrMemory};
+ghost use Rattle.stun_auth.specs.Reasons.{ServerOrMemory};
 ghost use Rattle.stun_auth.specs.Registered.{user_by_keys, user_by_password};
 ghost use Rattle.stun_auth.specs.ServerSigning.{after_signing, server_additions};
 ghost use Rattle.stun_auth.specs.ServerSigning.{server_growth, server_signed};
-ghost use Rattle.stun_auth.specs.Signed.{ServerMaySign};
+ghost use Rattle.stun_auth.specs.Signed.{IsSignableAtServer};
 ghost use Rattle.stun_auth.specs.Validation.{ChangesNothing, ValidatesAccepted};
-ghost use Rattle.stun_auth.specs.Validation.{after_message, answer, draws, sight};
+ghost use Rattle.stun_auth.specs.Validation.{after_validation, answer, draws, sight};
 ghost use Rattle.stun_auth.specs.code.ReadingSeen.{reading_seen};
 
 use crate::feature::Feature;
-use crate::message::reading::Reading;
+use crate::message::reading::MessageReading;
 use crate::server::LongTermServerAuth;
 use crate::server::named_user::NamedUser;
 use crate::server::reason::{LongTermServerAuthError, LongTermServerValidation};
@@ -44,8 +44,8 @@ use stun_base::instant::Instant;
 use stun_types::message::{Message, StunWriteError};
 use stun_types::prelude::*;
 
-/// Whom a request or an indication names, by a hash or plainly.
-fn named_in<'a>(reading: &Reading<'a, '_>, feature: Feature) -> Option<NamedUser<'a>>
+/// The user whom a request or an indication names, by a hash or by name.
+fn named_in<'a>(reading: &MessageReading<'a, '_>, feature: Feature) -> Option<NamedUser<'a>>
     ensures { option_map named_seen result ≡ named_in (reading_seen reading.now).userhash
         (reading_seen reading.now).username feature }
 {
@@ -65,13 +65,19 @@ fn named_in<'a>(reading: &Reading<'a, '_>, feature: Feature) -> Option<NamedUser
 }
 
 impl<A: Allocator + Copy> LongTermServerAuth<A> {
-    /// By whose key a message from an address is judged, as its verdict reads it: of a response the
-    /// address's client; of any other message the last visible USERHASH, where hashes are taken, or
-    /// else the last visible USERNAME. Where both are there the hash decides. `None` where nobody
-    /// is meant: the verdict is then the same whoever the users are.
+    /// Whom to look up before a message from an address is judged: the user under whose key its
+    /// digest is to verify.
     ///
-    /// It tells a name whether or not that user is present, and does not look at the digest:
-    /// whoever sends can name anyone. It does not allocate.
+    /// - Of a request or an indication, the user that its last visible USERHASH names. Where it has
+    ///   none, the user of its last visible USERNAME. `None` for a USERHASH where hashes are not
+    ///   taken (`Feature::Disabled`).
+    /// - Of a response, the client of the address.
+    ///
+    /// On `None` nobody is meant, and the verdict is the same whoever the users are: call
+    /// `validate_incoming_message`.
+    ///
+    /// It does not know whether the user is registered, and looks at no digest and no nonce.
+    /// Whoever sends can name anyone, so bound how often you look up. It does not allocate.
     pub fn named_user<'a>(
         &'a self,
         message: &Message<'a>,
@@ -80,7 +86,7 @@ impl<A: Allocator + Copy> LongTermServerAuth<A> {
         ensures { option_map named_seen result ≡ judged_by (sight self.now from)
             (reading_of message.now) }
     {
-        let reading = Reading::of(message);
+        let reading = MessageReading::of(message);
         if !reading.is_response() {
             return named_in(&reading, self.feature);
         }
@@ -90,11 +96,14 @@ impl<A: Allocator + Copy> LongTermServerAuth<A> {
         }
     }
 
-    /// A user with the keys of this password at the server's realm, one for each algorithm that the
-    /// server supports now: to be handed in with a message. The server stays as it is. Prepare the
-    /// user anew where the supported algorithms changed.
+    /// A user with this password, to be handed in with a message. The keys are made at the server's
+    /// realm, one for each algorithm that the server supports now (RFC 8489, section 9.2.2).
     ///
-    /// The one error is that an allocation fails.
+    /// Names are compared byte by byte, so a message that spells the name otherwise is refused. The
+    /// user may be kept and handed in again. Prepare it anew once the supported algorithms have
+    /// changed. The server stays as it is.
+    ///
+    /// Fails if an allocation fails.
     pub fn prepare_user(
         &self,
         credentials: LongTermCredentials<A>,
@@ -109,15 +118,15 @@ impl<A: Allocator + Copy> LongTermServerAuth<A> {
         Ok(LongTermServerUser { registry })
     }
 
-    /// A user with the keys that are stored for a name at the server's realm: to be handed in with
-    /// a message, as `prepare_user` makes one of a password. The user has those of the keys whose
-    /// algorithms the server supports now. The server stays as it is. Prepare the user anew where
-    /// the supported algorithms changed.
+    /// A user with keys that were stored in place of a password, to be handed in with a message.
     ///
-    /// With the keys that a password makes at the server's realm, the user is judged and signed for
-    /// as the user of that password (law `stored_keys_are_as_their_password`).
+    /// Clients make their keys at the realm that the server sends, so these must be made at that
+    /// realm. The user has those of them whose algorithms the server supports now. The user is then
+    /// judged and signed for as with the password that they were made
+    /// of (law `stored_keys_are_as_their_password`).
     ///
-    /// The one error is that an allocation fails.
+    /// The user may be kept, as that of `prepare_user`. The server stays as it is. Fails if an
+    /// allocation fails.
     pub fn prepare_user_with_keys(
         &self,
         name: String<A>,
@@ -130,17 +139,19 @@ impl<A: Allocator + Copy> LongTermServerAuth<A> {
         Ok(LongTermServerUser { registry })
     }
 
-    /// Judges a message as `validate_incoming_message` of the server that has just this user: the
-    /// same answer, the same place of the address, the same nonce from the same random words. The
-    /// server's own users are not looked at and stay as they are, and so does the user who is
-    /// handed in.
+    /// Judges a message as `validate_incoming_message` does on a server that has just this user. It
+    /// returns the same answer, and keeps the same record and the same nonce from the same random
+    /// numbers. The server's own users are not looked at. They stay as they are, and so does the
+    /// user handed in.
     ///
-    /// Where the user is the one whom `named_user` tells, the answer is the one of a server that
-    /// has all users (law `the_named_user_is_enough`); where there is no such user,
-    /// `validate_incoming_message` of a server without users gives that one. Whoever is accepted is
-    /// then the address's client: hand the same user in where an answer is signed.
+    /// Hand in the user whom `named_user` returned. The answer is then that of a server that has
+    /// all users (law `the_named_user_is_enough`). Where your data base has no such user, call
+    /// `validate_incoming_message` on a server without users: it gives that answer.
     ///
-    /// It refuses as `validate_incoming_message`, `OutOfMemory` included.
+    /// On `Validated` this user is the client of the address. Hand the same user in where the
+    /// answer is signed.
+    ///
+    /// Fails as `validate_incoming_message` does, `OutOfMemory` included.
     pub fn validate_incoming_message_of<R: Rng>(
         &mut self,
         message: &Message<'_>,
@@ -149,18 +160,18 @@ impl<A: Allocator + Copy> LongTermServerAuth<A> {
         rng: &mut R,
         user: &mut LongTermServerUser<A>,
     ) -> Result<LongTermServerValidation, LongTermServerAuthError>
-        ensures answer { OrMemory result
+        ensures answer { ServerOrMemory result
             (result ≡ answer (sight (with_users self.old user.old) from) now
             (next_words 16 (R.stream rng.old)) (reading_of message.now)) ⊤ }
-        ensures accepted { OrMemory result
+        ensures accepted { ServerOrMemory result
             (ValidatesAccepted (sight (with_users self.old user.old) from) now
             (next_words 16 (R.stream rng.old)) (reading_of message.now) result) ⊤ }
-        ensures state { OrMemory result
-            (self.new ≡ with_users (after_message (with_users self.old user.old) from now
+        ensures state { ServerOrMemory result
+            (self.new ≡ with_users (after_validation (with_users self.old user.old) from now
             (next_words 16 (R.stream rng.old)) (reading_of message.now)) self.old.registered)
             (self.new ≡ self.old) }
         ensures user { user.new ≡ user.old }
-        ensures source { OrMemory result
+        ensures source { ServerOrMemory result
             (R.stream rng.new ≡ (if draws (sight (with_users self.old user.old) from) now
             (reading_of message.now) then after_words 16
             (R.stream rng.old) else R.stream rng.old)) ⊤ }
@@ -177,11 +188,13 @@ impl<A: Allocator + Copy> LongTermServerAuth<A> {
         answer
     }
 
-    /// Signs as `sign_outgoing_message` of the server that has just this user: where the address
-    /// has a client, the digest is under that user's key, or the refusal is `IntegrityFailed` where
-    /// the user is not the client. The server's own users are not looked at and stay as they are,
-    /// and so does the user who is handed in. `message_signature_bytes` tells how many bytes are
-    /// added, whoever the users are.
+    /// Signs a message as `sign_outgoing_message` does on a server that has just this user. The
+    /// server's own users are not looked at. They stay as they are, and so does the user handed in.
+    ///
+    /// Where the address has a client, the digest is under this user's key. Where the user is not
+    /// that client, it fails with `IntegrityFailed`. Other errors are those of
+    /// `sign_outgoing_message`. `message_signature_bytes` tells how many bytes are added, whoever
+    /// the users are.
     pub fn sign_outgoing_message_of<W: MessageWrite>(
         &mut self,
         writer: W,
@@ -191,7 +204,7 @@ impl<A: Allocator + Copy> LongTermServerAuth<A> {
         requires { BeginsWithHeader (W.bytes writer) }
         ensures answer { let response = is_response_class
             (class_in (W.bytes writer)) in
-            UnlessMemory result (written W.bytes W.room result
+            UnlessMemory result (written_page W.bytes W.room result
             ≡ server_signed (sight (with_users self.old user.old) to) response
             (page_in W.bytes W.room writer))
             (WantsMemory (server_additions (sight (with_users self.old user.old) to) response)
@@ -203,7 +216,7 @@ impl<A: Allocator + Copy> LongTermServerAuth<A> {
         // What is reserved already does not allocate.
         ensures succeeds { let response = is_response_class
             (class_in (W.bytes writer)) in
-            ServerMaySign (sight (with_users self.old user.old) to) response
+            IsSignableAtServer (sight (with_users self.old user.old) to) response
             (W.bytes writer) (W.room writer)
             → server_growth (sight (with_users self.old user.old) to) response
             ≤ W.reserved writer → IsOk result }
@@ -219,7 +232,7 @@ impl<A: Allocator + Copy> LongTermServerAuth<A> {
         signed
     }
 
-    /// Exchanges the server's users for the one who is handed in.
+    /// Exchanges the server's users and the user who is handed in.
     fn exchange_users(&mut self, user: &mut LongTermServerUser<A>)
         ensures server { self.new ≡ with_users self.old user.old }
         ensures user { user.new ≡ self.old.registered }

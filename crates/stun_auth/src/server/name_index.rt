@@ -1,4 +1,4 @@
-//! Names by their hash: whose hash it is, is looked up without a digest.
+//! An index of names by their hash, so that a USERHASH is looked up without a digest.
 
 ghost use Rattle.std.specs.Prelude.{◌≡◌, OnOk, OnErr};
 ghost use Rattle.std.specs.Option.{option_copied};
@@ -29,7 +29,7 @@ impl<A: Allocator> Model for NameIndex<A> {
 }
 
 impl<A: Allocator + Copy> NameIndex<A> {
-    /// No name at all.
+    /// An empty index.
     pub(crate) fn new(alloc: A) -> Self
         ensures { result ≡ set.empty }
     {

@@ -1,12 +1,12 @@
 //! Whom a message names.
 
-/// By whose key a server judges a message: a user who is named plainly, or by the hash of the name
-/// at the realm.
+/// The user under whose key a server judges a message: named by USERNAME, or by the hash of the
+/// name at the server's realm.
 #[derive(Clone, Copy, Debug, PartialEq, Eq)]
 pub enum NamedUser<'a> {
-    /// The user of this name (USERNAME).
+    /// The user of this name (USERNAME, RFC 8489, section 14.3), or the client of the address.
     ByName(&'a str),
-    /// A user whose name has this hash at the server's realm (USERHASH, RFC 8489, section 14.4):
-    /// `Userhash::compute` makes it.
+    /// A user whose name has this hash at the server's realm (USERHASH, RFC 8489, section 14.4).
+    /// `Userhash::compute` makes it of name and realm.
     ByHash([u8; 32]),
 }

@@ -1,5 +1,5 @@
-//! What is kept for each address: a nonce with its end, the algorithms that were offered, and the
-//! client.
+//! What a server keeps for each address: the nonce and when it expires, the offered algorithms, and
+//! the client.
 
 ghost use Rattle.std.specs.Prelude.{◌≡◌, ◌↔◌, IfOk, IsTrue, false, Option, None, Some, OnOk, OnErr};
 ghost use Rattle.std.specs.Option.{option_map, option_map_or, option_copied};
@@ -7,13 +7,13 @@ ghost use Rattle.std.specs.FinMap as map;
 ghost use Rattle.std.specs.String.{string_bytes};
 ghost use Rattle.stun_base.specs.Address.{same_address};
 ghost use Rattle.stun_auth.specs.Forgetting.{is_forgotten, places_kept};
-ghost use Rattle.stun_auth.specs.ForgettingSteps.{is_looked_at, next_from};
+ghost use Rattle.stun_auth.specs.ForgettingSteps.{is_looked_at, next_address_from};
 ghost use Rattle.stun_auth.specs.ForgettingSteps.{places_kept_where, start_of};
 ghost use Rattle.stun_auth.specs.Places.{with_change, with_client, with_offer};
 ghost use Rattle.stun_auth.specs.code.Places.{IsFirstFrom, client_seen, place_seen, renewed_with};
 
 use crate::algorithm_set::AlgorithmSet;
-use crate::short_text::ShortText;
+use crate::limited_text::LimitedText;
 use std::alloc::{AllocError, Allocator};
 use std::collections::BTreeMap;
 use std::marker::Model;
@@ -24,12 +24,12 @@ use stun_base::instant::Instant;
 
 /// The user who was validated last at an address.
 #[derive(Drop)]
-pub(crate) struct Client<A: Allocator> {
+pub(crate) struct ValidatedUser<A: Allocator> {
     pub(crate) name: String<A>,
     pub(crate) algorithm: IntegrityAlgorithm,
 }
 
-impl<A: Allocator> Client<A> {
+impl<A: Allocator> ValidatedUser<A> {
     ghost use Rattle.stun_auth.specs.code.Places.{client_seen};
 
     /// A client of this name, which is copied.
@@ -42,17 +42,17 @@ impl<A: Allocator> Client<A> {
             ≡ record { name = name.now; algorithm = algorithm }) }
     {
         let name = String::from_str(alloc, name)?;
-        Ok(Client { name, algorithm })
+        Ok(ValidatedUser { name, algorithm })
     }
 }
 
 /// What is kept for an address.
 #[derive(Drop)]
 pub(crate) struct Place<A: Allocator> {
-    pub(crate) nonce: ShortText<A>,
+    pub(crate) nonce: LimitedText<A>,
     pub(crate) expires: Instant,
     pub(crate) offered: Option<AlgorithmSet>,
-    pub(crate) client: Option<Client<A>>,
+    pub(crate) client: Option<ValidatedUser<A>>,
 }
 
 impl<A: Allocator> Place<A> {
@@ -61,7 +61,7 @@ impl<A: Allocator> Place<A> {
     ghost use Rattle.stun_auth.specs.code.Places.{place_seen, client_seen, renewed_with};
 
     /// The place of an address that had none.
-    fn new(nonce: ShortText<A>, expires: Instant, client: Option<Client<A>>) -> Self
+    fn new(nonce: LimitedText<A>, expires: Instant, client: Option<ValidatedUser<A>>) -> Self
         ensures { place_seen result ≡ renewed_with None (string_bytes nonce.text) expires
             (option_map client_seen client) }
     {
@@ -84,15 +84,14 @@ impl<A: Allocator> Place<A> {
         }
     }
 
-    /// Whether nothing of it is worth keeping at a moment: it has no client, and its nonce ended
-    /// before.
+    /// Whether it may be forgotten at a moment: it has no client, and its nonce expired before.
     fn is_forgotten(&self, now: Instant) -> bool
         ensures { result ≡ is_forgotten now (place_seen self.now) }
     {
         self.client.is_none() && self.expires < now
     }
 
-    /// Keeps what was offered, where no client is known.
+    /// Keeps what was offered, unless there is a client.
     fn offer(&mut self, supported: AlgorithmSet)
         ensures { place_seen self.new ≡ with_offer supported (place_seen self.old) }
     {
@@ -101,8 +100,8 @@ impl<A: Allocator> Place<A> {
         }
     }
 
-    /// Gives the place another nonce, and another client if there is one.
-    fn renew(&mut self, nonce: ShortText<A>, expires: Instant, client: Option<Client<A>>)
+    /// Gives the place another nonce, and another client if one is given.
+    fn renew(&mut self, nonce: LimitedText<A>, expires: Instant, client: Option<ValidatedUser<A>>)
         ensures { place_seen self.new ≡ renewed_with (Some (place_seen self.old))
             (string_bytes nonce.text) expires (option_map client_seen client) }
     {
@@ -137,7 +136,7 @@ impl<A: Allocator> Model for Places<A> {
 }
 
 impl<A: Allocator + Copy> Places<A> {
-    /// No place at all.
+    /// No places.
     pub(crate) fn new(alloc: A) -> Self
         ensures { result ≡ map.empty }
     {
@@ -161,7 +160,7 @@ impl<A: Allocator + Copy> Places<A> {
     }
 
     /// Sets the client of an address that has a nonce.
-    pub(crate) fn set_client(&mut self, address: SocketAddr, client: Option<Client<A>>)
+    pub(crate) fn set_client(&mut self, address: SocketAddr, client: Option<ValidatedUser<A>>)
         ensures { self.new ≡ with_change self.old address
             (with_client (option_map client_seen client)) }
     {
@@ -181,22 +180,22 @@ impl<A: Allocator + Copy> Places<A> {
         self.by_address.remove(&address);
     }
 
-    /// Forgets each place without a client whose nonce ended before a moment.
+    /// Forgets each place without a client whose nonce expired before a moment.
     pub(crate) fn forget_expired(&mut self, now: Instant)
         ensures { self.new ≡ places_kept now self.old }
     {
         self.by_address.retain(|_, place| !place.is_forgotten(now));
     }
 
-    /// The same at no more than so many addresses, from one on or from the first: it answers the
-    /// one to go on at.
+    /// Does the same for at most `most` addresses, from one on or from the first. Returns the
+    /// address to go on at.
     pub(crate) fn forget_expired_within(
         &mut self,
         now: Instant,
         from: Option<SocketAddr>,
         most: usize,
     ) -> Option<SocketAddr>
-        ensures next { result ≡ next_from self.old (start_of from) most }
+        ensures next { result ≡ next_address_from self.old (start_of from) most }
         ensures state { self.new ≡ places_kept_where (is_looked_at from result) now self.old }
     {
         let mut start = start_at(from);
@@ -217,7 +216,7 @@ impl<A: Allocator + Copy> Places<A> {
         Some(*address)
     }
 
-    /// Forgets the place of an address, where it has no client and its nonce ended before a moment.
+    /// Forgets the place of an address if it has no client and its nonce expired before a moment.
     fn forget_if_expired(&mut self, address: SocketAddr, now: Instant)
         ensures { self.new ≡ places_kept_where (same_address address) now self.old }
     {
@@ -226,7 +225,7 @@ impl<A: Allocator + Copy> Places<A> {
         }
     }
 
-    /// Whether an address has a place without a client, whose nonce ended before a moment.
+    /// Whether an address has a place without a client, whose nonce expired before a moment.
     fn has_expired(&self, address: SocketAddr, now: Instant) -> bool
         ensures { result ≡ option_map_or (is_forgotten now) (map.get self.now address) false }
     {
@@ -249,16 +248,15 @@ impl<A: Allocator + Copy> Places<A> {
         }
     }
 
-    /// Gives an address a nonce, which is new there or replaces the one before, and a client if
-    /// there is one.
+    /// Gives an address a nonce in place of the one before, if any, and a client if one is given.
     ///
     /// Only the first nonce of an address allocates here.
     pub(crate) fn renew(
         &mut self,
         address: SocketAddr,
-        nonce: ShortText<A>,
+        nonce: LimitedText<A>,
         expires: Instant,
-        client: Option<Client<A>>,
+        client: Option<ValidatedUser<A>>,
     ) -> Result<(), AllocError>
         ensures ok { OnOk result (self.new ≡ map.insert self.old address
             (renewed_with (map.get self.old address) (string_bytes nonce.text) expires

@@ -1,40 +1,45 @@
-//! What a server answers of a message, and why it refuses one.
+//! What a server returns for a message, and why it refuses one.
 
 ghost use Rattle.std.specs.Prelude.{◌≡◌, None, Result};
-ghost use Rattle.stun_auth.specs.Reasons.{reason_of};
+ghost use Rattle.stun_auth.specs.Reasons.{server_reason};
 
 use std::marker::Model;
 use stun_base::algorithm::IntegrityAlgorithm;
 use stun_base::error::ValidateError;
 use thiserror::Error;
 
-/// What a server makes of a message that it accepts.
+/// What a server returns for a message that it accepts.
 #[derive(Clone, Copy, Debug, PartialEq, Eq)]
 pub enum LongTermServerValidation {
-    /// Of a request or an indication the algorithm that both sides agreed on, whose key the digest
-    /// was made under; of a response the algorithm whose digest verifies.
+    /// Of a request or an indication, the algorithm that both sides agreed on: the digest verifies
+    /// under the key for it. Of a response, the algorithm whose digest verifies.
     Validated(IntegrityAlgorithm),
 }
 
 /// Why a server refuses a message (RFC 8489, section 9.2.4).
 #[derive(Clone, Copy, Debug, PartialEq, Eq, Error)]
 pub enum LongTermServerAuthErrorReason {
-    /// No well-formed integrity attribute is visible; or another nonce came whose security bits
-    /// differ from the current one's; or no registered user is named, or by a USERHASH where hashes
-    /// are not taken; or the user has no key for the algorithm that is meant; or the digest does
-    /// not verify. A challenge may be sent (401).
+    /// Answer 401, which challenges the client. One of these holds:
+    ///
+    /// - No well-formed integrity attribute is visible.
+    /// - The security bits of the message's nonce differ from those of the current one.
+    /// - The user it names is not registered, or is named by a USERHASH where hashes are not taken.
+    /// - The user has no key for the algorithm.
+    /// - The digest does not verify.
     #[error("The message is not sufficiently authenticated")]
     Unauthorized,
-    /// No digest of a response verifies under the key of the address's client.
+    /// The digest of a response does not verify under the key of the address's client, or there is
+    /// no client.
     #[error("The message failed integrity checks")]
     IntegrityFailed,
-    /// Kept from the Rust crate: no call of a server answers it.
+    /// Kept from the Rust crate: no call of a server returns it.
     #[error("A required feature is not supported")]
     UnsupportedFeature,
-    /// The realm, the nonce, the name or an agreed algorithm is missing (400).
+    /// Answer 400, or 438 where the address had no nonce before. The realm, the nonce or the name
+    /// is missing, or the algorithms do not agree with those that were offered.
     #[error("The request message is not well-formed")]
     BadRequest,
-    /// The nonce is not the current one of the address (438).
+    /// Answer 438. The nonce is not the current one of the address.
     #[error("The request presented with an out of date nonce.")]
     StaleNonce,
     /// An allocation failed.
@@ -42,8 +47,8 @@ pub enum LongTermServerAuthErrorReason {
     OutOfMemory,
 }
 
-/// Kept from the Rust crate: no call here uses it. Whatever the error is, the reason is
-/// `IntegrityFailed`.
+/// Kept from the Rust crate: no call here uses it. The reason is `IntegrityFailed`, whatever the
+/// error is.
 impl From<ValidateError> for LongTermServerAuthErrorReason {
     ghost use Rattle.std.specs.Prelude.{◌≡◌};
     ghost use Rattle.stun_auth.specs.declared.server.reason.LongTermServerAuthErrorReason.TheVariants.{IntegrityFailed};
@@ -89,7 +94,7 @@ impl LongTermServerAuthError {
         self.reason
     }
 
-    /// Always `None`: no digest is told of a message that is refused.
+    /// Always `None`: no digest is known of a message that is refused.
     pub fn integrity(&self) -> Option<IntegrityAlgorithm>
         ensures { result ≡ None }
     {
@@ -97,28 +102,28 @@ impl LongTermServerAuthError {
     }
 }
 
-/// Why a server does not accept a message, a failed allocation aside.
+/// Why a server refuses a message, apart from a failed allocation.
 #[derive(Clone, Copy, Debug, PartialEq, Eq)]
-pub(crate) enum Refusal {
+pub(crate) enum VerdictRefusal {
     Unauthorized,
     BadRequest,
     StaleNonce,
 }
 
-impl Refusal {
-    /// The reason that is answered.
+impl VerdictRefusal {
+    /// The reason that the call returns.
     pub(crate) fn reason(self) -> LongTermServerAuthErrorReason
-        ensures { result ≡ reason_of self }
+        ensures { result ≡ server_reason self }
     {
         match self {
-            Refusal::Unauthorized => LongTermServerAuthErrorReason::Unauthorized,
-            Refusal::BadRequest => LongTermServerAuthErrorReason::BadRequest,
-            Refusal::StaleNonce => LongTermServerAuthErrorReason::StaleNonce,
+            VerdictRefusal::Unauthorized => LongTermServerAuthErrorReason::Unauthorized,
+            VerdictRefusal::BadRequest => LongTermServerAuthErrorReason::BadRequest,
+            VerdictRefusal::StaleNonce => LongTermServerAuthErrorReason::StaleNonce,
         }
     }
 }
 
-/// The answer with a refusal in place of its reason.
+/// The answer, with an error made of its reason.
 pub(crate) fn refused(
     answer: Result<LongTermServerValidation, LongTermServerAuthErrorReason>,
 ) -> Result<LongTermServerValidation, LongTermServerAuthError>

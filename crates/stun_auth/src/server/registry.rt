@@ -26,11 +26,11 @@ use stun_base::credentials::LongTermCredentials;
 use stun_base::key::userhash;
 use stun_base::prepared_key::PreparedKey;
 
-/// A user: what the user is known by, and the key for each supported algorithm, prepared for the
-/// digests that are verified under it.
+/// A user: the password or stored keys, and the key for each supported algorithm, prepared to
+/// verify digests.
 #[derive(Drop)]
 pub(crate) struct User<A: Allocator> {
-    /// In a box, since it is long and a tree leaves half of its places empty.
+    /// In a box, since it is long and a tree leaves half of its nodes empty.
     kept: Box<KeptUser<A>, A>,
 }
 
@@ -42,7 +42,7 @@ pub(crate) struct KeptUser<A: Allocator> {
     sha256: Option<PreparedKey<A>>,
 }
 
-/// The key of a user for an algorithm, if it is supported and the user's secret gives one.
+/// The key of a user for an algorithm, if that is supported and the user has one for it.
 fn key_if<A: Allocator>(
     alloc: A,
     supported: AlgorithmSet,
@@ -144,7 +144,7 @@ impl<A: Allocator> Model for Registry<A> {
 
     ghost coded = { coded_registered };
 
-    ghost use Rattle.stun_auth.specs.code.NameIndex.{IsIndexOf};
+    ghost use Rattle.stun_auth.specs.code.NameIndex.{IsNameIndexOf};
     ghost use Rattle.stun_auth.specs.code.Users.{secrets_seen, AllHaveKeys};
 
     ghost view = { λ r. record {
@@ -154,7 +154,7 @@ impl<A: Allocator> Model for Registry<A> {
     } };
 
     ghost invariant = { λ r. AllHaveKeys (string_bytes r.realm) r.supported r.users
-        × IsIndexOf (string_bytes r.realm) (secrets_seen r.users.entries) r.hashed };
+        × IsNameIndexOf (string_bytes r.realm) (secrets_seen r.users.entries) r.hashed };
 }
 
 impl<A: Allocator + Copy> Registry<A> {
@@ -184,7 +184,7 @@ impl<A: Allocator + Copy> Registry<A> {
         self.supported
     }
 
-    /// The key of a present user for a supported algorithm.
+    /// The key of a registered user for a supported algorithm.
     pub(crate) fn key(&self, name: &str, algorithm: IntegrityAlgorithm) -> Option<&PreparedKey<A>>
         ensures { option_copied result ≡ key_at self.now name.now algorithm }
     {
@@ -194,14 +194,14 @@ impl<A: Allocator + Copy> Registry<A> {
         }
     }
 
-    /// The name of the first present user with that hash.
+    /// The least name of a registered user that has this hash.
     pub(crate) fn name_with_hash(&self, hash: &[u8; 32]) -> Option<&str>
         ensures { option_copied result ≡ name_with_hash self.now hash.now }
     {
         self.hashed.least(hash)
     }
 
-    /// Adds a user, or gives a present one another password and its keys.
+    /// Adds a user, or gives a registered one another password and its keys.
     pub(crate) fn add_user(&mut self, credentials: LongTermCredentials<A>) -> Result<(), AllocError>
         ensures ok { OnOk result (self.new ≡ with_user self.old credentials) }
         ensures err { OnErr result (self.new ≡ self.old) }
@@ -231,7 +231,7 @@ impl<A: Allocator + Copy> Registry<A> {
         }
     }
 
-    /// The same realm and algorithms, with one user alone.
+    /// A registry of the same realm and algorithms, with one user alone.
     pub(crate) fn with_just(
         &self,
         name: String<A>,
@@ -256,7 +256,7 @@ impl<A: Allocator + Copy> Registry<A> {
         }
     }
 
-    /// Supports these algorithms from here on: all users have keys for just these.
+    /// Supports these algorithms from now on: each user has keys for them, and no others.
     pub(crate) fn set_supported(&mut self, supported: AlgorithmSet)
         ensures { self.new ≡ record self.old { algorithms = supported } }
     {
@@ -266,8 +266,8 @@ impl<A: Allocator + Copy> Registry<A> {
     }
 }
 
-/// Puts a user under a name, in the place of the one before. A new name comes back where an
-/// allocation fails.
+/// Puts a user under a name, in place of the one before. Where an allocation fails, a new name
+/// comes back.
 fn put_user<A: Allocator + Copy>(
     users: &mut BTreeMap<String<A>, User<A>, A>,
     name: String<A>,
@@ -287,7 +287,7 @@ fn put_user<A: Allocator + Copy>(
     }
 }
 
-/// Takes out the user of a name, whose kept name comes back. It does not allocate.
+/// Takes out the user of a name, and returns the name that was kept. It does not allocate.
 fn take_user<A: Allocator + Copy>(
     users: &mut BTreeMap<String<A>, User<A>, A>,
     name: &str,
@@ -311,7 +311,7 @@ fn make_keys<A: Allocator, B: Allocator + Copy>(
     ensures keys { AllHaveKeys realm.now supported users.new }
     ensures secrets { secrets_seen users.new.entries ≡ secrets_seen users.old.entries }
 {
-    // All stay: this only walks over the users with their names.
+    // It keeps all of them: this only walks the users with their names.
     users.retain(|name, user| {
         user.set_keys(alloc, name.as_str(), realm, supported);
         true

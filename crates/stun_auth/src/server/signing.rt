@@ -1,4 +1,4 @@
-//! What a server's signing adds to a message (RFC 8489, section 9.2.4).
+//! Signing what a server sends (RFC 8489, section 9.2.4).
 
 ghost use Rattle.std.specs.Prelude.{◌≡◌, ◌≤◌, ◌<◌, ◌+◌, ◌-◌, ◌^◌, length, min};
 ghost use Rattle.std.specs.Prelude.{not, true, Some, IfOk, IsOk, OnOk, OnErr, Ok};
@@ -6,7 +6,8 @@ ghost use Rattle.std.specs.Option.{IfSome, option_map};
 ghost use Rattle.stun_base.specs.Header.{BeginsWithHeader};
 ghost use Rattle.stun_base.specs.MessageType.{class_in, is_response as is_response_class};
 ghost use Rattle.stun_types.specs.Limits.{TEXT_LIMIT};
-ghost use Rattle.stun_auth.specs.Additions.{UnlessMemory, WantsMemory, growth, page_in, written};
+ghost use Rattle.stun_auth.specs.Additions.{UnlessMemory, WantsMemory, growth, page_in};
+ghost use Rattle.stun_auth.specs.Additions.{written_page};
 ghost use Rattle.stun_auth.specs.code.Additions.{IsAdded, outcome_of};
 ghost use Rattle.stun_auth.specs.code.Places.{client_seen, place_seen};
 ghost use Rattle.stun_auth.specs.ServerSigning.{additions_at, after_signing, algorithms_for};
@@ -15,7 +16,7 @@ ghost use Rattle.stun_auth.specs.ServerSigning.{named_algorithm, offer, protecte
 ghost use Rattle.stun_auth.specs.ServerSigning.{protection_growth, server_additions};
 ghost use Rattle.stun_auth.specs.ServerSigning.{server_growth, server_signed, signed_at};
 ghost use Rattle.stun_auth.specs.Seen.{PlaceSeen};
-ghost use Rattle.stun_auth.specs.Signed.{ServerMaySign};
+ghost use Rattle.stun_auth.specs.Signed.{IsSignableAtServer};
 ghost use Rattle.stun_auth.specs.Validation.{sight};
 
 use crate::algorithm_set::AlgorithmSet;
@@ -24,7 +25,7 @@ use crate::message::addition::{
     AddedAttribute, add, add_integrity, attribute_bytes, integrity_bytes,
 };
 use crate::server::LongTermServerAuth;
-use crate::server::places::{Client, Place};
+use crate::server::places::{Place, ValidatedUser};
 use std::alloc::{AllocError, Allocator};
 use std::net::SocketAddr;
 use stun_types::message::{IntegrityAlgorithm, StunWriteError};
@@ -39,11 +40,11 @@ fn is_response<W: MessageWrite>(writer: &W) -> bool
 }
 
 impl<A: Allocator + Copy> LongTermServerAuth<A> {
-    /// How many bytes signing a message to an address adds, as far as a `usize` reaches: 0 where no
-    /// nonce was made for it.
+    /// How many bytes `sign_outgoing_message` adds to a message to an address, at most 2^64 - 1. It
+    /// is 0 where the address has no nonce.
     ///
-    /// `is_request` is true for a request or an indication and false for a response. A user or key
-    /// that is gone, or a realm past its limit, is counted all the same.
+    /// `is_request` is true for a request or an indication, and false for a response. It does not
+    /// look whether signing would fail, because the client's user is gone or the realm is too long.
     pub fn message_signature_bytes(&self, to: SocketAddr, is_request: bool) -> usize
         ensures { result ≡ min (server_growth (sight self.now to) (not is_request)) (2 ^ 64 - 1) }
     {
@@ -53,21 +54,32 @@ impl<A: Allocator + Copy> LongTermServerAuth<A> {
         }
     }
 
-    /// Adds to a message what its receiver is to know, and the integrity attribute of the address's
-    /// client.
+    /// Adds to a message what its receiver needs to know, and the integrity attribute of the
+    /// address's client (RFC 8489, section 9.2.4). Sign each response but a 400, which goes out as
+    /// it is.
     ///
-    /// Where no nonce was made for the address the message stays as it is. A response gets NONCE
-    /// and REALM. Where the address has a client, PASSWORD-ALGORITHM follows if the client's
-    /// algorithm is HMAC-SHA256, and then the integrity attribute under the client's present key,
-    /// or the refusal `IntegrityFailed` where user or key is gone. Without a client a response gets
-    /// PASSWORD-ALGORITHMS, the supported algorithms, which are then the ones offered to the
-    /// address.
+    /// Where no nonce was made for the address, the message stays as it is. Else it gets, in this
+    /// order:
     ///
-    /// Sign each answer but a 400, which goes out as it is (RFC 8489, section 9.2.4).
+    /// - in a response: NONCE and REALM;
+    /// - in a response to an address without a client: PASSWORD-ALGORITHMS, which lists the
+    ///   supported algorithms. They are then the ones offered to the address.
+    /// - to a client whose algorithm is HMAC-SHA256: PASSWORD-ALGORITHM;
+    /// - to a client: MESSAGE-INTEGRITY or MESSAGE-INTEGRITY-SHA256, under the key that the user
+    ///   has now.
     ///
-    /// The first refusal in the order of the attributes is answered, `TooLarge` for a realm past
-    /// 763 bytes included. It drops the writer and leaves the server. The writer holds a message
-    /// without FINGERPRINT.
+    /// The writer must hold a message without FINGERPRINT. The errors are those of the attributes,
+    /// in their order:
+    ///
+    /// - `MessageIntegrityExists` or `AttributeExists`: the message has integrity, or one of them,
+    ///   already.
+    /// - `TooLarge`: the message gets too long, or the realm has more than 763 bytes.
+    /// - `TooSmall`: the writer has no room.
+    /// - `IntegrityFailed`: the client's user is no longer registered, or has no key for the
+    ///   algorithm.
+    /// - `OutOfMemory`: an allocation failed.
+    ///
+    /// A failure drops the writer and leaves the server as it was.
     pub fn sign_outgoing_message<W: MessageWrite>(
         &mut self,
         writer: W,
@@ -76,7 +88,7 @@ impl<A: Allocator + Copy> LongTermServerAuth<A> {
         requires { BeginsWithHeader (W.bytes writer) }
         ensures answer { let response = is_response_class
             (class_in (W.bytes writer)) in
-            UnlessMemory result (written W.bytes W.room result
+            UnlessMemory result (written_page W.bytes W.room result
             ≡ server_signed (sight self.old to) response (page_in W.bytes W.room writer))
             (WantsMemory (server_additions (sight self.old to) response)
             (page_in W.bytes W.room writer) (W.reserved writer)) }
@@ -87,7 +99,7 @@ impl<A: Allocator + Copy> LongTermServerAuth<A> {
         // What is reserved already does not allocate.
         ensures succeeds { let response = is_response_class
             (class_in (W.bytes writer)) in
-            ServerMaySign (sight self.old to) response (W.bytes writer) (W.room writer)
+            IsSignableAtServer (sight self.old to) response (W.bytes writer) (W.room writer)
             → server_growth (sight self.old to) response ≤ W.reserved writer → IsOk result }
         ensures signed { OnOk result (self.new
             ≡ after_signing self.old to (is_response_class
@@ -106,18 +118,21 @@ impl<A: Allocator + Copy> LongTermServerAuth<A> {
         Ok(writer)
     }
 
-    /// Signs a message of which the caller knows that nothing but a failed allocation refuses it:
-    /// it has no integrity attribute, no FINGERPRINT and none that signing adds, the realm is
-    /// within its limit of 763 bytes, writer and length field have room for what is added, and the
-    /// client's user and key are still there. The message is the one that `sign_outgoing_message`
-    /// gives.
+    /// Signs a message that the caller knows to be signable. The message is the one that
+    /// `sign_outgoing_message` gives.
+    ///
+    /// A signable message has no integrity attribute, no FINGERPRINT, and none of the attributes
+    /// that signing adds. Its writer and its length field have room for what is added. The realm
+    /// has at most 763 bytes, and the client's user is still registered and has the key.
+    ///
+    /// Fails if an allocation fails; the server is then as it was.
     pub fn sign_outgoing_message_unchecked<W: MessageWrite>(
         &mut self,
         writer: W,
         to: SocketAddr,
     ) -> Result<W, AllocError>
         requires header { BeginsWithHeader (W.bytes writer) }
-        requires signable { ServerMaySign (sight self.old to)
+        requires signable { IsSignableAtServer (sight self.old to)
             (is_response_class (class_in (W.bytes writer))) (W.bytes writer)
             (W.room writer) }
         ensures answer { IfOk result (λ signed. Ok (page_in W.bytes W.room signed)
@@ -143,7 +158,7 @@ impl<A: Allocator + Copy> LongTermServerAuth<A> {
         }
     }
 
-    /// Adds what a message to an address is to have.
+    /// Adds to a message to an address what signing adds.
     fn add_signature<W: MessageWrite>(
         &self,
         writer: &mut W,
@@ -155,7 +170,8 @@ impl<A: Allocator + Copy> LongTermServerAuth<A> {
             ≡ server_signed (sight self.now to) is_response (page_in W.bytes W.room writer.old))
             (WantsMemory (server_additions (sight self.now to) is_response)
             (page_in W.bytes W.room writer.old) (W.reserved writer.old)) }
-        ensures short { IfSome (sight self.now to).place (λ (p : PlaceSeen). length p.nonce ≤ TEXT_LIMIT) }
+        ensures short { IfSome (sight self.now to).place
+            (λ (p : PlaceSeen). length p.nonce ≤ TEXT_LIMIT) }
     {
         match self.places.get(to) {
             Some(place) => self.sign_at(writer, place, is_response),
@@ -163,7 +179,7 @@ impl<A: Allocator + Copy> LongTermServerAuth<A> {
         }
     }
 
-    /// Adds what a message to an address with this place is to have.
+    /// Adds to a message to an address with this place what signing adds.
     fn sign_at<W: MessageWrite>(
         &self,
         writer: &mut W,
@@ -207,11 +223,12 @@ impl<A: Allocator + Copy> LongTermServerAuth<A> {
         }
     }
 
-    /// Adds the algorithm of a client, or to a response without a client the supported ones.
+    /// Names the algorithm of a client. Without a client, a response lists the supported
+    /// algorithms.
     fn add_algorithms<W: MessageWrite>(
         &self,
         writer: &mut W,
-        client: &Option<Client<A>>,
+        client: &Option<ValidatedUser<A>>,
         is_response: bool,
     ) -> Result<(), StunWriteError>
         requires { 20 ≤ length (W.bytes writer.old) }
@@ -265,7 +282,7 @@ impl<A: Allocator + Copy> LongTermServerAuth<A> {
     fn add_digest<W: MessageWrite>(
         &self,
         writer: &mut W,
-        client: &Client<A>,
+        client: &ValidatedUser<A>,
     ) -> Result<(), StunWriteError>
         requires { 20 ≤ length (W.bytes writer.old) }
         ensures { UnlessMemory result (outcome_of result (page_in W.bytes W.room writer.new)
@@ -280,8 +297,7 @@ impl<A: Allocator + Copy> LongTermServerAuth<A> {
         }
     }
 
-    /// How many bytes signing a message to an address with this place adds, as far as a `usize`
-    /// reaches.
+    /// How many bytes signing adds to a message to an address with this place, at most 2^64 - 1.
     fn signature_bytes(&self, place: &Place<A>, is_response: bool) -> usize
         ensures { result ≡ min (growth_at is_response self.now.registered
             (Some (place_seen place.now))) (2 ^ 64 - 1) }
@@ -291,7 +307,7 @@ impl<A: Allocator + Copy> LongTermServerAuth<A> {
             .saturating_add(protection_bytes(&place.client))
     }
 
-    /// How many bytes nonce and realm take, as far as a `usize` reaches.
+    /// How many bytes nonce and realm take, at most 2^64 - 1.
     fn challenge_bytes(&self, nonce: &str, is_response: bool) -> usize
         ensures { result ≡ min (growth (challenge is_response self.now.registered nonce.now))
             (2 ^ 64 - 1) }
@@ -303,7 +319,7 @@ impl<A: Allocator + Copy> LongTermServerAuth<A> {
     }
 
     /// How many bytes the attributes after nonce and realm take.
-    fn algorithms_bytes(&self, client: &Option<Client<A>>, is_response: bool) -> usize
+    fn algorithms_bytes(&self, client: &Option<ValidatedUser<A>>, is_response: bool) -> usize
         ensures { result ≡ growth (algorithms_for is_response self.now.registered
             (option_map client_seen client.now)) }
     {
@@ -325,7 +341,7 @@ impl<A: Allocator + Copy> LongTermServerAuth<A> {
     }
 }
 
-/// Adds the algorithm of a client, where it is named.
+/// Adds the algorithm of a client, unless it is HMAC-SHA1.
 fn add_named_algorithm<W: MessageWrite>(
     writer: &mut W,
     algorithm: IntegrityAlgorithm,
@@ -342,7 +358,7 @@ fn add_named_algorithm<W: MessageWrite>(
     }
 }
 
-/// How many bytes the name of a client's algorithm takes.
+/// How many bytes `add_named_algorithm` adds.
 fn named_algorithm_bytes(algorithm: IntegrityAlgorithm) -> usize
     ensures { result ≡ growth (named_algorithm algorithm) }
 {
@@ -352,8 +368,8 @@ fn named_algorithm_bytes(algorithm: IntegrityAlgorithm) -> usize
     }
 }
 
-/// How many bytes the digest to a client takes.
-fn protection_bytes<A: Allocator>(client: &Option<Client<A>>) -> usize
+/// How many bytes the integrity attribute to a client takes.
+fn protection_bytes<A: Allocator>(client: &Option<ValidatedUser<A>>) -> usize
     ensures { result ≡ protection_growth (option_map client_seen client.now) }
 {
     match client {

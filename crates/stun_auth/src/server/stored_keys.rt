@@ -1,4 +1,4 @@
-//! Keys that were made of a user's password and stored in its place.
+//! Keys that are stored in place of a user's password.
 
 ghost use Rattle.std.specs.Prelude.{◌≡◌, Some, codes};
 ghost use Rattle.std.specs.Fmt.{WritesOnOk, WritesStyledOnOk};
@@ -9,16 +9,18 @@ use std::fmt;
 use stun_base::algorithm::IntegrityAlgorithm;
 use stun_base::key::IntegrityKey;
 
-/// The keys of a user that a data base stores in the place of a password: each is a hash of
-/// `username:realm:password`, with colons between, as `long_term_key` makes it. `None` where a key
-/// is not stored: the user then has no key for that algorithm.
+/// The keys of a user that a data base stores in place of the password. Each is a hash of
+/// `username:realm:password`, as `long_term_key` makes it (RFC 8489, section 9.2.2). `None` means
+/// that a key is not stored, and the user has no key for that algorithm.
 ///
-/// Who has a key can sign as that user: keep it as secret as a password. `Debug` shows none of it.
+/// Whoever has a key can sign as that user: keep it as secret as a password. `Debug` shows none of
+/// it.
 #[derive(Clone, Copy)]
 pub struct StoredKeys {
-    /// For HMAC-SHA1: MD5 (RFC 8489, section 9.2.2). `md5_key_from_utf8` makes it.
+    /// The key for HMAC-SHA1: the MD5 hash (section 9.2.2), as `md5_key_from_utf8` makes it.
     pub sha1: Option<[u8; 16]>,
-    /// For HMAC-SHA256: SHA-256 (section 18.5.1). `sha256_key_from_utf8` makes it.
+    /// The key for HMAC-SHA256: the SHA-256 hash (section 18.5.1), as `sha256_key_from_utf8` makes
+    /// it.
     pub sha256: Option<[u8; 32]>,
 }
 

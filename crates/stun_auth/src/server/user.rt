@@ -8,12 +8,12 @@ use std::alloc::{Allocator, Global};
 use std::fmt;
 use std::marker::Model;
 
-/// A user with a key for each algorithm that a server supports, which
-/// `LongTermServerAuth::prepare_user` makes of a password, and `prepare_user_with_keys` of stored
-/// keys.
+/// A user to be handed in with a message, with a key for each algorithm that the server supports.
+/// `LongTermServerAuth::prepare_user` makes one of a password, and `prepare_user_with_keys` of
+/// stored keys.
 ///
-/// Contracts see the realm and the algorithms that the server had then, with this user alone and
-/// the password or the stored keys. `Debug` shows nothing of what it holds.
+/// Contracts see this user, and the realm and the algorithms that the server had then. `Debug`
+/// shows nothing of what it holds.
 #[derive(Drop)]
 pub struct LongTermServerUser<A: Allocator = Global> {
     pub(crate) registry: Registry<A>,

@@ -1,4 +1,4 @@
-//! What a user is known by.
+//! A user's password, or the keys stored in its place.
 
 ghost use Rattle.std.specs.Prelude.{◌≡◌, Some};
 ghost use Rattle.stun_auth.specs.Registered.{key_from};
@@ -17,7 +17,7 @@ pub(crate) enum UserSecret<A: Allocator> {
 }
 
 impl<A: Allocator> UserSecret<A> {
-    /// The key for an algorithm of the user of a name at a realm. It does not allocate.
+    /// The key for an algorithm of the user of this name at this realm. It does not allocate.
     pub(crate) fn key(
         &self,
         alloc: A,

@@ -9,26 +9,27 @@ ghost use Rattle.stun_auth.specs.Reading.{reading_of, verified_under};
 ghost use Rattle.stun_auth.specs.Registered.{key_at};
 ghost use Rattle.stun_auth.specs.Seen.{PlaceSeen};
 ghost use Rattle.stun_auth.specs.code.Places.{client_seen, place_seen};
-ghost use Rattle.stun_auth.specs.Reasons.{OrMemory};
-ghost use Rattle.stun_auth.specs.Server.{stands_at};
+ghost use Rattle.stun_auth.specs.Reasons.{ServerOrMemory};
+ghost use Rattle.stun_auth.specs.Server.{has_current_nonce};
 ghost use Rattle.stun_auth.specs.Validation.{ChangesNothing, ValidatesAccepted};
-ghost use Rattle.stun_auth.specs.Validation.{after_message, answer, client_verified};
+ghost use Rattle.stun_auth.specs.Validation.{after_validation, answer, client_verified};
 ghost use Rattle.stun_auth.specs.Validation.{draws, sight, validated_or_failed};
-ghost use Rattle.stun_auth.specs.code.Judging.{ChangesNoPlace, IsJudged, answered, new_nonce};
+ghost use Rattle.stun_auth.specs.code.Judging.{ChangesNoPlace, IsJudged, judgement_answer};
+ghost use Rattle.stun_auth.specs.code.Judging.{new_nonce};
 ghost use Rattle.stun_auth.specs.code.Judging.{place_with, places_left, renewal_seen};
 ghost use Rattle.stun_auth.specs.code.ReadingSeen.{reading_seen};
 
 use crate::algorithm_set::AlgorithmSet;
+use crate::limited_text::LimitedText;
 use crate::message::nonce::make_nonce;
-use crate::message::reading::Reading;
+use crate::message::reading::MessageReading;
 use crate::server::LongTermServerAuth;
-use crate::server::places::{Client, Place};
+use crate::server::places::{Place, ValidatedUser};
 use crate::server::reason::{
-    LongTermServerAuthError, LongTermServerAuthErrorReason, LongTermServerValidation, Refusal,
-    refused,
+    LongTermServerAuthError, LongTermServerAuthErrorReason, LongTermServerValidation,
+    VerdictRefusal, refused,
 };
 use crate::server::verdict::{Accepted, verdict};
-use crate::short_text::ShortText;
 use rand_core::Rng;
 use std::alloc::{AllocError, Allocator};
 use std::net::SocketAddr;
@@ -36,30 +37,30 @@ use stun_base::algorithm::IntegrityAlgorithm;
 use stun_base::instant::Instant;
 use stun_types::message::Message;
 
-/// A nonce that was made for an address, with its end.
+/// A nonce that was made for an address, and when it expires.
 #[derive(Drop)]
 struct Renewal<A: Allocator> {
-    nonce: ShortText<A>,
+    nonce: LimitedText<A>,
     expires: Instant,
 }
 
-/// What a message comes to where it needs a nonce.
+/// The outcome for a message that must be judged under a nonce.
 #[derive(Drop)]
 enum Judgement<A: Allocator> {
     /// Nobody is accepted.
-    Refused(Refusal),
+    Refused(VerdictRefusal),
     /// The place's client is accepted again, with this algorithm.
     Known(IntegrityAlgorithm),
     /// Another client is accepted.
-    New(Client<A>),
+    New(ValidatedUser<A>),
 }
 
 impl<A: Allocator> Judgement<A> {
-    ghost use Rattle.stun_auth.specs.code.Judging.{answered, client_in};
+    ghost use Rattle.stun_auth.specs.code.Judging.{judgement_answer, client_in};
 
-    /// The answer that is told.
+    /// What the call returns of it.
     fn answer(&self) -> Result<LongTermServerValidation, LongTermServerAuthErrorReason>
-        ensures { result ≡ answered self.now }
+        ensures { result ≡ judgement_answer self.now }
     {
         match self {
             Judgement::Refused(refusal) => Err(refusal.reason()),
@@ -69,7 +70,7 @@ impl<A: Allocator> Judgement<A> {
     }
 
     /// The client who is not kept yet.
-    fn into_client(self) -> Option<Client<A>>
+    fn into_client(self) -> Option<ValidatedUser<A>>
         ensures { option_map client_seen result ≡ client_in self }
     {
         match self {
@@ -79,9 +80,9 @@ impl<A: Allocator> Judgement<A> {
     }
 }
 
-/// Whether the nonce of a place is current: up to its end, that moment included.
+/// Whether the nonce of a place is current: until it expires, that moment included.
 fn nonce_stands<A: Allocator>(place: Option<&Place<A>>, now: Instant) -> bool
-    ensures { result ≡ stands_at now (option_map place_seen (option_copied place.entry)) }
+    ensures { result ≡ has_current_nonce now (option_map place_seen (option_copied place.entry)) }
 {
     match place {
         Some(place) => now <= place.expires,
@@ -89,8 +90,7 @@ fn nonce_stands<A: Allocator>(place: Option<&Place<A>>, now: Instant) -> bool
     }
 }
 
-/// The nonce at which a message is judged: the new one, if one was made, and else the one that is
-/// kept.
+/// The nonce that a message is judged under: the new one if one was made, and else the one kept.
 fn nonce_at<'p, A: Allocator>(
     place: Option<&'p Place<A>>,
     renewal: &'p Option<Renewal<A>>,
@@ -118,7 +118,7 @@ fn offered_at<A: Allocator>(place: Option<&Place<A>>) -> Option<AlgorithmSet>
     }
 }
 
-/// Whether this is the client who is kept at an address.
+/// Whether the place keeps this client already.
 fn is_known<A: Allocator>(place: Option<&Place<A>>, accepted: Accepted<'_>) -> bool
     ensures { IsTrue result ↔ (option_and_then (λ (p : PlaceSeen). p.client)
         (option_map place_seen (option_copied place.entry))
@@ -131,15 +131,14 @@ fn is_known<A: Allocator>(place: Option<&Place<A>>, accepted: Accepted<'_>) -> b
 }
 
 impl<A: Allocator + Copy> LongTermServerAuth<A> {
-    /// The algorithm of a message's digest, where it verifies under the key that the registered
-    /// user of a name has for a supported algorithm. `None` where it does not verify, and where
-    /// there is no such user or key. The digest is the one that `validate_incoming_message` looks
-    /// at, whichever algorithm the key is for.
+    /// The algorithm of a message's digest, if it verifies under the key that a registered user has
+    /// for `algorithm`. `None` where it does not, and where there is no such user or key.
     ///
-    /// It is for a check of a user's key, and for a tool that must know who could have signed a
-    /// message. It is no verdict: it reads no nonce, realm, name or choice of the message, so a
-    /// message that is sent again verifies again. It shows no key, changes nothing and does not
-    /// allocate.
+    /// The digest is the one that `validate_incoming_message` looks at, whichever algorithm the key
+    /// is for. Use this to check a user's key, or to learn who could have signed a message.
+    ///
+    /// It is no verdict: it reads no nonce, realm, name or algorithm of the message, so a message
+    /// that is sent again verifies again. It shows no key, changes nothing and does not allocate.
     pub fn user_verifies(
         &self,
         name: &str,
@@ -150,30 +149,41 @@ impl<A: Allocator + Copy> LongTermServerAuth<A> {
             (key_at self.now.registered name.now algorithm) }
     {
         match self.registry.key(name, algorithm) {
-            Some(key) => Reading::of(message).verified_under(key),
+            Some(key) => MessageReading::of(message).verified_under(key),
             None => None,
         }
     }
 
-    /// Judges a message that came from an address.
+    /// Judges a message that came from an address (RFC 8489, section 9.2.4).
     ///
-    /// A response is `Validated` where its digest verifies under the key of the address's client,
-    /// else refused by `IntegrityFailed`. Any other message is `Validated` with an algorithm
-    /// exactly where it carries a realm, the nonce that is current for the address, algorithms that
-    /// agree with those that were offered, and the digest under the key that the present user whom
-    /// it names has for that algorithm; that user is then the address's client. Else it is refused
-    /// by the first reason that holds: `Unauthorized` without integrity, `BadRequest` without
-    /// realm, nonce, name or agreement, `StaleNonce` (or `Unauthorized`, where the security bits of
-    /// the two nonces differ) for another nonce, and `Unauthorized` for the rest. The realm's value
-    /// is not compared.
+    /// A response is `Validated` if its digest verifies under the key of the address's client. Else
+    /// it is refused by `IntegrityFailed`.
     ///
-    /// A nonce is made, of sixteen random words, where a message without integrity or with all of
-    /// realm, nonce and name finds none that is current: a nonce is current up to the end of its
-    /// time, that moment included.
+    /// A request or an indication is `Validated` with an algorithm if and only if all of these
+    /// hold:
     ///
-    /// `OutOfMemory` is answered only where a nonce is made or another client kept; nonce, end,
-    /// offered algorithms and client are then as before, but the source of random words may have
-    /// advanced.
+    /// - It has a realm. Which one is not compared.
+    /// - Its nonce is the one current for the address.
+    /// - Its algorithms agree with those that were offered to the address.
+    /// - It names a registered user, who has a key for that algorithm.
+    /// - Its digest verifies under that key.
+    ///
+    /// That user is then the address's client. Else it is refused by the first of these that holds:
+    ///
+    /// - `Unauthorized` (401): no well-formed integrity attribute is visible.
+    /// - `BadRequest` (400): it lacks realm, nonce or name, or its algorithms do not agree.
+    /// - `StaleNonce` (438): it has another nonce than the current one. `Unauthorized` instead, if
+    ///   the security bits of the two nonces differ.
+    /// - `Unauthorized` (401): the user is not registered, has no key for the algorithm, or the
+    ///   digest does not verify.
+    ///
+    /// A nonce is current until it expires, that moment included. Where the address has no current
+    /// one, sixteen random numbers are drawn and a nonce is made of them. That is done for a
+    /// message without integrity, and for one with all of realm, nonce and name.
+    ///
+    /// `OutOfMemory` means that an allocation failed. It can come only where a nonce is made or
+    /// another client kept. The record of the address is then as it was, but random numbers may
+    /// have been drawn.
     pub fn validate_incoming_message<R: Rng>(
         &mut self,
         message: &Message<'_>,
@@ -181,24 +191,24 @@ impl<A: Allocator + Copy> LongTermServerAuth<A> {
         now: Instant,
         rng: &mut R,
     ) -> Result<LongTermServerValidation, LongTermServerAuthError>
-        ensures answer { OrMemory result
+        ensures answer { ServerOrMemory result
             (result ≡ answer (sight self.old from) now (next_words 16 (R.stream rng.old))
             (reading_of message.now)) ⊤ }
-        ensures accepted { OrMemory result
+        ensures accepted { ServerOrMemory result
             (ValidatesAccepted (sight self.old from) now (next_words 16 (R.stream rng.old))
             (reading_of message.now) result) ⊤ }
-        ensures state { OrMemory result
-            (self.new ≡ after_message self.old from now (next_words 16 (R.stream rng.old))
+        ensures state { ServerOrMemory result
+            (self.new ≡ after_validation self.old from now (next_words 16 (R.stream rng.old))
             (reading_of message.now))
             (self.new ≡ self.old) }
-        ensures source { OrMemory result
+        ensures source { ServerOrMemory result
             (R.stream rng.new ≡ (if draws (sight self.old from) now
             (reading_of message.now) then after_words 16
             (R.stream rng.old) else R.stream rng.old)) ⊤ }
 
-        // Where the message changes nothing, no allocation fails: so at a response and at a
-        // malformed message, and, where a nonce is current, at each refusal and at the client who
-        // is kept there already.
+        // Where the message changes nothing, no allocation fails. So it is for a response and for a
+        // malformed message. Under a current nonce it is so for each refusal, and for a client who
+        // is kept already.
         ensures unchanged { ChangesNothing (sight self.old from) now
             (next_words 16 (R.stream rng.old)) (reading_of message.now) →
             result ≡ answer (sight self.old from) now (next_words 16 (R.stream rng.old))
@@ -207,7 +217,7 @@ impl<A: Allocator + Copy> LongTermServerAuth<A> {
         refused(self.judge_incoming(message, from, now, rng))
     }
 
-    /// The answer, with the reason of a refusal.
+    /// The answer, or the reason of a refusal.
     fn judge_incoming<R: Rng>(
         &mut self,
         message: &Message<'_>,
@@ -215,14 +225,14 @@ impl<A: Allocator + Copy> LongTermServerAuth<A> {
         now: Instant,
         rng: &mut R,
     ) -> Result<LongTermServerValidation, LongTermServerAuthErrorReason>
-        ensures answer { OrMemory result
+        ensures answer { ServerOrMemory result
             (result ≡ answer (sight self.old from) now (next_words 16 (R.stream rng.old))
             (reading_of message.now)) ⊤ }
-        ensures state { OrMemory result
-            (self.new ≡ after_message self.old from now (next_words 16 (R.stream rng.old))
+        ensures state { ServerOrMemory result
+            (self.new ≡ after_validation self.old from now (next_words 16 (R.stream rng.old))
             (reading_of message.now))
             (self.new ≡ self.old) }
-        ensures source { OrMemory result
+        ensures source { ServerOrMemory result
             (R.stream rng.new ≡ (if draws (sight self.old from) now
             (reading_of message.now) then after_words 16
             (R.stream rng.old) else R.stream rng.old)) ⊤ }
@@ -231,7 +241,7 @@ impl<A: Allocator + Copy> LongTermServerAuth<A> {
             result ≡ answer (sight self.old from) now (next_words 16 (R.stream rng.old))
             (reading_of message.now) }
     {
-        let reading = Reading::of(message);
+        let reading = MessageReading::of(message);
         if reading.is_response() {
             return self.check_response(&reading, from);
         }
@@ -248,10 +258,10 @@ impl<A: Allocator + Copy> LongTermServerAuth<A> {
         self.commit(from, renewal, judged)
     }
 
-    /// What a response answers: the digest under the key of the address's client.
+    /// The answer to a response: its digest is to verify under the key of the address's client.
     fn check_response(
         &self,
-        reading: &Reading<'_, '_>,
+        reading: &MessageReading<'_, '_>,
         from: SocketAddr,
     ) -> Result<LongTermServerValidation, LongTermServerAuthErrorReason>
         ensures { result ≡ validated_or_failed
@@ -273,7 +283,7 @@ impl<A: Allocator + Copy> LongTermServerAuth<A> {
         }
     }
 
-    /// A new nonce of the next sixteen words, where none is current.
+    /// A new nonce of the next sixteen random numbers, where none is current.
     fn renewal<R: Rng>(
         &self,
         place: Option<&Place<A>>,
@@ -284,10 +294,11 @@ impl<A: Allocator + Copy> LongTermServerAuth<A> {
             ≡ new_nonce self.now now (next_words 16 (R.stream rng.old))
             (option_map place_seen (option_copied place.entry))) }
         ensures source { IfOk result (λ _. R.stream rng.new
-            ≡ (if stands_at now (option_map place_seen
+            ≡ (if has_current_nonce now (option_map place_seen
             (option_copied place.entry)) then R.stream rng.old else after_words 16
             (R.stream rng.old))) }
-        ensures needless { stands_at now (option_map place_seen (option_copied place.entry)) ≡ true
+        ensures needless { has_current_nonce now (option_map place_seen (option_copied place.entry))
+            ≡ true
             → IsOk result }
     {
         if nonce_stands(place, now) {
@@ -300,11 +311,11 @@ impl<A: Allocator + Copy> LongTermServerAuth<A> {
         }))
     }
 
-    /// What a message comes to at a place, with the new nonce if one was made. It allocates for
-    /// another client's name alone.
+    /// Judges a message under the address's record, or under the new nonce if one was made. It
+    /// allocates only for another client's name.
     fn judge(
         &self,
-        reading: &Reading<'_, '_>,
+        reading: &MessageReading<'_, '_>,
         place: Option<&Place<A>>,
         renewal: &Option<Renewal<A>>,
     ) -> Result<Judgement<A>, AllocError>
@@ -325,28 +336,28 @@ impl<A: Allocator + Copy> LongTermServerAuth<A> {
                 if is_known(place, accepted) {
                     return Ok(Judgement::Known(accepted.algorithm));
                 }
-                let client = Client::new(self.alloc, accepted.name, accepted.algorithm)?;
+                let client = ValidatedUser::new(self.alloc, accepted.name, accepted.algorithm)?;
                 Ok(Judgement::New(client))
             }
         }
     }
 
-    /// Keeps the new nonce, if one was made, and the client who is not kept yet, and answers. Only
-    /// the first nonce of an address allocates here.
+    /// Keeps the new nonce if one was made, and a client who is not kept yet. Returns the answer.
+    /// Only the first nonce of an address allocates here.
     fn commit(
         &mut self,
         from: SocketAddr,
         renewal: Option<Renewal<A>>,
         judged: Judgement<A>,
     ) -> Result<LongTermServerValidation, LongTermServerAuthErrorReason>
-        ensures answer { OrMemory result (result ≡ answered judged) ⊤ }
-        ensures state { OrMemory result
+        ensures answer { ServerOrMemory result (result ≡ judgement_answer judged) ⊤ }
+        ensures state { ServerOrMemory result
             (self.new ≡ record self.old {
               places = places_left self.old.places from
                   (option_map renewal_seen renewal) judged;
             })
             (self.new ≡ self.old) }
-        ensures needless { IfNone renewal (result ≡ answered judged) }
+        ensures needless { IfNone renewal (result ≡ judgement_answer judged) }
     {
         let answer = judged.answer();
         let client = judged.into_client();

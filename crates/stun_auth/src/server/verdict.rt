@@ -5,23 +5,23 @@ ghost use Rattle.std.specs.Option.{option_copied};
 ghost use Rattle.std.specs.Str.{bytes_eq};
 ghost use Rattle.stun_auth.specs.Algorithms.{has as is_among, offered_list, same_list};
 ghost use Rattle.stun_auth.specs.Nonces.{security_bits};
-ghost use Rattle.stun_auth.specs.Server.{agreed, bits_differ, nonce_refusal, verdict};
-ghost use Rattle.stun_auth.specs.code.Judging.{judged, name_in};
+ghost use Rattle.stun_auth.specs.Server.{agreement, bits_differ, nonce_refusal, verdict};
+ghost use Rattle.stun_auth.specs.code.Judging.{verdict_seen, name_in};
 ghost use Rattle.stun_auth.specs.code.ReadingSeen.{reading_seen};
 ghost use Rattle.stun_types.specs.PasswordAlgorithms.{integrity_of};
 
 use crate::algorithm_set::AlgorithmSet;
 use crate::feature::Feature;
 use crate::message::nonce::{NonceSecurityBits, asks_for_algorithms};
-use crate::message::reading::Reading;
-use crate::server::reason::Refusal;
+use crate::message::reading::MessageReading;
+use crate::server::reason::VerdictRefusal;
 use crate::server::registry::Registry;
 use std::alloc::Allocator;
 use stun_base::algorithm::IntegrityAlgorithm;
 use stun_base::compare::is_same_text;
 use stun_types::attribute::{PasswordAlgorithmValue, PasswordAlgorithms};
 
-/// Who is accepted.
+/// The user who is accepted, and the agreed algorithm.
 #[derive(Clone, Copy)]
 pub(crate) struct Accepted<'a> {
     pub(crate) name: &'a str,
@@ -55,13 +55,13 @@ fn is_offered(algorithm: IntegrityAlgorithm, offered: Option<AlgorithmSet>) -> b
     }
 }
 
-/// The algorithm that both sides mean.
+/// The algorithm that both sides agree on.
 fn agreed(
-    reading: &Reading<'_, '_>,
+    reading: &MessageReading<'_, '_>,
     nonce: &str,
     offered: Option<AlgorithmSet>,
 ) -> Option<IntegrityAlgorithm>
-    ensures { result ≡ agreed (reading_seen reading.now) nonce.now offered }
+    ensures { result ≡ agreement (reading_seen reading.now) nonce.now offered }
 {
     if !asks_for_algorithms(nonce) {
         return Some(IntegrityAlgorithm::Sha1);
@@ -97,22 +97,22 @@ fn bits_differ(ours: &str, theirs: &str) -> bool
     }
 }
 
-/// How a nonce is refused that is not the current one.
-fn nonce_refusal(ours: &str, theirs: &str) -> Refusal
+/// Why a nonce that is not the current one is refused.
+fn nonce_refusal(ours: &str, theirs: &str) -> VerdictRefusal
     ensures { result ≡ nonce_refusal ours.now theirs.now }
 {
     if bits_differ(ours, theirs) {
-        Refusal::Unauthorized
+        VerdictRefusal::Unauthorized
     } else {
-        Refusal::StaleNonce
+        VerdictRefusal::StaleNonce
     }
 }
 
-/// The name that a message gives, by a hash or plainly.
+/// The name of the user whom a message names, by a hash or by name.
 fn name_in<'a, A: Allocator + Copy>(
     registry: &'a Registry<A>,
     feature: Feature,
-    reading: &Reading<'a, '_>,
+    reading: &MessageReading<'a, '_>,
 ) -> Option<&'a str>
     ensures { option_copied result ≡ name_in registry.now feature (reading_seen reading.now) }
 {
@@ -128,50 +128,49 @@ fn name_in<'a, A: Allocator + Copy>(
     }
 }
 
-/// Whether a nonce is the one that is current. Each byte is looked at, wherever they differ.
+/// Whether a nonce is the current one. It looks at each byte, wherever they differ.
 fn is_same_nonce(theirs: &str, ours: &str) -> bool
     ensures { result ≡ bytes_eq theirs.now ours.now }
 {
     is_same_text(theirs.as_bytes(), ours.as_bytes())
 }
 
-/// Who is accepted where this nonce is current and these algorithms were offered, or the first
-/// refusal that holds.
+/// Who is accepted under this nonce and these offered algorithms, or the first refusal that holds.
 ///
 /// It does not allocate and derives no key.
 pub(crate) fn verdict<'a, A: Allocator + Copy>(
     registry: &'a Registry<A>,
     feature: Feature,
-    reading: &Reading<'a, '_>,
+    reading: &MessageReading<'a, '_>,
     nonce: &str,
     offered: Option<AlgorithmSet>,
-) -> Result<Accepted<'a>, Refusal>
-    ensures { judged result ≡ verdict registry.now feature nonce.now offered
+) -> Result<Accepted<'a>, VerdictRefusal>
+    ensures { verdict_seen result ≡ verdict registry.now feature nonce.now offered
         (reading_seen reading.now) }
 {
     if !reading.has_integrity {
-        return Err(Refusal::Unauthorized);
+        return Err(VerdictRefusal::Unauthorized);
     }
     if !reading.is_complete() {
-        return Err(Refusal::BadRequest);
+        return Err(VerdictRefusal::BadRequest);
     }
     let Some(theirs) = reading.nonce else {
-        return Err(Refusal::BadRequest);
+        return Err(VerdictRefusal::BadRequest);
     };
     let Some(algorithm) = agreed(reading, theirs, offered) else {
-        return Err(Refusal::BadRequest);
+        return Err(VerdictRefusal::BadRequest);
     };
     if !is_same_nonce(theirs, nonce) {
         return Err(nonce_refusal(nonce, theirs));
     }
     let Some(name) = name_in(registry, feature, reading) else {
-        return Err(Refusal::Unauthorized);
+        return Err(VerdictRefusal::Unauthorized);
     };
     let Some(key) = registry.key(name, algorithm) else {
-        return Err(Refusal::Unauthorized);
+        return Err(VerdictRefusal::Unauthorized);
     };
     match reading.verified_under(key) {
         Some(_) => Ok(Accepted { name, algorithm }),
-        None => Err(Refusal::Unauthorized),
+        None => Err(VerdictRefusal::Unauthorized),
     }
 }

@@ -1,7 +1,8 @@
 -- How the key of credentials keeps its bytes.
 use Rattle.std.specs.Prelude.{ℕ, List}
 use Rattle.stun_base.specs.declared.keys.credentials.CredentialsKeyBytes.{CredentialsKeyBytes}
-use Rattle.stun_base.specs.declared.keys.credentials.CredentialsKeyBytes.TheVariants.{Password, Made}
+use Rattle.stun_base.specs.declared.keys.credentials.CredentialsKeyBytes.TheVariants.{Password}
+use Rattle.stun_base.specs.declared.keys.credentials.CredentialsKeyBytes.TheVariants.{Made}
 
 -- the bytes, wherever they are
 abbrev pub credentials_key_bytes : {A : Type 0} → CredentialsKeyBytes A → List ℕ

@@ -253,7 +253,7 @@ pub fn sha256_key_from_utf8(username: &[u8], realm: &[u8], password: &[u8]) -> O
 /// Both texts are used as they are. The caller prepares them by OpaqueString (RFC 8265, section
 /// 4.2). It does not allocate.
 pub fn userhash(username: &str, realm: &str) -> [u8; 32]
-    ensures { result ≡ spec.userhash username.now realm.now }
+    ensures { result ≡ spec.userhash_of username.now realm.now }
 {
     let mut hasher = Sha256::start();
     hasher.feed(username.as_bytes());

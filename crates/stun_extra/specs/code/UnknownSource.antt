@@ -7,9 +7,9 @@ use Rattle.stun_extra.specs.declared.unknown.attribute.Source.{Source}
 use Rattle.stun_extra.specs.declared.unknown.attribute.Source.TheVariants.{OfMessage, Received}
 
 -- the types
-abbrev pub types_at : Source → List AttributeType
-types_at (OfMessage message known) = unknown_types known.now message.now
-types_at (Received bytes) = types_in bytes.now
+abbrev pub source_types : Source → List AttributeType
+source_types (OfMessage message known) = unknown_types known.now message.now
+source_types (Received bytes) = types_in bytes.now
 
 -- what is received has 2 bytes for each type
 abbrev pub IsEven : Source → Type 0

@@ -9,10 +9,9 @@ use stun_base::error::StunParseError;
 use stun_types::attribute::{AttributeType, RawAttribute};
 use stun_types::prelude::*;
 
-/// ADDITIONAL-ADDRESS-FAMILY (RFC 8656, section 18.11): the family of a second address that is to
-/// be allocated beside one of IPv4, in an Allocate request. IPv6 alone is allowed there, and a
-/// server refuses IPv4 with 400 (section 7.2): it is read, so that it can be refused. Contracts see
-/// the family.
+/// ADDITIONAL-ADDRESS-FAMILY (RFC 8656, section 18.11): an Allocate request asks for a second
+/// address of this family, beside one of IPv4. Only IPv6 is allowed. A server refuses IPv4 with 400
+/// (section 7.2), so IPv4 can be read here. Contracts see the family.
 #[derive(Clone, Copy, Debug, PartialEq, Eq)]
 pub struct AdditionalAddressFamily {
     family: AddressFamily,

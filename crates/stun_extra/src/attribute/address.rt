@@ -1,4 +1,4 @@
-//! What attributes share whose value is an address as it is (RFC 8489, section 14.1).
+//! What the attributes share whose value is an address in clear (RFC 8489, section 14.1).
 ghost use Rattle.std.specs.Prelude.{◌≡◌, ◌≤◌, ◌+◌, ◌%◌, ◌++◌, ◌∷◌, length};
 ghost use Rattle.std.specs.Net.Socket.{IsPlainSocket, socket_ip, socket_port};
 ghost use Rattle.byteorder.specs.Endian.{big_bytes};
@@ -14,8 +14,11 @@ use stun_base::error::StunParseError;
 use stun_types::attribute::{AttributeType, RawAttribute};
 use stun_types::prelude::*;
 
+/// The number of bytes of the value before the port: one that is reserved, and the family.
+const FAMILY_LENGTH: usize = 2;
+
 /// The number of bytes of the value before the octets.
-const FAMILY_AND_PORT_LENGTH: usize = 4;
+const FAMILY_AND_PORT_LENGTH: usize = FAMILY_LENGTH + 2;
 
 /// The number of the family IPv4.
 const IPV4: u8 = 1;
@@ -54,11 +57,10 @@ impl Address {
         ensures value { result ≡ length (address_value self.now) }
         ensures whole { IsAddress self.now }
     {
-        // Read for the clause `whole`: a field's type bounds it.
-        let _port = self.port;
+        let before_octets = FAMILY_LENGTH + self.port.to_be_bytes().as_slice().len();
         match self.ip {
-            IpAddr::V4(ip) => FAMILY_AND_PORT_LENGTH + ip.octets().as_slice().len(),
-            IpAddr::V6(ip) => FAMILY_AND_PORT_LENGTH + ip.octets().as_slice().len(),
+            IpAddr::V4(ip) => before_octets + ip.octets().as_slice().len(),
+            IpAddr::V6(ip) => before_octets + ip.octets().as_slice().len(),
         }
     }
 }
@@ -108,7 +110,8 @@ fn append_octets<W: MessageWrite>(
     writer.append(octets);
 }
 
-/// The address in a raw attribute of this type, or `InvalidAttributeData`.
+/// The address in a raw attribute of this type. Fails with `InvalidAttributeData` if the type is
+/// another, the family is none, or the octets are not as many as the family has.
 pub(super) fn read_address(
     raw: &RawAttribute<'_>,
     kind: AttributeType,
@@ -119,14 +122,14 @@ pub(super) fn read_address(
     if raw.get_type() != kind || value.len() < FAMILY_AND_PORT_LENGTH {
         return Err(StunParseError::InvalidAttributeData);
     }
-    let port = BigEndian::read_u16(&value[2..]);
+    let port = BigEndian::read_u16(&value[FAMILY_LENGTH..]);
     match read_ip(value[1], &value[FAMILY_AND_PORT_LENGTH..]) {
         Some(ip) => Ok(Address { ip, port }),
         None => Err(StunParseError::InvalidAttributeData),
     }
 }
 
-/// The address of this family with these octets, where they are as many as it has.
+/// The address of this family, or `None` if there is no such family or not as many octets.
 fn read_ip(family: u8, octets: &[u8]) -> Option<IpAddr>
     ensures { result ≡ ip_of family octets.now }
 {

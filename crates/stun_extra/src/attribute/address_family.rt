@@ -31,7 +31,7 @@ impl AddressFamily {
         }
     }
 
-    /// The family of this number, where it is one.
+    /// The family of this number: 1 is IPv4, 2 is IPv6, and any other number is none.
     pub fn from_number(number: u8) -> Option<AddressFamily>
         ensures { result ≡ numbered_family number }
     {
@@ -50,7 +50,9 @@ pub(super) fn family_bytes(family: AddressFamily) -> [u8; 4]
     [family.number(), 0, 0, 0]
 }
 
-/// The family in an attribute of a type. What is reserved is not looked at.
+/// The family in an attribute of this type. Fails with `InvalidAttributeData` if the type is
+/// another, the value does not have 4 bytes, or its first byte is no family. The reserved bytes are
+/// ignored.
 pub(super) fn read_family(
     raw: &RawAttribute<'_>,
     kind: AttributeType,

@@ -15,9 +15,9 @@ use stun_base::error::{StunParseError, StunWriteError};
 use stun_types::attribute::{AttributeType, RawAttribute};
 use stun_types::prelude::*;
 
-/// ALTERNATE-DOMAIN (RFC 8489, section 14.16): the domain name by which the server of
-/// ALTERNATE-SERVER proves itself over TLS, of at most 255 bytes. That it is a name of the DNS is
-/// not looked at. Contracts see its bytes.
+/// ALTERNATE-DOMAIN (RFC 8489, section 14.16): the domain name of the server of ALTERNATE-SERVER,
+/// which its certificate for TLS names. It has at most 255 bytes. Nothing checks that it is a name
+/// of the DNS. Contracts see its bytes.
 #[derive(Debug, Drop)]
 pub struct AlternateDomain<'a> {
     text: &'a str,
@@ -45,7 +45,7 @@ impl<'a> Clone for AlternateDomain<'a> {
     }
 }
 
-/// Equal are those of the same bytes.
+/// Domains are equal if and only if their bytes are.
 impl<'a> PartialEq for AlternateDomain<'a> {
     ghost eq = { same_text };
 
@@ -61,8 +61,8 @@ impl<'a> Eq for AlternateDomain<'a> {
 }
 
 impl<'a> AlternateDomain<'a> {
-    /// The attribute of this domain, or `TooLarge` where it has more than 255 bytes. It does not
-    /// allocate.
+    /// The attribute of this domain. Fails with `TooLarge` if it has more than 255 bytes. It does
+    /// not allocate.
     pub fn new(text: &'a str) -> Result<Self, StunWriteError>
         ensures ok { IfOk result (λ domain. domain ≡ text.now) }
         ensures only_too_large { IsOkUnless result StunWriteError.TooLarge }

@@ -12,7 +12,7 @@ use stun_base::error::StunParseError;
 use stun_types::attribute::{AttributeType, RawAttribute};
 use stun_types::prelude::*;
 
-/// ALTERNATE-SERVER (RFC 8489, section 14.15): the server that a client is to try. Contracts see
+/// ALTERNATE-SERVER (RFC 8489, section 14.15): the server that a client should try. Contracts see
 /// address and port.
 #[derive(Clone, Copy, Debug, PartialEq, Eq)]
 pub struct AlternateServer {

@@ -33,7 +33,7 @@ impl Model for ChannelNumber {
     ghost inverse = { λ channel. record { channel = channel } };
 }
 
-/// Whether a number is one of a channel.
+/// Whether a number is that of a channel.
 fn is_channel_number(number: u16) -> bool
     ensures { result ≡ is_channel_number number }
 {
@@ -41,7 +41,7 @@ fn is_channel_number(number: u16) -> bool
 }
 
 impl ChannelNumber {
-    /// The attribute of this channel, or `NotAllowed` where the number is not one of 0x4000 to
+    /// The attribute of this channel. Fails with `NotAllowed` if the number is not one of 0x4000 to
     /// 0x4FFF.
     pub fn new(channel: u16) -> Result<Self, StunWriteError>
         ensures ok { IfOk result (λ number. number ≡ channel) }
@@ -62,6 +62,15 @@ impl ChannelNumber {
         ensures below { result < 0x5000 }
     {
         self.channel
+    }
+
+    /// The bytes of the value: the number, and two that are reserved.
+    fn bytes(&self) -> [u8; LENGTH]
+        ensures value { result ≡ channel_value self.now }
+        ensures channel { IsChannel self.now }
+    {
+        let [high, low] = self.channel.to_be_bytes();
+        [high, low, 0, 0]
     }
 }
 
@@ -89,14 +98,11 @@ impl Attribute for ChannelNumber {
     }
 
     fn length(&self) -> usize {
-        // Read for the clause `well_formed`: the invariant bounds it.
-        let _channel = self.channel;
-        LENGTH
+        self.bytes().as_slice().len()
     }
 
     fn write_into<W: MessageWrite>(&self, writer: &mut W) {
-        let [high, low] = self.channel.to_be_bytes();
-        RawAttribute::new(Self::TYPE, &[high, low, 0, 0]).write_into(writer);
+        RawAttribute::new(Self::TYPE, &self.bytes()).write_into(writer);
     }
 }
 

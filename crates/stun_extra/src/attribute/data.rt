@@ -11,8 +11,8 @@ use stun_base::error::StunParseError;
 use stun_types::attribute::{AttributeType, RawAttribute};
 use stun_types::prelude::*;
 
-/// DATA (RFC 8656, section 18.4): what a datagram to a peer or from one carries, which it borrows.
-/// Contracts see the bytes.
+/// DATA (RFC 8656, section 18.4): the data of a datagram to or from a peer, borrowed. Contracts see
+/// the bytes.
 #[derive(Debug, Drop)]
 pub struct Data<'a> {
     data: &'a [u8],
@@ -37,7 +37,7 @@ impl<'a> Clone for Data<'a> {
     }
 }
 
-/// Equal are those of the same bytes.
+/// Attributes are equal if and only if their bytes are.
 impl<'a> PartialEq for Data<'a> {
     ghost eq = { same_text };
 
@@ -53,7 +53,7 @@ impl<'a> Eq for Data<'a> {
 }
 
 impl<'a> Data<'a> {
-    /// The attribute of these bytes. Of more than a message has room for, adding it is refused.
+    /// The attribute of these bytes. `add_attribute` refuses it if the message would be too long.
     pub fn new(data: &'a [u8]) -> Self
         ensures { result ≡ data.now }
     {

@@ -8,11 +8,11 @@ use stun_base::error::StunParseError;
 use stun_types::attribute::{AttributeType, RawAttribute};
 use stun_types::prelude::*;
 
-/// The bit R.
+/// The bit R in the one byte of the value.
 const RESERVE_NEXT: u8 = 0x80;
 
-/// EVEN-PORT (RFC 8656, section 18.7): the port is to be even, and the next one is to be reserved
-/// where the bit R is set. Contracts see that bit.
+/// EVEN-PORT (RFC 8656, section 18.7): asks for an even port. The bit R also asks the server to
+/// reserve the next port. Contracts see that bit.
 #[derive(Clone, Copy, Debug, PartialEq, Eq)]
 pub struct EvenPort {
     requested: bool,
@@ -29,14 +29,14 @@ impl Model for EvenPort {
 }
 
 impl EvenPort {
-    /// The attribute, with whether the next port is to be reserved.
+    /// The attribute, with the bit R if the server should reserve the next port.
     pub fn new(requested: bool) -> Self
         ensures { result ≡ requested }
     {
         EvenPort { requested }
     }
 
-    /// Whether the next port is to be reserved.
+    /// Whether the server should reserve the next port.
     pub fn requested(&self) -> bool
         ensures { result ≡ self.now }
     {

@@ -10,8 +10,8 @@ use stun_base::error::StunParseError;
 use stun_types::attribute::{AttributeType, RawAttribute};
 use stun_types::prelude::*;
 
-/// ICE-CONTROLLING (RFC 8445, section 16.1): the sender takes the controlling role. Its number
-/// decides a conflict of roles. Contracts see it.
+/// ICE-CONTROLLING (RFC 8445, section 16.1): the sender takes the controlling role. The
+/// tie-breaker, a random number of 64 bits, decides a conflict of roles. Contracts see it.
 #[derive(Clone, Copy, Debug, PartialEq, Eq)]
 pub struct IceControlling {
     tie_breaker: u64,

@@ -10,7 +10,7 @@ use stun_base::error::StunParseError;
 use stun_types::attribute::{AttributeType, RawAttribute};
 use stun_types::prelude::*;
 
-/// LIFETIME (RFC 8656, section 18.2): for how many seconds a server keeps an allocation that is not
+/// LIFETIME (RFC 8656, section 18.2): the seconds until an allocation expires if it is not
 /// refreshed. Contracts see the number.
 #[derive(Clone, Copy, Debug, PartialEq, Eq)]
 pub struct Lifetime {
@@ -28,14 +28,14 @@ impl Model for Lifetime {
 }
 
 impl Lifetime {
-    /// The attribute of so many seconds.
+    /// The attribute of this number of seconds.
     pub fn new(seconds: u32) -> Self
         ensures { result ≡ seconds }
     {
         Lifetime { seconds }
     }
 
-    /// The seconds.
+    /// The number of seconds.
     pub fn seconds(&self) -> u32
         ensures { result ≡ self.now }
     {

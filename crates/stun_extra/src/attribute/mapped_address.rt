@@ -12,7 +12,7 @@ use stun_base::error::StunParseError;
 use stun_types::attribute::{AttributeType, RawAttribute};
 use stun_types::prelude::*;
 
-/// MAPPED-ADDRESS (RFC 8489, section 14.1): the address that a request came from, as it is.
+/// MAPPED-ADDRESS (RFC 8489, section 14.1): the address that a request came from, in clear.
 /// Contracts see address and port.
 #[derive(Clone, Copy, Debug, PartialEq, Eq)]
 pub struct MappedAddress {

@@ -10,8 +10,8 @@ use stun_base::error::StunParseError;
 use stun_types::attribute::{AttributeType, RawAttribute};
 use stun_types::prelude::*;
 
-/// PRIORITY (RFC 8445, section 16.1): the priority that a peer-reflexive candidate has which is
-/// found by this check. Contracts see the number.
+/// PRIORITY (RFC 8445, section 16.1): the priority of a peer-reflexive candidate that this check
+/// discovers. Contracts see the number.
 #[derive(Clone, Copy, Debug, PartialEq, Eq)]
 pub struct Priority {
     priority: u32,

@@ -9,8 +9,8 @@ use stun_base::error::StunParseError;
 use stun_types::attribute::{AttributeType, RawAttribute};
 use stun_types::prelude::*;
 
-/// REQUESTED-ADDRESS-FAMILY (RFC 8656, section 18.6): the family of the address that is to be
-/// allocated. Contracts see the family.
+/// REQUESTED-ADDRESS-FAMILY (RFC 8656, section 18.6): the family of the address that a client asks
+/// a server to allocate. Contracts see the family.
 #[derive(Clone, Copy, Debug, PartialEq, Eq)]
 pub struct RequestedAddressFamily {
     family: AddressFamily,

@@ -11,7 +11,7 @@ use stun_types::prelude::*;
 /// The number of bytes of the value: the protocol, and three that are reserved.
 const LENGTH: usize = 4;
 
-/// REQUESTED-TRANSPORT (RFC 8656, section 18.8): the protocol between server and peers, by its
+/// REQUESTED-TRANSPORT (RFC 8656, section 18.8): the protocol between the server and peers, by its
 /// number in the header of IP. Contracts see the number.
 #[derive(Clone, Copy, Debug, PartialEq, Eq)]
 pub struct RequestedTransport {
@@ -19,11 +19,13 @@ pub struct RequestedTransport {
 }
 
 impl Model for RequestedTransport {
-    ghost use Rattle.std.specs.Prelude.{ℕ};
+    ghost use Rattle.std.specs.Prelude.{◌<◌, ◌^◌, ℕ};
 
     ghost Value = { ℕ };
 
     ghost view = { λ attribute. attribute.protocol };
+
+    ghost invariant = { λ attribute. attribute.protocol < 2 ^ 8 };
 
     ghost inverse = { λ protocol. record { protocol = protocol } };
 }
@@ -46,6 +48,14 @@ impl RequestedTransport {
         ensures { result ≡ self.now }
     {
         self.protocol
+    }
+
+    /// The bytes of the value: the protocol, and three that are reserved.
+    fn bytes(&self) -> [u8; LENGTH]
+        ensures value { result ≡ transport_value self.now }
+        ensures protocol { self.now < 2 ^ 8 }
+    {
+        [self.protocol, 0, 0, 0]
     }
 }
 
@@ -73,13 +83,11 @@ impl Attribute for RequestedTransport {
     }
 
     fn length(&self) -> usize {
-        // Read for the clause `well_formed`: a field's type bounds it.
-        let _protocol = self.protocol;
-        LENGTH
+        self.bytes().as_slice().len()
     }
 
     fn write_into<W: MessageWrite>(&self, writer: &mut W) {
-        RawAttribute::new(Self::TYPE, &[self.protocol, 0, 0, 0]).write_into(writer);
+        RawAttribute::new(Self::TYPE, &self.bytes()).write_into(writer);
     }
 }
 

@@ -1,7 +1,7 @@
 //! RESERVATION-TOKEN (RFC 8656, section 18.10).
 ghost use Rattle.std.specs.Prelude.{◌≡◌, length};
 ghost use Rattle.stun_extra.specs.AttributeTypes.{RESERVATION_TOKEN};
-ghost use Rattle.stun_extra.specs.Values.{value_of, value_of-written};
+ghost use Rattle.stun_extra.specs.Values.{value_of_length, value_of-written};
 
 use std::marker::Model;
 use stun_base::error::StunParseError;
@@ -11,8 +11,8 @@ use stun_types::prelude::*;
 /// The number of bytes of a token.
 const LENGTH: usize = 8;
 
-/// RESERVATION-TOKEN (RFC 8656, section 18.10): what names a port that a server keeps reserved, 8
-/// bytes. Contracts see its bytes.
+/// RESERVATION-TOKEN (RFC 8656, section 18.10): 8 bytes that name a port which a server keeps
+/// reserved. Contracts see its bytes.
 #[derive(Clone, Copy, Debug, PartialEq, Eq)]
 pub struct ReservationToken {
     token: [u8; LENGTH],
@@ -77,7 +77,7 @@ impl Attribute for ReservationToken {
 }
 
 impl<'a> AttributeFromRaw<'a> for ReservationToken {
-    ghost reading = { value_of RESERVATION_TOKEN 8 };
+    ghost reading = { value_of_length RESERVATION_TOKEN 8 };
 
     ghost reads_back = { value_of-written RESERVATION_TOKEN 8 };
 

@@ -15,7 +15,7 @@ use stun_types::attribute::{AttributeType, RawAttribute};
 use stun_types::limits::TEXT_LIMIT;
 use stun_types::prelude::*;
 
-/// SOFTWARE (RFC 8489, section 14.14): what software the sender runs, UTF-8 of at most 763 bytes.
+/// SOFTWARE (RFC 8489, section 14.14): the software of the sender, UTF-8 of at most 763 bytes.
 /// Contracts see its bytes.
 #[derive(Debug, Drop)]
 pub struct Software<'a> {
@@ -44,7 +44,7 @@ impl<'a> Clone for Software<'a> {
     }
 }
 
-/// Equal are those of the same bytes.
+/// Attributes are equal if and only if their bytes are.
 impl<'a> PartialEq for Software<'a> {
     ghost eq = { same_text };
 
@@ -60,7 +60,7 @@ impl<'a> Eq for Software<'a> {
 }
 
 impl<'a> Software<'a> {
-    /// The attribute of this text, or `TooLarge` where it has more than 763 bytes. It does not
+    /// The attribute of this text. Fails with `TooLarge` if it has more than 763 bytes. It does not
     /// allocate.
     pub fn new(text: &'a str) -> Result<Self, StunWriteError>
         ensures ok { IfOk result (λ software. software ≡ text.now) }

@@ -9,8 +9,8 @@ use stun_base::error::StunParseError;
 use stun_types::attribute::{AttributeType, RawAttribute};
 use stun_types::prelude::*;
 
-/// USE-CANDIDATE (RFC 8445, section 16.1): the controlling agent nominates the pair of this check.
-/// It has no value.
+/// USE-CANDIDATE (RFC 8445, section 16.1): the controlling agent nominates the candidate pair of
+/// this check. It has no value.
 #[derive(Clone, Copy, Debug, PartialEq, Eq)]
 pub struct UseCandidate;
 

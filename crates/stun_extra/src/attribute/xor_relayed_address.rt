@@ -14,8 +14,8 @@ use stun_base::transaction_id::TransactionId;
 use stun_types::attribute::{AttributeType, RawAttribute, XorMappedAddress};
 use stun_types::prelude::*;
 
-/// XOR-RELAYED-ADDRESS (RFC 8656, section 18.5): the address that a server relays from, hidden as
-/// that of XOR-MAPPED-ADDRESS is. Contracts see its hidden parts.
+/// XOR-RELAYED-ADDRESS (RFC 8656, section 18.5): the address that a server allocated for a client,
+/// XORed as in XOR-MAPPED-ADDRESS. Contracts see the XORed parts.
 #[derive(Clone, Copy, Debug, PartialEq, Eq)]
 pub struct XorRelayedAddress {
     hidden: XorMappedAddress,
@@ -42,7 +42,7 @@ impl XorRelayedAddress {
         }
     }
 
-    /// The address, where the attribute is of a message of this transaction. Flow information and
+    /// The address, if the attribute is of a message of this transaction. Flow information and
     /// scope of an IPv6 address are 0.
     pub fn addr(&self, id: TransactionId) -> SocketAddr
         ensures ip { IsHidden id self.now (socket_ip result) }

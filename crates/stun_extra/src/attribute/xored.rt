@@ -1,5 +1,5 @@
-//! What attributes share whose value is an address, hidden as that of XOR-MAPPED-ADDRESS is (RFC
-//! 8489, section 14.2).
+//! What the attributes share whose value is an address XORed as in XOR-MAPPED-ADDRESS (RFC 8489,
+//! section 14.2).
 ghost use Rattle.std.specs.Prelude.{◌≡◌, ◌≤◌, ◌+◌, ◌++◌, length};
 ghost use Rattle.stun_types.specs.Attribute.{attribute_length};
 ghost use Rattle.stun_types.specs.Grammar.{spelled_attribute};
@@ -17,7 +17,8 @@ use stun_types::prelude::*;
 /// The most bytes of XOR-MAPPED-ADDRESS with its type and its length.
 const LONGEST: usize = 24;
 
-/// The hidden address in a raw attribute of this type, or `InvalidAttributeData`.
+/// The XORed address in a raw attribute of this type. Fails with `InvalidAttributeData` if the type
+/// is another or the value is malformed.
 pub(super) fn read_xored(
     raw: &RawAttribute<'_>,
     kind: AttributeType,

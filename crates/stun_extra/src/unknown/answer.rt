@@ -1,5 +1,5 @@
-//! What a server answers to unknown types, and what a client makes of them (RFC 8489, sections
-//! 6.3.1, 6.3.3 and 6.3.4).
+//! How a server refuses unknown types, and how a client judges a response that has them (RFC 8489,
+//! sections 6.3.1, 6.3.3 and 6.3.4).
 ghost use Rattle.std.specs.Prelude.{◌≡◌, ◌≤◌, ◌<◌, ◌↔◌, [], Ok, None, IfOk, IfSome};
 ghost use Rattle.std.specs.Prelude.{IsErrOf, IsOkUnless, IsSome, IsTrue, length};
 ghost use Rattle.stun_base.specs.Attributes.{ERROR_CODE};
@@ -18,19 +18,20 @@ use stun_types::attribute::{ErrorCode, RawAttribute, attribute_length};
 use stun_types::message::Message;
 use stun_types::prelude::*;
 
-/// The code of an error response to a request with unknown types (RFC 8489, section 14.8).
+/// The code of the error response to a request with unknown types (RFC 8489, section 14.8).
 pub const UNKNOWN_ATTRIBUTE: u16 = 420;
 
-/// The number of bytes that ERROR-CODE with this code and its phrase takes.
+/// The number of bytes of an ERROR-CODE with this code and its phrase.
 const ERROR_LENGTH: usize = 28;
 
-/// The answer to a request that has unknown attributes, in an empty writer: an error response with
-/// the code 420 and the types of the visible attributes that must be understood and are not among
-/// these (RFC 8489, section 6.3.1). It can be added to and signed.
+/// Writes the answer to a request with unknown attributes into an empty writer (RFC 8489, section
+/// 6.3.1). It is an error response with the code 420 and UNKNOWN-ATTRIBUTES. These are the types of
+/// the visible attributes that must be understood and are not among the known ones. The answer can
+/// be added to and signed.
 ///
-/// `Ok(None)` drops the writer: the request has no such attribute, or the message is no request. It
-/// refuses by `TooSmall` where the writer has no room for the answer, else by `OutOfMemory` where
-/// an allocation fails. A refusal drops the writer.
+/// `Ok(None)` drops the writer: the message is no request, or has no such attribute. Fails with
+/// `TooSmall` if the writer has no room for the answer, else with `OutOfMemory` if an allocation
+/// fails. A failure drops the writer.
 pub fn answer_unknown<W: MessageWrite>(
     request: &Message<'_>,
     known: &[AttributeType],
@@ -54,7 +55,7 @@ pub fn answer_unknown<W: MessageWrite>(
     Ok(Some(write_refusal(request, known, writer)?))
 }
 
-/// Writes the answer to a request whose types are not all known.
+/// Writes the answer to a request with unknown types.
 fn write_refusal<W: MessageWrite>(
     request: &Message<'_>,
     known: &[AttributeType],
@@ -104,9 +105,9 @@ fn refusal_length(request: &Message<'_>, known: &[AttributeType]) -> usize
     HEADER_LENGTH + ERROR_LENGTH + attribute_length(2 * unknown_count(request, known))
 }
 
-/// Whether a response ends its transaction as failed, whatever else it says: it has a visible
-/// attribute that must be understood and whose type is not among these, or it is an error response
-/// without ERROR-CODE (RFC 8489, sections 6.3.3 and 6.3.4).
+/// Whether a response ends its transaction as failed, whatever else it says (RFC 8489, sections
+/// 6.3.3 and 6.3.4). It has a visible attribute that must be understood and is not among the known
+/// ones, or it is an error response without ERROR-CODE.
 pub fn ends_failed(response: &Message<'_>, known: &[AttributeType]) -> bool
     ensures { IsTrue result ↔ EndsFailed known.now response.now }
 {

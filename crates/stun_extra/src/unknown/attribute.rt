@@ -29,8 +29,8 @@ enum Source<'a> {
 }
 
 /// UNKNOWN-ATTRIBUTES (RFC 8489, section 14.13): the types of a request that must be understood and
-/// that the server does not know, as the server finds them there, or as a client reads them in an
-/// answer with the error 420. Contracts see the list of types.
+/// that the server does not know. A server finds them in the request, and a client reads them in
+/// the answer 420. Contracts see the list of types.
 #[derive(Debug, Drop)]
 pub struct UnknownAttributes<'a> {
     source: Source<'a>,
@@ -42,14 +42,14 @@ impl<'a> Model for UnknownAttributes<'a> {
 
     ghost Value = { List AttributeType };
 
-    ghost use Rattle.stun_extra.specs.code.UnknownSource.{IsEven, types_at};
+    ghost use Rattle.stun_extra.specs.code.UnknownSource.{IsEven, source_types};
 
-    ghost view = { λ attribute. types_at attribute.source };
+    ghost view = { λ attribute. source_types attribute.source };
 
     ghost invariant = { λ attribute. IsEven attribute.source };
 }
 
-/// The type of this index, where there are so many.
+/// The type of this index, counted from 0, or `None` if there are not so many.
 fn type_at(bytes: &[u8], i: usize) -> Option<AttributeType>
     ensures { result ≡ slice_get (types_in bytes.now) i }
 {
@@ -85,8 +85,8 @@ fn type_count(bytes: &[u8]) -> usize
 }
 
 impl<'a> UnknownAttributes<'a> {
-    /// The attribute of the types of a message that must be understood and that are not among
-    /// these. It does not allocate.
+    /// The attribute of the types of a message that must be understood and are not among the known
+    /// ones. It does not allocate.
     pub fn of(message: &'a Message<'a>, known: &'a [AttributeType]) -> Self
         ensures { result ≡ unknown_types known.now message.now }
     {
@@ -116,8 +116,8 @@ impl<'a> UnknownAttributes<'a> {
         }
     }
 
-    /// The type of this index, counted from 0. Of an attribute that was read each is found at once,
-    /// else by a walk over the message.
+    /// The type of this index, counted from 0, or `None` if there are not so many. In an attribute
+    /// that was read it is found at once, else by a walk over the message.
     pub fn get(&self, i: usize) -> Option<AttributeType>
         ensures { result ≡ slice_get self.now i }
     {

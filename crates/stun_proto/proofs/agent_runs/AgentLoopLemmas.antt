@@ -19,7 +19,7 @@ use Rattle.stun_base.specs.declared.wire.transport.TransportType.{TransportType}
 use Rattle.stun_agent.specs.Agent.{Agent, after_poll_transmit, sent_by_poll}
 use Rattle.stun_agent.specs.Agent.{tally_of_sent, with_transactions}
 use Rattle.stun_agent.specs.Transactions.{IsAscending, Transaction, Transactions}
-use Rattle.stun_agent.specs.Transactions.{after_slot, after_slots, an_hour, at, awaited}
+use Rattle.stun_agent.specs.Transactions.{after_slot, after_slots, an_hour, at, awaited_moment}
 use Rattle.stun_agent.specs.Transactions.{has_slots, is_cancelled, is_due, is_over, repeats}
 use Rattle.stun_agent.proofs.Ascending.{lookup_among}
 use Rattle.stun_agent.proofs.EntryLemmas.{own_key, later_key}
@@ -40,7 +40,7 @@ module _ (transport : TransportType) where
   -- none is cancelled, and each awaits this moment at the earliest
   abbrev Waits : ℕ → Transactions → Type 0
   Waits moment es = AllByRecursion
-      (λ e. (is_cancelled e.1.sending ≡ false) × (moment ≤ awaited transport e.1)) es
+      (λ e. (is_cancelled e.1.sending ≡ false) × (moment ≤ awaited_moment transport e.1)) es
 
   waits_less : (m n : ℕ) (es : Transactions) → n ≤ m → Waits m es → Waits n es
   waits_less m n [] le w = tt
@@ -50,7 +50,7 @@ module _ (transport : TransportType) where
   -- one of them awaits this moment
   abbrev Awaits : Transactions → ℕ → Type 0
   Awaits es n = (k : ℕ) × (v : Transaction) × (lookup (is_at (nat_cmp k)) es ≡ Some v)
-      × (is_cancelled v.sending ≡ false) × (awaited transport v ≡ n)
+      × (is_cancelled v.sending ≡ false) × (awaited_moment transport v ≡ n)
 
   awaits_tail : (e : ℕ × Transaction) (es : Transactions) (n : ℕ) → IsAscending (e ∷ es)
       → Awaits es n → Awaits (e ∷ es) n
@@ -64,7 +64,7 @@ module _ (transport : TransportType) where
   found_or_later : (m : ℕ) (es : Transactions) → IsAscending es → Waits m es
       → Awaits es m ⊎ Waits (m + 1) es
   found_or_later m [] s w = inr tt
-  found_or_later m (e ∷ es) s w = by (order m (awaited transport e.1) w.0.1)
+  found_or_later m (e ∷ es) s w = by (order m (awaited_moment transport e.1) w.0.1)
       (found_or_later m es (sorted_tail nat_cmp e.0 (keys_of es) s) w.1)
     where
       order : (x y : ℕ) → x ≤ y → (x ≡ y) ⊎ (x + 1 ≤ y)
@@ -77,7 +77,7 @@ module _ (transport : TransportType) where
           then (inl same) = inl (ap suc same)
           then (inr less) = inr (omega arith)
 
-      by : (m ≡ awaited transport e.1) ⊎ (m + 1 ≤ awaited transport e.1)
+      by : (m ≡ awaited_moment transport e.1) ⊎ (m + 1 ≤ awaited_moment transport e.1)
           → Awaits es m ⊎ Waits (m + 1) es → Awaits (e ∷ es) m ⊎ Waits (m + 1) (e ∷ es)
       by (inl same) others = inl
           (e.0, e.1, lookup_head (is_at (nat_cmp e.0)) e es (own_key e.0), w.0.0, sym same)
@@ -86,25 +86,26 @@ module _ (transport : TransportType) where
 
   -- what awaits this moment is looked up
   awaited_le : (m k : ℕ) (v : Transaction) (es : Transactions) → Waits m es
-      → lookup (is_at (nat_cmp k)) es ≡ Some v → m ≤ awaited transport v
+      → lookup (is_at (nat_cmp k)) es ≡ Some v → m ≤ awaited_moment transport v
   awaited_le m k v [] w f = cc
   awaited_le m k v (e ∷ es) w f = by (is_at (nat_cmp k) e.0) f (awaited_le m k v es w.1)
     where
       by : (b : Bool) → cond b (Some e.1) (lookup (is_at (nat_cmp k)) es) ≡ Some v
-          → (lookup (is_at (nat_cmp k)) es ≡ Some v → m ≤ awaited transport v)
-          → m ≤ awaited transport v
-      by true f others = let same : e.1 ≡ v = cc in subst (λ t. m ≤ awaited transport t) same w.0.1
+          → (lookup (is_at (nat_cmp k)) es ≡ Some v → m ≤ awaited_moment transport v)
+          → m ≤ awaited_moment transport v
+      by true f others =
+          let same : e.1 ≡ v = cc in subst (λ t. m ≤ awaited_moment transport t) same w.0.1
       by false f others = others f
 
   -- the least of their moments
   waits_of_fold : (now c : ℕ) (es : Transactions)
       → find (λ (e : ℕ × Transaction). is_over transport now e.1) es ≡ None
-      → (m : ℕ) → m ≤ fold min c (map (λ (e : ℕ × Transaction). awaited transport e.1) es)
+      → (m : ℕ) → m ≤ fold min c (map (λ (e : ℕ × Transaction). awaited_moment transport e.1) es)
       → Waits m es
   waits_of_fold now c [] f m le = tt
   waits_of_fold now c (e ∷ es) f m le =
       by (is_over transport now e.1) refl f
-      (λ f. waits_of_fold now (min c (awaited transport e.1)) es f m le)
+      (λ f. waits_of_fold now (min c (awaited_moment transport e.1)) es f m le)
     where
       lesser : (xs : List ℕ) (d : ℕ) → fold min d xs ≤ d
       lesser [] d = omega arith
@@ -120,17 +121,18 @@ module _ (transport : TransportType) where
           → Waits m (e ∷ es)
       by true is f others = cc
       by false is f others =
-          let bound = lesser (map (λ (x : ℕ × Transaction). awaited transport x.1) es)
-          (min c (awaited transport e.1)) in
+          let bound = lesser (map (λ (x : ℕ × Transaction). awaited_moment transport x.1) es)
+          (min c (awaited_moment transport e.1)) in
           ((live (is_cancelled e.1.sending) _ is, omega (arith, bound, le)), others f)
 
   -- ---- before that moment nothing is due
   late_test : (m n : ℕ) → m < n → nat_le n m ≡ false
   late_test m n h = lt-leb n m h
 
-  not_due : (now : ℕ) (t : Transaction) → now < awaited transport t → is_due transport now t ≡ false
+  not_due : (now : ℕ) (t : Transaction) → now < awaited_moment transport t
+      → is_due transport now t ≡ false
   not_due now t h = by (is_cancelled t.sending) (has_slots transport t)
-      (nat_le (awaited transport t) now) (late_test now (awaited transport t) h)
+      (nat_le (awaited_moment transport t) now) (late_test now (awaited_moment transport t) h)
     where
       by : (c s l : Bool) → l ≡ false → (not c && (s && l)) ≡ false
       by true s l h = refl
@@ -138,9 +140,9 @@ module _ (transport : TransportType) where
       by false false l h = refl
 
   not_over : (now : ℕ) (t : Transaction) → is_cancelled t.sending ≡ false
-      → now < awaited transport t → is_over transport now t ≡ false
+      → now < awaited_moment transport t → is_over transport now t ≡ false
   not_over now t live h = by (is_cancelled t.sending) (has_slots transport t)
-      (nat_le (awaited transport t) now) live (late_test now (awaited transport t) h)
+      (nat_le (awaited_moment transport t) now) live (late_test now (awaited_moment transport t) h)
     where
       by : (c s l : Bool) → c ≡ false → l ≡ false → (c || (not s && l)) ≡ false
       by true s l live h = cc
@@ -192,7 +194,7 @@ turn_waits now less (stops {a} f (inl before)) = (
   waits_of_fold a.transport now (moment_after now an_hour) a.transactions f
       (wait_of now a) (at_fold now
       (fold min (moment_after now an_hour)
-      (map (λ (e : ℕ × Transaction). awaited a.transport e.1) a.transactions)) before),
+      (map (λ (e : ℕ × Transaction). awaited_moment a.transport e.1) a.transactions)) before),
 )
   where
     at_fold : (n f : ℕ) → n < max n f → max n f ≤ f

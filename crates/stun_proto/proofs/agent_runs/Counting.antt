@@ -15,14 +15,16 @@ use Rattle.stun_base.specs.declared.wire.message_type.MessageClass.TheVariants.{
 use Rattle.stun_base.specs.declared.wire.message_type.MessageClass.TheVariants.{Success, Error}
 use Rattle.stun_types.specs.Message.{refusal}
 use Rattle.stun_base.specs.MessageType.{class_in, is_response, is_indication}
-use Rattle.stun_agent.specs.Agent.{Agent, with_transactions, tallied, tally_of_sent}
+use Rattle.stun_agent.specs.Agent.{Agent, with_transactions, with_tally, tally_of_sent}
 use Rattle.stun_agent.specs.Agent.{tally_of_end, sending_tally, sending_refusal, after_send}
-use Rattle.stun_agent.specs.Agent.{request_refusal, after_send_request, answered, takes_message}
+use Rattle.stun_agent.specs.Agent.{request_refusal, after_send_request, answered_request}
+use Rattle.stun_agent.specs.Agent.{takes_message}
 use Rattle.stun_agent.specs.Agent.{after_class, after_message, with_validated, sent_by_poll}
 use Rattle.stun_agent.specs.Agent.{after_poll_transmit, ended_by_poll, after_poll}
 use Rattle.stun_agent.specs.Statistics.{Statistics, Tally, no_tally, request_sent}
 use Rattle.stun_agent.specs.Statistics.{request_sent_again, request_received, indication_received}
-use Rattle.stun_agent.specs.Statistics.{response_received, timed_out, cancelled, counted, raised}
+use Rattle.stun_agent.specs.Statistics.{response_received, request_timed_out, request_cancelled}
+use Rattle.stun_agent.specs.Statistics.{statistics_after, saturating_sum}
 use Rattle.stun_agent.specs.Transactions.{Transaction, without, after_slots, repeats, round_trip}
 use Rattle.stun_agent.specs.declared.error.StunError.{StunError}
 use Rattle.stun_agent.specs.declared.error.StunError.TheVariants.{ParseError}
@@ -35,7 +37,8 @@ use Rattle.stun_proto.specs.declared.replay.event.AgentEvent.TheVariants.{Config
 use Rattle.stun_proto.specs.Counters.{count_of, is_time_out, is_cancellation, is_sent}
 use Rattle.stun_proto.specs.Counters.{sent_bytes, Adds, CountsSteps, RunsCountSteps}
 use Rattle.stun_proto.specs.Run.{Phase, Turn, sends, rests, ends, again, stops, Turns, turn, none}
-use Rattle.stun_proto.specs.Run.{Run, done, event, transmitted, ended, after_event, steps_of_event}
+use Rattle.stun_proto.specs.Run.{Run, done, event, transmission_step, end_step, after_event}
+use Rattle.stun_proto.specs.Run.{steps_of_event}
 use Rattle.stun_proto.specs.Steps.{Step, Transmitted, Sent, Received, Refused, TimedOut, Cancelled}
 
 -- ---- tallies
@@ -48,14 +51,14 @@ record Tells (tally : Tally) (steps : List Step) : Type 0 where
   bytes_sent : tally.bytes_sent ≡ sum_by sent_bytes steps
 
 counted_adds : (tally : Tally) (steps : List Step) (o : Option Statistics) → Tells tally steps
-    → CountsSteps steps o (option_map (counted tally) o)
+    → CountsSteps steps o (option_map (statistics_after tally) o)
 counted_adds tally steps None t = refl
 counted_adds tally steps (Some s) t = record {
-  timed_out = λ _. ap (raised s.transactions_timed_out) t.timed_out;
-  cancelled = λ _. ap (raised s.transactions_cancelled) t.cancelled;
-  indications_sent = λ _. ap (raised s.indications_sent) t.indications_sent;
-  responses_sent = λ _. ap (raised s.responses_sent) t.responses_sent;
-  bytes_sent = λ _. ap (raised s.bytes_sent) t.bytes_sent;
+  timed_out = λ _. ap (saturating_sum s.transactions_timed_out) t.timed_out;
+  cancelled = λ _. ap (saturating_sum s.transactions_cancelled) t.cancelled;
+  indications_sent = λ _. ap (saturating_sum s.indications_sent) t.indications_sent;
+  responses_sent = λ _. ap (saturating_sum s.responses_sent) t.responses_sent;
+  bytes_sent = λ _. ap (saturating_sum s.bytes_sent) t.bytes_sent;
 }
 
 stays : (n more : ℕ) → 0 ≡ more → Adds n more n
@@ -130,7 +133,7 @@ refused_tells now error =
 received_counts : (tally : Tally) (now : ℕ) (accepted : Bool) (o : Option Statistics)
     → tally.timed_out ≡ 0 → tally.cancelled ≡ 0 → tally.indications_sent ≡ 0
     → tally.responses_sent ≡ 0 → tally.bytes_sent ≡ 0
-    → CountsSteps (Received now accepted ∷ []) o (option_map (counted tally) o)
+    → CountsSteps (Received now accepted ∷ []) o (option_map (statistics_after tally) o)
 received_counts tally now accepted o t c i r b =
     counted_adds tally (Received now accepted ∷ []) o
     (record {
@@ -228,7 +231,7 @@ response_counts : (o : Option Transaction) (now : ℕ) (accepted : Bool) (moment
     (bytes : List ℕ) (from : SocketAddr) (a : Agent)
     → CountsSteps (Received now accepted ∷ []) a.statistics
     (option_map_or
-    (λ t. tallied (response_received (length bytes) (round_trip moment t))
+    (λ t. with_tally (response_received (length bytes) (round_trip moment t))
     (with_validated from
     (with_transactions a (without (transaction_id_field bytes) a.transactions))))
     o a).statistics
@@ -256,9 +259,9 @@ class_counts Indication now accepted moment bytes from a =
     received_counts (indication_received (length bytes)) now accepted a.statistics refl refl refl
     refl refl
 class_counts Success now accepted moment bytes from a =
-    response_counts (answered bytes from a) now accepted moment bytes from a
+    response_counts (answered_request bytes from a) now accepted moment bytes from a
 class_counts Error now accepted moment bytes from a =
-    response_counts (answered bytes from a) now accepted moment bytes from a
+    response_counts (answered_request bytes from a) now accepted moment bytes from a
 
 receive_counts : (o : Option StunParseError) (now : ℕ) (bytes : List ℕ) (from : SocketAddr)
     (a : Agent)
@@ -286,17 +289,18 @@ event_counts now (ValidatePeer address) a = nothing a.statistics
 
 -- ---- turns
 sent_counts : (now : ℕ) (a : Agent) (e : ℕ × Transaction) → sent_by_poll now a ≡ Some e
-    → CountsSteps (transmitted now e ∷ []) a.statistics (after_poll_transmit now a).statistics
+    → CountsSteps (transmission_step now e ∷ []) a.statistics (after_poll_transmit now a).statistics
 sent_counts now a e f =
     let passed =
     with_transactions a
     (after_slots a.transport now (option_map (λ (x : ℕ × Transaction). x.0) (sent_by_poll now a))
     a.transactions) in
     let is : (after_poll_transmit now a).statistics
-    ≡ option_map (counted (request_sent_again (length e.1.bytes))) a.statistics =
+    ≡ option_map (statistics_after (request_sent_again (length e.1.bytes))) a.statistics =
     ap (λ o. (tally_of_sent o passed).statistics) f in
-    subst (CountsSteps (transmitted now e ∷ []) a.statistics) (sym is)
-    (counted_adds (request_sent_again (length e.1.bytes)) (transmitted now e ∷ []) a.statistics
+    subst (CountsSteps (transmission_step now e ∷ []) a.statistics) (sym is)
+    (counted_adds (request_sent_again (length e.1.bytes))
+    (transmission_step now e ∷ []) a.statistics
     (request_tells (request_sent_again (length e.1.bytes)) now e.0 e.1.to e.1.bytes refl refl refl
     refl refl))
 
@@ -310,7 +314,7 @@ rested now a f =
     ap (λ o. (tally_of_sent o passed).statistics) f
 
 end_tells : (now id : ℕ) (b : Bool)
-    → Tells (if b then timed_out else cancelled)
+    → Tells (if b then request_timed_out else request_cancelled)
     ((if b then TimedOut now id else Cancelled now id) ∷ [])
 end_tells now id true =
     record {
@@ -330,26 +334,28 @@ end_tells now id false =
     }
 
 ended_counts : (now : ℕ) (a : Agent) (e : ℕ × Transaction) → ended_by_poll now a ≡ Some e
-    → CountsSteps (ended now e ∷ []) a.statistics (after_poll now a).statistics
+    → CountsSteps (end_step now e ∷ []) a.statistics (after_poll now a).statistics
 ended_counts now a e f =
-    let is : (after_poll now a).statistics ≡ option_map (counted (tally_of_end e.1)) a.statistics =
+    let is : (after_poll now a).statistics
+    ≡ option_map (statistics_after (tally_of_end e.1)) a.statistics =
     ap (λ o.
     (option_map_or
-    (λ (x : ℕ × Transaction). tallied (tally_of_end x.1)
+    (λ (x : ℕ × Transaction). with_tally (tally_of_end x.1)
     (with_transactions a (without x.0 a.transactions))) o a).statistics) f in
-    subst (CountsSteps (ended now e ∷ []) a.statistics) (sym is)
-    (counted_adds (tally_of_end e.1) (ended now e ∷ []) a.statistics
+    subst (CountsSteps (end_step now e ∷ []) a.statistics) (sym is)
+    (counted_adds (tally_of_end e.1) (end_step now e ∷ []) a.statistics
     (end_tells now e.0 (repeats e.1.sending)))
 
 turn_counts : {now : ℕ} {phase : Phase} {a b : Agent} {steps : List Step} → Turn now phase a steps b
     → CountsSteps steps a.statistics b.statistics
 turn_counts {now} {phase} {a} {b} {steps} (sends e f t) =
-    both (transmitted now e ∷ []) _ a.statistics _ b.statistics (sent_counts now a e f)
+    both (transmission_step now e ∷ []) _ a.statistics _ b.statistics (sent_counts now a e f)
     (turn_counts t)
 turn_counts {now} {phase} {a} {b} {steps} (rests f t) =
     subst (λ o. CountsSteps steps o b.statistics) (rested now a f) (turn_counts t)
 turn_counts {now} {phase} {a} {b} {steps} (ends e f t) =
-    both (ended now e ∷ []) _ a.statistics _ b.statistics (ended_counts now a e f) (turn_counts t)
+    both (end_step now e ∷ []) _ a.statistics _ b.statistics (ended_counts now a e f)
+    (turn_counts t)
 turn_counts (again f same less t) = turn_counts t
 turn_counts {now} {phase} {a} {b} {steps} (stops f late) = nothing a.statistics
 

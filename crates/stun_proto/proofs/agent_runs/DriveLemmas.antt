@@ -11,7 +11,7 @@ use Rattle.stun_proto.specs.declared.replay.event.AgentEvent.{AgentEvent}
 use Rattle.stun_proto.specs.declared.replay.step_log.StepLog.{StepLog}
 use Rattle.stun_proto.specs.Steps.{Step, steps_of}
 use Rattle.stun_proto.specs.Stopped.{next_bound, HasStopped}
-use Rattle.stun_proto.specs.code.Calls.{kept, Keeps, HasPassed, TakesTurn, TurnsLead}
+use Rattle.stun_proto.specs.code.Calls.{kept_steps, Keeps, HasPassed, TakesTurn, TurnsLead}
 use Rattle.stun_proto.specs.code.Calls.{TakesTurns, TakesEvent, TakesWhole, RunLeads}
 use Rattle.stun_proto.specs.Run.{sending, Turn, Turns, turn, none, Run, done}
 use Rattle.stun_proto.specs.Run.{event, IsDriven, IsAwaited, steps_of_event}
@@ -191,17 +191,17 @@ run_done until a events count from old new before steps leads taken =
 pub run_kept : {A : Type 0} (until : ℕ) (a : Agent) (events : List (ℕ × AgentEvent))
     (count from : ℕ) (old new : Agent) (before : Option (List Step)) (log : StepLog A)
     → log.is_lost ≡ false → RunLeads a events count from old [] before
-    → TakesTurns (until + 1) from old new before (kept log)
+    → TakesTurns (until + 1) from old new before (kept_steps log)
     → Run (until + 1) 0 a events (steps_of log.steps.items) new
 run_kept until a events count from old new before log whole leads taken =
-    let all : kept log ≡ Some (steps_of log.steps.items) =
+    let all : kept_steps log ≡ Some (steps_of log.steps.items) =
     ap (λ (lost : Bool). if lost then None else Some (steps_of log.steps.items)) whole in
     run_done until a events count from old new before (steps_of log.steps.items) leads
     (subst (TakesTurns (until + 1) from old new before) all taken)
 
 -- without events nothing happens
 pub nothing_is_driven : {A : Type 0} (until : ℕ) (a : Agent) (events : List (ℕ × AgentEvent))
-    (log : StepLog A) → length events ≡ 0 → kept log ≡ Some []
+    (log : StepLog A) → length events ≡ 0 → kept_steps log ≡ Some []
     → IsDriven until a events (steps_of log.steps.items) a
 nothing_is_driven until a (e ∷ es) log empty new = absurd (omega (arith, empty))
 nothing_is_driven until a [] log empty new = (by log.is_lost new, refl)

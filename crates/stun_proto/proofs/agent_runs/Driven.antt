@@ -13,9 +13,9 @@ use Rattle.stun_proto.specs.declared.replay.event.AgentEvent.{AgentEvent}
 use Rattle.stun_proto.specs.declared.replay.event.AgentEvent.TheVariants.{SendRequest}
 use Rattle.stun_proto.specs.Run.{IsDriven, Run, Turn, sending, after_event, steps_of_event}
 use Rattle.stun_proto.specs.RunLaws.{GoesByPlan, KeepPlans}
-use Rattle.stun_proto.specs.Schedule.{AreInOrder, IsUndisturbed, plan, cut}
-use Rattle.stun_proto.specs.Steps.{Step, Transmitted, Refused, is_of, own}
-use Rattle.stun_proto.proofs.agent_runs.Once.{run_said, turn_said}
+use Rattle.stun_proto.specs.Schedule.{AreInOrder, IsUndisturbed, plan, steps_until}
+use Rattle.stun_proto.specs.Steps.{Step, Transmitted, Refused, is_of, steps_to_end}
+use Rattle.stun_proto.proofs.agent_runs.Said.{run_said, turn_said}
 use Rattle.stun_proto.proofs.agent_runs.RunLemmas.{turn_ascends, event_ascends, run_ascends}
 use Rattle.stun_proto.proofs.agent_runs.RunLemmas.{comes_to, in_order_then, run_same}
 use Rattle.stun_proto.proofs.agent_runs.ScheduleLaw.{keeps_plan}
@@ -24,7 +24,7 @@ use Rattle.stun_proto.proofs.agent_runs.ScheduleLaw.{keeps_plan}
 pub keep_plans : (until : ℕ) (a b : Agent) (events : List (ℕ × AgentEvent)) (steps : List Step)
     → until ≤ last_moment → IsAscending a.transactions → AreInOrder until 0 events
     → Run (until + 1) 0 a events steps b → KeepPlans until a events steps
-unfolding own
+unfolding steps_to_end
 keep_plans until a b events steps within ascends order r earlier later start bytes to is =
     let e = SendRequest bytes to in
     let id = transaction_id_field bytes.items in
@@ -36,8 +36,8 @@ keep_plans until a b events steps within ascends order r earlier later start byt
     let all_of_it = found.at_once ++ found.rest in
     let kept : request_refusal found.agent bytes.items to ≡ None
     → IsUndisturbed id to (planned_end found.agent.transport found.agent.settings start) later
-    → own id (Transmitted start id to bytes.items ∷ all_of_it)
-    ≡ cut until (plan found.agent.transport start found.agent.settings id to bytes.items) =
+    → steps_to_end id (Transmitted start id to bytes.items ∷ all_of_it)
+    ≡ steps_until until (plan found.agent.transport start found.agent.settings id to bytes.items) =
     λ accepted quiet.
     let added : after_event start e found.agent
     ≡ after_send_request found.agent bytes.items to start =
@@ -56,7 +56,7 @@ keep_plans until a b events steps within ascends order r earlier later start byt
     record {
       after = steps_of_event start e found.agent ++ all_of_it;
       divided = found.divided;
-      keeps = λ accepted quiet. ap (λ ss. own id (ss ++ all_of_it)) (asked accepted)
+      keeps = λ accepted quiet. ap (λ ss. steps_to_end id (ss ++ all_of_it)) (asked accepted)
           ∙ kept accepted quiet;
       once = λ accepted quiet others.
           let taken = event_ascends start e found.agent there in

@@ -8,7 +8,7 @@ use Rattle.stun_agent.specs.Agent.{ended_by_poll, after_poll}
 use Rattle.stun_agent.specs.Transactions.{Transaction, IsAscending, wake_up, next_awaited}
 use Rattle.stun_proto.specs.declared.replay.event.AgentEvent.{AgentEvent}
 use Rattle.stun_proto.specs.code.Calls.{HasPassed}
-use Rattle.stun_proto.specs.Run.{transmitted, ended, Phase, sending, ending, Turn, sends}
+use Rattle.stun_proto.specs.Run.{transmission_step, end_step, Phase, sending, ending, Turn, sends}
 use Rattle.stun_proto.specs.Run.{rests, ends, again, stops, Turns, turn, none, Run, done}
 use Rattle.stun_proto.specs.Run.{event, IsAwaited, after_event, steps_of_event}
 use Rattle.stun_proto.specs.RunLaws.{EventsHaveRuns}
@@ -19,15 +19,7 @@ use Rattle.stun_proto.proofs.agent_runs.NextLemmas.{next_le, next_none, next_is}
 use Rattle.stun_proto.proofs.agent_runs.NextLemmas.{next_is_awaited, turn_passes}
 use Rattle.stun_proto.proofs.agent_runs.RunLemmas.{turn_ascends, turns_ascends, event_ascends}
 use Rattle.stun_proto.proofs.agent_runs.Work.{work-sent, work-none, work-ended, wakes_later}
-
-order : (m n : ℕ) → (n < m) ⊎ (m ≤ n)
-order zero n = inr (omega arith)
-order (suc m) zero = inl (omega arith)
-order (suc m) (suc n) = by (order m n)
-  where
-    by : (n < m) ⊎ (m ≤ n) → (suc n < suc m) ⊎ (suc m ≤ suc n)
-    by (inl less) = inl (omega arith)
-    by (inr not_less) = inr (omega arith)
+use Rattle.stun_proto.proofs.Tests.{order}
 
 -- ---- a turn
 module _ (now : ℕ) (within : now ≤ last_moment) where
@@ -72,7 +64,7 @@ module _ (now : ℕ) (within : now ≤ last_moment) where
       by (Some e) f =
           let fewer = work-ended now a e f in
           let r = ends_on (after_poll now a) (omega arith) in
-          record { steps = ended now e ∷ r.steps; after = r.after; turned = ends e f r.turned }
+          record { steps = end_step now e ∷ r.steps; after = r.after; turned = ends e f r.turned }
       by None f =
           record { steps = []; after = a; turned = stops f (late f (order last_moment now)) }
 
@@ -99,7 +91,7 @@ module _ (now : ℕ) (within : now ≤ last_moment) where
           let fewer = work-sent now a e f in
           let r = sends_on (after_poll_transmit now a) (omega arith) in
           record {
-            steps = transmitted now e ∷ r.steps;
+            steps = transmission_step now e ∷ r.steps;
             after = r.after;
             turned = sends e f r.turned;
           }
@@ -112,7 +104,7 @@ module _ (now : ℕ) (within : now ≤ last_moment) where
       by (Some e) f =
           let fewer = work-ended now a e f in
           let r = ends_on (after_poll now a) (omega arith) in
-          record { steps = ended now e ∷ r.steps; after = r.after; turned = ends e f r.turned }
+          record { steps = end_step now e ∷ r.steps; after = r.after; turned = ends e f r.turned }
       by None f = rest_or_again a f (sends_on a less)
 
   both_turns : (n : ℕ) → HaveTurns sending n × HaveTurns ending n

@@ -16,7 +16,7 @@ use Rattle.stun_base.specs.declared.wire.transport.TransportType.{TransportType}
 use Rattle.stun_agent.specs.Agent.{Agent, sent_by_poll, after_poll_transmit}
 use Rattle.stun_agent.specs.Agent.{ended_by_poll, after_poll}
 use Rattle.stun_agent.specs.Transactions.{Transaction, Transactions, is_cancelled}
-use Rattle.stun_agent.specs.Transactions.{has_slots, awaited, is_due, is_over}
+use Rattle.stun_agent.specs.Transactions.{has_slots, awaited_moment, is_due, is_over}
 use Rattle.stun_agent.specs.Transactions.{without, an_hour, after_slot, after_slots}
 use Rattle.stun_agent.proofs.Ascending.{find-none, fold-min-le_first}
 use Rattle.stun_proto.specs.declared.replay.event.AgentEvent.{AgentEvent}
@@ -37,7 +37,7 @@ use Rattle.stun_proto.proofs.agent_runs.Work.{later_one}
 -- ---- a turn leaves nothing that is awaited before its own moment
 -- a request that is not over awaits this moment or a later one
 abbrev IsBehind : TransportType → ℕ → ℕ × Transaction → Type 0
-IsBehind transport now e = is_over transport now e.1 ≡ false → now ≤ awaited transport e.1
+IsBehind transport now e = is_over transport now e.1 ≡ false → now ≤ awaited_moment transport e.1
 
 abbrev AreBehind : TransportType → ℕ → Transactions → Type 0
 AreBehind transport now all = AllByRecursion (IsBehind transport now) all
@@ -49,8 +49,9 @@ taken_behind : (transport : TransportType) (now id : ℕ) (t : Transaction) → 
 taken_behind transport now id t within true is = λ _. omega (arith, within)
 taken_behind transport now id t within false is = λ over.
     let late =
-    leb-false (awaited transport t) now
-    (later_one (is_cancelled t.sending) (has_slots transport t) (nat_le (awaited transport t) now)
+    leb-false (awaited_moment transport t) now
+    (later_one (is_cancelled t.sending) (has_slots transport t)
+    (nat_le (awaited_moment transport t) now)
     is over) in
     omega (arith, late)
 
@@ -76,17 +77,18 @@ rest_behind transport now id (e ∷ es) behind =
 found_behind : (transport : TransportType) (now id : ℕ) (t : Transaction) (all : Transactions)
     → AreBehind transport now all
     → lookup (is_at (nat_cmp id)) all ≡ Some t → is_over transport now t ≡ false
-    → now ≤ awaited transport t
+    → now ≤ awaited_moment transport t
 found_behind transport now id t [] behind found over = cc
 found_behind transport now id t (e ∷ es) behind found over =
     by (is_at (nat_cmp id) e.0) found (λ h. found_behind transport now id t es behind.1 h over)
   where
     by : (b : Bool) → cond b (Some e.1) (lookup (is_at (nat_cmp id)) es) ≡ Some t
-        → (lookup (is_at (nat_cmp id)) es ≡ Some t → now ≤ awaited transport t)
-        → now ≤ awaited transport t
+        → (lookup (is_at (nat_cmp id)) es ≡ Some t → now ≤ awaited_moment transport t)
+        → now ≤ awaited_moment transport t
     by true h rest =
         let same : e.1 ≡ t = ap (λ o. option_map_or (λ x. x) o e.1) h in
-        subst (λ x. is_over transport now x ≡ false → now ≤ awaited transport x) same behind.0 over
+        subst (λ x. is_over transport now x ≡ false → now ≤ awaited_moment transport x) same
+        behind.0 over
     by false h rest = rest h
 
 -- once all transmissions are made
@@ -138,7 +140,7 @@ turn_within now (ends e f t) = turn_within now t
 turn_within now (again f w less t) = turn_within now t
 turn_within now (stops {a} f (inl before)) =
     let first =
-    fold-min-le_first (map (λ (e : ℕ × Transaction). awaited a.transport e.1) a.transactions)
+    fold-min-le_first (map (λ (e : ℕ × Transaction). awaited_moment a.transport e.1) a.transactions)
     (moment_after now an_hour) in
     omega (arith, before, first)
 turn_within now (stops f (inr last)) = omega (arith, last)

@@ -13,7 +13,7 @@ use Rattle.stun_base.specs.Moments.{moment_after}
 use Rattle.stun_base.specs.declared.wire.transport.TransportType.{TransportType}
 use Rattle.stun_agent.specs.Agent.{Agent}
 use Rattle.stun_agent.specs.Transactions.{Transaction, Transactions, IsAscending}
-use Rattle.stun_agent.specs.Transactions.{is_cancelled, awaited, awaited_moments}
+use Rattle.stun_agent.specs.Transactions.{is_cancelled, awaited_moment, awaited_moments}
 use Rattle.stun_agent.specs.Transactions.{sooner, next_awaited, wake_up, an_hour}
 use Rattle.stun_agent.proofs.EntryLemmas.{own_key, later_key}
 use Rattle.stun_proto.specs.Steps.{Step}
@@ -26,7 +26,7 @@ module _ (transport : TransportType) where
   -- no awaited moment is less
   least_le : (es : Transactions) (c : Option ℕ) (k : ℕ) (v : Transaction) (n : ℕ)
       → lookup (is_at (nat_cmp k)) es ≡ Some v → is_cancelled v.sending ≡ false
-      → fold sooner c (awaited_moments transport es) ≡ Some n → n ≤ awaited transport v
+      → fold sooner c (awaited_moments transport es) ≡ Some n → n ≤ awaited_moment transport v
   least_le [] c k v n h live f = cc
   least_le (e ∷ es) c k v n h live f =
       by (is_at (nat_cmp k) e.0) (is_cancelled e.1.sending) refl h f
@@ -35,21 +35,21 @@ module _ (transport : TransportType) where
       by : (b d : Bool) → (is_cancelled e.1.sending) ≡ d
           → cond b (Some e.1) (lookup (is_at (nat_cmp k)) es) ≡ Some v
           → fold sooner c
-          (map (λ (x : ℕ × Transaction). awaited transport x.1)
+          (map (λ (x : ℕ × Transaction). awaited_moment transport x.1)
           (cond (not d) (e ∷ filter (λ (x : ℕ × Transaction). not (is_cancelled x.1.sending)) es)
           (filter (λ (x : ℕ × Transaction). not (is_cancelled x.1.sending)) es))) ≡ Some n
           → ((c : Option ℕ) → lookup (is_at (nat_cmp k)) es ≡ Some v
-          → fold sooner c (awaited_moments transport es) ≡ Some n → n ≤ awaited transport v)
-          → n ≤ awaited transport v
+          → fold sooner c (awaited_moments transport es) ≡ Some n → n ≤ awaited_moment transport v)
+          → n ≤ awaited_moment transport v
       by true true is h f rest =
           let value : e.1 ≡ v = ap (λ o. option_map_or (λ x. x) o e.1) h in let no : true ≡ false =
           sym is ∙ ap (λ t. is_cancelled t.sending) value ∙ live in cc
       by true false is h f rest =
           let value : e.1 ≡ v = ap (λ o. option_map_or (λ x. x) o e.1) h in
-          subst (λ t. n ≤ awaited transport t) value
-          (first_le (awaited_moments transport es) c (awaited transport e.1) n f)
+          subst (λ t. n ≤ awaited_moment transport t) value
+          (first_le (awaited_moments transport es) c (awaited_moment transport e.1) n f)
       by false true is h f rest = rest c h f
-      by false false is h f rest = rest (sooner c (awaited transport e.1)) h f
+      by false false is h f rest = rest (sooner c (awaited_moment transport e.1)) h f
 
   none_awaited : (es : Transactions) (c : Option ℕ) (k : ℕ) (v : Transaction)
       → lookup (is_at (nat_cmp k)) es ≡ Some v → is_cancelled v.sending ≡ false
@@ -62,7 +62,7 @@ module _ (transport : TransportType) where
       by : (b d : Bool) → (is_cancelled e.1.sending) ≡ d
           → cond b (Some e.1) (lookup (is_at (nat_cmp k)) es) ≡ Some v
           → fold sooner c
-          (map (λ (x : ℕ × Transaction). awaited transport x.1)
+          (map (λ (x : ℕ × Transaction). awaited_moment transport x.1)
           (cond (not d) (e ∷ filter (λ (x : ℕ × Transaction). not (is_cancelled x.1.sending)) es)
           (filter (λ (x : ℕ × Transaction). not (is_cancelled x.1.sending)) es))) ≡ None
           → ((c : Option ℕ) → lookup (is_at (nat_cmp k)) es ≡ Some v
@@ -71,13 +71,13 @@ module _ (transport : TransportType) where
           let value : e.1 ≡ v = ap (λ o. option_map_or (λ x. x) o e.1) h in let no : true ≡ false =
           sym is ∙ ap (λ t. is_cancelled t.sending) value ∙ live in cc
       by b false is h f rest =
-          sooner_stays (awaited_moments transport es) c (awaited transport e.1) f
+          sooner_stays (awaited_moments transport es) c (awaited_moment transport e.1) f
       by false true is h f rest = rest c h f
 
   -- a transaction that is not cancelled awaits this moment
   abbrev Awaits : Transactions → ℕ → Type 0
   Awaits es n = (k : ℕ) × (v : Transaction) × (lookup (is_at (nat_cmp k)) es ≡ Some v)
-      × (is_cancelled v.sending ≡ false) × (awaited transport v ≡ n)
+      × (is_cancelled v.sending ≡ false) × (awaited_moment transport v ≡ n)
 
   awaits_tail : (e : ℕ × Transaction) (es : Transactions) (n : ℕ) → IsAscending (e ∷ es)
       → Awaits es n → Awaits (e ∷ es) n
@@ -94,32 +94,34 @@ module _ (transport : TransportType) where
       by (is_cancelled e.1.sending) refl f
       (λ c f. least_at es c n (sorted_tail nat_cmp e.0 (keys_of es) s) f)
     where
-      here : (is_cancelled e.1.sending) ≡ false → awaited transport e.1 ≡ n → Awaits (e ∷ es) n
+      here : (is_cancelled e.1.sending) ≡ false → awaited_moment transport e.1 ≡ n
+          → Awaits (e ∷ es) n
       here live is = (e.0, e.1, lookup_head (is_at (nat_cmp e.0)) e es (own_key e.0), live, is)
 
       later : (c ≡ Some n) ⊎ Awaits es n → (c ≡ Some n) ⊎ Awaits (e ∷ es) n
       later (inl same) = inl same
       later (inr found) = inr (awaits_tail e es n s found)
 
-      first : (is_cancelled e.1.sending) ≡ false → (c ≡ Some n) ⊎ (awaited transport e.1 ≡ n)
+      first : (is_cancelled e.1.sending) ≡ false → (c ≡ Some n) ⊎ (awaited_moment transport e.1 ≡ n)
           → (c ≡ Some n) ⊎ Awaits (e ∷ es) n
       first live (inl same) = inl same
       first live (inr is) = inr (here live is)
 
-      with_first : (is_cancelled e.1.sending) ≡ false → (sooner c (awaited transport e.1) ≡ Some n)
+      with_first : (is_cancelled e.1.sending) ≡ false
+          → (sooner c (awaited_moment transport e.1) ≡ Some n)
           ⊎ Awaits es n → (c ≡ Some n) ⊎ Awaits (e ∷ es) n
-      with_first live (inl same) = first live (one_of c (awaited transport e.1) n same)
+      with_first live (inl same) = first live (one_of c (awaited_moment transport e.1) n same)
       with_first live (inr found) = inr (awaits_tail e es n s found)
 
       by : (d : Bool) → (is_cancelled e.1.sending) ≡ d
           → fold sooner c
-          (map (λ (x : ℕ × Transaction). awaited transport x.1)
+          (map (λ (x : ℕ × Transaction). awaited_moment transport x.1)
           (cond (not d) (e ∷ filter (λ (x : ℕ × Transaction). not (is_cancelled x.1.sending)) es)
           (filter (λ (x : ℕ × Transaction). not (is_cancelled x.1.sending)) es))) ≡ Some n
           → ((c : Option ℕ) → fold sooner c (awaited_moments transport es) ≡ Some n
           → (c ≡ Some n) ⊎ Awaits es n) → (c ≡ Some n) ⊎ Awaits (e ∷ es) n
       by true is f rest = later (rest c f)
-      by false is f rest = with_first is (rest (sooner c (awaited transport e.1)) f)
+      by false is f rest = with_first is (rest (sooner c (awaited_moment transport e.1)) f)
 
 -- ---- the least awaited moment of an agent
 pub next_le : (a : Agent) (n other : ℕ) → Some n ≡ next_awaited a.transport a.transactions
@@ -162,7 +164,7 @@ turn_passes now (stops {a} f (inl before)) = inr (later now a before)
         → IsAwaited a m → now + 1 ≤ m
     later now a before m (k, v, found, live, is) =
         let least =
-        fold-min-le (λ (e : ℕ × Transaction). awaited a.transport e.1) a.transactions
+        fold-min-le (λ (e : ℕ × Transaction). awaited_moment a.transport e.1) a.transactions
         (moment_after now an_hour) k v found in
         omega (least, is, before, arith)
 turn_passes now (stops f (inr last)) = inl (omega arith)

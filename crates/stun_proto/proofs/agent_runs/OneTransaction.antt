@@ -1,6 +1,6 @@
 -- One request among others: what a call of the agent leaves of it. It is still sent again.
 use Rattle.std.proofs.Common.{ℕ, ◌≡◌, ◌<◌, ◌≤◌, Bool, true, false, ◌&&◌, cond}
-use Rattle.std.proofs.Common.{[], ◌∷◌, subst, ap, sym, refl, ◌∙◌, arith}
+use Rattle.std.proofs.Common.{subst, ap, sym, refl, ◌∙◌, arith}
 use Rattle.std.specs.Prelude.{find, Some, None, nat_le}
 use Rattle.std.specs.Option.{option_map_or}
 use Rattle.std.specs.Ordering.{nat_cmp}
@@ -10,8 +10,10 @@ use Rattle.stun_base.specs.declared.wire.transport.TransportType.{TransportType}
 use Rattle.stun_agent.specs.Transactions.{Transaction, Transactions, at, repeats}
 use Rattle.stun_agent.specs.Transactions.{next_sent, first_over, is_due, is_over}
 use Rattle.stun_agent.specs.Transactions.{after_slot, after_slots, slot_passed}
-use Rattle.stun_agent.proofs.EntryLemmas.{own_key, lookup_found, lookup-map_entries}
+use Rattle.stun_agent.proofs.EntryLemmas.{own_key, same_key, lookup_found, lookup-map_entries}
 use Rattle.stun_agent.specs.Transactions.{IsAscending}
+use Rattle.stun_agent.proofs.LookupLemmas.{found_passes}
+use Rattle.stun_proto.proofs.Tests.{both}
 use Rattle.stun_agent.proofs.Ascending.{find-none, find-least}
 
 -- ---- numbers as keys
@@ -20,11 +22,14 @@ other_key id j apart same = let own : is_at (nat_cmp id) id ≡ true =
     own_key id in let here : is_at (nat_cmp id) id ≡ false =
     subst (λ x. is_at (nat_cmp id) x ≡ false) same apart in cc
 
--- ---- tests
-and_left : (a b : Bool) → (a && b) ≡ true → a ≡ true
-and_left true b h = refl
-and_left false b h = cc
+pub off_key : (id j : ℕ) → (j ≡ id → ⊥) → is_at (nat_cmp id) j ≡ false
+off_key id j apart = by (is_at (nat_cmp id) j) refl
+  where
+    by : (b : Bool) → is_at (nat_cmp id) j ≡ b → b ≡ false
+    by false is = refl
+    by true is = absurd (apart (same_key id j is))
 
+-- ---- tests
 and_one : (a b : Bool) → b ≡ true → (a && b) ≡ a
 and_one true true h = refl
 and_one false true h = refl
@@ -50,17 +55,6 @@ module _ (transport : TransportType) (now id : ℕ) (all : Transactions) (s : Tr
       let there : at id all ≡ Some w = lookup_found p all id w ascends f in
       ap (λ o. option_map_or (λ t. t) o w) (sym there ∙ stands)
 
-  found_passes : (p : ℕ × Transaction → Bool) (es : Transactions) (e : ℕ × Transaction)
-      → find p es ≡ Some e → p e ≡ true
-  found_passes p [] e f = cc
-  found_passes p (x ∷ es) e f = by (p x) refl f (found_passes p es e)
-    where
-      by : (b : Bool) → p x ≡ b → cond b (Some x) (find p es) ≡ Some e
-          → (find p es ≡ Some e → p e ≡ true) → p e ≡ true
-      by true is f rest = let same : x ≡ e = ap (λ o. option_map_or (λ t. t) o x) f in
-          subst (λ y. p y ≡ true) same is
-      by false is f rest = rest f
-
   -- ---- transmission
   pub sent_same : (w : Transaction) → next_sent transport now all ≡ Some (id, w)
       → (w ≡ s) × (is_due transport now s ≡ true)
@@ -71,7 +65,7 @@ module _ (transport : TransportType) (now id : ℕ) (all : Transactions) (s : Tr
       found_passes (λ e. is_due transport now e.1 && repeats e.1.sending) all (id, w) f in
       let due : is_due transport now s ≡ true =
       subst (λ t. is_due transport now t ≡ true) same
-      (and_left (is_due transport now w) (repeats w.sending) passes) in (
+      (both (is_due transport now w) (repeats w.sending) passes).0 in (
         same,
         due,
         lookup-map_entries (slot_passed transport now (Some id)) id all s stands

@@ -16,26 +16,27 @@ use Rattle.stun_base.specs.declared.wire.message_type.MessageClass.TheVariants.{
 use Rattle.stun_base.specs.declared.wire.message_type.MessageClass.TheVariants.{Success, Error}
 use Rattle.stun_types.specs.Message.{refusal}
 use Rattle.stun_base.specs.MessageType.{class_in}
-use Rattle.stun_agent.specs.Agent.{Agent, answered, sending_refusal, after_send, request_refusal}
+use Rattle.stun_agent.specs.Agent.{Agent, answered_request, sending_refusal, after_send}
+use Rattle.stun_agent.specs.Agent.{request_refusal}
 use Rattle.stun_agent.specs.Agent.{request_of, after_send_request, after_class, sent_by_poll}
-use Rattle.stun_agent.specs.Transactions.{IsAscending, Transaction, at, cancelled}
-use Rattle.stun_agent.specs.Transactions.{silenced, configured, slot_passed}
+use Rattle.stun_agent.specs.Transactions.{IsAscending, Transaction, at, with_cancellation}
+use Rattle.stun_agent.specs.Transactions.{without_retransmissions, with_settings, slot_passed}
 use Rattle.stun_agent.specs.declared.error.StunError.{StunError}
 use Rattle.stun_proto.specs.declared.replay.event.AgentEvent.{AgentEvent}
 use Rattle.stun_proto.specs.declared.replay.event.AgentEvent.TheVariants.{Send, SendRequest}
 use Rattle.stun_proto.specs.declared.replay.event.AgentEvent.TheVariants.{Receive, Cancel}
 use Rattle.stun_proto.specs.declared.replay.event.AgentEvent.TheVariants.{CancelRetransmissions}
 use Rattle.stun_proto.specs.declared.replay.event.AgentEvent.TheVariants.{Configure, ValidatePeer}
-use Rattle.stun_proto.specs.Run.{transmitted, ended, IsNext, Phase, sending, Turn, sends}
+use Rattle.stun_proto.specs.Run.{transmission_step, end_step, IsNext, Phase, sending, Turn, sends}
 use Rattle.stun_proto.specs.Run.{rests, ends, again, stops, Turns, turn, none, Run, done}
 use Rattle.stun_proto.specs.Run.{event, after_change, after_event, steps_of_event}
 use Rattle.stun_proto.specs.RunLaws.{IsDetermined, IsDeterminedThroughout}
 use Rattle.stun_proto.specs.Schedule.{AreInOrder}
 use Rattle.stun_proto.specs.Steps.{Step}
 use Rattle.stun_proto.proofs.agent_runs.AfterCalls.{transmit_transactions, poll_transactions}
+use Rattle.stun_proto.proofs.agent_runs.AfterCalls.{response_taken}
 use Rattle.stun_agent.proofs.Ascending.{IsAscending-map, IsAscending-remove}
 use Rattle.stun_agent.proofs.Ascending.{IsAscending-set_value, IsAscending-insert}
-use Rattle.stun_proto.proofs.agent_runs.ScheduleLaw.{response_taken}
 
 -- ---- the ids still ascend
 pub turn_ascends : (now : ℕ) {phase : Phase} {a b : Agent} {steps : List Step}
@@ -74,8 +75,8 @@ change_ascends f j a s = by (at j a.transactions)
 
 response_ascends : (now : ℕ) (bs : List ℕ) (from : SocketAddr) (a : Agent)
     → IsAscending a.transactions
-    → IsAscending (response_taken (Some now) bs from a (answered bs from a)).transactions
-response_ascends now bs from a s = by (answered bs from a)
+    → IsAscending (response_taken (Some now) bs from a (answered_request bs from a)).transactions
+response_ascends now bs from a s = by (answered_request bs from a)
   where
     by : (o : Option Transaction) → IsAscending (response_taken (Some now) bs from a o).transactions
     by None = s
@@ -113,11 +114,11 @@ event_ascends now (Receive bs from) a s = by (refusal bs.items)
         (after_class (class_in bs.items) (Some now) bs.items from a)).transactions
     by None = class_ascends (class_in bs.items) now bs.items from a s
     by (Some error) = s
-event_ascends now (Cancel j) a s = change_ascends cancelled j a s
-event_ascends now (CancelRetransmissions j) a s = change_ascends silenced j a s
+event_ascends now (Cancel j) a s = change_ascends with_cancellation j a s
+event_ascends now (CancelRetransmissions j) a s = change_ascends without_retransmissions j a s
 event_ascends now (Configure j initial retransmits last max) a s =
     change_ascends
-    (configured
+    (with_settings
     (record {
       initial = as_nanos initial;
       maximum = as_nanos max;
@@ -207,12 +208,12 @@ not_again now wake w less (inr last) = omega (arith, less, last)
 pub turn_same : (now : ℕ) {phase : Phase} {a b c : Agent} {steps more : List Step}
     → Turn now phase a steps b → Turn now phase a more c → (steps ≡ more) × (b ≡ c)
 turn_same now (sends e f t) (sends d g u) = let same = same_found e d _ f g in let r =
-    turn_same now t u in (λ i. transmitted now (same i) ∷ r.0 i, r.1)
+    turn_same now t u in (λ i. transmission_step now (same i) ∷ r.0 i, r.1)
 turn_same now (sends e f t) (rests g u) = absurd (not_both e _ f g)
 turn_same now (rests f t) (sends d g u) = absurd (not_both d _ g f)
 turn_same now (rests f t) (rests g u) = turn_same now t u
 turn_same now (ends e f t) (ends d g u) = let same = same_found e d _ f g in let r =
-    turn_same now t u in (λ i. ended now (same i) ∷ r.0 i, r.1)
+    turn_same now t u in (λ i. end_step now (same i) ∷ r.0 i, r.1)
 turn_same now (ends e f t) (again g w less u) = absurd (not_both e _ f g)
 turn_same now (ends e f t) (stops g late) = absurd (not_both e _ f g)
 turn_same now (again f w less t) (ends d g u) = absurd (not_both d _ g f)

@@ -14,7 +14,7 @@ use Rattle.stun_proto.specs.Steps.{Step, Transmitted}
 use Rattle.stun_proto.specs.code.Calls.{Keeps, Leads, SendsOne, EndsOne}
 use Rattle.stun_proto.specs.code.Calls.{SendsAll, EndsAll, TakesTurn, HasWorked}
 use Rattle.stun_proto.specs.Run.{Phase, sending, ending, Turn, sends, rests}
-use Rattle.stun_proto.specs.Run.{ends, again, stops, transmitted, ended}
+use Rattle.stun_proto.specs.Run.{ends, again, stops, transmission_step, end_step}
 use Rattle.stun_proto.specs.code.Work.{IsIdle}
 use Rattle.stun_proto.proofs.agent_runs.Work.{work-sent, work-none, work-ended, wakes_later}
 
@@ -44,7 +44,7 @@ pub sends_one : (now : ℕ) (a b : Agent) (before after : Option (List Step)) (d
 sends_one now a b before after d lent named is keeps = by (sent_by_poll now a) refl
   where
     step : (e : ℕ × Transaction) (d : Datagram) → d ≡ datagram_of a e.1 → IsNamed e
-        → Transmitted now (transaction_id_field d.0) d.3 d.0 ≡ transmitted now e
+        → Transmitted now (transaction_id_field d.0) d.3 d.0 ≡ transmission_step now e
     step e d same name =
         ap (λ (x : Datagram). Transmitted now (transaction_id_field x.0) x.3 x.0) same
         ∙ ap (λ id. Transmitted now id e.1.to e.1.bytes) name.id_is
@@ -70,12 +70,13 @@ pub leads_sent : (now : ℕ) (a old new : Agent) (first before after : Option (L
     → Leads now sending sending a old first before → SendsOne now old new before after true
     → Leads now sending sending a new first after
 leads_sent now a old new first before after leads (e, found, is, added) = record {
-  steps = leads.steps ++ transmitted now e ∷ [];
-  added = keeps_more first leads.steps before (transmitted now e ∷ []) after leads.added added;
+  steps = leads.steps ++ transmission_step now e ∷ [];
+  added = keeps_more first leads.steps before
+      (transmission_step now e ∷ []) after leads.added added;
   goes_on = λ more b t.
       subst (λ s. Turn now sending a s b)
-      (sym (append_assoc leads.steps (transmitted now e ∷ []) more))
-      (leads.goes_on (transmitted now e ∷ more) b
+      (sym (append_assoc leads.steps (transmission_step now e ∷ []) more))
+      (leads.goes_on (transmission_step now e ∷ more) b
       (sends e found (subst (λ x. Turn now sending x more b) is t)));
 }
 
@@ -141,11 +142,11 @@ pub leads_ended : (now : ℕ) (a old new : Agent) (first before after : Option (
     → Leads now ending ending a old first before → EndsOne now old new before after None
     → Leads now ending ending a new first after
 leads_ended now a old new first before after leads (e, found, is, added) = record {
-  steps = leads.steps ++ ended now e ∷ [];
-  added = keeps_more first leads.steps before (ended now e ∷ []) after leads.added added;
+  steps = leads.steps ++ end_step now e ∷ [];
+  added = keeps_more first leads.steps before (end_step now e ∷ []) after leads.added added;
   goes_on = λ more b t.
-      subst (λ s. Turn now ending a s b) (sym (append_assoc leads.steps (ended now e ∷ []) more))
-      (leads.goes_on (ended now e ∷ more) b
+      subst (λ s. Turn now ending a s b) (sym (append_assoc leads.steps (end_step now e ∷ []) more))
+      (leads.goes_on (end_step now e ∷ more) b
       (ends e found (subst (λ x. Turn now ending x more b) is t)));
 }
 

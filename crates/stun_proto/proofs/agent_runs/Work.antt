@@ -14,39 +14,38 @@ use Rattle.stun_agent.specs.Agent.{after_poll, with_transactions, tally_of_sent}
 use Rattle.stun_agent.specs.Timing.{slots}
 use Rattle.stun_proto.proofs.agent_runs.AfterCalls.{transmit_transport, transmit_transactions}
 use Rattle.stun_proto.proofs.agent_runs.AfterCalls.{poll_transport, poll_transactions}
-use Rattle.stun_proto.specs.code.Work.{share, work, IsIdle}
+use Rattle.stun_proto.specs.code.Work.{work_of, work, IsIdle}
 use Rattle.stun_agent.specs.Transactions.{repeats, is_cancelled, Transaction, Transactions, wake_up}
 use Rattle.stun_agent.specs.Transactions.{an_hour, is_over, first_over, without, is_due, is_reached}
-use Rattle.stun_agent.specs.Transactions.{after_slot, after_slots, slot_passed, has_slots, awaited}
-
-both : (a b : Bool) → (a && b) ≡ true → (a ≡ true) × (b ≡ true)
-both true true h = (refl, refl)
-both true false h = cc
-both false b h = cc
+use Rattle.stun_agent.specs.Transactions.{after_slot, after_slots, slot_passed, has_slots}
+use Rattle.stun_agent.specs.Transactions.{awaited_moment}
+use Rattle.stun_proto.proofs.Tests.{both}
+use Rattle.stun_agent.proofs.LookupLemmas.{found_passes}
 
 -- one entry has less left where it takes its slot, and else as much
-share-chosen : (transport : TransportType) (now id : ℕ) (t : Transaction) (r d : Bool)
+work_of-chosen : (transport : TransportType) (now id : ℕ) (t : Transaction) (r d : Bool)
     → is_due transport now t ≡ d
-    → (share transport (id, cond (r && d) (after_slot now t) t) ≤ share transport (id, t))
+    → (work_of transport (id, cond (r && d) (after_slot now t) t) ≤ work_of transport (id, t))
     × ((r && d) ≡ true
-    → share transport (id, cond (r && d) (after_slot now t) t) < share transport (id, t))
-share-chosen transport now id t true true is =
+    → work_of transport (id, cond (r && d) (after_slot now t) t) < work_of transport (id, t))
+work_of-chosen transport now id t true true is =
     let tests =
     both (not (is_cancelled t.sending))
-    (has_slots transport t && nat_le (awaited transport t) now) is in
-    let slot = both (has_slots transport t) (nat_le (awaited transport t) now) tests.1 in
+    (has_slots transport t && nat_le (awaited_moment transport t) now) is in
+    let slot = both (has_slots transport t) (nat_le (awaited_moment transport t) now) tests.1 in
     let within : t.slot < slots transport t.settings =
     ltb-true t.slot (slots transport t.settings) slot.0 in
     (omega arith, λ _. omega arith)
-share-chosen transport now id t true false is = (omega arith, λ h. cc)
-share-chosen transport now id t false d is = (omega arith, λ h. cc)
+work_of-chosen transport now id t true false is = (omega arith, λ h. cc)
+work_of-chosen transport now id t false d is = (omega arith, λ h. cc)
 
 work-le : (transport : TransportType) (now : ℕ) (sent : Option ℕ) (all : Transactions)
     → work transport (after_slots transport now sent all) ≤ work transport all
 work-le transport now sent [] = omega arith
 work-le transport now sent (e ∷ es) =
     let here =
-    (share-chosen transport now e.0 e.1 (is_reached sent e.0) (is_due transport now e.1) refl).0 in
+    (work_of-chosen transport now e.0 e.1 (is_reached sent e.0)
+    (is_due transport now e.1) refl).0 in
     let rest = work-le transport now sent es in
     omega arith
 
@@ -60,11 +59,11 @@ work-lt transport now sent p (x ∷ es) e f h =
     by (p x) f (λ f. work-lt transport now sent p es e f h)
   where
     here : (y : ℕ × Transaction)
-        → (share transport (y.0, slot_passed transport now sent y) ≤ share transport y)
+        → (work_of transport (y.0, slot_passed transport now sent y) ≤ work_of transport y)
         × ((is_reached sent y.0 && is_due transport now y.1) ≡ true
-        → share transport (y.0, slot_passed transport now sent y) < share transport y)
+        → work_of transport (y.0, slot_passed transport now sent y) < work_of transport y)
     here y =
-        share-chosen transport now y.0 y.1 (is_reached sent y.0) (is_due transport now y.1) refl
+        work_of-chosen transport now y.0 y.1 (is_reached sent y.0) (is_due transport now y.1) refl
 
     by : (b : Bool) → cond b (Some x) (find p es) ≡ Some e
         → (find p es ≡ Some e
@@ -78,16 +77,6 @@ work-lt transport now sent p (x ∷ es) e f h =
         let others = work-le transport now sent es in
         omega arith
     by false f rest = let less = rest f in let here_le = (here x).0 in omega arith
-
-found_passes : (p : ℕ × Transaction → Bool) (es : Transactions) (e : ℕ × Transaction)
-    → find p es ≡ Some e → p e ≡ true
-found_passes p [] e f = cc
-found_passes p (x ∷ es) e f = by (p x) refl f (found_passes p es e)
-  where
-    by : (b : Bool) → p x ≡ b → cond b (Some x) (find p es) ≡ Some e
-        → (find p es ≡ Some e → p e ≡ true) → p e ≡ true
-    by true is f rest = let same : x ≡ e = cc in subst (λ y. p y ≡ true) same is
-    by false is f rest = rest f
 
 and_true : (a b : Bool) → a ≡ true → b ≡ true → (a && b) ≡ true
 and_true true true h k = refl
@@ -132,11 +121,12 @@ none-taken transport now (e ∷ es) = by (is_due transport now e.1) refl (none-t
         → (work transport (after_slots transport now None (e ∷ es)) < work transport (e ∷ es))
         ⊎ ((after_slots transport now None (e ∷ es) ≡ e ∷ es) × IsIdle transport now (e ∷ es))
     by true is rest =
-        let here = (share-chosen transport now e.0 e.1 true (is_due transport now e.1) refl).1 is in
+        let here = (work_of-chosen transport now e.0 e.1 true (is_due transport now e.1) refl).1
+        is in
         let others = work-le transport now None es in
         inl (omega arith)
     by false is (inl less) = let here =
-        (share-chosen transport now e.0 e.1 true (is_due transport now e.1) refl).0 in
+        (work_of-chosen transport now e.0 e.1 true (is_due transport now e.1) refl).0 in
         inl (omega arith)
     by false is (inr (same, idle)) =
         let kept : slot_passed transport now None e ≡ e.1 =
@@ -214,7 +204,7 @@ later_one false false l d o = o
 
 fold-min-later : (transport : TransportType) (now : ℕ) (all : Transactions) (c : ℕ) → now < c
     → IsIdle transport now all → first_over transport now all ≡ None
-    → now < fold min c (map (λ e. awaited transport e.1) all)
+    → now < fold min c (map (λ e. awaited_moment transport e.1) all)
 fold-min-later transport now [] c h idle f = h
 fold-min-later transport now (e ∷ es) c h idle f =
     by (is_over transport now e.1) refl f (λ c h f. fold-min-later transport now es c h idle.1 f)
@@ -222,15 +212,17 @@ fold-min-later transport now (e ∷ es) c h idle f =
     by : (b : Bool) → is_over transport now e.1 ≡ b
         → cond b (Some e) (first_over transport now es) ≡ None
         → ((c : ℕ) → now < c → first_over transport now es ≡ None
-        → now < fold min c (map (λ e. awaited transport e.1) es))
-        → now < fold min (min c (awaited transport e.1)) (map (λ e. awaited transport e.1) es)
+        → now < fold min c (map (λ e. awaited_moment transport e.1) es))
+        → now < fold min (min c (awaited_moment transport e.1))
+        (map (λ e. awaited_moment transport e.1) es)
     by true is f rest = cc
     by false is f rest =
         let off =
         later_one (is_cancelled e.1.sending) (has_slots transport e.1)
-        (nat_le (awaited transport e.1) now) idle.0 is in
-        let later : now < awaited transport e.1 = leb-false (awaited transport e.1) now off in
-        rest (min c (awaited transport e.1)) (omega arith) f
+        (nat_le (awaited_moment transport e.1) now) idle.0 is in
+        let later : now < awaited_moment transport e.1 =
+        leb-false (awaited_moment transport e.1) now off in
+        rest (min c (awaited_moment transport e.1)) (omega arith) f
 
 -- an agent with nothing to send and nothing to end wakes up later
 pub wakes_later : (now : ℕ) (a : Agent) → now < last_moment → IsIdle a.transport now a.transactions

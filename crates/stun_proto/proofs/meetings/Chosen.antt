@@ -9,8 +9,9 @@ use Rattle.stun_auth.specs.declared.algorithm_set.AlgorithmSet.{AlgorithmSet}
 use Rattle.stun_auth.specs.declared.algorithm_set.AlgorithmSet.TheVariants.{OnlySha1}
 use Rattle.stun_auth.specs.declared.algorithm_set.AlgorithmSet.TheVariants.{OnlySha256, Both}
 use Rattle.stun_auth.specs.declared.feature.Feature.{Feature}
-use Rattle.stun_auth.specs.Algorithms.{contains, has, listed}
-use Rattle.stun_auth.specs.ClientStep.{choose, choose_by_list, is_required, or_unsupported, unless}
+use Rattle.stun_auth.specs.Algorithms.{contains, has, algorithms_of}
+use Rattle.stun_auth.specs.ClientStep.{choose, choose_by_list, is_required, or_unsupported}
+use Rattle.stun_auth.specs.ClientStep.{unless_missing}
 use Rattle.stun_auth.specs.code.ClientStep.{ClientRefusal, unsupported_feature}
 use Rattle.stun_auth.specs.Feature.{is_possible}
 use Rattle.stun_auth.specs.Nonces.{asks_for_algorithms, asks_for_userhash, nonce_of}
@@ -19,7 +20,7 @@ use Rattle.stun_proto.proofs.meetings.Signed.{NoncesAsk}
 use Rattle.stun_proto.proofs.meetings.Strongest.{best-by_cases, best_is, common, has_from_Contains}
 
 unless_or : (missing : Bool) (o : Option IntegrityAlgorithm)
-    → unless missing (or_unsupported o) ≡ or_unsupported (cond missing None o)
+    → unless_missing missing (or_unsupported o) ≡ or_unsupported (cond missing None o)
 unless_or true None = refl
 unless_or true (Some a) = refl
 unless_or false None = refl
@@ -57,13 +58,13 @@ without_bits false false false = refl
 abbrev by_nonce : List IntegrityAlgorithm → Bool → Bool → Bool → Bool → List IntegrityAlgorithm
     → Result IntegrityAlgorithm ClientRefusal
 by_nonce supported required bits hashes asks list =
-    cond bits (unless (required && not hashes) (choose_by_list supported asks (Some list)))
+    cond bits (unless_missing (required && not hashes) (choose_by_list supported asks (Some list)))
     (cond required (Err unsupported_feature)
     (cond (has Sha1 supported) (Ok Sha1) (Err unsupported_feature)))
 
 by_cases : (supported : List IntegrityAlgorithm) (required possible : Bool) (set : AlgorithmSet)
     → by_nonce supported required (contains Sha256 set || possible) possible (contains Sha256 set)
-    (listed set)
+    (algorithms_of set)
     ≡ or_unsupported
     (cond (required && not possible) None
     (common (has Sha1 supported) (has Sha256 supported) (contains Sha1 set) (contains Sha256 set)))
@@ -85,23 +86,23 @@ by_cases supported required false OnlySha1 =
 pub choose-best : NoncesAsk
     → (supported : List IntegrityAlgorithm) (set : AlgorithmSet) (wanted given : Feature)
     (words : List ℕ)
-    → choose supported wanted (nonce_of set given words) (Some (listed set))
-    ≡ or_unsupported (best supported (listed set) wanted given)
+    → choose supported wanted (nonce_of set given words) (Some (algorithms_of set))
+    ≡ or_unsupported (best supported (algorithms_of set) wanted given)
 choose-best say supported set wanted given words =
     let nonce = nonce_of set given words in
     ap (λ b. by_nonce supported (is_required wanted) b (asks_for_userhash nonce)
-    (asks_for_algorithms nonce) (listed set)) (say.there set given words)
+    (asks_for_algorithms nonce) (algorithms_of set)) (say.there set given words)
     ∙ ap (λ b. by_nonce supported (is_required wanted) (contains Sha256 set || is_possible given) b
-    (asks_for_algorithms nonce) (listed set)) (say.userhash set given words)
+    (asks_for_algorithms nonce) (algorithms_of set)) (say.userhash set given words)
     ∙ ap (λ b. by_nonce supported (is_required wanted) (contains Sha256 set || is_possible given)
-    (is_possible given) b (listed set)) (say.algorithms set given words)
+    (is_possible given) b (algorithms_of set)) (say.algorithms set given words)
     ∙ by_cases supported (is_required wanted) (is_possible given) set
-    ∙ ap or_unsupported (sym (best-by_cases supported (listed set) wanted given))
+    ∙ ap or_unsupported (sym (best-by_cases supported (algorithms_of set) wanted given))
 
 -- the strongest of both is one of the server's
 pub best-had : (supported : List IntegrityAlgorithm) (set : AlgorithmSet) (wanted given : Feature)
     (a : IntegrityAlgorithm)
-    → best supported (listed set) wanted given ≡ Some a → contains a set ≡ true
+    → best supported (algorithms_of set) wanted given ≡ Some a → contains a set ≡ true
 best-had supported set wanted given a h =
-    let strongest = (best_is supported (listed set) wanted given).some a in
-    has_from_Contains a (listed set) (strongest.0 h).1.shared.1
+    let strongest = (best_is supported (algorithms_of set) wanted given).some a in
+    has_from_Contains a (algorithms_of set) (strongest.0 h).1.shared.1

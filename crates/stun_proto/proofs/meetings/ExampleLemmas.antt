@@ -1,19 +1,16 @@
 -- A server with one user, whose hash no other has.
-use Rattle.std.proofs.Common.{◌≡◌, ℕ, zero, suc, ◌<◌, ◌≤◌, Bool, true, false, cond, List}
-use Rattle.std.proofs.Common.{[], ◌∷◌, length, Some, None, refl, sym, ◌∙◌, ap, arith}
-use Rattle.std.specs.Prelude.{◌&&◌, codes, nat_lt}
+use Rattle.std.proofs.Common.{◌≡◌, ℕ, ◌≤◌, Bool, true, false, cond, List}
+use Rattle.std.proofs.Common.{length, Some, None, refl, sym, ◌∙◌, ap, arith}
+use Rattle.std.specs.Prelude.{codes}
 use Rattle.std.specs.Option.{is_some}
-use Rattle.std.specs.Str.{IsAscii}
 use Rattle.std.specs.Ordering.{eq_by_cmp}
 use Rattle.std.specs.Cmp.Lexicographic.{nat_list_cmp_total}
 use Rattle.std.specs.FinMap as map
 use Rattle.std.specs.FinMap.{get-insert}
-use Rattle.std.proofs.lemmas.Bool.{ltb-true}
 use Rattle.std.proofs.lemmas.List.Elements.{All-nil}
 use Rattle.std.proofs.lemmas.Map.Text.{is_eq-slice_cmp}
 use Rattle.std.proofs.lemmas.Slice.Eq.{bytes_eq-Decides}
 use Rattle.std.proofs.lemmas.Str.{IsUtf8-from_ascii}
-use Rattle.std.proofs.lemmas.Str.Ascii.{IsAscii-nil}
 use Rattle.std.specs.declared.net.socket_addr.SocketAddr.{SocketAddr}
 use Rattle.stun_base.specs.Address.{address_cmp}
 use Rattle.stun_base.specs.Credentials.{NameAndPassword}
@@ -27,7 +24,8 @@ use Rattle.stun_proto.specs.Honest.{ShortNamesAreSigned, StrongestIsAgreed}
 use Rattle.stun_proto.specs.Isolation.{concerns}
 use Rattle.stun_proto.specs.Matching.{AreTexts}
 use Rattle.stun_proto.specs.MeetingExample.{a_meeting, a_server, a_user}
-use Rattle.stun_proto.specs.Negotiation.{negotiated}
+use Rattle.stun_proto.specs.Negotiation.{whole_negotiation}
+use Rattle.stun_proto.proofs.meetings.Ascii.{from_small}
 
 -- ---- one user
 module _ (none : Registered) (nobody : none.secrets ≡ map.empty) (who : NameAndPassword) where
@@ -62,24 +60,6 @@ module _ (none : Registered) (nobody : none.secrets ≡ map.empty) (who : NameAn
   own_hashes a b here there alike = only_one a here ∙ sym (only_one b there)
 
 -- ---- texts
-abbrev all_small : List ℕ → Bool
-all_small [] = true
-all_small (b ∷ bytes) = nat_lt b 128 && all_small bytes
-
-both : (a b : Bool) → (a && b) ≡ true → (a ≡ true) × (b ≡ true)
-both true b h = (refl, h)
-both false b h = cc
-
-in_front : (b : ℕ) (bytes : List ℕ) → b < 128 → IsAscii bytes → IsAscii (b ∷ bytes)
-in_front b bytes small ascii zero = small
-in_front b bytes small ascii (suc i) = ascii i
-
-from_small : (bytes : List ℕ) → all_small bytes ≡ true → IsAscii bytes
-from_small [] h = IsAscii-nil
-from_small (b ∷ bytes) h =
-    let split = both (nat_lt b 128) (all_small bytes) h in
-    in_front b bytes (ltb-true b 128 split.0) (from_small bytes split.1)
-
 texts : AreTexts a_server.registered.realm a_user.username
 texts = record {
   realm = IsUtf8-from_ascii (codes "realm") (from_small (codes "realm") refl);
@@ -111,7 +91,7 @@ module _ (from : SocketAddr) (words more : List ℕ) where
       { new = refl; ready = is_ready; realm_fits = omega arith; name_fits = omega arith }
 
   pub agrees : ShortNamesAreSigned → StrongestIsAgreed → length words ≤ 16
-      → AgreesOn from a_user Sha256 (negotiated (a_meeting from words more) initial a_server)
+      → AgreesOn from a_user Sha256 (whole_negotiation (a_meeting from words more) initial a_server)
   agrees signed agreed few =
       agreed (a_meeting from words more) a_user a_server texts
       (signed (a_meeting from words more) a_user a_server texts

@@ -9,7 +9,7 @@ use Rattle.std.specs.FinMap as map
 use Rattle.std.specs.FinMap.{contains_key-keys}
 use Rattle.std.proofs.lemmas.Map.Text.{is_eq-slice_cmp}
 use Rattle.std.proofs.lemmas.Slice.Eq.{bytes_eq-Decides}
-use Rattle.stun_base.specs.Keys.{userhash}
+use Rattle.stun_base.specs.Keys.{userhash_of}
 use Rattle.stun_auth.specs.Registered.{Registered, UserSecret, name_cmp}
 use Rattle.stun_auth.specs.Registered.{name_with_hash, user_named, user_with_hash}
 use Rattle.stun_proto.specs.Honest.{HaveOwnHashes}
@@ -55,14 +55,14 @@ find_only (x ∷ names) test name there passes only =
 
 own_name : (users : Registered) (name : List ℕ) → HaveOwnHashes users
     → is_some (map.get users.secrets name) ≡ true
-    → name_with_hash users (userhash name users.realm) ≡ Some name
+    → name_with_hash users (userhash_of name users.realm) ≡ Some name
 own_name users name own there =
     find_only (map.keys users.secrets)
-    (λ x. bytes_eq (userhash x users.realm) (userhash name users.realm)) name
+    (λ x. bytes_eq (userhash_of x users.realm) (userhash_of name users.realm)) name
     (sym (contains_key-keys users.secrets name) ∙ there)
-    ((bytes_eq-Decides (userhash name users.realm) (userhash name users.realm)).1 refl)
+    ((bytes_eq-Decides (userhash_of name users.realm) (userhash_of name users.realm)).1 refl)
     (λ x among alike. own x name (contains_key-keys users.secrets x ∙ among) there
-    ((bytes_eq-Decides (userhash x users.realm) (userhash name users.realm)).0 alike))
+    ((bytes_eq-Decides (userhash_of x users.realm) (userhash_of name users.realm)).0 alike))
 
 -- a present user is named by name
 module _ (users : Registered) (name : List ℕ) (secret : UserSecret)
@@ -71,7 +71,7 @@ module _ (users : Registered) (name : List ℕ) (secret : UserSecret)
   own_user = ap (option_map (λ (s : UserSecret). record { username = name; secret = s })) present
 
   -- and by hash
-  pub own_hash : HaveOwnHashes users → user_with_hash users (userhash name users.realm)
+  pub own_hash : HaveOwnHashes users → user_with_hash users (userhash_of name users.realm)
       ≡ Some (record { username = name; secret = secret })
   own_hash own =
       ap (option_and_then (user_named users)) (own_name users name own (ap is_some present))

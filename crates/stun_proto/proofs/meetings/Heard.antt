@@ -12,7 +12,7 @@ use Rattle.stun_auth.specs.declared.client.answer.LongTermClientAuthErrorReason.
   UnsupportedFeature,
   OutOfMemory,
 }
-use Rattle.stun_auth.specs.ClientStep.{ForReason}
+use Rattle.stun_auth.specs.ClientStep.{ForClientReason}
 
 false-true : false ≡ true → ⊥
 false-true h = cc
@@ -20,7 +20,7 @@ false-true h = cc
 -- what follows either way from two facts about a reason
 pub either_client : (reason : LongTermClientAuthErrorReason) {P Q P' Q' R : Type 0} → (P → P' → R)
     → (Q → Q' → R)
-    → ForReason reason P Q → ForReason reason P' Q' → R
+    → ForClientReason reason P Q → ForClientReason reason P' Q' → R
 either_client Unauthorized one other a b = one a b
 either_client IntegrityFailed one other a b = one a b
 either_client UnsupportedFeature one other a b = one a b

@@ -21,8 +21,8 @@ use Rattle.stun_base.specs.MessageType.{class_in, is_response}
 use Rattle.stun_auth.specs.Reading.{Reading, reading_of}
 use Rattle.stun_auth.specs.Reasons.{ServerRefusal}
 use Rattle.stun_auth.specs.Registered.{Registered}
-use Rattle.stun_auth.specs.Seen.{ClientSeen, PlaceSeen, renewed}
-use Rattle.stun_auth.specs.Server.{Sight, standing}
+use Rattle.stun_auth.specs.Seen.{ClientSeen, PlaceSeen, renewed_place}
+use Rattle.stun_auth.specs.Server.{Sight, current_place}
 use Rattle.stun_auth.specs.Validation.{ServerSeen, needs_nonce, place_after}
 use Rattle.stun_auth.specs.Validation.{sight, verdict_at, with_accepted}
 use Rattle.stun_proto.specs.Isolation.{concerns, place_unless, sight_after}
@@ -32,9 +32,10 @@ use Rattle.stun_proto.specs.Signing.{if_signed, place_offered, signing}
 use Rattle.stun_proto.specs.declared.replay.call.ServerCall.{ServerCall}
 use Rattle.stun_proto.specs.declared.replay.call.ServerCall.TheVariants as Call
 use Rattle.stun_proto.proofs.server_runs.IsolationLemmas.{other_step, own_step}
+use Rattle.stun_proto.proofs.Tests.{both}
 
--- a place has a nonce of these settings, with all algorithms offered, does not end before a bound,
--- and has a client unless that may be removed
+-- A place has a nonce of these settings, with all algorithms offered, and does not end before a
+-- bound. It has a client unless that may be removed
 pub record IsKept (users : Registered) (feature : Feature) (bound : ℕ) (removable : Bool)
     (p : PlaceSeen) : Type 0 where
   pub words : List ℕ
@@ -42,11 +43,6 @@ pub record IsKept (users : Registered) (feature : Feature) (bound : ℕ) (remova
   pub offered : p.offered ≡ Some users.algorithms
   pub lasts : (now : ℕ) → now ≤ bound → now ≤ last_moment → now ≤ p.expires
   pub has_client : removable ≡ false → is_none p.client ≡ false
-
-both : (a b : Bool) → (a && b) ≡ true → (a ≡ true) × (b ≡ true)
-both true true h = (refl, refl)
-both true false h = cc
-both false b h = cc
 
 and_false : (b : Bool) → (b && false) ≡ false
 and_false true = refl
@@ -65,12 +61,13 @@ module _ (users : Registered) (feature : Feature) (expiry : ℕ) (bound : ℕ) (
 
   pub standing_kept : (p : PlaceSeen) → IsKept users feature bound removable p
       → (now : ℕ) (words : List ℕ)
-      → IsKept users feature bound removable (standing (seen_at (Some p)) now words)
+      → IsKept users feature bound removable (current_place (seen_at (Some p)) now words)
   standing_kept p k now words = by (nat_le now p.expires) refl
     where
       by : (b : Bool) → nat_le now p.expires ≡ b
           → kept (cond b p
-          (renewed (Some p) (nonce_of users.algorithms feature words) (moment_after now expiry)))
+          (renewed_place (Some p) (nonce_of users.algorithms feature words)
+          (moment_after now expiry)))
       by true h = k
       by false h = record {
         words = words;
@@ -113,7 +110,7 @@ module _ (users : Registered) (feature : Feature) (expiry : ℕ) (bound : ℕ) (
   message_kept : (p : PlaceSeen) → kept p → (now : ℕ) (words : List ℕ) (r : Reading)
       → Leaves (place_after (seen_at (Some p)) now words r)
   message_kept p k now words r =
-      let q = standing (seen_at (Some p)) now words in
+      let q = current_place (seen_at (Some p)) now words in
       needed_kept (needs_nonce r) p (with_accepted q (verdict_at (seen_at (Some p)) q r)) k
       (accepted_kept q (verdict_at (seen_at (Some p)) q r) (standing_kept p k now words))
 

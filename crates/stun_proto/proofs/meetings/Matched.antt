@@ -12,15 +12,16 @@ use Rattle.stun_auth.specs.declared.algorithm_set.AlgorithmSet.{AlgorithmSet}
 use Rattle.stun_auth.specs.declared.algorithm_set.AlgorithmSet.TheVariants.{OnlySha1}
 use Rattle.stun_auth.specs.declared.algorithm_set.AlgorithmSet.TheVariants.{OnlySha256, Both}
 use Rattle.stun_auth.specs.declared.feature.Feature.{Feature}
-use Rattle.stun_auth.specs.Algorithms.{contains, listed, offered_list}
+use Rattle.stun_auth.specs.Algorithms.{contains, algorithms_of, offered_list}
 use Rattle.stun_auth.specs.Client.{Challenge, Naming, plain, hashed}
 use Rattle.stun_auth.specs.Nonces.{asks_for_algorithms}
 use Rattle.stun_auth.specs.Reading.{Reading, verified_under}
 use Rattle.stun_auth.specs.Registered.{Registered, RegisteredUser, key_at, key_if, key_of}
 use Rattle.stun_auth.specs.Seen.{ClientSeen, PlaceSeen}
 use Rattle.stun_auth.specs.Signed.{hashed_name, plain_name}
-use Rattle.stun_auth.specs.Server.{agreed, choice, client_of, named, named_by, nonce_refusal}
-use Rattle.stun_auth.specs.Server.{or_refused, proven, verified_for, their_nonce, verdict}
+use Rattle.stun_auth.specs.Server.{agreement, choice, client_of, named_user, named_by}
+use Rattle.stun_auth.specs.Server.{nonce_refusal}
+use Rattle.stun_auth.specs.Server.{or_refused, verified_named, verified_for, their_nonce, verdict}
 use Rattle.stun_auth.specs.Validation.{is_complete}
 use Rattle.stun_proto.specs.Matching.{Matches}
 use Rattle.stun_proto.proofs.meetings.Hashes.{own_user}
@@ -31,7 +32,8 @@ use Rattle.stun_proto.proofs.meetings.Signed.{IsRequest, NoncesAsk}
 
 -- a set that was offered, and a choice of it, agree
 agreed_of_set : (set : AlgorithmSet) (a : IntegrityAlgorithm) → contains a set ≡ true
-    → cond (contains Sha256 set) (choice (Some (listed set)) (Some a) (listed set)) (Some Sha1)
+    → cond (contains Sha256 set) (choice (Some (algorithms_of set)) (Some a) (algorithms_of set))
+    (Some Sha1)
     ≡ Some a
 agreed_of_set OnlySha1 Sha1 h = refl
 agreed_of_set OnlySha1 Sha256 h = cc
@@ -61,7 +63,7 @@ module _ (say : NoncesAsk) (users : Registered) (feature : Feature) (p : PlaceSe
       (own_user users who.username matches.known.secret matches.known.present) ∙ key_there
 
   module _ (r : Reading) (reads : IsRequest c r) where
-    pub agrees : agreed r p.nonce p.offered ≡ Some c.algorithm
+    pub agrees : agreement r p.nonce p.offered ≡ Some c.algorithm
     agrees =
         ap (λ b. cond b (choice r.algorithms r.algorithm (offered_list p.offered)) (Some Sha1)) asks
         ∙ ap (λ o.
@@ -69,21 +71,22 @@ module _ (say : NoncesAsk) (users : Registered) (feature : Feature) (p : PlaceSe
         (Some Sha1)) (reads.algorithms ∙ ap Some matches.algorithms)
         ∙ ap (λ o.
         cond (contains Sha256 users.algorithms)
-        (choice (Some (listed users.algorithms)) o (offered_list p.offered)) (Some Sha1))
+        (choice (Some (algorithms_of users.algorithms)) o (offered_list p.offered)) (Some Sha1))
         reads.algorithm
         ∙ ap (λ o.
         cond (contains Sha256 users.algorithms)
-        (choice (Some (listed users.algorithms)) (Some c.algorithm) (offered_list o)) (Some Sha1))
+        (choice (Some (algorithms_of users.algorithms)) (Some c.algorithm) (offered_list o))
+        (Some Sha1))
         matches.offered
         ∙ agreed_of_set users.algorithms c.algorithm matches.algorithm
 
     theirs : their_nonce r ≡ p.nonce
     theirs = ap (λ o. unwrap_or o []) reads.nonce ∙ matches.nonce
 
-    agrees_so : agreed r (their_nonce r) p.offered ≡ Some c.algorithm
-    agrees_so = ap (λ n. agreed r n p.offered) theirs ∙ agrees
+    agrees_so : agreement r (their_nonce r) p.offered ≡ Some c.algorithm
+    agrees_so = ap (λ n. agreement r n p.offered) theirs ∙ agrees
 
-    named_so : named users feature r ≡ Some user
+    named_so : named_user users feature r ≡ Some user
     named_so = ap (λ o. named_by o r.username users feature) reads.userhash
         ∙ ap (λ o. named_by (hashed_name c.naming) o users feature) reads.username ∙ matches.named
 
@@ -106,12 +109,13 @@ module _ (say : NoncesAsk) (users : Registered) (feature : Feature) (p : PlaceSe
     nameless = ap (λ o. is_none o && is_none r.username) reads.userhash
         ∙ ap (λ o. is_none (hashed_name c.naming) && is_none o) reads.username ∙ unnamed c.naming
 
-    disagreed : is_none (agreed r (their_nonce r) p.offered) ≡ false
+    disagreed : is_none (agreement r (their_nonce r) p.offered) ≡ false
     disagreed = ap is_none agrees_so
 
-    proven_so : is_none (proven users feature r (agreed r (their_nonce r) p.offered)) ≡ false
+    proven_so : is_none (verified_named users feature r (agreement r (their_nonce r) p.offered))
+        ≡ false
     proven_so =
-        ap (λ o. is_none (proven users feature r o)) agrees_so
+        ap (λ o. is_none (verified_named users feature r o)) agrees_so
         ∙ ap (λ o. is_none (option_and_then (verified_for users r c.algorithm) o)) named_so
         ∙ ap (λ o. is_none (option_and_then (verified_under r) o)) key_there
         ∙ ap is_none reads.digest
@@ -134,7 +138,7 @@ module _ (say : NoncesAsk) (users : Registered) (feature : Feature) (p : PlaceSe
         ap (λ (o : Option RegisteredUser).
         record {
           name = option_map_or (λ (present : RegisteredUser). present.username) o [];
-          algorithm = unwrap_or (agreed r (their_nonce r) p.offered) Sha1;
+          algorithm = unwrap_or (agreement r (their_nonce r) p.offered) Sha1;
         }) named_so
         ∙ ap (λ (o : Option IntegrityAlgorithm).
         record { name = who.username; algorithm = unwrap_or o Sha1 }) agrees_so

@@ -7,7 +7,7 @@ use Rattle.std.specs.Option.{option_map, option_and_then}
 use Rattle.std.specs.declared.result.Result.{Result}
 use Rattle.std.proofs.lemmas.Bool.{le-leb}
 use Rattle.stun_base.specs.Credentials.{NameAndPassword}
-use Rattle.stun_base.specs.Keys.{userhash}
+use Rattle.stun_base.specs.Keys.{userhash_of}
 use Rattle.stun_base.specs.Moments.{moment_after}
 use Rattle.stun_base.specs.declared.keys.algorithm.IntegrityAlgorithm.{IntegrityAlgorithm}
 use Rattle.stun_base.specs.declared.wire.error.StunWriteError.{StunWriteError}
@@ -16,36 +16,38 @@ use Rattle.stun_auth.specs.declared.feature.Feature.{Feature}
 use Rattle.stun_auth.specs.declared.server.reason.LongTermServerAuthErrorReason.TheVariants
     as Server
 use Rattle.stun_auth.specs.declared.server.reason.LongTermServerValidation.TheVariants as Served
-use Rattle.stun_auth.specs.Algorithms.{contains, listed}
+use Rattle.stun_auth.specs.Algorithms.{contains, algorithms_of}
 use Rattle.stun_auth.specs.Client.{Challenge, ClientSettings}
 use Rattle.stun_auth.specs.Client.{authenticated, authenticating, initial}
 use Rattle.stun_auth.specs.ClientStep.{UNAUTHORIZED, STALE_NONCE, after_challenge}
 use Rattle.stun_auth.specs.ClientStep.{after_digest, after_stale, choose, client_step, is_code}
-use Rattle.stun_auth.specs.ClientStep.{kept, kept_if, naming_of, or_unsupported, taken_up}
+use Rattle.stun_auth.specs.ClientStep.{new_challenge, new_challenge_if, naming_of, or_unsupported}
+use Rattle.stun_auth.specs.ClientStep.{taken_up}
 use Rattle.stun_auth.specs.Feature.{is_possible}
 use Rattle.stun_auth.specs.Nonces.{asks_for_userhash, nonce_of}
 use Rattle.stun_auth.specs.Places.{with_offer}
 use Rattle.stun_base.specs.MessageType.{is_success}
 use Rattle.stun_auth.specs.Reading.{Reading, reading_of, verified_under}
 use Rattle.stun_auth.specs.Registered.{Registered, user_with_hash}
-use Rattle.stun_auth.specs.Seen.{PlaceSeen, renewed}
+use Rattle.stun_auth.specs.Seen.{PlaceSeen, renewed_place}
 use Rattle.stun_auth.specs.Signed.{added_under_key, added_without_client, hashed_name, plain_name}
-use Rattle.stun_auth.specs.Server.{Sight, named_by, standing, standing_of}
+use Rattle.stun_auth.specs.Server.{Sight, named_by, current_place, current_place_of}
 use Rattle.stun_auth.specs.ServerSigning.{after_signing}
-use Rattle.stun_auth.specs.Validation.{ServerSeen, after_message, answer, place_after, sight}
+use Rattle.stun_auth.specs.Validation.{ServerSeen, after_validation, answer, place_after, sight}
 use Rattle.stun_proto.specs.Best.{best}
 use Rattle.stun_proto.specs.Honest.{AgreesOn, AreShort, ComesTo, HaveOwnHashes, IsHonest, IsReady}
 use Rattle.stun_proto.specs.Matching.{AreJoined, AreTexts, IsRegistered, Matches}
-use Rattle.stun_proto.specs.Negotiation.{Meeting, Met, asked, challenge_read, challenged}
+use Rattle.stun_proto.specs.Negotiation.{Meeting, Met, client_request, challenge_read}
+use Rattle.stun_proto.specs.Negotiation.{challenge_sent}
 use Rattle.stun_proto.specs.Negotiation.{success_read, failure, first_answered}
-use Rattle.stun_proto.specs.Negotiation.{first_asked, negotiated, responded}
-use Rattle.stun_proto.specs.Negotiation.{second_answered, second_asked, succeeded, success}
+use Rattle.stun_proto.specs.Negotiation.{first_asked, whole_negotiation, server_response}
+use Rattle.stun_proto.specs.Negotiation.{second_answered, second_asked, success_sent, success}
 use Rattle.stun_proto.specs.Serving.{after_calls}
 use Rattle.stun_proto.proofs.meetings.Answered.{protected, unprotected}
 use Rattle.stun_proto.proofs.meetings.Chosen.{best-had, choose-best}
 use Rattle.stun_proto.proofs.meetings.Hashes.{own_hash, own_user}
 use Rattle.stun_proto.proofs.meetings.Matched.{complete, key_found, matched_verdict}
-use Rattle.stun_proto.proofs.server_runs.Sights.{sight-after_message, sight-after_others}
+use Rattle.stun_proto.proofs.server_runs.Sights.{sight-after_validation, sight-after_others}
 use Rattle.stun_proto.proofs.server_runs.Sights.{sight-after_signing}
 use Rattle.stun_proto.proofs.meetings.Signed.{IsBare, IsFailure, IsRequest, IsSuccess}
 use Rattle.stun_proto.proofs.meetings.Signed.{NoncesAsk, SignedIsRead, SigningSucceeds}
@@ -59,7 +61,8 @@ challenge_step : (s : ClientSettings) (who : NameAndPassword) (realm nonce : Lis
     → s.credentials ≡ Some who → IsFailure UNAUTHORIZED realm nonce r → r.algorithms ≡ Some list
     → client_step s initial r
     ≡ after_challenge initial None
-    (kept_if s.feature who realm nonce (Some list) (choose s.supported s.feature nonce (Some list)))
+    (new_challenge_if s.feature who realm nonce (Some list)
+    (choose s.supported s.feature nonce (Some list)))
 challenge_step s who realm nonce list r credentials reads list_is =
     ap (λ e.
     cond (is_code UNAUTHORIZED e && true)
@@ -99,7 +102,7 @@ named_again : (users : Registered) (feature : Feature) (who : NameAndPassword)
     (plain_name (naming_of (hashes && possible) who.username users.realm)) users feature
     ≡ Some (record { username = who.username; secret = known.secret })
 named_again users feature who true true own known feasible =
-    ap (λ b. cond b (user_with_hash users (userhash who.username users.realm)) None) feasible
+    ap (λ b. cond b (user_with_hash users (userhash_of who.username users.realm)) None) feasible
     ∙ own_hash users who.username known.secret known.present own
 named_again users feature who true false own known feasible =
     own_user users who.username known.secret known.present
@@ -123,7 +126,8 @@ module _ (say : NoncesAsk) (found : SignedIsRead) (m : Meeting) (who : NameAndPa
   nonce = nonce_of users.algorithms server.feature m.first.words
 
   abbrev meant : Option IntegrityAlgorithm
-  meant = best m.settings.supported (listed users.algorithms) m.settings.feature server.feature
+  meant = best m.settings.supported
+      (algorithms_of users.algorithms) m.settings.feature server.feature
 
   -- what rules out that a signing is refused
   abbrev IsFitting : Type 0
@@ -159,13 +163,13 @@ module _ (say : NoncesAsk) (found : SignedIsRead) (m : Meeting) (who : NameAndPa
       }
 
   -- ---- the first request
-  first_at : standing (sight server m.from) m.first.now m.first.words ≡ opened
+  first_at : current_place (sight server m.from) m.first.now m.first.words ≡ opened
   first_at =
-      ap (λ o. standing_of o nonce m.first.now (moment_after m.first.now server.expiry))
+      ap (λ o. current_place_of o nonce m.first.now (moment_after m.first.now server.expiry))
       ready.new_address
 
   abbrev after_first : Reading → ServerSeen
-  after_first r = after_message server m.from m.first.now m.first.words r
+  after_first r = after_validation server m.from m.first.now m.first.words r
 
   first_served : (r : Reading) → IsBare r
       → (answer (sight server m.from) m.first.now m.first.words r ≡ Err Server.Unauthorized)
@@ -175,7 +179,7 @@ module _ (say : NoncesAsk) (found : SignedIsRead) (m : Meeting) (who : NameAndPa
       bare.protected
 
   first_sight : (r : Reading) → IsBare r → sight (after_first r) m.from ≡ seen opened
-  first_sight r bare = sight-after_message server m.from m.first.now m.first.words r
+  first_sight r bare = sight-after_validation server m.from m.first.now m.first.words r
       ∙ ap (λ (o : Option PlaceSeen). record (sight server m.from) { place = o })
       (first_served r bare).1
 
@@ -193,19 +197,24 @@ module _ (say : NoncesAsk) (found : SignedIsRead) (m : Meeting) (who : NameAndPa
       (first_sight r bare)
 
   abbrev challenge : IntegrityAlgorithm → Challenge
-  challenge a = kept m.settings.feature who users.realm nonce (Some (listed users.algorithms)) a
+  challenge a =
+      new_challenge m.settings.feature who users.realm nonce
+      (Some (algorithms_of users.algorithms)) a
 
   challenge_stepped : (r : Reading) → IsFailure UNAUTHORIZED users.realm nonce r
-      → r.algorithms ≡ Some (listed users.algorithms)
+      → r.algorithms ≡ Some (algorithms_of users.algorithms)
       → client_step m.settings initial r
       ≡ after_challenge initial None
-      (kept_if m.settings.feature who users.realm nonce (Some (listed users.algorithms))
+      (new_challenge_if m.settings.feature who users.realm nonce
+      (Some (algorithms_of users.algorithms))
       (or_unsupported meant))
   challenge_stepped r reads list_is =
-      challenge_step m.settings who users.realm nonce (listed users.algorithms) r ready.credentials
+      challenge_step m.settings who users.realm nonce
+      (algorithms_of users.algorithms) r ready.credentials
       reads list_is
       ∙ ap (λ o. after_challenge initial None
-      (kept_if m.settings.feature who users.realm nonce (Some (listed users.algorithms)) o))
+      (new_challenge_if m.settings.feature who users.realm nonce
+      (Some (algorithms_of users.algorithms)) o))
       (choose-best say m.settings.supported users.algorithms m.settings.feature server.feature
       m.first.words)
 
@@ -227,11 +236,11 @@ module _ (say : NoncesAsk) (found : SignedIsRead) (m : Meeting) (who : NameAndPa
     known = ready.registered;
   }
 
-  second_at : standing (seen offering) m.second.now m.second.words ≡ offering
+  second_at : current_place (seen offering) m.second.now m.second.words ≡ offering
   second_at =
       ap (λ b.
       cond b offering
-      (renewed (Some offering) (nonce_of users.algorithms server.feature m.second.words)
+      (renewed_place (Some offering) (nonce_of users.algorithms server.feature m.second.words)
       (moment_after m.second.now server.expiry)))
       (le-leb m.second.now (moment_after m.first.now server.expiry) ready.in_time)
 
@@ -292,14 +301,15 @@ module _ (say : NoncesAsk) (found : SignedIsRead) (m : Meeting) (who : NameAndPa
       omega arith
 
   challenge_signed : (r : Reading) → IsBare r → IsFitting
-      → IsOk (responded (failure UNAUTHORIZED m.first.id) (sight (after_first r) m.from))
+      → IsOk (server_response (failure UNAUTHORIZED m.first.id) (sight (after_first r) m.from))
   challenge_signed r bare fitting =
-      subst (λ v. IsOk (responded (failure UNAUTHORIZED m.first.id) v)) (sym (first_sight r bare))
+      subst (λ v. IsOk (server_response (failure UNAUTHORIZED m.first.id) v))
+      (sym (first_sight r bare))
       (fitting.0.challenge m.first.id (seen opened) (added_without_client true users nonce) refl
       (offer_small users nonce (nonce_short fitting) fitting.1.realm))
 
   request_signed : (a : IntegrityAlgorithm) → IsFitting
-      → IsOk (asked m.second.id (authenticating (challenge a)))
+      → IsOk (client_request m.second.id (authenticating (challenge a)))
   request_signed a fitting =
       fitting.0.request m.second.id (authenticating (challenge a))
       (request_small (challenge a) users.algorithms
@@ -308,9 +318,9 @@ module _ (say : NoncesAsk) (found : SignedIsRead) (m : Meeting) (who : NameAndPa
 
   success_signed : (a : IntegrityAlgorithm) → contains a users.algorithms ≡ true
       → (before : ServerSeen) → sight before m.from ≡ seen (taken a) → IsFitting
-      → IsOk (responded (success m.second.id) (sight before m.from))
+      → IsOk (server_response (success m.second.id) (sight before m.from))
   success_signed a had before is fitting =
-      subst (λ v. IsOk (responded (success m.second.id) v)) (sym is)
+      subst (λ v. IsOk (server_response (success m.second.id) v)) (sym is)
       (fitting.0.success m.second.id (seen (taken a))
       (added_under_key true users nonce a (challenge a).key)
       (ap (option_map (added_under_key true users nonce a))
@@ -320,11 +330,11 @@ module _ (say : NoncesAsk) (found : SignedIsRead) (m : Meeting) (who : NameAndPa
   -- the success
   from_success : (a : IntegrityAlgorithm) → meant ≡ Some a → contains a users.algorithms ≡ true
       → (before : ServerSeen) → sight before m.from ≡ seen (taken a)
-      → Comes (succeeded m a (authenticating (challenge a)) before
-      (responded (success m.second.id) (sight before m.from)))
+      → Comes (success_sent m a (authenticating (challenge a)) before
+      (server_response (success m.second.id) (sight before m.from)))
   from_success a chosen had before is =
-      paged (λ o. Comes (succeeded m a (authenticating (challenge a)) before o))
-      (responded (success m.second.id) (sight before m.from))
+      paged (λ o. Comes (success_sent m a (authenticating (challenge a)) before o))
+      (server_response (success m.second.id) (sight before m.from))
       (λ reason refused.
       (λ fitting. subst IsOk refused (success_signed a had before is fitting), λ ok. cc))
       (λ page signed. (
@@ -335,7 +345,7 @@ module _ (say : NoncesAsk) (found : SignedIsRead) (m : Meeting) (who : NameAndPa
             (record { name = who.username; algorithm = a }) (challenge a).key page refl refl
             (key_found say users server.feature offering (challenge a) who (matched a had))
             texts.realm (say.text users.algorithms server.feature m.first.words)
-            (sym (ap (responded (success m.second.id)) is) ∙ signed) in
+            (sym (ap (server_response (success m.second.id)) is) ∙ signed) in
             let last_is = sight-after_signing before m.from
             ∙ ap (λ (v : Sight).
             record v { place = option_map (with_offer v.registered.algorithms) v.place }) is in
@@ -354,14 +364,14 @@ module _ (say : NoncesAsk) (found : SignedIsRead) (m : Meeting) (who : NameAndPa
   from_second : (a : IntegrityAlgorithm) → meant ≡ Some a → (before : ServerSeen)
       → sight before m.from ≡ seen offering
       → Comes (second_asked m (authenticating (challenge a)) before
-      (asked m.second.id (authenticating (challenge a))))
+      (client_request m.second.id (authenticating (challenge a))))
   from_second a chosen before is =
       let had =
       best-had m.settings.supported users.algorithms m.settings.feature server.feature a chosen in
       let now = after_calls before m.second.before in
       let now_is = sight-after_others before m.from m.second.before ready.others_second ∙ is in
       let state = authenticating (challenge a) in
-      paged (λ o. Comes (second_asked m state before o)) (asked m.second.id state)
+      paged (λ o. Comes (second_asked m state before o)) (client_request m.second.id state)
       (λ reason refused. (λ fitting. subst IsOk refused (request_signed a fitting), λ ok. cc))
       (λ page signed.
       let r = reading_of page.bytes in
@@ -371,20 +381,22 @@ module _ (say : NoncesAsk) (found : SignedIsRead) (m : Meeting) (who : NameAndPa
       refl refl
       texts.realm (say.text users.algorithms server.feature m.first.words) texts.username signed in
       let served = second_served a had r reads in
-      let left_is = sight-after_message now m.from m.second.now m.second.words r
+      let left_is = sight-after_validation now m.from m.second.now m.second.words r
       ∙ ap (λ (v : Sight). record v { place = place_after v m.second.now m.second.words r }) now_is
       ∙ ap (λ (o : Option PlaceSeen). record (seen offering) { place = o }) served.1 in
       let answered = ap (λ v. answer v m.second.now m.second.words r) now_is ∙ served.0 in
       subst (λ o.
-      Comes (second_answered m state (after_message now m.from m.second.now m.second.words r) o))
+      Comes (second_answered m state (after_validation now m.from m.second.now m.second.words r) o))
       (sym answered)
-      (from_success a chosen had (after_message now m.from m.second.now m.second.words r) left_is))
+      (from_success a chosen had (after_validation now m.from m.second.now m.second.words r)
+      left_is))
 
   -- the client's answer to the challenge
   given_up : meant ≡ None → (before : ServerSeen) → sight before m.from ≡ seen offering
       → Comes (challenge_read m before
       (after_challenge initial None
-      (kept_if m.settings.feature who users.realm nonce (Some (listed users.algorithms))
+      (new_challenge_if m.settings.feature who users.realm nonce
+      (Some (algorithms_of users.algorithms))
       (or_unsupported None))))
   given_up none before is = (
     λ fitting. refl,
@@ -393,7 +405,8 @@ module _ (say : NoncesAsk) (found : SignedIsRead) (m : Meeting) (who : NameAndPa
         ComesTo m.from who o
         (challenge_read m before
         (after_challenge initial None
-        (kept_if m.settings.feature who users.realm nonce (Some (listed users.algorithms))
+        (new_challenge_if m.settings.feature who users.realm nonce
+        (Some (algorithms_of users.algorithms))
         (or_unsupported None)))))
         (sym none)
         (record {
@@ -407,33 +420,35 @@ module _ (say : NoncesAsk) (found : SignedIsRead) (m : Meeting) (who : NameAndPa
       → sight before m.from ≡ seen offering
       → Comes (challenge_read m before
       (after_challenge initial None
-      (kept_if m.settings.feature who users.realm nonce (Some (listed users.algorithms))
+      (new_challenge_if m.settings.feature who users.realm nonce
+      (Some (algorithms_of users.algorithms))
       (or_unsupported o))))
   from_step None none before is = given_up none before is
   from_step (Some a) chosen before is = from_second a chosen before is
 
   -- the challenge
   from_challenge : (r : Reading) → IsBare r
-      → Comes (challenged m initial (after_first r)
-      (responded (failure UNAUTHORIZED m.first.id) (sight (after_first r) m.from)))
+      → Comes (challenge_sent m initial (after_first r)
+      (server_response (failure UNAUTHORIZED m.first.id) (sight (after_first r) m.from)))
   from_challenge r bare =
-      paged (λ o. Comes (challenged m initial (after_first r) o))
-      (responded (failure UNAUTHORIZED m.first.id) (sight (after_first r) m.from))
+      paged (λ o. Comes (challenge_sent m initial (after_first r) o))
+      (server_response (failure UNAUTHORIZED m.first.id) (sight (after_first r) m.from))
       (λ reason refused.
       (λ fitting. subst IsOk refused (challenge_signed r bare fitting), λ ok. cc))
       (λ page signed.
       let reads =
       found.challenge m.first.id (seen opened) opened page refl refl texts.realm
       (say.text users.algorithms server.feature m.first.words)
-      (sym (ap (responded (failure UNAUTHORIZED m.first.id)) (first_sight r bare)) ∙ signed) in
+      (sym (ap (server_response (failure UNAUTHORIZED m.first.id)) (first_sight r bare))
+      ∙ signed) in
       subst (λ step. Comes (challenge_read m (after_offer r) step))
       (sym (challenge_stepped (reading_of page.bytes) reads.0 reads.1))
       (from_step meant refl (after_offer r) (offer_sight r bare)))
 
   -- the first request
-  from_first : Comes (first_asked m initial server (asked m.first.id initial))
+  from_first : Comes (first_asked m initial server (client_request m.first.id initial))
   from_first =
-      paged (λ o. Comes (first_asked m initial server o)) (asked m.first.id initial)
+      paged (λ o. Comes (first_asked m initial server o)) (client_request m.first.id initial)
       (λ reason refused. (
         λ fitting. subst IsOk refused (fitting.0.request m.first.id initial nothing_small),
         λ ok. cc,
@@ -444,8 +459,8 @@ module _ (say : NoncesAsk) (found : SignedIsRead) (m : Meeting) (who : NameAndPa
       subst (λ o. Comes (first_answered m initial (after_first r) o)) (sym (first_served r bare).0)
       (from_challenge r bare))
 
-  pub comes_to : IsOk (negotiated m initial server).ending
-      → ComesTo m.from who meant (negotiated m initial server)
+  pub comes_to : IsOk (whole_negotiation m initial server).ending
+      → ComesTo m.from who meant (whole_negotiation m initial server)
   comes_to = from_first.1
 
   pub all_signed : IsFitting → IsHonest m who server

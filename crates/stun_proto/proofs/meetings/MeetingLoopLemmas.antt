@@ -18,10 +18,11 @@ use Rattle.stun_proto.specs.Honest.{ComesTo, StrongestIsAgreed, strongest}
 use Rattle.stun_proto.specs.MeetingLoop.{ChallengeRead, ChallengeSigned, FirstRead}
 use Rattle.stun_proto.specs.MeetingLoop.{FirstSigned, MeetingsAgree, MeetingsAreNegotiated}
 use Rattle.stun_proto.specs.MeetingLoop.{SecondRead, SecondSigned, SuccessSigned}
-use Rattle.stun_proto.specs.Negotiation.{Meeting, Met, asked, challenge_answered, challenge_read}
-use Rattle.stun_proto.specs.Negotiation.{challenged, ended, first_answered, first_asked}
-use Rattle.stun_proto.specs.Negotiation.{outcome_of_success, responded, second_answered}
-use Rattle.stun_proto.specs.Negotiation.{second_asked, second_read, succeeded, unwritten}
+use Rattle.stun_proto.specs.Negotiation.{Meeting, Met, client_request, challenge_answered}
+use Rattle.stun_proto.specs.Negotiation.{challenge_read}
+use Rattle.stun_proto.specs.Negotiation.{challenge_sent, ending_with, first_answered, first_asked}
+use Rattle.stun_proto.specs.Negotiation.{outcome_of_success, server_response, second_answered}
+use Rattle.stun_proto.specs.Negotiation.{second_asked, second_read, success_sent, ending_unwritten}
 use Rattle.stun_proto.specs.Serving.{after_calls}
 use Rattle.stun_proto.specs.Signing.{if_signed}
 use Rattle.stun_proto.proofs.server_runs.ServerLoopLemmas.{calls_are_served}
@@ -30,19 +31,19 @@ module _ (m : Meeting) where
   success_signed : (a : IntegrityAlgorithm) (state : ClientState) (server after : ServerSeen)
       (signed : Result Page StunWriteError) (met : Met)
       → after ≡ if_signed signed server (after_signing server m.from true)
-      → SuccessSigned m a state signed after met → met ≡ succeeded m a state server signed
+      → SuccessSigned m a state signed after met → met ≡ success_sent m a state server signed
   success_signed a state server after (Err reason) met left is = is
-      ∙ ap (unwritten reason state) left
+      ∙ ap (ending_unwritten reason state) left
   success_signed a state server after (Ok page) met left (given, then, reads, is) =
-      is ∙ (λ i. ended (outcome_of_success a (reads.answered i)) (reads.left i) (left i))
+      is ∙ (λ i. ending_with (outcome_of_success a (reads.answered i)) (reads.left i) (left i))
 
   second_read_left : (state : ClientState) (server : ServerSeen) (given : Answer) (met : Met)
       → SecondRead m state given server met → met ≡ second_answered m state server given
-  unfolding responded
+  unfolding server_response
   second_read_left state server (Err reason) met is = is
   second_read_left state server (Ok (Served.Validated a)) met (signed, after, signs, others) =
       success_signed a state server after signed met signs.left others
-      ∙ ap (succeeded m a state server) signs.answered
+      ∙ ap (success_sent m a state server) signs.answered
 
   second_signed : (state : ClientState) (server : ServerSeen) (signed : Result Page StunWriteError)
       (met : Met) → SecondSigned m state signed server met
@@ -57,7 +58,7 @@ module _ (m : Meeting) where
   challenge_read_left : (state : ClientState) (server : ServerSeen) (given : ClientAnswer)
       (met : Met) → ChallengeRead m given state server met
       → met ≡ challenge_answered m server state given
-  unfolding asked
+  unfolding client_request
   challenge_read_left state server (Ok (Read.ResendRequest a)) met (signed, signs, others) =
       second_signed state server signed met others ∙ ap (second_asked m state server) signs
   challenge_read_left state server (Ok (Read.Validated a)) met is = is
@@ -66,9 +67,9 @@ module _ (m : Meeting) where
   challenge_signed : (state : ClientState) (server after : ServerSeen)
       (signed : Result Page StunWriteError) (met : Met)
       → after ≡ if_signed signed server (after_signing server m.from true)
-      → ChallengeSigned m state signed after met → met ≡ challenged m state server signed
+      → ChallengeSigned m state signed after met → met ≡ challenge_sent m state server signed
   challenge_signed state server after (Err reason) met left is = is
-      ∙ ap (unwritten reason state) left
+      ∙ ap (ending_unwritten reason state) left
   challenge_signed state server after (Ok page) met left
       (told, called, made, given, then, reads, others) =
       challenge_read_left then called given met others
@@ -79,11 +80,11 @@ module _ (m : Meeting) where
 
   first_read_left : (state : ClientState) (server : ServerSeen) (given : Answer) (met : Met)
       → FirstRead m state given server met → met ≡ first_answered m state server given
-  unfolding responded
+  unfolding server_response
   first_read_left state server (Ok (Served.Validated a)) met is = is
   first_read_left state server (Err Server.Unauthorized) met (signed, after, signs, others) =
       challenge_signed state server after signed met signs.left others
-      ∙ ap (challenged m state server) signs.answered
+      ∙ ap (challenge_sent m state server) signs.answered
   first_read_left state server (Err Server.IntegrityFailed) met is = is
   first_read_left state server (Err Server.UnsupportedFeature) met is = is
   first_read_left state server (Err Server.BadRequest) met is = is
@@ -98,7 +99,7 @@ module _ (m : Meeting) where
       ∙ (λ i. first_answered m state (reads.left i) (reads.answered i))
 
 pub meetings_are_negotiated : MeetingsAreNegotiated
-unfolding asked
+unfolding client_request
 meetings_are_negotiated m state server met (signed, signs, others) = first_signed m state server
     signed met others ∙ ap (first_asked m state server) signs
 

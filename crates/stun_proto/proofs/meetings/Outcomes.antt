@@ -13,14 +13,14 @@ use Rattle.stun_base.specs.declared.wire.error.StunWriteError.{StunWriteError}
 use Rattle.stun_auth.specs.declared.client.answer.LongTermClientAuthErrorReason.TheVariants.{
   UnsupportedFeature,
 }
-use Rattle.stun_auth.specs.Algorithms.{listed}
+use Rattle.stun_auth.specs.Algorithms.{algorithms_of}
 use Rattle.stun_auth.specs.Client.{ClientState, initial}
 use Rattle.stun_auth.specs.Seen.{ClientSeen, PlaceSeen}
 use Rattle.stun_auth.specs.Validation.{ServerSeen}
 use Rattle.stun_proto.specs.Headline.{EndsAtStrongest, EndsWith, KnowEachOther}
 use Rattle.stun_proto.specs.Honest.{AgreesOn, ComesTo, client_at, strongest}
 use Rattle.stun_proto.specs.Negotiating.{met_by}
-use Rattle.stun_proto.specs.Negotiation.{Meeting, Met, ended}
+use Rattle.stun_proto.specs.Negotiation.{Meeting, Met, ending_with}
 use Rattle.stun_proto.specs.declared.replay.negotiation.NegotiateError.{NegotiateError}
 use Rattle.stun_proto.specs.declared.replay.negotiation.NegotiateError.TheVariants.{Memory, Write}
 use Rattle.stun_proto.specs.declared.replay.negotiation.Outcome.{Outcome}
@@ -90,12 +90,12 @@ ending : (from : SocketAddr) (who : NameAndPassword) (found : Option IntegrityAl
 ending from who (Some a) (Ok outcome) client server h =
     inl (
       ap Ok (same_outcome outcome (Validated a) (Ok outcome) refl h.ending),
-      left_so from who (Some a) (ended outcome client server) h,
+      left_so from who (Some a) (ending_with outcome client server) h,
     )
 ending from who None (Ok outcome) client server h =
     inl (
       ap Ok (same_outcome outcome (ClientRefused UnsupportedFeature) (Ok outcome) refl h.ending),
-      left_so from who None (ended outcome client server) h,
+      left_so from who None (ending_with outcome client server) h,
     )
 ending from who (Some a) (Err (Write reason)) client server h =
     absurd (let clash : Err reason ≡ Ok (Validated a) = h.ending in cc)
@@ -110,7 +110,7 @@ pub ends_at_strongest : (m : Meeting) (server : ServerSeen) (who : NameAndPasswo
     → EndsAtStrongest m who server result client left
 ends_at_strongest m server who result client left h =
     let ours = m.settings.supported in
-    let theirs = listed server.registered.algorithms in
+    let theirs = algorithms_of server.registered.algorithms in
     let law = best_is ours theirs m.settings.feature server.feature in
     let found = ending m.from who (strongest m server) result client left h in
     let at : Option IntegrityAlgorithm

@@ -11,8 +11,8 @@ use Rattle.stun_auth.specs.Reading.{Reading}
 use Rattle.stun_auth.specs.Reasons.{ServerRefusal}
 use Rattle.stun_auth.specs.code.Reasons.{bad_request, unauthorized}
 use Rattle.stun_auth.specs.Registered.{Registered}
-use Rattle.stun_auth.specs.Server.{agreed, client_of, nonce_refusal}
-use Rattle.stun_auth.specs.Server.{or_refused, proven, their_nonce, verdict}
+use Rattle.stun_auth.specs.Server.{agreement, client_of, nonce_refusal}
+use Rattle.stun_auth.specs.Server.{or_refused, verified_named, their_nonce, verdict}
 
 -- the first refusal that holds
 abbrev pub refused_by : Bool → Bool → Bool → Bool → Bool → Bool → ServerRefusal
@@ -67,6 +67,6 @@ bare_verdict users feature ours offered r bare =
     ap (λ o. or_refused o (client_of users feature ours offered r))
     (first_holds (is_none r.integrity) (is_none r.realm || is_none r.nonce)
     (is_none r.userhash && is_none r.username)
-    (is_none (agreed r (their_nonce r) offered)) (not (bytes_eq (their_nonce r) ours))
-    (is_none (proven users feature r (agreed r (their_nonce r) offered)))
+    (is_none (agreement r (their_nonce r) offered)) (not (bytes_eq (their_nonce r) ours))
+    (is_none (verified_named users feature r (agreement r (their_nonce r) offered)))
     (nonce_refusal ours (their_nonce r)) (none_there r.integrity bare))

@@ -29,7 +29,8 @@ use Rattle.stun_auth.specs.Reasons.{ServerRefusal}
 use Rattle.stun_auth.specs.code.Reasons.{stale_nonce, unauthorized}
 use Rattle.stun_auth.specs.Registered.{Registered}
 use Rattle.stun_auth.specs.Seen.{ClientSeen, PlaceSeen}
-use Rattle.stun_auth.specs.Server.{Sight, bits_differ, named_by, nonce_refusal, standing, verdict}
+use Rattle.stun_auth.specs.Server.{Sight, bits_differ, named_by, nonce_refusal, current_place}
+use Rattle.stun_auth.specs.Server.{verdict}
 use Rattle.stun_auth.specs.ServerSigning.{after_signing}
 use Rattle.stun_auth.specs.Signed.{hashed_name, plain_name}
 use Rattle.stun_auth.specs.Validation.{ServerSeen, answer, answer_to}
@@ -38,11 +39,12 @@ use Rattle.stun_proto.specs.Matching.{AreJoined, AreTexts, Matches}
 use Rattle.stun_proto.specs.Renewal as renewal
 use Rattle.stun_proto.specs.Renewal.{HasRunOut, IsAcceptedAnew, IsAsked, IsRenewed}
 use Rattle.stun_proto.specs.Renewal.{IsTold, Renewal, after_request, answer_at}
-use Rattle.stun_proto.specs.Renewal.{at_error, at_first, at_second, drawn, told}
+use Rattle.stun_proto.specs.Renewal.{at_error, at_first, at_second, current_nonce}
+use Rattle.stun_proto.specs.Renewal.{client_after_error}
 use Rattle.stun_proto.proofs.meetings.Answered.{protected}
 use Rattle.stun_proto.proofs.meetings.Keeping.{IsKept, Keeps, calls_keep, standing_kept}
 use Rattle.stun_proto.proofs.meetings.Matched.{complete, matched_verdict, other_verdict}
-use Rattle.stun_proto.proofs.server_runs.Sights.{sight-after_message}
+use Rattle.stun_proto.proofs.server_runs.Sights.{sight-after_validation}
 use Rattle.stun_proto.proofs.meetings.Standing.{Stands, calls_leave, place_of}
 use Rattle.stun_proto.proofs.meetings.Standing.{signing_leaves, standing_in_time}
 use Rattle.stun_proto.proofs.meetings.Signed.{IsFailure, IsRequest, NoncesAsk, SignedIsRead}
@@ -88,7 +90,7 @@ module _ (say : NoncesAsk) (found : SignedIsRead) (m : Renewal) (who : NameAndPa
   users = server.registered
 
   abbrev fresh : List ℕ
-  fresh = drawn m server
+  fresh = current_nonce m server
 
   abbrev end : ℕ
   end = renewal.end m server
@@ -133,7 +135,7 @@ module _ (say : NoncesAsk) (found : SignedIsRead) (m : Renewal) (who : NameAndPa
   old_place = first_keeps.0
 
   abbrev first_place : PlaceSeen
-  first_place = standing (seen (Some old_place)) m.first.now m.first.words
+  first_place = current_place (seen (Some old_place)) m.first.now m.first.words
 
   abbrev known_first : Option ClientSeen
   known_first = first_place.client
@@ -150,10 +152,10 @@ module _ (say : NoncesAsk) (found : SignedIsRead) (m : Renewal) (who : NameAndPa
       first_keeps.2 m.first.now m.first.words
 
   fresh_is : fresh ≡ first_place.nonce
-  fresh_is = ap (λ (v : Sight). (standing v m.first.now m.first.words).nonce) first_sees
+  fresh_is = ap (λ (v : Sight). (current_place v m.first.now m.first.words).nonce) first_sees
 
   end_is : end ≡ first_place.expires
-  end_is = ap (λ (v : Sight). (standing v m.first.now m.first.words).expires) first_sees
+  end_is = ap (λ (v : Sight). (current_place v m.first.now m.first.words).expires) first_sees
 
   fresh_made : fresh ≡ nonce_of users.algorithms server.feature first_kept.words
   fresh_made = fresh_is ∙ first_kept.nonce
@@ -162,7 +164,7 @@ module _ (say : NoncesAsk) (found : SignedIsRead) (m : Renewal) (who : NameAndPa
   fresh_text =
       subst IsUtf8 (sym fresh_made) (say.text users.algorithms server.feature first_kept.words)
 
-  first_at : standing (seen (Some old_place)) m.first.now m.first.words ≡ anew known_first
+  first_at : current_place (seen (Some old_place)) m.first.now m.first.words ≡ anew known_first
   first_at =
       ap (λ n. record first_place { nonce = n }) (sym fresh_is)
       ∙ ap (λ e. record first_place { nonce = fresh; expires = e }) (sym end_is)
@@ -253,7 +255,7 @@ module _ (say : NoncesAsk) (found : SignedIsRead) (m : Renewal) (who : NameAndPa
       first_stands : StandsAnew (after_request m m.first (at_first m server) asking)
       first_stands = (
         known_first,
-        sight-after_message (at_first m server) m.from m.first.now m.first.words first_read
+        sight-after_validation (at_first m server) m.from m.first.now m.first.words first_read
             ∙ ap (λ (v : Sight). record v
             { place = place_after first_sight m.first.now m.first.words first_read }) first_sees
             ∙ ap seen (first_served (Err stale_nonce) (judged_other differs)).1,
@@ -279,7 +281,7 @@ module _ (say : NoncesAsk) (found : SignedIsRead) (m : Renewal) (who : NameAndPa
       again = record c { realm = users.realm; nonce = fresh }
 
       told_so : (telling : Page) → IsTold (sight (at_error m server asking) m.from) telling
-          → told m (authenticated c) telling ≡ authenticated again
+          → client_after_error m (authenticated c) telling ≡ authenticated again
       told_so telling is =
           let reads =
           found.stale (seen (Some (anew error_stands.0))) (anew error_stands.0) telling refl
@@ -299,7 +301,7 @@ module _ (say : NoncesAsk) (found : SignedIsRead) (m : Renewal) (who : NameAndPa
 
       accepted_second : (telling next : Page)
           → IsTold (sight (at_error m server asking) m.from) telling
-          → IsAsked (told m (authenticated c) telling) next
+          → IsAsked (client_after_error m (authenticated c) telling) next
           → IsAcceptedAnew m who c (at_second m server asking) telling next
       accepted_second telling next is asked_again =
           let r = reading_of next.bytes in
@@ -319,7 +321,7 @@ module _ (say : NoncesAsk) (found : SignedIsRead) (m : Renewal) (who : NameAndPa
           (complete say users server.feature (anew known) again who matches_again r reads_again)
           (matched_verdict say users server.feature (anew known) again who matches_again r
           reads_again) in
-          let left = sight-after_message at m.from m.second.now m.second.words r
+          let left = sight-after_validation at m.from m.second.now m.second.words r
           ∙ ap (λ (v : Sight). record v { place = place_after v m.second.now m.second.words r })
           second_stands.1
           ∙ ap seen served.1 in

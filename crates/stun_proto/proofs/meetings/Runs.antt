@@ -23,9 +23,10 @@ use Rattle.stun_auth.specs.ClientStep.{ClientAnswer, IsResend}
 use Rattle.stun_auth.specs.Validation.{ServerSeen}
 use Rattle.stun_proto.specs.code.FirstAnswers.{answer_of, end_of_challenge, end_of_first}
 use Rattle.stun_proto.specs.code.Sides.{IsRun}
-use Rattle.stun_proto.specs.Negotiating.{error_of, met_by}
-use Rattle.stun_proto.specs.Negotiation.{Meeting, Met, asked, challenge_answered, ended}
-use Rattle.stun_proto.specs.Negotiation.{first_answered, second_asked, unwritten}
+use Rattle.stun_proto.specs.Negotiating.{error_of_write, met_by}
+use Rattle.stun_proto.specs.Negotiation.{Meeting, Met, client_request, challenge_answered}
+use Rattle.stun_proto.specs.Negotiation.{ending_with}
+use Rattle.stun_proto.specs.Negotiation.{first_answered, second_asked, ending_unwritten}
 use Rattle.stun_proto.specs.Sides.{Sides, sides}
 use Rattle.stun_proto.specs.declared.replay.negotiation.NegotiateError.{NegotiateError}
 use Rattle.stun_proto.specs.declared.replay.negotiation.NegotiateError.TheVariants.{Memory, Write}
@@ -34,7 +35,7 @@ use Rattle.stun_proto.specs.declared.replay.negotiation.Outcome.{Outcome}
 module _ {client : ClientState} {server : ServerSeen} where
   -- with an outcome
   pub ends : (outcome : Outcome) {met : Met} (P : Sides → Type 0)
-      → ended outcome client server ≡ met → IsRun (Ok outcome) client server met P
+      → ending_with outcome client server ≡ met → IsRun (Ok outcome) client server met P
   ends outcome P is = record { steps = is; memory = λ h. cc; write = λ h. cc }
 
   -- an allocation fails
@@ -53,9 +54,10 @@ module _ {client : ClientState} {server : ServerSeen} where
   pub refused : (r : Result Outcome NegotiateError) (reason : StunWriteError)
       (o : Result Page StunWriteError) (chain : Result Page StunWriteError → Met)
       (P : Sides → Type 0)
-      → IsErrAnd r (λ e. e ≡ error_of reason)
+      → IsErrAnd r (λ e. e ≡ error_of_write reason)
       → UnlessMemory {V = Written} (Err reason) (Err reason ≡ o) (Unit {0})
-      → ((x : StunWriteError) → chain (Err x) ≡ unwritten x client server) → P (sides client server)
+      → ((x : StunWriteError) → chain (Err x) ≡ ending_unwritten x client server)
+      → P (sides client server)
       → IsRun r client server (chain o) P
   refused (Ok outcome) reason o chain P failed told ends at = absurd failed
   refused (Err e) reason o chain P failed told ends at =
@@ -70,7 +72,7 @@ module _ {client : ClientState} {server : ServerSeen} where
       }
 
       by_reason : (x : StunWriteError) → UnlessMemory {V = Written} (Err x) (Err x ≡ o) (Unit {0})
-          → IsRun (Err (error_of x)) client server (chain o) P
+          → IsRun (Err (error_of_write x)) client server (chain o) P
       by_reason NotAllowed h = written NotAllowed (λ x. cc) h
       by_reason MessageIntegrityExists h = written MessageIntegrityExists (λ x. cc) h
       by_reason (AttributeExists kind) h = written (AttributeExists kind) (λ x. cc) h
@@ -93,7 +95,8 @@ module _ {client : ClientState} {server : ServerSeen} where
 module _ (m : Meeting) (state : ClientState) (server : ServerSeen) where
   pub first_ends : (given : Result IntegrityAlgorithm LongTermServerAuthErrorReason)
       → MatchOption (end_of_first given) (Err Server.Unauthorized ≡ answer_of given)
-      (λ outcome. ended outcome state server ≡ first_answered m state server (answer_of given))
+      (λ outcome. ending_with outcome state server
+      ≡ first_answered m state server (answer_of given))
   first_ends (Ok a) = refl
   first_ends (Err Server.Unauthorized) = refl
   first_ends (Err Server.IntegrityFailed) = refl
@@ -105,9 +108,9 @@ module _ (m : Meeting) (state : ClientState) (server : ServerSeen) where
   pub challenge_ends : (given : ClientAnswer)
       → MatchOption (end_of_challenge given)
       (IsResend given
-      × (second_asked m state server (asked m.second.id state)
+      × (second_asked m state server (client_request m.second.id state)
       ≡ challenge_answered m server state given))
-      (λ outcome. ended outcome state server ≡ challenge_answered m server state given)
+      (λ outcome. ending_with outcome state server ≡ challenge_answered m server state given)
   challenge_ends (Ok (Read.ResendRequest a)) = (tt, refl)
   challenge_ends (Ok (Read.Validated a)) = refl
   challenge_ends (Err reason) = refl

@@ -7,7 +7,7 @@ use Rattle.stun_base.specs.declared.keys.algorithm.IntegrityAlgorithm.TheVariant
 use Rattle.stun_auth.specs.declared.algorithm_set.AlgorithmSet.{AlgorithmSet}
 use Rattle.stun_auth.specs.declared.feature.Feature.{Feature}
 use Rattle.stun_auth.specs.Additions.{Page}
-use Rattle.stun_auth.specs.Algorithms.{contains, listed}
+use Rattle.stun_auth.specs.Algorithms.{contains, algorithms_of}
 use Rattle.stun_auth.specs.Client.{Challenge, ClientState, initial}
 use Rattle.stun_auth.specs.ClientSigning.{kept_challenge}
 use Rattle.stun_auth.specs.ClientStep.{UNAUTHORIZED, STALE_NONCE, naming_of}
@@ -20,7 +20,7 @@ use Rattle.stun_auth.specs.Seen.{ClientSeen, PlaceSeen}
 use Rattle.stun_auth.specs.Signed.{Added, IsSmall, added_by_client}
 use Rattle.stun_auth.specs.Signed.{added_by_server, hashed_name, plain_name}
 use Rattle.stun_auth.specs.Server.{Sight}
-use Rattle.stun_proto.specs.Negotiation.{asked, failure, responded, success}
+use Rattle.stun_proto.specs.Negotiation.{client_request, failure, server_response, success}
 use Rattle.stun_proto.specs.Renewal.{IsAsked, IsTold}
 
 -- what a server's nonces ask for
@@ -66,21 +66,22 @@ pub record IsSuccess (a : IntegrityAlgorithm) (key : List ℕ) (r : Reading) : T
 
 -- what is read of each message of a run
 pub record SignedIsRead : Type 0 where
-  pub bare : (id : ℕ) (page : Page) → asked id initial ≡ Ok page → IsBare (reading_of page.bytes)
+  pub bare : (id : ℕ) (page : Page) → client_request id initial ≡ Ok page
+      → IsBare (reading_of page.bytes)
   pub request : (id : ℕ) (state : ClientState) (c : Challenge) (set : AlgorithmSet) (hashes : Bool)
       (name realm : List ℕ) (page : Page)
-      → kept_challenge state ≡ Some c → c.algorithms ≡ listed set
+      → kept_challenge state ≡ Some c → c.algorithms ≡ algorithms_of set
       → c.naming ≡ naming_of hashes name realm
-      → IsUtf8 c.realm → IsUtf8 c.nonce → IsUtf8 name → asked id state ≡ Ok page
+      → IsUtf8 c.realm → IsUtf8 c.nonce → IsUtf8 name → client_request id state ≡ Ok page
       → IsRequest c (reading_of page.bytes)
   pub challenge : (id : ℕ) (s : Sight) (p : PlaceSeen) (page : Page) → s.place ≡ Some p
       → p.client ≡ None → IsUtf8 s.registered.realm → IsUtf8 p.nonce
-      → responded (failure UNAUTHORIZED id) s ≡ Ok page
+      → server_response (failure UNAUTHORIZED id) s ≡ Ok page
       → IsFailure UNAUTHORIZED s.registered.realm p.nonce (reading_of page.bytes)
-      × ((reading_of page.bytes).algorithms ≡ Some (listed s.registered.algorithms))
+      × ((reading_of page.bytes).algorithms ≡ Some (algorithms_of s.registered.algorithms))
   pub any_request : (state : ClientState) (c : Challenge) (set : AlgorithmSet) (hashes : Bool)
       (name realm : List ℕ) (page : Page)
-      → kept_challenge state ≡ Some c → c.algorithms ≡ listed set
+      → kept_challenge state ≡ Some c → c.algorithms ≡ algorithms_of set
       → c.naming ≡ naming_of hashes name realm
       → IsUtf8 c.realm → IsUtf8 c.nonce → IsUtf8 name → IsAsked state page
       → IsRequest c (reading_of page.bytes)
@@ -91,15 +92,15 @@ pub record SignedIsRead : Type 0 where
       → s.place ≡ Some p → p.client ≡ Some c
       → key_at s.registered c.name c.algorithm ≡ Some key → IsUtf8 s.registered.realm
       → IsUtf8 p.nonce
-      → responded (success id) s ≡ Ok page → IsSuccess c.algorithm key (reading_of page.bytes)
+      → server_response (success id) s ≡ Ok page → IsSuccess c.algorithm key (reading_of page.bytes)
 
 -- each message of a run can be signed with what is small, and nonces are short
 pub record SigningSucceeds : Type 0 where
   pub request : (id : ℕ) (state : ClientState) → IsSmall (added_by_client true state)
-      → IsOk (asked id state)
+      → IsOk (client_request id state)
   pub challenge : (id : ℕ) (s : Sight) (a : Added) → added_by_server s true ≡ Some a → IsSmall a
-      → IsOk (responded (failure UNAUTHORIZED id) s)
+      → IsOk (server_response (failure UNAUTHORIZED id) s)
   pub success : (id : ℕ) (s : Sight) (a : Added) → added_by_server s true ≡ Some a → IsSmall a
-      → IsOk (responded (success id) s)
+      → IsOk (server_response (success id) s)
   pub short : (set : AlgorithmSet) (f : Feature) (words : List ℕ)
       → length (nonce_of set f words) ≤ 13 + length words

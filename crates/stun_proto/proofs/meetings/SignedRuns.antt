@@ -1,27 +1,24 @@
 -- What is read of each message of a run, and that it can be signed, by the laws on what signing
 -- adds.
-use Rattle.std.proofs.Common.{◌≡◌, ℕ, zero, suc, ◌+◌, ◌-◌, ◌<◌, ◌≤◌, ◌^◌, List}
+use Rattle.std.proofs.Common.{◌≡◌, ℕ, ◌+◌, ◌-◌, ◌<◌, ◌≤◌, ◌^◌, List}
 use Rattle.std.proofs.Common.{[], ◌∷◌, length, Bool, true, false, Option, Some}
 use Rattle.std.proofs.Common.{None, refl, sym, ◌∙◌, ap, subst, Ok, arith}
-use Rattle.std.specs.Prelude.{codes, IsOk, IsUtf8, nat_lt, ◌||◌, ◌&&◌, if◌then◌else◌}
+use Rattle.std.specs.Prelude.{codes, IsOk, IsUtf8, ◌||◌, if◌then◌else◌}
 use Rattle.std.specs.Option.{IsSome, option_map}
-use Rattle.std.proofs.lemmas.Bool.{ltb-true}
-use Rattle.std.specs.Str.{IsAscii}
 use Rattle.std.proofs.lemmas.Str.{IsUtf8-from_ascii}
-use Rattle.std.proofs.lemmas.Str.Ascii.{IsAscii-nil}
 use Rattle.sha2.proofs.Facts256.{length-sha256}
 use Rattle.stun_base.specs.MessageType.{class_of, type_number, class_in}
 use Rattle.stun_base.specs.MessageType.{is_response, is_success, is_error}
 use Rattle.stun_base.specs.declared.wire.message_type.MessageClass.{MessageClass}
 use Rattle.stun_base.specs.declared.wire.message_type.MessageClass.TheVariants as Class
 use Rattle.stun_types.specs.ErrorCode.{CodeAndReason, IsError}
-use Rattle.stun_types.specs.Grammar.{spelled}
+use Rattle.stun_types.specs.Grammar.{spelled_message}
 use Rattle.stun_auth.specs.Additions.{Page, added_all}
 use Rattle.stun_auth.specs.declared.algorithm_set.AlgorithmSet.{AlgorithmSet}
 use Rattle.stun_auth.specs.declared.algorithm_set.AlgorithmSet.TheVariants.{OnlySha1}
 use Rattle.stun_auth.specs.declared.algorithm_set.AlgorithmSet.TheVariants.{OnlySha256, Both}
 use Rattle.stun_auth.specs.declared.feature.Feature.{Feature}
-use Rattle.stun_auth.specs.Algorithms.{is_sha256, listed}
+use Rattle.stun_auth.specs.Algorithms.{is_sha256, algorithms_of}
 use Rattle.stun_auth.specs.Client.{Challenge, ClientState, Naming, initial}
 use Rattle.stun_auth.specs.ClientSigning.{client_additions, kept_challenge}
 use Rattle.stun_auth.specs.ClientStep.{STALE_NONCE, UNAUTHORIZED, naming_of}
@@ -36,11 +33,13 @@ use Rattle.stun_auth.specs.Signed.{added_at, added_by_client, added_by_server, a
 use Rattle.stun_auth.specs.Signed.{added_if_kept, added_under, added_under_key}
 use Rattle.stun_auth.specs.Signed.{added_without_client, additions_of, error_attribute}
 use Rattle.stun_auth.specs.Signed.{is_listed, nothing, only_if, plain_name, hashed_name}
-use Rattle.stun_proto.specs.Negotiation.{asked, error, failure, request, responded, success}
+use Rattle.stun_proto.specs.Negotiation.{client_request, error, failure, request, server_response}
+use Rattle.stun_proto.specs.Negotiation.{success}
 use Rattle.stun_auth.specs.Additions.{page_of}
 use Rattle.stun_proto.specs.Renewal.{IsAsked, IsTold}
 use Rattle.stun_proto.proofs.meetings.Signed.{IsBare, IsFailure, IsRequest, IsSuccess}
 use Rattle.stun_proto.proofs.meetings.Signed.{SignedIsRead, SigningSucceeds}
+use Rattle.stun_proto.proofs.meetings.Ascii.{from_small}
 
 -- the laws on signing
 pub record SigningLaws : Type 0 where
@@ -48,10 +47,10 @@ pub record SigningLaws : Type 0 where
       → added_all (additions_of a) (record { bytes = message; room = room }) ≡ Ok page
       → ReadsAs (class_in message) (error_code message) a (reading_of page.bytes)
   pub bare : (message_type transaction_id : ℕ) → message_type < 2 ^ 14
-      → IsBuilt (spelled message_type transaction_id []) (class_of message_type) None
+      → IsBuilt (spelled_message message_type transaction_id []) (class_of message_type) None
   pub failure : (message_type transaction_id : ℕ) (error : CodeAndReason) → message_type < 2 ^ 14
       → IsError error
-      → IsBuilt (spelled message_type transaction_id (error_attribute error ∷ []))
+      → IsBuilt (spelled_message message_type transaction_id (error_attribute error ∷ []))
       (class_of message_type) (if is_error (class_of message_type) then Some error.code else None)
   pub client : (request : Bool) (state : ClientState)
       → client_additions request state ≡ additions_of (added_by_client request state)
@@ -74,24 +73,6 @@ pub record RoomLaws : Type 0 where
       → length (nonce_of set feature words) ≤ 13 + length words
 
 -- ---- a text of ASCII
-abbrev all_small : List ℕ → Bool
-all_small [] = true
-all_small (b ∷ bytes) = nat_lt b 128 && all_small bytes
-
-both : (a b : Bool) → (a && b) ≡ true → (a ≡ true) × (b ≡ true)
-both true b h = (refl, h)
-both false b h = cc
-
-in_front : (b : ℕ) (bytes : List ℕ) → b < 128 → IsAscii bytes → IsAscii (b ∷ bytes)
-in_front b bytes small ascii zero = small
-in_front b bytes small ascii (suc i) = ascii i
-
-from_small : (bytes : List ℕ) → all_small bytes ≡ true → IsAscii bytes
-from_small [] h = IsAscii-nil
-from_small (b ∷ bytes) h =
-    let split = both (nat_lt b 128) (all_small bytes) h in
-    in_front b bytes (ltb-true b 128 split.0) (from_small bytes split.1)
-
 module _ (laws : SigningLaws) where
   -- what is read of a built message that was signed
   reads_as : (message : List ℕ) (class : MessageClass) (code : Option ℕ) (a : Added) (page : Page)
@@ -126,8 +107,9 @@ module _ (laws : SigningLaws) where
       sym (ap (λ l. added_all l message)
       (laws.client true state ∙ ap (λ k. additions_of (added_if_kept true k)) is)) ∙ signed
 
-  bare_read : (id : ℕ) (page : Page) → asked id initial ≡ Ok page → IsBare (reading_of page.bytes)
-  unfolding asked
+  bare_read : (id : ℕ) (page : Page) → client_request id initial ≡ Ok page
+      → IsBare (reading_of page.bytes)
+  unfolding client_request
   bare_read id page signed =
       let r = reads_as (request id) Class.Request None nothing page (request_built id)
       (record { nonce = tt; realm = tt; username = tt; userhash = tt })
@@ -146,7 +128,7 @@ module _ (laws : SigningLaws) where
   texts_under c false name realm realm_text nonce_text name_text =
       record { nonce = nonce_text; realm = realm_text; username = name_text; userhash = tt }
 
-  listed_there : (set : AlgorithmSet) → is_listed (listed set) ≡ true
+  listed_there : (set : AlgorithmSet) → is_listed (algorithms_of set) ≡ true
   listed_there OnlySha1 = refl
   listed_there OnlySha256 = refl
   listed_there Both = refl
@@ -157,7 +139,7 @@ module _ (laws : SigningLaws) where
 
   any_request_read : (state : ClientState) (c : Challenge) (set : AlgorithmSet) (hashes : Bool)
       (name realm : List ℕ) (page : Page)
-      → kept_challenge state ≡ Some c → c.algorithms ≡ listed set
+      → kept_challenge state ≡ Some c → c.algorithms ≡ algorithms_of set
       → c.naming ≡ naming_of hashes name realm
       → IsUtf8 c.realm → IsUtf8 c.nonce → IsUtf8 name → IsAsked state page
       → IsRequest c (reading_of page.bytes)
@@ -181,16 +163,16 @@ module _ (laws : SigningLaws) where
         algorithm = r.algorithm_is
             ∙ ap (λ b. only_if (is_sha256 c.algorithm || b) c.algorithm) there
             ∙ ap (λ b. only_if b c.algorithm) (either (is_sha256 c.algorithm));
-        digest = r.digest_stands (record { algorithm = c.algorithm; key = c.key }) refl;
+        digest = r.digest_verifies (record { algorithm = c.algorithm; key = c.key }) refl;
       }
 
   request_read : (id : ℕ) (state : ClientState) (c : Challenge) (set : AlgorithmSet) (hashes : Bool)
       (name realm : List ℕ) (page : Page)
-      → kept_challenge state ≡ Some c → c.algorithms ≡ listed set
+      → kept_challenge state ≡ Some c → c.algorithms ≡ algorithms_of set
       → c.naming ≡ naming_of hashes name realm
-      → IsUtf8 c.realm → IsUtf8 c.nonce → IsUtf8 name → asked id state ≡ Ok page
+      → IsUtf8 c.realm → IsUtf8 c.nonce → IsUtf8 name → client_request id state ≡ Ok page
       → IsRequest c (reading_of page.bytes)
-  unfolding asked
+  unfolding client_request
   request_read id state c set hashes name realm page kept listed_is naming_is realm_text nonce_text
       name_text signed =
       any_request_read state c set hashes name realm page kept listed_is naming_is realm_text
@@ -204,9 +186,9 @@ module _ (laws : SigningLaws) where
 
   -- ---- responses
   responded_by : (message : List ℕ) (s : Sight) (a : Added) (page : Page)
-      → added_by_server s true ≡ Some a → responded message s ≡ Ok page
+      → added_by_server s true ≡ Some a → server_response message s ≡ Ok page
       → added_all (additions_of a) (page_of message) ≡ Ok page
-  unfolding responded
+  unfolding server_response
   responded_by message s a page is signed = sym (laws.server s true (page_of message) a is) ∙ signed
 
   -- to an address without a client
@@ -234,9 +216,9 @@ module _ (laws : SigningLaws) where
 
   challenge_read : (id : ℕ) (s : Sight) (p : PlaceSeen) (page : Page) → s.place ≡ Some p
       → p.client ≡ None → IsUtf8 s.registered.realm → IsUtf8 p.nonce
-      → responded (failure UNAUTHORIZED id) s ≡ Ok page
+      → server_response (failure UNAUTHORIZED id) s ≡ Ok page
       → IsFailure UNAUTHORIZED s.registered.realm p.nonce (reading_of page.bytes)
-      × ((reading_of page.bytes).algorithms ≡ Some (listed s.registered.algorithms))
+      × ((reading_of page.bytes).algorithms ≡ Some (algorithms_of s.registered.algorithms))
   challenge_read id s p page place client realm_text nonce_text signed =
       let message = failure UNAUTHORIZED id in
       let added = added_without_client true s.registered p.nonce in
@@ -310,7 +292,7 @@ module _ (laws : SigningLaws) where
       → s.place ≡ Some p → p.client ≡ Some c
       → key_at s.registered c.name c.algorithm ≡ Some key → IsUtf8 s.registered.realm
       → IsUtf8 p.nonce
-      → responded (success id) s ≡ Ok page → IsSuccess c.algorithm key (reading_of page.bytes)
+      → server_response (success id) s ≡ Ok page → IsSuccess c.algorithm key (reading_of page.bytes)
   success_read id s p c key page place client found realm_text nonce_text signed =
       let added = added_under_key true s.registered p.nonce c.algorithm key in
       let done =
@@ -320,7 +302,7 @@ module _ (laws : SigningLaws) where
       record {
         error = r.error_is;
         success = ap is_success r.class_is;
-        digest = r.digest_stands (record { algorithm = c.algorithm; key = key }) refl;
+        digest = r.digest_verifies (record { algorithm = c.algorithm; key = key }) refl;
       }
 
   pub signed_is_read : SignedIsRead
@@ -340,16 +322,16 @@ module _ (laws : SigningLaws) where
 
   module _ (room : RoomLaws) where
     request_signed : (id : ℕ) (state : ClientState) → IsSmall (added_by_client true state)
-        → IsOk (asked id state)
-    unfolding asked
+        → IsOk (client_request id state)
+    unfolding client_request
     request_signed id state small =
         room.client true state Class.Request None (request id) _ (request_built id) small
         (enough (request id) (request_built id).short)
 
     response_signed : (message : List ℕ) (class : MessageClass) (code : Option ℕ) (s : Sight)
         (a : Added) → IsBuilt message class code → added_by_server s true ≡ Some a → IsSmall a
-        → IsOk (responded message s)
-    unfolding responded
+        → IsOk (server_response message s)
+    unfolding server_response
     response_signed message class code s a built is small =
         room.server s true a class code message _ built is small (enough message built.short)
 

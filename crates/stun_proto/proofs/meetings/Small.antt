@@ -6,20 +6,20 @@ use Rattle.stun_base.specs.declared.keys.algorithm.IntegrityAlgorithm.{Integrity
 use Rattle.stun_auth.specs.declared.algorithm_set.AlgorithmSet.{AlgorithmSet}
 use Rattle.stun_auth.specs.declared.algorithm_set.AlgorithmSet.TheVariants.{OnlySha1}
 use Rattle.stun_auth.specs.declared.algorithm_set.AlgorithmSet.TheVariants.{OnlySha256, Both}
-use Rattle.stun_auth.specs.Algorithms.{listed}
+use Rattle.stun_auth.specs.Algorithms.{algorithms_of}
 use Rattle.stun_auth.specs.Client.{Challenge}
 use Rattle.stun_auth.specs.ClientStep.{naming_of}
 use Rattle.stun_auth.specs.Registered.{Registered}
 use Rattle.stun_auth.specs.Signed.{IsSmall, added_under, added_under_key, added_without_client}
 use Rattle.stun_auth.specs.Signed.{hashed_name, is_listed, nothing, only_if, plain_name}
 
-listed_small : (set : AlgorithmSet) → length (listed set) ≤ 2
+listed_small : (set : AlgorithmSet) → length (algorithms_of set) ≤ 2
 listed_small OnlySha1 = omega arith
 listed_small OnlySha256 = omega arith
 listed_small Both = omega arith
 
 kept_small : (set : AlgorithmSet)
-    → IfSome (only_if (is_listed (listed set)) (listed set)) (λ list. length list ≤ 2)
+    → IfSome (only_if (is_listed (algorithms_of set)) (algorithms_of set)) (λ list. length list ≤ 2)
 kept_small OnlySha1 = omega arith
 kept_small OnlySha256 = omega arith
 kept_small Both = omega arith
@@ -43,7 +43,7 @@ nothing_small =
     }
 
 pub request_small : (c : Challenge) (set : AlgorithmSet) (hashes : Bool) (name realm : List ℕ)
-    → c.algorithms ≡ listed set → c.naming ≡ naming_of hashes name realm
+    → c.algorithms ≡ algorithms_of set → c.naming ≡ naming_of hashes name realm
     → length c.nonce ≤ 763 → length c.realm ≤ 763 → length name ≤ 513 → IsSmall (added_under true c)
 request_small c set hashes name realm listed_is naming_is nonce_short realm_short name_short =
     record {

@@ -19,8 +19,8 @@ use Rattle.stun_base.specs.MessageType.{class_in, is_response}
 use Rattle.stun_auth.specs.Reading.{Reading, reading_of}
 use Rattle.stun_auth.specs.Reasons.{ServerRefusal}
 use Rattle.stun_auth.specs.Registered.{Registered}
-use Rattle.stun_auth.specs.Seen.{ClientSeen, PlaceSeen, renewed}
-use Rattle.stun_auth.specs.Server.{Sight, standing}
+use Rattle.stun_auth.specs.Seen.{ClientSeen, PlaceSeen, renewed_place}
+use Rattle.stun_auth.specs.Server.{Sight, current_place}
 use Rattle.stun_auth.specs.ServerSigning.{after_signing}
 use Rattle.stun_auth.specs.Validation.{ServerSeen, needs_nonce, place_after}
 use Rattle.stun_auth.specs.Validation.{sight, verdict_at, with_accepted}
@@ -53,11 +53,12 @@ module _ (users : Registered) (feature : Feature) (expiry : ℕ) (address : Sock
       × Knows known
 
   pub standing_in_time : (known : Option ClientSeen) (now : ℕ) (words : List ℕ)
-      → nat_le now end ≡ true → standing (seen (Some (place_of known))) now words ≡ place_of known
+      → nat_le now end ≡ true
+      → current_place (seen (Some (place_of known))) now words ≡ place_of known
   standing_in_time known now words h =
       ap (λ b.
       cond b (place_of known)
-      (renewed (Some (place_of known)) (nonce_of users.algorithms feature words)
+      (renewed_place (Some (place_of known)) (nonce_of users.algorithms feature words)
       (moment_after now expiry))) h
 
   -- a place that is left with the nonce
@@ -82,7 +83,7 @@ module _ (users : Registered) (feature : Feature) (expiry : ℕ) (address : Sock
       let v = seen (Some (place_of known)) in
       let accepted = accepted_there known knows (verdict_at v (place_of known) r) in
       if_needed (needs_nonce r) known accepted.0
-      (with_accepted (standing v now words) (verdict_at v (standing v now words) r)) knows
+      (with_accepted (current_place v now words) (verdict_at v (current_place v now words) r)) knows
       (ap (λ q. with_accepted q (verdict_at v q r)) (standing_in_time known now words h)
       ∙ accepted.1) accepted.2
 

@@ -16,6 +16,7 @@ use Rattle.stun_auth.specs.ClientStep.{is_required}
 use Rattle.stun_auth.specs.Feature.{is_possible}
 use Rattle.stun_proto.specs.Best.{HashIsRefused, IsBest, IsShared}
 use Rattle.stun_proto.specs.Best.{IsStrongestShared, best, stronger}
+use Rattle.stun_proto.proofs.Tests.{both}
 
 -- ---- by cases
 
@@ -150,11 +151,6 @@ pub has_from_Contains : (a : IntegrityAlgorithm) (list : List IntegrityAlgorithm
     → has a list ≡ true
 has_from_Contains a list = list_any-from_Contains {eq = λ x y. same_algorithm y x} same_equal a list
 
-both_true : (a b : Bool) → (a && b) ≡ true → (a ≡ true) × (b ≡ true)
-both_true true true h = (refl, refl)
-both_true true false h = cc
-both_true false b h = cc
-
 refused_is : (wanted given : Feature) → (is_required wanted && not (is_possible given)) ≡ true
     → HashIsRefused wanted given
 refused_is Required Disabled h = (refl, refl)
@@ -187,8 +183,8 @@ module _ (client server : List IntegrityAlgorithm) (wanted given : Feature) wher
 
   shared_is : (a : IntegrityAlgorithm) → of_two one other a ≡ true → IsShared client server a
   shared_is a h =
-      let both = both_true (has a server) (has a client) (sym (of_lists a) ∙ h) in
-      (Contains-from_has a client both.1, Contains-from_has a server both.0)
+      let has_both = both (has a server) (has a client) (sym (of_lists a) ∙ h) in
+      (Contains-from_has a client has_both.1, Contains-from_has a server has_both.0)
 
   is_shared : (a : IntegrityAlgorithm) → IsShared client server a → of_two one other a ≡ true
   is_shared a h = of_lists a

@@ -19,14 +19,14 @@ use Rattle.stun_base.specs.MessageType.{class_of, method_of, type_number}
 use Rattle.stun_base.specs.MessageType.{class_in, is_request, is_response}
 use Rattle.stun_base.specs.declared.wire.message_type.MessageClass.TheVariants as Class
 use Rattle.stun_types.specs.Attribute.{TypedValue, attribute_length}
-use Rattle.stun_types.specs.Grammar.{spelled, spelled_attributes}
+use Rattle.stun_types.specs.Grammar.{spelled_message, spelled_attributes}
 use Rattle.stun_types.specs.Visible.{has_kind}
 use Rattle.stun_types.specs.Walk.{Member, walk}
 use Rattle.stun_types.specs.WriteVec.{Written}
 use Rattle.stun_types.specs.Writing.{IsOpen, attribute_refusal, size_refusal}
 use Rattle.stun_auth.specs.AddedAttribute as attributes
 use Rattle.stun_auth.specs.Additions.{Addition, Page, UnlessMemory, added_all}
-use Rattle.stun_auth.specs.Additions.{attribute, integrity, written}
+use Rattle.stun_auth.specs.Additions.{attribute, integrity, written_page}
 use Rattle.stun_auth.specs.Client.{ClientState}
 use Rattle.stun_auth.specs.ClientSigning.{client_additions}
 use Rattle.stun_auth.specs.Joined.{HasAdded, IsTyped, Protection}
@@ -34,7 +34,7 @@ use Rattle.stun_auth.specs.Server.{Sight}
 use Rattle.stun_auth.specs.ServerSigning.{server_signed}
 use Rattle.stun_auth.specs.Signed.{Added, added_by_client, added_by_server}
 use Rattle.stun_auth.specs.Signed.{additions_of, error_attribute, if_there}
-use Rattle.stun_proto.specs.Negotiation.{asked, error, failure, request, success}
+use Rattle.stun_proto.specs.Negotiation.{client_request, error, failure, request, success}
 use Rattle.stun_auth.specs.Additions.{page_of}
 use Rattle.stun_proto.specs.code.Signed.{signed_page}
 
@@ -79,7 +79,7 @@ unless_map (Err OutOfMemory) Q f h = tt
 
 -- the page in a writer that grows
 pub same_page : (signed : Result Written StunWriteError)
-    → written (λ (w : Written). w.bytes) (λ (w : Written). 65552 - length w.bytes) signed
+    → written_page (λ (w : Written). w.bytes) (λ (w : Written). 65552 - length w.bytes) signed
     ≡ signed_page signed
 same_page (Ok writer) = refl
 same_page (Err reason) = refl
@@ -90,16 +90,16 @@ if_ok_map (Ok v) f h = f v h
 if_ok_map (Err e) f h = tt
 
 -- ---- the fields of a message without attributes
-type_field-spelled : (message_type id : ℕ) (list : List TypedValue) → message_type < 2 ^ 14
-    → type_field (spelled message_type id list) ≡ message_type
-type_field-spelled message_type id list fits =
+type_field-spelled_message : (message_type id : ℕ) (list : List TypedValue) → message_type < 2 ^ 14
+    → type_field (spelled_message message_type id list) ≡ message_type
+type_field-spelled_message message_type id list fits =
     big_number-reads_back 2 message_type
     (big_bytes 2 (length (spelled_attributes list)) ++ big_bytes 4 MAGIC_COOKIE ++ big_bytes 12 id
     ++ spelled_attributes list) (omega (arith, fits))
 
-transaction_id_field-spelled : (message_type id : ℕ) → id < 2 ^ 96
-    → transaction_id_field (spelled message_type id []) ≡ id
-transaction_id_field-spelled message_type id fits = big_number-reads_back 12 id [] fits
+transaction_id_field-spelled_message : (message_type id : ℕ) → id < 2 ^ 96
+    → transaction_id_field (spelled_message message_type id []) ≡ id
+transaction_id_field-spelled_message message_type id fits = big_number-reads_back 12 id [] fits
 
 -- responses are responses
 pub success_responds : (id : ℕ) (bytes : List ℕ) → bytes ≡ success id
@@ -107,7 +107,7 @@ pub success_responds : (id : ℕ) (bytes : List ℕ) → bytes ≡ success id
 unfolding success
 success_responds id bytes is =
     ap (λ b. is_response (class_in b)) is
-    ∙ ap (λ n. is_response (class_of n)) (type_field-spelled 257 id [] (omega arith))
+    ∙ ap (λ n. is_response (class_of n)) (type_field-spelled_message 257 id [] (omega arith))
 
 pub failure_responds : (code id : ℕ) (bytes : List ℕ) → bytes ≡ failure code id
     → is_response (class_in bytes) ≡ true
@@ -115,7 +115,7 @@ unfolding failure
 failure_responds code id bytes is =
     ap (λ b. is_response (class_in b)) is
     ∙ ap (λ n. is_response (class_of n))
-    (type_field-spelled 273 id (error_attribute (error code) ∷ []) (omega arith))
+    (type_field-spelled_message 273 id (error_attribute (error code) ∷ []) (omega arith))
 
 -- what an error is handed on as
 pub by_reason : (r : Result Written StunWriteError) (Q : StunWriteError → Type 0)
@@ -184,39 +184,41 @@ module _ (laws : AddingLaws) where
   -- what was signed
   pub request_signed : (id : ℕ) (state : ClientState) (bytes : List ℕ)
       (signed : Result Written StunWriteError) (Q : Type 0)
-      → bytes ≡ spelled (type_number Class.Request 1) id []
+      → bytes ≡ spelled_message (type_number Class.Request 1) id []
       → UnlessMemory signed
-      (written (λ (w : Written). w.bytes) (λ (w : Written). 65552 - length w.bytes) signed
+      (written_page (λ (w : Written). w.bytes) (λ (w : Written). 65552 - length w.bytes) signed
       ≡ added_all (client_additions (is_request (class_of (type_field bytes))) state)
       (page_of bytes)) Q
-      → UnlessMemory signed (signed_page signed ≡ asked id state) (Unit {0})
-  unfolding asked request
+      → UnlessMemory signed (signed_page signed ≡ client_request id state) (Unit {0})
+  unfolding client_request request
   request_signed id state bytes signed Q is h = unless_map signed Q (λ e.
       sym (same_page signed) ∙ e
       ∙ ap (λ b.
       added_all (client_additions (is_request (class_of (type_field b))) state) (page_of b)) is
       ∙ ap (λ n. added_all (client_additions (is_request (class_of n)) state)
-      (page_of (spelled 1 id []))) (type_field-spelled 1 id [] (omega arith))) h
+      (page_of (spelled_message 1 id []))) (type_field-spelled_message 1 id [] (omega arith))) h
 
   -- it is a message with the method and the id of the request
   pub request_added : (id : ℕ) (state : ClientState) (bytes : List ℕ)
-      (signed : Result Written StunWriteError) → bytes ≡ spelled (type_number Class.Request 1) id []
+      (signed : Result Written StunWriteError)
+      → bytes ≡ spelled_message (type_number Class.Request 1) id []
       → IsOpen bytes
-      → UnlessMemory signed (signed_page signed ≡ asked id state) (Unit {0})
+      → UnlessMemory signed (signed_page signed ≡ client_request id state) (Unit {0})
       → IfOk signed
-      (λ w. HasAdded (spelled 1 id []) (additions_of (added_by_client true state)) w.bytes)
-  unfolding asked request
+      (λ w. HasAdded (spelled_message 1 id []) (additions_of (added_by_client true state)) w.bytes)
+  unfolding client_request request
   request_added id state bytes signed is is_open h =
-      has_added signed (Unit {0}) (spelled 1 id []) (added_by_client true state)
+      has_added signed (Unit {0}) (spelled_message 1 id []) (added_by_client true state)
       (subst IsOpen is is_open)
       (unless_map signed (Unit {0})
-      (λ e. e ∙ ap (λ l. added_all l (page_of (spelled 1 id []))) (laws.client true state)) h)
+      (λ e. e ∙ ap (λ l. added_all l (page_of (spelled_message 1 id []))) (laws.client true state))
+      h)
 
   -- ---- a response of a server
   pub response_signed : (s : Sight) (bytes : List ℕ) (response : Bool)
       (signed : Result Written StunWriteError) (Q : Type 0) → response ≡ true
       → UnlessMemory signed
-      (written (λ (w : Written). w.bytes) (λ (w : Written). 65552 - length w.bytes) signed
+      (written_page (λ (w : Written). w.bytes) (λ (w : Written). 65552 - length w.bytes) signed
       ≡ server_signed s response (page_of bytes)) Q
       → UnlessMemory signed (signed_page signed ≡ server_signed s true (page_of bytes)) (Unit {0})
   response_signed s bytes response signed Q is h =
@@ -225,12 +227,14 @@ module _ (laws : AddingLaws) where
 
 -- what a message in a writer is
 pub has_id : (id : ℕ) (list : List Addition) (after : List ℕ) → id < 2 ^ 96
-    → HasAdded (spelled 1 id []) list after → transaction_id_field after ≡ id
-has_id id list after fits has = has.transaction_id_is ∙ transaction_id_field-spelled 1 id fits
+    → HasAdded (spelled_message 1 id []) list after → transaction_id_field after ≡ id
+has_id id list after fits has =
+    has.transaction_id_is ∙ transaction_id_field-spelled_message 1 id fits
 
 pub has_method : (id : ℕ) (list : List Addition) (after : List ℕ)
-    → HasAdded (spelled 1 id []) list after → method_of (type_field after) ≡ 1
-has_method id list after has = ap method_of (has.type_is ∙ type_field-spelled 1 id [] (omega arith))
+    → HasAdded (spelled_message 1 id []) list after → method_of (type_field after) ≡ 1
+has_method id list after has =
+    ap method_of (has.type_is ∙ type_field-spelled_message 1 id [] (omega arith))
 
 -- an error code can be added to a message without attributes
 abbrev refusal_by_size : ℕ → ℕ → Option StunWriteError

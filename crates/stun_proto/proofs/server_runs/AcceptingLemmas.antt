@@ -10,8 +10,8 @@ use Rattle.stun_auth.specs.Server.{Sight}
 use Rattle.stun_auth.specs.Validation as validation
 use Rattle.stun_auth.specs.Validation.{Answer, ServerSeen, answer, sight}
 use Rattle.stun_auth.specs.declared.server.reason.LongTermServerValidation.TheVariants as Validation
-use Rattle.stun_proto.specs.Accepting.{ValidatesAccepted}
-use Rattle.stun_proto.specs.Isolation.{own, sight_over}
+use Rattle.stun_proto.specs.Accepting.{ValidatesEachAccepted}
+use Rattle.stun_proto.specs.Isolation.{own_calls, sight_over}
 use Rattle.stun_proto.specs.Serving.{Validated, reply, reply_of_answer}
 use Rattle.stun_proto.specs.Serving.{reply_unless, replies, after_call, after_calls}
 use Rattle.stun_proto.specs.declared.replay.call.ServerCall.{ServerCall}
@@ -42,9 +42,9 @@ class_read bytes = refl
 
 pub validates_accepted : ((s : Sight) (now : ℕ) (words : List ℕ) (r : Reading)
     → validation.ValidatesAccepted s now words r (answer s now words r))
-    → (s : ServerSeen) (calls : List ServerCall) → ValidatesAccepted s calls (replies s calls)
+    → (s : ServerSeen) (calls : List ServerCall) → ValidatesEachAccepted s calls (replies s calls)
 validates_accepted law s calls i a now message words algorithm at is_message plain =
-    let here = sight_over (sight s a) (own a (take i calls)) in
+    let here = sight_over (sight s a) (own_calls a (take i calls)) in
     let r = reading_of message.items in
     let exact =
     law here now words r (ap is_response (class_read message.items) ∙ plain) algorithm in

@@ -6,7 +6,7 @@ use Rattle.std.specs.declared.net.socket_addr.SocketAddr.{SocketAddr}
 use Rattle.std.specs.declared.vec.Vec.{Vec}
 use Rattle.stun_types.specs.Message.{refusal}
 use Rattle.stun_auth.specs.Reading.{reading_of}
-use Rattle.stun_auth.specs.Validation.{ServerSeen, after_message, answer, sight}
+use Rattle.stun_auth.specs.Validation.{ServerSeen, after_validation, answer, sight}
 use Rattle.stun_proto.specs.declared.replay.call.ServerCall.{ServerCall}
 use Rattle.stun_proto.specs.declared.replay.call.ServerCall.TheVariants.{Validate}
 use Rattle.stun_proto.specs.Appending.{AreAnsweredAlike}
@@ -49,7 +49,7 @@ answered_alike message other is_message is_message_too reading =
       feature = s.feature;
       expiry = s.expiry;
       places =
-          places_unless (refused i) s.places (after_message s from now words (reading i)).places;
+          places_unless (refused i) s.places (after_validation s from now words (reading i)).places;
     } in
     record {
       replied = replied;

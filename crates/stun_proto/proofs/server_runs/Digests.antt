@@ -10,7 +10,7 @@ use Rattle.stun_base.specs.Attributes.{MESSAGE_INTEGRITY, MESSAGE_INTEGRITY_SHA2
 use Rattle.stun_base.specs.declared.keys.algorithm.IntegrityAlgorithm.{IntegrityAlgorithm}
 use Rattle.stun_base.specs.declared.keys.algorithm.IntegrityAlgorithm.TheVariants.{Sha1, Sha256}
 use Rattle.stun_types.specs.Attribute.{TypedValue}
-use Rattle.stun_types.specs.Integrity.{covered, deciding, first_of, integrity_algorithm}
+use Rattle.stun_types.specs.Integrity.{covered_bytes, deciding, first_of, integrity_algorithm}
 use Rattle.stun_types.specs.Integrity.{is_digest, is_integrity, verified_algorithm, verified_at}
 use Rattle.stun_types.specs.Message.{refusal}
 use Rattle.stun_types.specs.Visible.{visible}
@@ -19,6 +19,7 @@ use Rattle.stun_auth.specs.Reading.{Reading, has_visible_integrity, reading_of, 
 use Rattle.stun_proto.specs.Headline.{HoldsDigest}
 use Rattle.stun_proto.specs.Replies.{message_read}
 use Rattle.stun_proto.proofs.server_runs.RepliesLemmas.{reads_as}
+use Rattle.stun_proto.proofs.Tests.{both}
 
 -- ---- what is found
 
@@ -80,33 +81,28 @@ is_seen bytes m decides whole = by (first_of MESSAGE_INTEGRITY_SHA256 (visible b
 
 -- ---- the digest of a member
 
--- both tests hold
-both : (a b : Bool) → (a && b) ≡ true → (a ≡ true) × (b ≡ true)
-both true b h = (refl, h)
-both false b h = cc
-
 some_of : {A : Type 0} (b : Bool) (x : A) → IsSome (cond b (Some x) None) → b ≡ true
 some_of true x h = refl
 some_of false x h = cc
 
 value_is : (bytes key : List ℕ) (m : Member) → IsSome (verified_at (λ _. key) bytes m)
-    → m.1.value ≡ digest (integrity_algorithm m.1) key (covered bytes m.0 (length m.1.value))
+    → m.1.value ≡ digest (integrity_algorithm m.1) key (covered_bytes bytes m.0 (length m.1.value))
 value_is bytes key m verifies =
     let test = some_of (is_digest bytes key m) (integrity_algorithm m.1) verifies in
     same_text m.1.value
-    (digest (integrity_algorithm m.1) key (covered bytes m.0 (length m.1.value)))
+    (digest (integrity_algorithm m.1) key (covered_bytes bytes m.0 (length m.1.value)))
     (sym (both _ _ test).1)
 
 it_verifies : (bytes key : List ℕ) (m : Member)
-    → m.1.value ≡ digest (integrity_algorithm m.1) key (covered bytes m.0 (length m.1.value))
+    → m.1.value ≡ digest (integrity_algorithm m.1) key (covered_bytes bytes m.0 (length m.1.value))
     → (length m.1.value ≡ digest_length (integrity_algorithm m.1)) × (is_digest bytes key m ≡ true)
 it_verifies bytes key m is =
     let whole = ap length is
-    ∙ length-digest (integrity_algorithm m.1) key (covered bytes m.0 (length m.1.value)) in
+    ∙ length-digest (integrity_algorithm m.1) key (covered_bytes bytes m.0 (length m.1.value)) in
     let long : (length m.1.value == digest_length (integrity_algorithm m.1)) ≡ true =
     grind (arith, whole) in
     let matches : pointwise nat_eq m.1.value
-    (digest (integrity_algorithm m.1) key (covered bytes m.0 (length m.1.value))) ≡ true =
+    (digest (integrity_algorithm m.1) key (covered_bytes bytes m.0 (length m.1.value))) ≡ true =
     ap (λ v. pointwise nat_eq m.1.value v) (sym is) ∙ nat_list_eq_equiv.refl m.1.value in
     (whole, λ i. long i && matches i)
 

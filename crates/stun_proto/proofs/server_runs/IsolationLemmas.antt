@@ -27,12 +27,12 @@ use Rattle.stun_proto.specs.Signing.{if_signed, place_offered, signing}
 use Rattle.stun_proto.specs.Serving.{reply_of_answer, reply_of_signing, reply_unless}
 use Rattle.stun_proto.specs.Serving.{places_unless, reply, after_call, replies, after_calls}
 use Rattle.stun_proto.specs.Serving.{registered_after, feature_after, expiry_after}
-use Rattle.stun_proto.specs.Isolation.{IsIsolated, concerns, own, own_place_after}
+use Rattle.stun_proto.specs.Isolation.{IsIsolated, concerns, own_calls, own_place_after}
 use Rattle.stun_proto.specs.Isolation.{own_replies, place_unless, sight_after, sight_over}
 use Rattle.stun_proto.specs.declared.replay.call.ServerCall.{ServerCall}
 use Rattle.stun_proto.specs.declared.replay.call.ServerCall.TheVariants as Call
 use Rattle.stun_auth.proofs.Forgotten.{get-places_kept}
-use Rattle.stun_auth.proofs.Addresses.{address_total, address_exact}
+use Rattle.stun_base.proofs.Addresses.{address_total, address_exact}
 
 is_equal : (o : Ordering) → is_eq o ≡ true → o ≡ Equal
 is_equal Less h = cc
@@ -243,13 +243,13 @@ own_reply a (Call.Forget b) s t h alike = refl
 -- the replies to an address are those of a run over its own calls alone, from any server that looks
 -- the same to it
 pub isolated_from : (a : SocketAddr) (calls : List ServerCall) (s t : ServerSeen)
-    → sight s a ≡ sight t a → own_replies a calls (replies s calls) ≡ replies t (own a calls)
+    → sight s a ≡ sight t a → own_replies a calls (replies s calls) ≡ replies t (own_calls a calls)
 isolated_from a [] s t alike = refl
 isolated_from a (call ∷ calls) s t alike =
     elim (concerns a call) as (λ b. concerns a call ≡ b
     → cond b (reply s call ∷ own_replies a calls (replies (after_call s call) calls))
     (own_replies a calls (replies (after_call s call) calls))
-    ≡ replies t (cond b (call ∷ own a calls) (own a calls))) [
+    ≡ replies t (cond b (call ∷ own_calls a calls) (own_calls a calls))) [
       | true ↦ λ h.
           let next : sight (after_call s call) a ≡ sight (after_call t call) a = own_step a call s h
           ∙ ap (λ v. sight_after v call) alike ∙ sym (own_step a call t h) in
@@ -265,14 +265,14 @@ is_isolated s calls a = isolated_from a calls s s refl
 
 -- what an address can tell in the end is a recursion over its own calls
 pub sight-after_calls : (a : SocketAddr) (calls : List ServerCall) (s : ServerSeen)
-    → sight (after_calls s calls) a ≡ sight_over (sight s a) (own a calls)
+    → sight (after_calls s calls) a ≡ sight_over (sight s a) (own_calls a calls)
 sight-after_calls a [] s = refl
 sight-after_calls a (call ∷ calls) s =
     elim (concerns a call) as (λ b. concerns a call ≡ b
     → sight (after_calls (after_call s call) calls) a
-    ≡ sight_over (sight s a) (cond b (call ∷ own a calls) (own a calls))) [
+    ≡ sight_over (sight s a) (cond b (call ∷ own_calls a calls) (own_calls a calls))) [
       | true ↦ λ h. sight-after_calls a calls (after_call s call)
-          ∙ ap (λ v. sight_over v (own a calls)) (own_step a call s h)
+          ∙ ap (λ v. sight_over v (own_calls a calls)) (own_step a call s h)
       | false ↦ λ h. sight-after_calls a calls (after_call s call)
-          ∙ ap (λ v. sight_over v (own a calls)) (other_step a call s h)
+          ∙ ap (λ v. sight_over v (own_calls a calls)) (other_step a call s h)
     ] refl

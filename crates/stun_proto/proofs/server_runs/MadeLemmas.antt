@@ -21,12 +21,12 @@ use Rattle.stun_auth.specs.declared.server.reason.LongTermServerAuthErrorReason.
 }
 use Rattle.stun_auth.specs.declared.server.reason.LongTermServerAuthErrorReason.TheVariants
     as Server
-use Rattle.stun_auth.specs.Additions.{Page, UnlessMemory, page_of, written}
+use Rattle.stun_auth.specs.Additions.{Page, UnlessMemory, page_of, written_page}
 use Rattle.stun_auth.specs.Reading.{reading_of}
-use Rattle.stun_auth.specs.Reasons.{OrMemory}
+use Rattle.stun_auth.specs.Reasons.{ServerOrMemory}
 use Rattle.stun_auth.specs.ServerSigning.{after_signing, server_signed}
-use Rattle.stun_auth.specs.Validation.{Answer, ServerSeen, after_message, answer, sight}
-use Rattle.stun_proto.specs.ServerLoop.{IfMessage, IsMade, Told, signed_or_refused, told}
+use Rattle.stun_auth.specs.Validation.{Answer, ServerSeen, after_validation, answer, sight}
+use Rattle.stun_proto.specs.ServerLoop.{IfMessage, IsMade, Told, signed_or_refused, reply_with}
 use Rattle.stun_proto.specs.Serving.{reply_of_answer, reply_of_signing}
 use Rattle.stun_proto.specs.Signing.{written_anew}
 use Rattle.stun_proto.specs.declared.replay.call.ServerCall.TheVariants as Call
@@ -34,7 +34,7 @@ use Rattle.stun_proto.specs.declared.replay.call.ServerCall.TheVariants as Call
 -- two facts about an answer, where no allocation failed and where one did
 both_told : {V : Type 0} (result : Result V LongTermServerAuthErrorReason) (P Q P' Q' R : Type 0)
     → (P → P' → R)
-    → OrMemory result P Q → OrMemory result P' Q' → OrMemory result R Q'
+    → ServerOrMemory result P Q → ServerOrMemory result P' Q' → ServerOrMemory result R Q'
 both_told (Ok v) P Q P' Q' R one a b = one a b
 both_told (Err Server.Unauthorized) P Q P' Q' R one a b = one a b
 both_told (Err Server.IntegrityFailed) P Q P' Q' R one a b = one a b
@@ -47,34 +47,37 @@ pub made_validate : (s : ServerSeen) (from : SocketAddr) (now : ℕ) (message : 
     (words bytes : List ℕ) (given : Answer) → message.items ≡ bytes → refusal bytes ≡ None
     → answer (sight s from) now words (reading_of bytes) ≡ given
     → IsMade s (Call.Validate from now message words)
-    (told (reply_of_answer given) (after_message s from now words (reading_of bytes)))
+    (reply_with (reply_of_answer given) (after_validation s from now words (reading_of bytes)))
 made_validate s from now message words bytes given same is_message answered =
-    let left : ServerSeen = after_message s from now words (reading_of bytes) in
-    let after : Told = told (reply_of_answer given) left in
+    let left : ServerSeen = after_validation s from now words (reading_of bytes) in
+    let after : Told = reply_with (reply_of_answer given) left in
     let P : List ℕ → Type 0 = λ b. IfMessage s (refusal b) after
-    (after ≡ told (reply_of_answer (answer (sight s from) now words (reading_of b)))
-    (after_message s from now words (reading_of b))) in
+    (after ≡ reply_with (reply_of_answer (answer (sight s from) now words (reading_of b)))
+    (after_validation s from now words (reading_of b))) in
     let Q : Option StunParseError → Type 0 = λ o. IfMessage s o after
-    (after ≡ told (reply_of_answer (answer (sight s from) now words (reading_of bytes))) left) in
+    (after ≡ reply_with (reply_of_answer (answer (sight s from) now words (reading_of bytes)))
+    left) in
     subst P (sym same)
-    (subst Q (sym is_message) (ap (λ g. told (reply_of_answer g) left) (sym answered)))
+    (subst Q (sym is_message) (ap (λ g. reply_with (reply_of_answer g) left) (sym answered)))
 
 pub is_validated : (s t : ServerSeen) (from : SocketAddr) (now : ℕ) (words bytes : List ℕ)
     (given : Answer)
     → IsMessage bytes
-    → OrMemory given (given ≡ answer (sight s from) now words (reading_of bytes)) (Unit {0})
-    → OrMemory given (t ≡ after_message s from now words (reading_of bytes)) (t ≡ s)
-    → OrMemory given
+    → ServerOrMemory given (given ≡ answer (sight s from) now words (reading_of bytes)) (Unit {0})
+    → ServerOrMemory given (t ≡ after_validation s from now words (reading_of bytes)) (t ≡ s)
+    → ServerOrMemory given
     ((message : Vec ℕ) → message.items ≡ bytes
-    → IsMade s (Call.Validate from now message words) (told (reply_of_answer given) t)) (t ≡ s)
+    → IsMade s (Call.Validate from now message words) (reply_with (reply_of_answer given) t))
+    (t ≡ s)
 is_validated s t from now words bytes given is_message answered left =
     let Says : Type 0 = given ≡ answer (sight s from) now words (reading_of bytes) in
-    let Leaves : Type 0 = t ≡ after_message s from now words (reading_of bytes) in
+    let Leaves : Type 0 = t ≡ after_validation s from now words (reading_of bytes) in
     let Makes : Type 0 = (message : Vec ℕ) → message.items ≡ bytes
-    → IsMade s (Call.Validate from now message words) (told (reply_of_answer given) t) in
+    → IsMade s (Call.Validate from now message words) (reply_with (reply_of_answer given) t) in
     both_told given Says (Unit {0}) Leaves (t ≡ s) Makes
     (λ is after message same.
-    subst (λ x. IsMade s (Call.Validate from now message words) (told (reply_of_answer given) x))
+    subst (λ x. IsMade s (Call.Validate from now message words)
+    (reply_with (reply_of_answer given) x))
     (sym after)
     (made_validate s from now message words bytes given same (refusal-none bytes is_message)
     (sym is)))
@@ -102,16 +105,18 @@ made_sign s to message bytes response signed same is_message plain class_is answ
 
 -- the page of a writer to a vector
 abbrev pub page_written : Result Written StunWriteError → Result Page StunWriteError
-page_written result = written (λ (w : Written). w.bytes) (λ (w : Written). 65552 - length w.bytes)
+page_written result =
+    written_page (λ (w : Written). w.bytes) (λ (w : Written). 65552 - length w.bytes)
     result
 
 -- the server after it, as its clauses have it
 left_by : (s t signed : ServerSeen) (result : Result Written StunWriteError)
     → OnOk result (t ≡ signed) → OnErr result (t ≡ s)
     → signed_or_refused s signed (page_written result)
-    ≡ told (reply_of_signing (page_written result)) t
-left_by s t signed (Ok w) ok err = ap (told (reply_of_signing (page_written (Ok w)))) (sym ok)
-left_by s t signed (Err reason) ok err = ap (told (reply_of_signing (page_written (Err reason))))
+    ≡ reply_with (reply_of_signing (page_written result)) t
+left_by s t signed (Ok w) ok err = ap (reply_with (reply_of_signing (page_written (Ok w)))) (sym ok)
+left_by s t signed (Err reason) ok err =
+    ap (reply_with (reply_of_signing (page_written (Err reason))))
     (sym err)
 
 unless_memory : {V : Type 0} (result : Result V StunWriteError) (P Q R S : Type 0) → (P → R)
@@ -136,12 +141,13 @@ pub is_signed : (s t : ServerSeen) (to : SocketAddr) (bytes : List ℕ)
     → OnErr result (t ≡ s)
     → UnlessMemory result
     ((message : Vec ℕ) → message.items ≡ bytes → written_anew bytes ≡ Ok bytes
-    → IsMade s (Call.Sign to message) (told (reply_of_signing (page_written result)) t)) (t ≡ s)
+    → IsMade s (Call.Sign to message) (reply_with (reply_of_signing (page_written result)) t))
+    (t ≡ s)
 is_signed s t to bytes result Q is_message answered ok err =
     let response = is_response (class_in bytes) in
     let Says : Type 0 = page_written result ≡ server_signed (sight s to) response (page_of bytes) in
     let Makes : Type 0 = (message : Vec ℕ) → message.items ≡ bytes → written_anew bytes ≡ Ok bytes
-    → IsMade s (Call.Sign to message) (told (reply_of_signing (page_written result)) t) in
+    → IsMade s (Call.Sign to message) (reply_with (reply_of_signing (page_written result)) t) in
     unless_memory result Says Q Makes (t ≡ s)
     (λ is message same plain.
     subst (IsMade s (Call.Sign to message))

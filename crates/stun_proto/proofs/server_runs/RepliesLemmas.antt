@@ -13,13 +13,14 @@ use Rattle.stun_auth.specs.Additions.{Page}
 use Rattle.stun_base.specs.MessageType.{class_in, is_response}
 use Rattle.stun_auth.specs.Reading.{Reading, reading_of}
 use Rattle.stun_auth.specs.Seen.{ClientSeen, PlaceSeen}
-use Rattle.stun_auth.specs.Server.{Sight, client_of, named, or_refused, standing, verdict}
-use Rattle.stun_auth.specs.Server.{refusal as auth_refusal}
+use Rattle.stun_auth.specs.Server.{Sight, client_of, named_user, or_refused, current_place, verdict}
+use Rattle.stun_auth.specs.Server.{verdict_refusal as auth_refusal}
 use Rattle.stun_auth.specs.Validation.{AcceptedWith, ServerSeen, answer, answer_to}
 use Rattle.stun_auth.specs.Validation.{client_verified, is_malformed, place_after}
 use Rattle.stun_auth.specs.Validation.{sight, validated_or_failed, with_accepted}
-use Rattle.stun_proto.specs.Accepting.{ValidatesAccepted}
-use Rattle.stun_proto.specs.Isolation.{concerns, own, own_place_after, place_unless, sight_over}
+use Rattle.stun_proto.specs.Accepting.{ValidatesEachAccepted}
+use Rattle.stun_proto.specs.Isolation.{concerns, own_calls, own_place_after, place_unless}
+use Rattle.stun_proto.specs.Isolation.{sight_over}
 use Rattle.stun_proto.specs.Replies.{Reads, client_by_reply, is_signed, message_read}
 use Rattle.stun_proto.specs.Replies.{place_by_answer, place_by_message}
 use Rattle.stun_proto.specs.Replies.{place_by_reply, place_by_signing, read_unless}
@@ -54,14 +55,14 @@ answered_place : (v : Sight) (now : ℕ) (words : List ℕ) (r : Reading)
 answered_place v now words r = by (is_response r.class) (is_malformed r)
   where
     p : PlaceSeen
-    p = standing v now words
+    p = current_place v now words
 
     c : ClientSeen
     c = client_of v.registered v.feature p.nonce p.offered r
 
     by : (response malformed : Bool)
         → cond (not (response || malformed))
-        (Some (client_by_reply p (named v.registered v.feature r)
+        (Some (client_by_reply p (named_user v.registered v.feature r)
         (reply_of_answer
         (cond response (validated_or_failed (client_verified v.registered r v.place))
         (answer_to (verdict v.registered v.feature p.nonce p.offered r)))))) v.place
@@ -71,7 +72,7 @@ answered_place v now words r = by (is_response r.class) (is_malformed r)
     by false true = refl
     by false false =
         elim (auth_refusal v.registered v.feature p.nonce p.offered r) as (λ refused.
-        Some (client_by_reply p (named v.registered v.feature r)
+        Some (client_by_reply p (named_user v.registered v.feature r)
         (reply_of_answer (answer_to (or_refused refused c))))
         ≡ Some (with_accepted p (or_refused refused c))) [
           | None ↦ refl
@@ -164,11 +165,11 @@ ValidatesByReplies read start calls given =
     words m a
 
 pub validates_by_replies : (s : ServerSeen) (calls : List ServerCall)
-    → ValidatesAccepted s calls (replies s calls)
+    → ValidatesEachAccepted s calls (replies s calls)
     → ValidatesByReplies message_read s calls (replies s calls)
 validates_by_replies s calls accepted i a now message words m algorithm at reads asks =
     let is = reads_as (refusal message.items) (reading_of message.items) m reads in
-    let same : sight_over (sight s a) (own a (take i calls))
+    let same : sight_over (sight s a) (own_calls a (take i calls))
     ≡ sight_by_replies message_read a (sight s a) (take i calls) (replies s calls) =
     sym (told_over a calls i s ∙ sight-after_calls a (take i calls) s) in
     let plain : is_response (class_in message.items) ≡ false =

@@ -6,7 +6,7 @@ use Rattle.std.specs.declared.net.socket_addr.SocketAddr.{SocketAddr}
 use Rattle.stun_base.specs.MessageType.{class_of, type_number}
 use Rattle.stun_base.specs.declared.keys.algorithm.IntegrityAlgorithm.TheVariants.{Sha256}
 use Rattle.stun_base.specs.declared.wire.message_type.MessageClass.TheVariants as Class
-use Rattle.stun_types.specs.Grammar.{spelled}
+use Rattle.stun_types.specs.Grammar.{spelled_message}
 use Rattle.stun_types.specs.Message.{refusal}
 use Rattle.stun_types.specs.Visible.{visible}
 use Rattle.stun_types.specs.Walk.{walk_up_to}
@@ -23,11 +23,11 @@ use Rattle.stun_auth.specs.Joined.{HasAdded, IsTyped}
 use Rattle.stun_auth.specs.Reading.{reading_of}
 use Rattle.stun_auth.specs.ServerSigning.{after_signing}
 use Rattle.stun_auth.specs.Signed.{IsBuilt, added_by_client, additions_of}
-use Rattle.stun_auth.specs.Validation.{after_message}
+use Rattle.stun_auth.specs.Validation.{after_validation}
 use Rattle.stun_auth.proofs.SignedReading.{typed-additions}
 use Rattle.stun_proto.specs.Honest.{ShortNamesAreSigned, StrongestIsAgreed}
 use Rattle.stun_proto.specs.MeetingExample.{IsServed, a_meeting, a_server}
-use Rattle.stun_proto.specs.Negotiation.{asked, failure, request, responded}
+use Rattle.stun_proto.specs.Negotiation.{client_request, failure, request, server_response}
 use Rattle.stun_proto.specs.ServerLoop.{AreMade}
 use Rattle.stun_proto.specs.Serving.{Reply, Refused, Signed, Validated}
 use Rattle.stun_proto.specs.Signing.{written_anew}
@@ -52,13 +52,13 @@ error_plain : written_anew (failure UNAUTHORIZED 7) ≡ Ok (failure UNAUTHORIZED
 unfolding failure written_anew visible walk_up_to
 error_plain = refl
 
-bare : (page : Page) → asked 7 initial ≡ Ok page → page.bytes ≡ request 7
-unfolding asked
+bare : (page : Page) → client_request 7 initial ≡ Ok page → page.bytes ≡ request 7
+unfolding client_request
 bare page is = let same : page_of (request 7) ≡ page = cc in ap (λ (p : Page). p.bytes) (sym same)
 
 pub record MessageLaws : Type 0 where
   pub bare : (message_type transaction_id : ℕ) → message_type < 2 ^ 14
-      → IsBuilt (spelled message_type transaction_id []) (class_of message_type) None
+      → IsBuilt (spelled_message message_type transaction_id []) (class_of message_type) None
   pub added : (list : List Addition) (message : List ℕ) (room : ℕ) (page : Page) → IsOpen message
       → AllByRecursion IsTyped list
       → added_all list (record { bytes = message; room = room }) ≡ Ok page
@@ -67,9 +67,9 @@ pub record MessageLaws : Type 0 where
       → client_additions is_request state ≡ additions_of (added_by_client is_request state)
 
 module _ (laws : MessageLaws) where
-  asked_is : (id : ℕ) (state : ClientState) (page : Page) → asked id state ≡ Ok page
+  asked_is : (id : ℕ) (state : ClientState) (page : Page) → client_request id state ≡ Ok page
       → refusal page.bytes ≡ None
-  unfolding asked request
+  unfolding client_request request
   asked_is id state page is =
       let done = sym (ap (λ l. added_all l (page_of (request id))) (laws.client true state)) ∙ is in
       let built = laws.bare (type_number Class.Request 1) id (omega arith) in
@@ -81,13 +81,13 @@ module _ (laws : MessageLaws) where
   module _ (from : SocketAddr) (words more : List ℕ)
       (went : Path (a_meeting from words more) initial a_server Sha256) where
     served : IsServed from words more
-    unfolding responded
+    unfolding server_response
     served =
         let first_bytes = bare went.first went.first_is in
         let s = a_server in
-        let t = after_message s from 0 words (reading_of went.first.bytes) in
+        let t = after_validation s from 0 words (reading_of went.first.bytes) in
         let u = after_signing t from true in
-        let v = after_message u from 1_000_000_000 more (reading_of went.second.bytes) in
+        let v = after_validation u from 1_000_000_000 more (reading_of went.second.bytes) in
         record {
           challenge = went.told;
           again = went.second;

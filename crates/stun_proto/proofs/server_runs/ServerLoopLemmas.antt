@@ -15,7 +15,7 @@ use Rattle.stun_auth.specs.Additions.{Page, page_of}
 use Rattle.stun_auth.specs.Reading.{Reading, reading_of}
 use Rattle.stun_auth.specs.Server.{Sight}
 use Rattle.stun_auth.specs.ServerSigning.{after_signing, server_signed}
-use Rattle.stun_auth.specs.Validation.{ServerSeen, after_message, answer, sight}
+use Rattle.stun_auth.specs.Validation.{ServerSeen, after_validation, answer, sight}
 use Rattle.stun_auth.specs.Validation as validation
 use Rattle.stun_proto.specs.declared.replay.call.ServerCall.{ServerCall}
 use Rattle.stun_proto.specs.declared.replay.call.ServerCall.TheVariants as Call
@@ -23,7 +23,7 @@ use Rattle.stun_proto.specs.Headline.{ValidatesEachCall}
 use Rattle.stun_proto.specs.Isolation.{IsIsolated}
 use Rattle.stun_proto.specs.Replies.{message_read}
 use Rattle.stun_proto.specs.ServerLoop.{AreMade, BuiltAreWrittenSo, CallsAreServed}
-use Rattle.stun_proto.specs.ServerLoop.{IfMessage, IsMade, Told, signed_or_refused, told}
+use Rattle.stun_proto.specs.ServerLoop.{IfMessage, IsMade, Told, signed_or_refused, reply_with}
 use Rattle.stun_proto.specs.Serving.{Reply, Done, TooShort, after_call, after_calls}
 use Rattle.stun_proto.specs.Serving.{is_too_short, places_unless, replies, reply}
 use Rattle.stun_proto.specs.Serving.{reply_of_answer, reply_of_signing, reply_unless}
@@ -38,13 +38,13 @@ use Rattle.stun_proto.proofs.meetings.SigningLemmas.{ends_anew}
 abbrev IsSaid : Told → Reply → ServerSeen → Type 0
 IsSaid got r t = (got.reply ≡ r) × (got.server ≡ t)
 
-said : (got : Told) (r : Reply) (t : ServerSeen) → got ≡ told r t → IsSaid got r t
+said : (got : Told) (r : Reply) (t : ServerSeen) → got ≡ reply_with r t → IsSaid got r t
 said got r t h = (ap (λ (x : Told). x.reply) h, ap (λ (x : Told). x.server) h)
 
 -- ---- a message that is judged
 judged : (s called : ServerSeen) (o : Option StunParseError) (got : Told) (r : Reply)
     → called ≡ record s { places = called.places }
-    → IfMessage s o got (got ≡ told r called)
+    → IfMessage s o got (got ≡ reply_with r called)
     → IsSaid got (reply_unless o r)
     (record s { places = places_unless o s.places called.places })
 judged s called (Some error) got r shape h = said got _ s h
@@ -100,7 +100,7 @@ module _ (s : ServerSeen) (to : SocketAddr) (bytes : List ℕ) where
       )
 
 expiry_set : (s : ServerSeen) (short : Bool) (nanos : ℕ) (got : Told)
-    → got ≡ cond short (told TooShort s) (told Done (record s { expiry = nanos }))
+    → got ≡ cond short (reply_with TooShort s) (reply_with Done (record s { expiry = nanos }))
     → IsSaid got (cond short TooShort Done) (record s { expiry = cond short s.expiry nanos })
 expiry_set s true nanos got h = said got TooShort s h
 expiry_set s false nanos got h = said got Done (record s { expiry = nanos }) h
@@ -109,7 +109,8 @@ expiry_set s false nanos got h = said got Done (record s { expiry = nanos }) h
 pub is_called : (s : ServerSeen) (call : ServerCall) (got : Told) → IsMade s call got
     → IsSaid got (reply s call) (after_call s call)
 is_called s (Call.Validate from now message words) got h =
-    judged s (after_message s from now words (reading_of message.items)) (refusal message.items) got
+    judged s (after_validation s from now words (reading_of message.items))
+    (refusal message.items) got
     (reply_of_answer (answer (sight s from) now words (reading_of message.items))) refl h
 is_called s (Call.Sign to message) got h = by_message s to message.items (refusal message.items) _
     got h
@@ -144,7 +145,7 @@ calls_are_served start last [] [] h = (refl, h)
 calls_are_served start last [] (r ∷ given) h = absurd h
 calls_are_served start last (call ∷ calls) [] h = absurd h
 calls_are_served start last (call ∷ calls) (r ∷ given) (after, made, rest) =
-    let one = is_called start call (told r after) made in
+    let one = is_called start call (reply_with r after) made in
     let more = calls_are_served after last calls given rest in (
       ap (λ x. x ∷ given) one.0
           ∙ ap (λ xs. reply start call ∷ xs) (more.0 ∙ ap (λ s. replies s calls) one.1),

@@ -5,9 +5,9 @@ use Rattle.std.specs.Prelude.{cond, ◌==◌}
 use Rattle.std.proofs.lemmas.Bool.{eq-eqb}
 use Rattle.std.specs.declared.net.socket_addr.SocketAddr.{SocketAddr}
 use Rattle.stun_auth.specs.Validation.{sight}
-use Rattle.stun_proto.specs.Isolation.{concerns, own, sight_over}
+use Rattle.stun_proto.specs.Isolation.{concerns, own_calls, sight_over}
 use Rattle.stun_proto.specs.Serving.{replies}
-use Rattle.stun_proto.specs.Shards.{ShardsServeAsOne, share, takes}
+use Rattle.stun_proto.specs.Shards.{ShardsServeAsOne, shard_calls, is_shard_call}
 use Rattle.stun_proto.specs.declared.replay.call.ServerCall.{ServerCall}
 use Rattle.stun_proto.specs.declared.replay.call.ServerCall.TheVariants as Call
 use Rattle.stun_proto.proofs.server_runs.IsolationLemmas.{is_isolated, isolated_from}
@@ -18,7 +18,7 @@ dealt deal from a same = ap (λ b. deal b == deal a) same ∙ eq-eqb (deal a) (d
 
 -- a call that concerns an address is taken by its server
 taken : (deal : SocketAddr → ℕ) (a : SocketAddr) (call : ServerCall) → concerns a call ≡ true
-    → takes deal (deal a) call ≡ true
+    → is_shard_call deal (deal a) call ≡ true
 taken deal a (Call.Validate from now message words) h = dealt deal from a (one_address from a h)
 taken deal a (Call.Sign to message) h = dealt deal to a (one_address to a h)
 taken deal a (Call.AddUser name password) h = refl
@@ -33,16 +33,18 @@ taken deal a (Call.Forget address) h = dealt deal address a (one_address address
 
 -- so the address has the same calls of its own there
 own_share : (deal : SocketAddr → ℕ) (a : SocketAddr) (calls : List ServerCall)
-    → own a (share deal (deal a) calls) ≡ own a calls
+    → own_calls a (shard_calls deal (deal a) calls) ≡ own_calls a calls
 own_share deal a [] = refl
 own_share deal a (call ∷ calls) =
-    elim (takes deal (deal a) call) as (λ b. takes deal (deal a) call ≡ b
-    → own a (cond b (call ∷ share deal (deal a) calls) (share deal (deal a) calls))
-    ≡ own a (call ∷ calls)) [
+    elim (is_shard_call deal (deal a) call) as (λ b. is_shard_call deal (deal a) call ≡ b
+    → own_calls a
+    (cond b (call ∷ shard_calls deal (deal a) calls) (shard_calls deal (deal a) calls))
+    ≡ own_calls a (call ∷ calls)) [
       | true ↦ λ is. ap (λ rest. cond (concerns a call) (call ∷ rest) rest) (own_share deal a calls)
       | false ↦ λ is.
           elim (concerns a call) as (λ b. concerns a call ≡ b
-          → own a (share deal (deal a) calls) ≡ cond b (call ∷ own a calls) (own a calls)) [
+          → own_calls a (shard_calls deal (deal a) calls)
+          ≡ cond b (call ∷ own_calls a calls) (own_calls a calls)) [
             | true ↦ λ own_call.
                 absurd (let clash : true ≡ false = sym (taken deal a call own_call) ∙ is in cc)
             | false ↦ λ other. own_share deal a calls
@@ -51,12 +53,13 @@ own_share deal a (call ∷ calls) =
 
 pub shards_serve_as_one : ShardsServeAsOne
 shards_serve_as_one deal servers one calls alike a =
-    let mine = share deal (deal a) calls in
+    let mine = shard_calls deal (deal a) calls in
     record {
       replied = isolated_from a mine (servers (deal a)) one (alike a)
           ∙ ap (replies one) (own_share deal a calls) ∙ sym (is_isolated one calls a);
       kept =
           sight-after_calls a mine (servers (deal a))
           ∙ ap (sight_over (sight (servers (deal a)) a)) (own_share deal a calls)
-          ∙ ap (λ v. sight_over v (own a calls)) (alike a) ∙ sym (sight-after_calls a calls one);
+          ∙ ap (λ v. sight_over v (own_calls a calls)) (alike a)
+          ∙ sym (sight-after_calls a calls one);
     }

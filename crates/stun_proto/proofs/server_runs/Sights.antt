@@ -7,16 +7,17 @@ use Rattle.stun_auth.specs.Places.{with_offer}
 use Rattle.stun_auth.specs.Reading.{Reading}
 use Rattle.stun_auth.specs.Seen.{PlaceSeen}
 use Rattle.stun_auth.specs.ServerSigning.{after_signing}
-use Rattle.stun_auth.specs.Validation.{ServerSeen, sight, place_after, after_message}
+use Rattle.stun_auth.specs.Validation.{ServerSeen, sight, place_after, after_validation}
 use Rattle.stun_proto.specs.Matching.{AreOfOthers}
 use Rattle.stun_proto.specs.Serving.{after_call, after_calls}
 use Rattle.stun_proto.specs.declared.replay.call.ServerCall.{ServerCall}
 use Rattle.stun_proto.proofs.server_runs.IsolationLemmas.{put_here, none_left, here, other_step}
 
-pub sight-after_message : (s : ServerSeen) (a : SocketAddr) (now : ℕ) (words : List ℕ) (r : Reading)
-    → sight (after_message s a now words r) a
+pub sight-after_validation : (s : ServerSeen) (a : SocketAddr) (now : ℕ) (words : List ℕ)
+    (r : Reading)
+    → sight (after_validation s a now words r) a
     ≡ record (sight s a) { place = place_after (sight s a) now words r }
-sight-after_message s a now words r =
+sight-after_validation s a now words r =
     ap (λ (o : Option PlaceSeen). record (sight s a) { place = o })
     (put_here s.places a (place_after (sight s a) now words r) (none_left _ _ (fin.get s.places a)))
 

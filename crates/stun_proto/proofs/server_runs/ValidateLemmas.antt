@@ -3,7 +3,7 @@ use Rattle.std.proofs.Common.{◌≡◌, true, false, ◌∙◌, Ok, Err, OnOk, 
 use Rattle.std.specs.Prelude.{IsOkAnd}
 use Rattle.std.specs.declared.result.Result.{Result}
 use Rattle.std.specs.declared.alloc.AllocError.{AllocError}
-use Rattle.stun_auth.specs.Reasons.{ForReason}
+use Rattle.stun_auth.specs.Reasons.{ForServerReason}
 use Rattle.stun_auth.specs.declared.server.reason.LongTermServerAuthErrorReason.{
   LongTermServerAuthErrorReason,
 }
@@ -21,7 +21,7 @@ use Rattle.stun_proto.specs.declared.replay.call.ServerReply.{ServerReply}
 -- what follows either way from two facts about a reason
 pub either : (reason : LongTermServerAuthErrorReason) {P Q P' Q' R : Type 0} → (P → P' → R)
     → (Q → Q' → R)
-    → ForReason reason P Q → ForReason reason P' Q' → R
+    → ForServerReason reason P Q → ForServerReason reason P' Q' → R
 either Unauthorized one other a b = one a b
 either IntegrityFailed one other a b = one a b
 either UnsupportedFeature one other a b = one a b

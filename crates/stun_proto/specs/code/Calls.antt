@@ -9,12 +9,12 @@ use Rattle.stun_base.specs.Moments.{last_moment}
 use Rattle.stun_proto.specs.declared.replay.event.AgentEvent.{AgentEvent}
 use Rattle.stun_proto.specs.declared.replay.step_log.StepLog.{StepLog}
 use Rattle.stun_proto.specs.Steps.{Step, steps_of}
-use Rattle.stun_proto.specs.Run.{transmitted, ended, Phase, sending, ending, Turn}
+use Rattle.stun_proto.specs.Run.{transmission_step, end_step, Phase, sending, ending, Turn}
 use Rattle.stun_proto.specs.Run.{Turns, Run, IsAwaited, after_event, steps_of_event}
 
 -- the steps of a log, unless they are lost
-abbrev pub kept : {A : Type 0} → StepLog A → Option (List Step)
-kept log = if log.is_lost then None else Some (steps_of log.steps.items)
+abbrev pub kept_steps : {A : Type 0} → StepLog A → Option (List Step)
+kept_steps log = if log.is_lost then None else Some (steps_of log.steps.items)
 
 -- the steps before and these: all of them, or they are lost
 abbrev pub Keeps : Option (List Step) → List Step → Option (List Step) → Type 0
@@ -26,7 +26,7 @@ Keeps (Some before) steps (Some after) = after ≡ before ++ steps
 abbrev pub SendsOne : ℕ → Agent → Agent → Option (List Step) → Option (List Step) → Bool → Type 0
 SendsOne now old new before after true =
     (e : ℕ × Transaction) × (sent_by_poll now old ≡ Some e) × (new ≡ after_poll_transmit now old)
-    × Keeps before (transmitted now e ∷ []) after
+    × Keeps before (transmission_step now e ∷ []) after
 SendsOne now old new before after false =
     (sent_by_poll now old ≡ None) × (new ≡ after_poll_transmit now old) × (after ≡ before)
 
@@ -34,7 +34,7 @@ SendsOne now old new before after false =
 abbrev pub EndsOne : ℕ → Agent → Agent → Option (List Step) → Option (List Step) → Option ℕ → Type 0
 EndsOne now old new before after None =
     (e : ℕ × Transaction) × (ended_by_poll now old ≡ Some e) × (new ≡ after_poll now old)
-    × Keeps before (ended now e ∷ []) after
+    × Keeps before (end_step now e ∷ []) after
 EndsOne now old new before after (Some moment) =
     (ended_by_poll now old ≡ None) × (moment ≡ wake_up old.transport now old.transactions)
     × (new ≡ old) × (after ≡ before)

@@ -2,9 +2,9 @@
 use Rattle.stun_auth.specs.Client.{ClientSettings}
 use Rattle.stun_proto.specs.Negotiation.{Meeting, Round}
 use Rattle.stun_proto.specs.declared.replay.negotiation.meeting.Meeting as code
-use Rattle.stun_proto.specs.declared.replay.negotiation.meeting.Turn as code_turn
+use Rattle.stun_proto.specs.declared.replay.negotiation.meeting.Asking as code_turn
 
-abbrev pub turn_of : code_turn.Turn → Round
+abbrev pub turn_of : code_turn.Asking → Round
 turn_of t = record { id = t.id; now = t.moment; words = t.words; before = t.before.now }
 
 -- of a client that is set so

@@ -1,8 +1,9 @@
 //! The events of a run: one call of the agent for each, and its step.
 ghost use Rattle.std.specs.Prelude.{◌≡◌, ◌≢◌, ◌∷◌, [], None, IfOk, IsOk, OnOk, OnErr};
 ghost use Rattle.stun_agent.specs.Agent.{request_refusal};
-ghost use Rattle.stun_proto.specs.code.Calls.{Keeps, kept, TakesEvent};
-ghost use Rattle.stun_proto.specs.Run.{after_sending, step_of_sending, after_asking};
+ghost use Rattle.stun_agent.specs.Transactions.{with_cancellation};
+ghost use Rattle.stun_proto.specs.code.Calls.{Keeps, kept_steps, TakesEvent};
+ghost use Rattle.stun_proto.specs.Run.{after_change, after_sending, step_of_sending, after_asking};
 ghost use Rattle.stun_proto.specs.Run.{step_of_asking, after_receiving, step_of_receiving};
 ghost use Rattle.stun_proto.specs.Steps.{Sent, step_of};
 
@@ -13,6 +14,7 @@ use std::alloc::{AllocError, Allocator};
 use std::net::SocketAddr;
 use stun_agent::agent::{StunAgent, StunError};
 use stun_base::instant::Instant;
+use stun_base::transaction_id::TransactionId;
 use stun_types::message::Message;
 
 /// An event, and its step. An error means that the agent's own allocation failed: then the agent is
@@ -24,8 +26,8 @@ pub(crate) fn apply<A: Allocator + Copy>(
     event: &AgentEvent,
     log: &mut StepLog<A>,
 ) -> Result<(), AllocError>
-    ensures whole { OnOk result (TakesEvent now event.now agent.old agent.new (kept log.old)
-        (kept log.new)) }
+    ensures whole { OnOk result (TakesEvent now event.now agent.old agent.new (kept_steps log.old)
+        (kept_steps log.new)) }
     ensures broken { OnErr result (agent.new ≡ agent.old) }
 {
     match event {
@@ -36,11 +38,7 @@ pub(crate) fn apply<A: Allocator + Copy>(
         AgentEvent::Receive { bytes, from } => {
             receive(agent, now, bytes.as_slice(), *from, log)?;
         }
-        AgentEvent::Cancel(id) => {
-            if let Some(mut request) = agent.mut_request_transaction(*id) {
-                request.cancel();
-            }
-        }
+        AgentEvent::Cancel(id) => cancel(agent, *id),
         AgentEvent::CancelRetransmissions(id) => {
             if let Some(mut request) = agent.mut_request_transaction(*id) {
                 request.cancel_retransmissions();
@@ -62,6 +60,15 @@ pub(crate) fn apply<A: Allocator + Copy>(
     Ok(())
 }
 
+/// Cancels a request, where it is outstanding.
+fn cancel<A: Allocator + Copy>(agent: &mut StunAgent<A>, id: TransactionId)
+    ensures { agent.new ≡ after_change with_cancellation id agent.old }
+{
+    if let Some(mut request) = agent.mut_request_transaction(id) {
+        request.cancel();
+    }
+}
+
 fn send<A: Allocator + Copy>(
     alloc: A,
     agent: &mut StunAgent<A>,
@@ -71,8 +78,8 @@ fn send<A: Allocator + Copy>(
     log: &mut StepLog<A>,
 )
     ensures after { agent.new ≡ after_sending bytes.now to agent.old }
-    ensures added { Keeps (kept log.old) (step_of_sending now bytes.now to agent.old ∷ [])
-        (kept log.new) }
+    ensures added { Keeps (kept_steps log.old) (step_of_sending now bytes.now to agent.old ∷ [])
+        (kept_steps log.new) }
 {
     match agent.send(bytes, to, now) {
         Ok(transmit) => log.add(sent(alloc, now, transmit.to, transmit.data)),
@@ -103,8 +110,8 @@ fn ask<A: Allocator + Copy>(
     log: &mut StepLog<A>,
 ) -> Result<(), AllocError>
     ensures after { OnOk result (agent.new ≡ after_asking now bytes.now to agent.old) }
-    ensures added { OnOk result (Keeps (kept log.old)
-        (step_of_asking now bytes.now to agent.old ∷ []) (kept log.new)) }
+    ensures added { OnOk result (Keeps (kept_steps log.old)
+        (step_of_asking now bytes.now to agent.old ∷ []) (kept_steps log.new)) }
     ensures broken { OnErr result (agent.new ≡ agent.old) }
     ensures refused { request_refusal agent.old bytes.now to ≢ None → IsOk result }
 {
@@ -129,8 +136,8 @@ fn receive<A: Allocator + Copy>(
     log: &mut StepLog<A>,
 ) -> Result<(), AllocError>
     ensures whole { OnOk result (agent.new ≡ after_receiving now bytes.now from agent.old) }
-    ensures added { OnOk result (Keeps (kept log.old)
-        (step_of_receiving now bytes.now from agent.old ∷ []) (kept log.new)) }
+    ensures added { OnOk result (Keeps (kept_steps log.old)
+        (step_of_receiving now bytes.now from agent.old ∷ []) (kept_steps log.new)) }
     ensures broken { OnErr result (agent.new ≡ agent.old) }
 {
     let step = match Message::from_bytes(bytes) {

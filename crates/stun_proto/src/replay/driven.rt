@@ -1,6 +1,6 @@
 //! Driven runs: the events at their moments, and a turn at each moment that a request awaits.
 ghost use Rattle.std.specs.Prelude.{◌+◌, List, IfOk, IfErr, OnOk, OnErr};
-ghost use Rattle.stun_proto.specs.code.Calls.{kept, HasPassed, TakesTurns, TakesWhole};
+ghost use Rattle.stun_proto.specs.code.Calls.{kept_steps, HasPassed, TakesTurns, TakesWhole};
 ghost use Rattle.stun_proto.specs.Headline.{IsDrivenByPlan};
 ghost use Rattle.stun_proto.specs.Run.{IsDriven, Turns};
 ghost use Rattle.stun_proto.specs.RunLaws.{KeepPlans};
@@ -16,31 +16,32 @@ use std::alloc::{AllocError, Allocator};
 use stun_agent::agent::StunAgent;
 use stun_base::instant::Instant;
 
-/// Drives an agent by a list of events, each at its moment, and answers what the agent did, in
+/// Drives an agent by a list of events, each at its moment, and returns what the agent did, in
 /// order.
 ///
 /// The moments of the events must not go back, and none may be after `until`. The run is this:
 ///
-/// 1. Before an event, each moment below the event's own that a request awaits has a turn, in order.
+/// 1. Before an event, each moment below its own that a request awaits has a turn, in order.
 /// 2. Then the event comes, and a turn at its moment.
-/// 3. After the last event, each awaited moment up to `until` has a turn. Without events nothing happens.
+/// 3. After the last event, each awaited moment up to `until` has a turn.
 ///
-/// A turn at a moment calls `poll_transmit` until it answers `None`, then `poll` until it answers
-/// `WaitUntil`, and begins again while that moment is this one. At `Instant::MAX` there is one
-/// turn.
+/// Without events nothing happens. A turn at a moment calls `poll_transmit` until it returns
+/// `None`, then `poll` until it returns `WaitUntil`. It begins again while the moment to wait until
+/// is this one. At `Instant::MAX` there is one turn.
 ///
-/// A request that one event asks for, and that no response from its address, no cancellation and no
-/// change meets up to its end, is sent at its first moment and at the sums of its timeouts from
-/// there, at no other moment, and times out once (RFC 8489, section 6.2.1), whatever responses
-/// other addresses send. The clause `headline` says so, and that the answered steps are exactly
-/// those that this agent made; `run` says the latter alone, and `plans` the former for ids that
-/// come again.
+/// Take a request that one event asks for, and that nothing meets up to its end: no response from
+/// its address, no cancellation and no change. It is sent at its first moment and at the sums of
+/// its timeouts from there, and at no other moment. It times out once (RFC 8489, section 6.2.1).
+/// This holds whatever responses other addresses send.
 ///
-/// Where an allocation fails the answer is `Stopped`, and the steps are lost. The agent is then
-/// exactly the one after the first `done` events, with the turns at their moments and before the
-/// next one (where none is left, up to `until`). Event `done` has not come. So `drive` with this
-/// agent and the events from `done` on makes the rest of the run: no event comes twice, and none is
-/// left out (law `stopped_runs_go_on`).
+/// The clause `headline` says so, and that the steps returned are exactly those that this agent
+/// made; `run` says the latter alone, and `plans` the former for ids that come again.
+///
+/// Where an allocation fails, `drive` returns `Stopped`, and the steps are lost. The agent is then
+/// the one after the first `done` events, with the turns at their moments. It has also had the
+/// turns before the next event, or up to `until` where no event is left. Event `done` has not come.
+/// So `drive` with this agent and the events from `done` on makes the rest of the run. No event
+/// comes twice, and none is left out (law `stopped_runs_go_on`).
 pub fn drive<A: Allocator + Copy>(
     alloc: A,
     agent: &mut StunAgent<A>,
@@ -54,7 +55,8 @@ pub fn drive<A: Allocator + Copy>(
         events.now (steps_of steps.items) agent.new) }
     ensures plans { IfOk result (λ steps. KeepPlans until agent.old events.now
         (steps_of steps.items)) }
-    ensures stopped { IfErr result (λ stopped. HasStopped until stopped.done agent.old events.now agent.new) }
+    ensures stopped { IfErr result (λ stopped. HasStopped until stopped.done agent.old events.now
+        agent.new) }
 {
     // For the proof: its clause `kept` says that ids ascend, and each request is kept under its
     // own.
@@ -92,8 +94,9 @@ fn take_event<A: Allocator + Copy>(
     log: &mut StepLog<A>,
 ) -> Result<(), AllocError>
     requires { HasPassed from agent.old }
-    ensures whole { OnOk result (TakesWhole from now event.now agent.old agent.new (kept log.old)
-        (kept log.new)) }
+    ensures whole { OnOk result
+        (TakesWhole from now event.now agent.old agent.new (kept_steps log.old)
+        (kept_steps log.new)) }
     ensures passed { OnOk result (HasPassed (now + 1) agent.new) }
     ensures broken { OnErr result ((lost : List Step) × Turns now from agent.old lost agent.new) }
 {
@@ -115,7 +118,7 @@ fn turns<A: Allocator + Copy>(
     log: &mut StepLog<A>,
 )
     requires { HasPassed from agent.old }
-    ensures { TakesTurns bound from agent.old agent.new (kept log.old) (kept log.new) }
+    ensures { TakesTurns bound from agent.old agent.new (kept_steps log.old) (kept_steps log.new) }
 {
     let mut from = from;
     loop {

@@ -49,8 +49,7 @@ pub enum AgentEvent {
         /// The longest wait between two transmissions.
         max: Duration,
     },
-    /// An address is named as one whose messages were taken. Messages of other addresses are taken
-    /// all the same.
+    /// Marks an address as validated. This does not restrict whose messages are accepted.
     ValidatePeer(SocketAddr),
 }
 

@@ -2,8 +2,8 @@
 
 ghost use Rattle.std.specs.Prelude.{◌≡◌, IfOk, OnOk, OnErr, IsErr, Ok, Err};
 ghost use Rattle.stun_auth.specs.Reading.{reading_of};
-ghost use Rattle.stun_auth.specs.Reasons.{ForReason};
-ghost use Rattle.stun_auth.specs.Validation.{after_message, answer, sight};
+ghost use Rattle.stun_auth.specs.Reasons.{ForServerReason};
+ghost use Rattle.stun_auth.specs.Validation.{after_validation, answer, sight};
 ghost use Rattle.stun_proto.specs.code.FirstAnswers.{answer_of};
 
 use std::alloc::{AllocError, Allocator};
@@ -27,7 +27,7 @@ pub(crate) fn judged<A: Allocator + Copy>(
 ) -> Result<Result<IntegrityAlgorithm, LongTermServerAuthErrorReason>, AllocError>
     ensures answer { IfOk result (λ a. answer_of a
         ≡ answer (sight server.old from) now words (reading_of message.now)) }
-    ensures server { OnOk result (server.new ≡ after_message server.old from now words
+    ensures server { OnOk result (server.new ≡ after_validation server.old from now words
         (reading_of message.now)) }
     ensures err { OnErr result (server.new ≡ server.old) }
 {
@@ -51,7 +51,7 @@ fn validated_algorithm(validation: LongTermServerValidation) -> IntegrityAlgorit
 fn server_refusal(
     reason: LongTermServerAuthErrorReason,
 ) -> Result<Result<IntegrityAlgorithm, LongTermServerAuthErrorReason>, AllocError>
-    ensures { ForReason reason (result ≡ Ok (Err reason)) (IsErr result) }
+    ensures { ForServerReason reason (result ≡ Ok (Err reason)) (IsErr result) }
 {
     if reason == LongTermServerAuthErrorReason::OutOfMemory {
         Err(AllocError)

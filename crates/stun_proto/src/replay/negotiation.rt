@@ -7,7 +7,7 @@ ghost use Rattle.stun_proto.specs.Headline.{EndsAtStrongest, IsReadyClient};
 ghost use Rattle.stun_proto.specs.Honest.{ComesTo, IsHonest, strongest};
 ghost use Rattle.stun_proto.specs.code.Meetings.{turn_of};
 ghost use Rattle.stun_proto.specs.Negotiating.{lists, meeting, met_by, turn_at};
-ghost use Rattle.stun_proto.specs.Negotiation.{negotiated};
+ghost use Rattle.stun_proto.specs.Negotiation.{whole_negotiation};
 ghost use Rattle.stun_proto.specs.Sides.{Passes, sides};
 
 mod meeting;
@@ -16,7 +16,7 @@ mod messages;
 use crate::laws;
 use crate::replay::call::ServerCall;
 use crate::replay::event::Stopped;
-use crate::replay::negotiation::meeting::{Meeting, Turn, meet};
+use crate::replay::negotiation::meeting::{Asking, Meeting, meet};
 use std::alloc::{AllocError, Allocator};
 use std::net::SocketAddr;
 use stun_auth::auth::{
@@ -55,9 +55,9 @@ pub enum NegotiateError {
 }
 
 impl From<StunWriteError> for NegotiateError {
-    ghost use Rattle.stun_proto.specs.Negotiating.{error_of};
+    ghost use Rattle.stun_proto.specs.Negotiating.{error_of_write};
 
-    ghost from_gives = { λ reason error. error ≡ error_of reason };
+    ghost from_gives = { λ reason error. error ≡ error_of_write reason };
 
     fn from(reason: StunWriteError) -> NegotiateError {
         match reason {
@@ -87,29 +87,46 @@ impl From<Stopped> for NegotiateError {
     }
 }
 
-/// A client and a server meet: a Binding request with the first id, which the server reads at the
-/// first moment; a 401, which the client reads; a request with the second id, which the server
-/// reads at the second moment; a success, which the client reads. Each message is signed by the
-/// side that sends it, and read through its bytes. The server makes the first list of calls just
-/// before the client reads the 401, and the second one just before it reads the second request.
+/// A client and a server meet:
+///
+/// 1. The client sends a Binding request with the first id. The server reads it at the first
+///    moment.
+/// 2. The server sends a 401, which the client reads.
+/// 3. The client sends a request with the second id. The server reads it at the second moment.
+/// 4. The server sends a success, which the client reads.
+///
+/// Each message is signed by the side that sends it, and read through its bytes. The server makes
+/// the first list of calls just before the client reads the 401. It makes the second list just
+/// before it reads the second request.
 ///
 /// A ready client is accepted with its second request and with the strongest algorithm that both
-/// sides support; the server knows it then, and it the server. Where there is none, it answers
-/// `UnsupportedFeature` and keeps nothing, and the server knows no client at its address (RFC 8489,
-/// section 9.2). It is ready where it is new, has the name and password of a registered user, whose
-/// USERHASH no other has, comes from an address that is new to the server, and asks again while its
-/// nonce is current; where realm and name have at most 763 and 513 bytes; and where the calls
-/// between the steps are those of other addresses alone: none is on users or settings, and none is
-/// a `ForgetExpired`, which concerns every address. Nobody stands between the two, so nothing is
-/// said of a downgrade. The clause `headline` says this; `strongest` says it without the two
-/// limits, where no signing is refused; and `steps` says that both went through the meeting.
+/// sides support. Both sides then know each other. Where there is no such algorithm, the client
+/// fails with `UnsupportedFeature` and keeps nothing. The server then knows no client at its
+/// address (RFC 8489, section 9.2). A client is ready if:
 ///
-/// The answer is the outcome that ends the run: a first request that is accepted, a refusal of the
-/// server other than `Unauthorized` to the first request, a refusal of the client, an answer of the
-/// client to the 401 other than `ResendRequest`, or both sides' acceptance. `Write` is the reason
-/// of a signing that was refused, and never `OutOfMemory`. Where an allocation fails the answer is
-/// `Memory`. Both sides are then as the first steps of the run leave them, and another step was to
-/// follow; each call of a list is a step.
+/// - It is new, and has the name and password of a registered user. No two registered users share a
+///   USERHASH.
+/// - It comes from an address that is new to the server.
+/// - It asks again while its nonce is current.
+/// - Realm and name have at most 763 and 513 bytes.
+/// - The calls between the steps are those of other addresses alone. None is on users or settings,
+///   and none is a `ForgetExpired`, which concerns every address.
+///
+/// Nobody stands between the two, so nothing is said of a downgrade. The clause `headline` says all
+/// this; `strongest` says it without the two limits, where no signing is refused; and `steps` says
+/// that both went through the meeting.
+///
+/// The result is the outcome that ends the run, which is one of these:
+///
+/// - a first request that the server accepts;
+/// - a refusal of the first request other than `Unauthorized`, or any refusal of the second;
+/// - a refusal of the client;
+/// - a result of the client on the 401 other than `ResendRequest`;
+/// - the acceptance of both sides.
+///
+/// `Write` is the reason of a signing that was refused, and never `OutOfMemory`. Where an
+/// allocation fails, `negotiate` returns `Memory`. Both sides are then as the first steps of the
+/// run leave them, and another step was to follow. Each call of a list is a step.
 #[tactic(none)]
 pub fn negotiate<A: Allocator + Copy>(
     alloc: A,
@@ -123,21 +140,18 @@ pub fn negotiate<A: Allocator + Copy>(
 ) -> Result<Outcome, NegotiateError>
     ensures settings { client.new.settings ≡ client.old.settings }
     ensures steps { let m = meeting client.old.settings from ids moments words
-        (lists between.entry) in
-        IfSome (met_by result client.new.state server.new)
-        (λ met. met ≡ negotiated m client.old.state server.old) }
+        (lists between.entry) in IfSome (met_by result client.new.state server.new)
+        (λ met. met ≡ whole_negotiation m client.old.state server.old) }
     ensures strongest { let m = meeting client.old.settings from ids moments words
-        (lists between.entry) in
-        client.old.state ≡ initial → (who : NameAndPassword) → IsHonest m who server.old
-        → IfSome (met_by result client.new.state server.new)
+        (lists between.entry) in client.old.state ≡ initial → (who : NameAndPassword)
+        → IsHonest m who server.old → IfSome (met_by result client.new.state server.new)
         (ComesTo from who (strongest m server.old)) }
     ensures headline { let m = meeting client.old.settings from ids moments words
         (lists between.entry) in
         (who : NameAndPassword) → IsReadyClient client.old.state m who server.old
         → EndsAtStrongest m who server.old result client.new.state server.new }
     ensures memory { let m = meeting client.old.settings from ids moments words
-        (lists between.entry) in
-        result ≡ Err NegotiateError.Memory
+        (lists between.entry) in result ≡ Err NegotiateError.Memory
         → Passes m client.old.state server.old (sides client.new.state server.new) }
     ensures write { result ≢ Err (NegotiateError.Write StunWriteError.OutOfMemory) }
 {
@@ -162,14 +176,14 @@ fn turn_at<'a>(
     moments: [Instant; 2],
     words: [[u32; 16]; 2],
     between: [&'a [ServerCall]; 2],
-) -> Turn<'a>
+) -> Asking<'a>
     requires { index < 2 }
     ensures turn { turn_of result ≡ turn_at index ids moments words (lists between.entry) }
     ensures count { length result.words ≡ 16 }
 {
     let words = words[index];
     words_are_sixteen(words);
-    Turn {
+    Asking {
         id: ids[index],
         moment: moments[index],
         words,

@@ -5,10 +5,10 @@ ghost use Rattle.std.specs.Prelude.{OnOk, OnErr, IfErr, IsOk, length, take};
 ghost use Rattle.std.specs.declared.net.socket_addr.SocketAddr.{SocketAddr as TheAddress};
 ghost use Rattle.stun_types.specs.Message.{refusal};
 ghost use Rattle.stun_auth.specs.Reading.{reading_of};
-ghost use Rattle.stun_auth.specs.Validation.{after_message, answer, sight};
-ghost use Rattle.stun_proto.specs.Accepting.{ValidatesAccepted};
+ghost use Rattle.stun_auth.specs.Validation.{after_validation, answer, sight};
+ghost use Rattle.stun_proto.specs.Accepting.{ValidatesEachAccepted};
 ghost use Rattle.stun_proto.specs.Headline.{ValidatesEachCall};
-ghost use Rattle.stun_proto.specs.Isolation.{IsIsolated, own, sight_over};
+ghost use Rattle.stun_proto.specs.Isolation.{IsIsolated, own_calls, sight_over};
 ghost use Rattle.stun_proto.specs.Replies.{message_read};
 ghost use Rattle.stun_proto.specs.Serving.{after_call, after_calls, places_unless};
 ghost use Rattle.stun_proto.specs.Serving.{replies, replies_of, reply, reply_of};
@@ -27,14 +27,19 @@ use stun_base::credentials::LongTermCredentials;
 use stun_base::instant::Instant;
 use stun_types::message::Message;
 
-/// Makes the calls in their order, and answers the reply to each.
+/// Makes the calls in their order, and returns the reply to each.
 ///
 /// The replies to an address are those of a run over its own calls and those that concern every
-/// address (on users and settings, and `ForgetExpired`): no call of another address has a part in
-/// them. A request or an indication is validated if and only if it has a realm, the nonce that is
-/// current at its address, consistent algorithms, and the digest under the key of the registered
-/// user whom it names (RFC 8489, section 9.2.4), at the place that its address's own earlier calls
-/// leave.
+/// address. The latter are on users and settings, and `ForgetExpired`. No call of another address
+/// has a part in them. A request or an indication is validated if and only if it has all of these
+/// (RFC 8489, section 9.2.4):
+///
+/// - a realm;
+/// - the nonce that is current at its address;
+/// - consistent algorithms;
+/// - the digest under the key of the registered user whom it names.
+///
+/// They are judged by the place that the earlier calls of its address leave.
 ///
 /// The one error is that an allocation failed: the server is then as after the first `done` calls.
 /// The call whose allocation failed is none of them, unless it was complete and only its reply
@@ -51,8 +56,8 @@ pub fn serve<A: Allocator + Copy>(
     ensures isolated { IfOk result (λ given. IsIsolated server.old calls.now
         (replies_of given.items)) }
     ensures place { OnOk result ((a : TheAddress)
-        → sight server.new a ≡ sight_over (sight server.old a) (own a calls.now)) }
-    ensures accepted { IfOk result (λ given. ValidatesAccepted server.old calls.now
+        → sight server.new a ≡ sight_over (sight server.old a) (own_calls a calls.now)) }
+    ensures accepted { IfOk result (λ given. ValidatesEachAccepted server.old calls.now
         (replies_of given.items)) }
     ensures stopped { IfErr result (λ e. (e.done ≤ length calls.now)
         × (server.new ≡ after_calls server.old (take e.done calls.now))) }
@@ -88,44 +93,23 @@ fn serve_call<A: Allocator + Copy>(
             now,
             message,
             words,
-        } => validate(server, message.as_slice(), *from, *now, *words),
-        ServerCall::Sign { to, message } => sign(alloc, server, message.as_slice(), *to),
+        } => return validate(server, message.as_slice(), *from, *now, *words),
+        ServerCall::Sign { to, message } => return sign(alloc, server, message.as_slice(), *to),
+        ServerCall::SetExpiry(expiry) => return Ok(set_expiry(server, *expiry)),
         ServerCall::AddUser { name, password } => {
             let name = String::from_str(alloc, name.as_str())?;
             let password = String::from_str(alloc, password.as_str())?;
             server.add_user(LongTermCredentials::new(name, password))?;
-            Ok(ServerReply::Done)
         }
-        ServerCall::RemoveUser(name) => {
-            server.remove_user(name.as_str());
-            Ok(ServerReply::Done)
-        }
-        ServerCall::AddIntegrity(algorithm) => {
-            server.add_supported_integrity(*algorithm);
-            Ok(ServerReply::Done)
-        }
-        ServerCall::SetIntegrity(algorithm) => {
-            server.set_supported_integrity(*algorithm);
-            Ok(ServerReply::Done)
-        }
-        ServerCall::SetAnonymous(feature) => {
-            server.set_anonymous_username(*feature)?;
-            Ok(ServerReply::Done)
-        }
-        ServerCall::RemoveClient(address) => {
-            server.remove_client(*address);
-            Ok(ServerReply::Done)
-        }
-        ServerCall::SetExpiry(expiry) => Ok(set_expiry(server, *expiry)),
-        ServerCall::ForgetExpired(now) => {
-            server.forget_expired(*now);
-            Ok(ServerReply::Done)
-        }
-        ServerCall::Forget(address) => {
-            server.forget(*address);
-            Ok(ServerReply::Done)
-        }
+        ServerCall::RemoveUser(name) => server.remove_user(name.as_str()),
+        ServerCall::AddIntegrity(algorithm) => server.add_supported_integrity(*algorithm),
+        ServerCall::SetIntegrity(algorithm) => server.set_supported_integrity(*algorithm),
+        ServerCall::SetAnonymous(feature) => server.set_anonymous_username(*feature)?,
+        ServerCall::RemoveClient(address) => server.remove_client(*address),
+        ServerCall::ForgetExpired(now) => server.forget_expired(*now),
+        ServerCall::Forget(address) => server.forget(*address),
     }
+    Ok(ServerReply::Done)
 }
 
 /// Validates bytes that came from an address, where they are a message. Where they are none, no
@@ -142,7 +126,7 @@ fn validate<A: Allocator + Copy>(
         (answer (sight server.old from) now words (reading_of bytes.now)))) }
     ensures server { OnOk result (server.new ≡ record server.old {
       places = places_unless
-          (refusal bytes.now) server.old.places (after_message server.old from now words
+          (refusal bytes.now) server.old.places (after_validation server.old from now words
           (reading_of bytes.now)).places;
     }) }
     ensures err { OnErr result (server.new ≡ server.old) }

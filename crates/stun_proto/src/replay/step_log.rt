@@ -1,12 +1,12 @@
 //! The steps of a driven run, as far as they are kept.
 ghost use Rattle.std.specs.Prelude.{◌≡◌, ◌∷◌, [], Some, IfOk};
 ghost use Rattle.stun_proto.specs.Steps.{Step, step_of};
-ghost use Rattle.stun_proto.specs.code.Calls.{Keeps, kept};
+ghost use Rattle.stun_proto.specs.code.Calls.{Keeps, kept_steps};
 
 use crate::replay::event::AgentStep;
 use std::alloc::{AllocError, Allocator};
 
-/// The steps of an agent. Once an allocation fails they are lost, and the calls of the run go on
+/// The steps of an agent. Once an allocation fails they are lost. The calls of the run go on
 /// without them, up to a place where the run can stop.
 #[derive(Drop)]
 pub(crate) struct StepLog<A: Allocator> {
@@ -19,7 +19,7 @@ pub(crate) struct StepLog<A: Allocator> {
 impl<A: Allocator> StepLog<A> {
     /// A log without steps.
     pub(crate) fn new(alloc: A) -> Self
-        ensures { kept result ≡ Some [] }
+        ensures { kept_steps result ≡ Some [] }
     {
         StepLog {
             steps: Vec::new(alloc),
@@ -30,7 +30,7 @@ impl<A: Allocator> StepLog<A> {
     /// A step more, or all steps are lost.
     pub(crate) fn add(&mut self, step: Result<AgentStep<A>, AllocError>)
         ensures { (s : Step) → IfOk step (λ x. step_of x ≡ s)
-            → Keeps (kept self.old) (s ∷ []) (kept self.new) }
+            → Keeps (kept_steps self.old) (s ∷ []) (kept_steps self.new) }
     {
         match step {
             Ok(step) => {

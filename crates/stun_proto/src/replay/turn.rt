@@ -1,7 +1,7 @@
 //! One turn of a run: what is due at a moment is sent, and what is over ends.
 ghost use Rattle.std.specs.Prelude.{◌≡◌, IfOk};
 ghost use Rattle.stun_base.specs.Header.{BeginsWithHeader, transaction_id_field};
-ghost use Rattle.stun_proto.specs.code.Calls.{kept, SendsOne, EndsOne};
+ghost use Rattle.stun_proto.specs.code.Calls.{kept_steps, SendsOne, EndsOne};
 ghost use Rattle.stun_proto.specs.code.Calls.{SendsAll, EndsAll, TakesTurn};
 ghost use Rattle.stun_proto.specs.Steps.{Transmitted, step_of};
 
@@ -22,7 +22,7 @@ pub(crate) fn turn<A: Allocator + Copy>(
     now: Instant,
     log: &mut StepLog<A>,
 )
-    ensures { TakesTurn now agent.old agent.new (kept log.old) (kept log.new) }
+    ensures { TakesTurn now agent.old agent.new (kept_steps log.old) (kept_steps log.new) }
 {
     loop {
         send_all(alloc, agent, now, log);
@@ -43,7 +43,7 @@ fn send_all<A: Allocator + Copy>(
     now: Instant,
     log: &mut StepLog<A>,
 )
-    ensures { SendsAll now agent.old agent.new (kept log.old) (kept log.new) }
+    ensures { SendsAll now agent.old agent.new (kept_steps log.old) (kept_steps log.new) }
 {
     loop {
         if !send_one(alloc, agent, now, log) {
@@ -52,13 +52,13 @@ fn send_all<A: Allocator + Copy>(
     }
 }
 
-/// The ends of a moment, until there are none. The answer is the moment to wait until.
+/// The ends of a moment, until there are none. Returns the moment to wait until.
 fn end_all<A: Allocator + Copy>(
     agent: &mut StunAgent<A>,
     now: Instant,
     log: &mut StepLog<A>,
 ) -> Instant
-    ensures { EndsAll now agent.old agent.new (kept log.old) (kept log.new) result }
+    ensures { EndsAll now agent.old agent.new (kept_steps log.old) (kept_steps log.new) result }
 {
     loop {
         match end_one(agent, now, log) {
@@ -68,14 +68,14 @@ fn end_all<A: Allocator + Copy>(
     }
 }
 
-/// One call of `poll_transmit`, and its step. The answer tells whether something was sent.
+/// One call of `poll_transmit`, and its step. Returns whether something was sent.
 fn send_one<A: Allocator + Copy>(
     alloc: A,
     agent: &mut StunAgent<A>,
     now: Instant,
     log: &mut StepLog<A>,
 ) -> bool
-    ensures { SendsOne now agent.old agent.new (kept log.old) (kept log.new) result }
+    ensures { SendsOne now agent.old agent.new (kept_steps log.old) (kept_steps log.new) result }
 {
     let step = match agent.poll_transmit(now) {
         Some(transmit) => transmitted(alloc, now, transmit.to, transmit.data),
@@ -85,13 +85,13 @@ fn send_one<A: Allocator + Copy>(
     true
 }
 
-/// One call of `poll`, and its step. The answer is the moment to wait until, where nothing ended.
+/// One call of `poll`, and its step. Returns the moment to wait until, if nothing ended.
 fn end_one<A: Allocator + Copy>(
     agent: &mut StunAgent<A>,
     now: Instant,
     log: &mut StepLog<A>,
 ) -> Option<Instant>
-    ensures { EndsOne now agent.old agent.new (kept log.old) (kept log.new) result }
+    ensures { EndsOne now agent.old agent.new (kept_steps log.old) (kept_steps log.new) result }
 {
     match agent.poll(now) {
         StunAgentPollRet::TransactionTimedOut(id) => {

@@ -1,8 +1,8 @@
 -- What a caller gives of a user, as the calls that judge and sign with one hand it on.
 use Rattle.std.specs.Prelude.{ℕ, List, Result}
 use Rattle.stun_auth.specs.Registered.{RegisteredUser}
+use Rattle.stun_numbers.specs.declared.refusal.Refusal.{Refusal}
 use Rattle.stun_state.specs.Handed.{user_of_keys, user_of_password}
-use Rattle.stun_state.specs.declared.codes.Refusal.{Refusal}
 use Rattle.stun_state.specs.declared.handed.Given.{Given}
 use Rattle.stun_state.specs.declared.handed.Given.TheVariants.{Password, Keys}
 

@@ -12,8 +12,8 @@ use Rattle.stun_state.specs.contracts.handle.client.Client as client
 use Rattle.stun_state.specs.contracts.handle.server.Server as server
 
 -- the block of a box with this value is at the pointer
-abbrev pub boxed : (R : RattleType) → Global → Ptr → R.Denot → Fml
-boxed R g p x = box_owns (ghosts.dealloc_token g) R p x
+abbrev pub box_at : (R : RattleType) → Global → Ptr → R.Denot → Fml
+box_at R g p x = box_owns (ghosts.dealloc_token g) R p x
 
 -- what the flag tells of is at the pointer, or nothing
 unfoldable pub full_or_empty : {X : Type 0} → (Global → Ptr → X → Fml) → Bool → Ptr → Option X → Fml
@@ -23,7 +23,7 @@ full_or_empty kept false p (Some x) = ffalse
 full_or_empty kept false p None = ftrue
 
 abbrev pub handle_owns : (R : RattleType) → Bool → Ptr → Option R.Denot → Fml
-handle_owns R full p state = full_or_empty (boxed R) full p state
+handle_owns R full p state = full_or_empty (box_at R) full p state
 
 -- an agent of the heap, and how the logic stores that there is one
 abbrev pub agent_row : RattleType

@@ -4,8 +4,8 @@ use Rattle.stun_types.specs.Limits.{LENGTH_LIMIT}
 use Rattle.stun_types.specs.Message.{IsMessage}
 use Rattle.stun_state.specs.Signing.{is_too_long}
 
--- the first `count` bytes of a buffer are a message, the buffer has room for as many bytes more,
--- and whether the message is too long then is known
+-- the first `count` bytes of a buffer are a message, and the buffer has room for as many bytes
+-- more. Whether the message is too long then is known
 pub record IsMeasured (buffer : List ℕ) (count more : ℕ) (is_long : Bool) : Type 0 where
   pub within : count ≤ length buffer
   pub is_message : IsMessage (take count buffer)

@@ -4,26 +4,30 @@ ghost use Rattle.std.specs.Prelude.{◌≡◌, ◌⊎◌, length, pos, MatchResu
 ghost use Rattle.std.specs.Prelude.{Some, None, Ok, IfNone, IfSome, IsTrue};
 ghost use Rattle.stun_agent.specs.Agent.{after_poll, after_poll_transmit};
 ghost use Rattle.stun_agent.specs.Agent.{after_send, poll_answer, sent_by_poll};
-ghost use Rattle.stun_agent.specs.Transactions.{cancelled, silenced};
+ghost use Rattle.stun_agent.specs.Transactions.{with_cancellation, without_retransmissions};
+ghost use Rattle.stun_numbers.specs.Refusals.{refusal_number};
 ghost use Rattle.stun_state.specs.Addresses.{socket_address};
-ghost use Rattle.stun_state.specs.Agent.{bytes_told, found, handled, id_in, id_told};
+ghost use Rattle.stun_state.specs.Agent.{bytes_told, outstanding_answer, receiving_answer, id_in};
+ghost use Rattle.stun_state.specs.Agent.{id_told};
 ghost use Rattle.stun_state.specs.Agent.{kept_after_configuring, kept_after_forgetting};
 ghost use Rattle.stun_state.specs.Agent.{kept_after_message, kept_after_naming, kept_after_request};
-ghost use Rattle.stun_state.specs.Agent.{known, made, made_with, moment_told, peer_found, polled};
-ghost use Rattle.stun_state.specs.Agent.{requested, sent, sent_again, sent_to, statistics_answer};
-ghost use Rattle.stun_state.specs.Agent.{told_of, transport_numbered, unless_untimed, with_changed};
+ghost use Rattle.stun_state.specs.Agent.{peer_answer, agent_at, agent_with_timeouts, moment_told};
+ghost use Rattle.stun_state.specs.Agent.{peer_found, polling_answer};
+ghost use Rattle.stun_state.specs.Agent.{request_answer, sending_answer, sent_again, sent_to};
+ghost use Rattle.stun_state.specs.Agent.{statistics_answer};
+ghost use Rattle.stun_state.specs.Agent.{caller_statistics_after, transport_numbered};
+ghost use Rattle.stun_state.specs.Agent.{unless_untimed, with_changed};
 ghost use Rattle.stun_state.specs.Answers.{at_address, done_if_given};
-ghost use Rattle.stun_state.specs.Codes.{code_of};
 ghost use Rattle.stun_state.specs.Memory.{IsRequestTaken, message_adds_none, naming_adds_none};
 ghost use Rattle.stun_state.specs.Numbers.{IsOrOutOfMemory, OrOutOfMemory, done_answer};
 ghost use Rattle.stun_state.specs.Numbers.{left_by, length_answer, number_answer};
 
 use crate::address::Address;
 use crate::agent::{Statistics, Timeouts};
-use crate::codes::Refusal;
 use crate::handle::agent::{Agent, AgentHandle};
 use crate::{agent, answers};
 use std::alloc::Global;
+use stun_numbers::refusal::Refusal;
 
 /// Fills a handle with an agent of a transport at a local address.
 #[unsafe(no_mangle)]
@@ -33,13 +37,13 @@ pub extern "C" fn stunp_agent_new(
     transport: u32,
     local: &Address,
 ) -> i64
-    ensures full { IfSome handle.old.agent (λ kept. (result ≡ code_of Refusal.FullHandle)
+    ensures full { IfSome handle.old.agent (λ kept. (result ≡ refusal_number Refusal.FullHandle)
         × (handle.new.agent ≡ Some kept)) }
     ensures made { IfNone handle.old.agent (MatchResult
-        (made (transport_numbered transport) (socket_address local.now))
+        (agent_at (transport_numbered transport) (socket_address local.now))
         (λ agent. OrOutOfMemory result None handle.new.agent (pos 0)
         (Some (record { agent = agent })))
-        (λ refusal. (result ≡ code_of refusal) × (handle.new.agent ≡ None))) }
+        (λ refusal. (result ≡ refusal_number refusal) × (handle.new.agent ≡ None))) }
 {
     if let Some(kept) = handle.take(alloc) {
         handle.put(alloc, kept);
@@ -69,14 +73,14 @@ pub extern "C" fn stunp_agent_new_with(
     remote: &Address,
     timeouts: &Timeouts,
 ) -> i64
-    ensures full { IfSome handle.old.agent (λ kept. (result ≡ code_of Refusal.FullHandle)
+    ensures full { IfSome handle.old.agent (λ kept. (result ≡ refusal_number Refusal.FullHandle)
         × (handle.new.agent ≡ Some kept)) }
     ensures made { IfNone handle.old.agent (MatchResult
-        (made_with (made (transport_numbered transport) (socket_address local.now))
+        (agent_with_timeouts (agent_at (transport_numbered transport) (socket_address local.now))
         remote.now timeouts.now)
         (λ agent. OrOutOfMemory result None handle.new.agent (pos 0)
         (Some (record { agent = agent })))
-        (λ refusal. (result ≡ code_of refusal) × (handle.new.agent ≡ None))) }
+        (λ refusal. (result ≡ refusal_number refusal) × (handle.new.agent ≡ None))) }
 {
     if let Some(kept) = handle.take(alloc) {
         handle.put(alloc, kept);
@@ -102,13 +106,13 @@ pub extern "C" fn stunp_agent_statistics(
     handle: &mut AgentHandle,
     statistics: &mut Statistics,
 ) -> i64
-    ensures empty { IfNone handle.old.agent ((result ≡ code_of Refusal.EmptyHandle)
+    ensures empty { IfNone handle.old.agent ((result ≡ refusal_number Refusal.EmptyHandle)
         × (handle.new.agent ≡ None)
         × (statistics.new ≡ statistics.old)) }
     ensures answer { IfSome handle.old.agent (λ _. result
         ≡ done_answer (statistics_answer statistics.old)) }
     ensures told { IfSome handle.old.agent (λ kept. statistics.new ≡ left_by result statistics.old
-        (told_of kept.agent.statistics statistics.old)) }
+        (caller_statistics_after kept.agent.statistics statistics.old)) }
     ensures same { handle.new.agent ≡ handle.old.agent }
 {
     let Some(mut kept) = handle.take(alloc) else {
@@ -127,7 +131,7 @@ pub extern "C" fn stunp_agent_clear(alloc: Global, handle: &mut AgentHandle)
     let _agent = handle.take(alloc);
 }
 
-/// Keeps a request and counts it.
+/// Stores a request and counts it.
 #[unsafe(no_mangle)]
 pub extern "C" fn stunp_agent_send_request(
     alloc: Global,
@@ -136,18 +140,18 @@ pub extern "C" fn stunp_agent_send_request(
     to: &Address,
     now: u64,
 ) -> i64
-    ensures empty { IfNone handle.old.agent ((result ≡ code_of Refusal.EmptyHandle)
+    ensures empty { IfNone handle.old.agent ((result ≡ refusal_number Refusal.EmptyHandle)
         × (handle.new.agent ≡ None)) }
     ensures answer { IfSome handle.old.agent (λ kept. IsOrOutOfMemory result (done_answer
-        (at_address (socket_address to.now) (requested kept.agent message.now)))) }
+        (at_address (socket_address to.now) (request_answer kept.agent message.now)))) }
     ensures state { IfSome handle.old.agent (λ kept. handle.new.agent ≡ Some (record {
       agent = left_by result kept.agent
           (kept_after_request kept.agent message.now to.now now);
     })) }
 
-    // A failed allocation is answered only where the request would be taken.
+    // A failed allocation is returned only if the request would be taken.
     ensures taken { IfSome handle.old.agent (λ kept. (result ≡ done_answer
-        (at_address (socket_address to.now) (requested kept.agent message.now)))
+        (at_address (socket_address to.now) (request_answer kept.agent message.now)))
         ⊎ IsRequestTaken kept.agent message.now (socket_address to.now)) }
 {
     let Some(mut kept) = handle.take(alloc) else {
@@ -166,10 +170,10 @@ pub extern "C" fn stunp_agent_send(
     message: &[u8],
     to: &Address,
 ) -> i64
-    ensures empty { IfNone handle.old.agent ((result ≡ code_of Refusal.EmptyHandle)
+    ensures empty { IfNone handle.old.agent ((result ≡ refusal_number Refusal.EmptyHandle)
         × (handle.new.agent ≡ None)) }
     ensures answer { IfSome handle.old.agent (λ kept. result ≡ done_answer
-        (at_address (socket_address to.now) (sent kept.agent message.now))) }
+        (at_address (socket_address to.now) (sending_answer kept.agent message.now))) }
     ensures state { IfSome handle.old.agent (λ kept. handle.new.agent ≡ Some (record {
       agent = left_by result kept.agent (after_send message.now kept.agent);
     })) }
@@ -191,20 +195,20 @@ pub extern "C" fn stunp_agent_handle(
     from: &Address,
     now: u64,
 ) -> i64
-    ensures empty { IfNone handle.old.agent ((result ≡ code_of Refusal.EmptyHandle)
+    ensures empty { IfNone handle.old.agent ((result ≡ refusal_number Refusal.EmptyHandle)
         × (handle.new.agent ≡ None)) }
     ensures answer { IfSome handle.old.agent (λ kept. IsOrOutOfMemory result (number_answer
-        (at_address (socket_address from.now) (handled kept.agent message.now)))) }
+        (at_address (socket_address from.now) (receiving_answer kept.agent message.now)))) }
     ensures state { IfSome handle.old.agent (λ kept. handle.new.agent ≡ Some (record {
       agent = left_by result kept.agent
           (kept_after_message kept.agent message.now from.now now);
     })) }
 
-    // Where no address is added to those that are kept, no failed allocation is answered.
+    // If no address is added to those that are kept, no failed allocation is returned.
     ensures no_memory { IfSome handle.old.agent (λ kept.
         IsTrue (message_adds_none kept.agent message.now (socket_address from.now)) →
         result ≡ number_answer
-        (at_address (socket_address from.now) (handled kept.agent message.now))) }
+        (at_address (socket_address from.now) (receiving_answer kept.agent message.now))) }
 {
     let Some(mut kept) = handle.take(alloc) else {
         return Refusal::EmptyHandle.code();
@@ -223,7 +227,7 @@ pub extern "C" fn stunp_agent_poll_transmit(
     out: &mut [u8],
     to: &mut Address,
 ) -> i64
-    ensures empty { IfNone handle.old.agent ((result ≡ code_of Refusal.EmptyHandle)
+    ensures empty { IfNone handle.old.agent ((result ≡ refusal_number Refusal.EmptyHandle)
         × (handle.new.agent ≡ None)
         × (out.new ≡ out.old) × (to.new ≡ to.old)) }
     ensures answer { IfSome handle.old.agent (λ kept. result ≡ length_answer
@@ -246,7 +250,7 @@ pub extern "C" fn stunp_agent_poll_transmit(
     answer
 }
 
-/// What is to be done at a moment.
+/// What is to be done now.
 #[unsafe(no_mangle)]
 pub extern "C" fn stunp_agent_poll(
     alloc: Global,
@@ -255,11 +259,11 @@ pub extern "C" fn stunp_agent_poll(
     until: &mut u64,
     id: &mut [u8],
 ) -> i64
-    ensures empty { IfNone handle.old.agent ((result ≡ code_of Refusal.EmptyHandle)
+    ensures empty { IfNone handle.old.agent ((result ≡ refusal_number Refusal.EmptyHandle)
         × (handle.new.agent ≡ None)
         × (until.new ≡ until.old) × (id.new ≡ id.old)) }
     ensures answer { IfSome handle.old.agent (λ kept. result ≡ number_answer
-        (polled (length id.old) (poll_answer now kept.agent))) }
+        (polling_answer (length id.old) (poll_answer now kept.agent))) }
     ensures state { IfSome handle.old.agent (λ kept. handle.new.agent ≡ Some (record {
       agent = left_by result kept.agent (after_poll now kept.agent);
     })) }
@@ -284,11 +288,11 @@ pub extern "C" fn stunp_agent_is_outstanding(
     id: &[u8],
     peer: &mut Address,
 ) -> i64
-    ensures empty { IfNone handle.old.agent ((result ≡ code_of Refusal.EmptyHandle)
+    ensures empty { IfNone handle.old.agent ((result ≡ refusal_number Refusal.EmptyHandle)
         × (handle.new.agent ≡ None)
         × (peer.new ≡ peer.old)) }
     ensures answer { IfSome handle.old.agent (λ kept. result ≡ number_answer
-        (found (id_in id.now) kept.agent)) }
+        (outstanding_answer (id_in id.now) kept.agent)) }
     ensures peer { IfSome handle.old.agent (λ kept. peer.new
         ≡ peer_found (id_in id.now) kept.agent peer.old) }
     ensures same { handle.new.agent ≡ handle.old.agent }
@@ -304,12 +308,12 @@ pub extern "C" fn stunp_agent_is_outstanding(
 /// Cancels the request of an id.
 #[unsafe(no_mangle)]
 pub extern "C" fn stunp_agent_cancel(alloc: Global, handle: &mut AgentHandle, id: &[u8]) -> i64
-    ensures empty { IfNone handle.old.agent ((result ≡ code_of Refusal.EmptyHandle)
+    ensures empty { IfNone handle.old.agent ((result ≡ refusal_number Refusal.EmptyHandle)
         × (handle.new.agent ≡ None)) }
     ensures answer { IfSome handle.old.agent (λ kept. result ≡ number_answer
-        (found (id_in id.now) kept.agent)) }
+        (outstanding_answer (id_in id.now) kept.agent)) }
     ensures state { IfSome handle.old.agent (λ kept. handle.new.agent ≡ Some (record {
-      agent = with_changed cancelled (id_in id.now) kept.agent;
+      agent = with_changed with_cancellation (id_in id.now) kept.agent;
     })) }
 {
     let Some(mut kept) = handle.take(alloc) else {
@@ -327,12 +331,12 @@ pub extern "C" fn stunp_agent_cancel_retransmissions(
     handle: &mut AgentHandle,
     id: &[u8],
 ) -> i64
-    ensures empty { IfNone handle.old.agent ((result ≡ code_of Refusal.EmptyHandle)
+    ensures empty { IfNone handle.old.agent ((result ≡ refusal_number Refusal.EmptyHandle)
         × (handle.new.agent ≡ None)) }
     ensures answer { IfSome handle.old.agent (λ kept. result ≡ number_answer
-        (found (id_in id.now) kept.agent)) }
+        (outstanding_answer (id_in id.now) kept.agent)) }
     ensures state { IfSome handle.old.agent (λ kept. handle.new.agent ≡ Some (record {
-      agent = with_changed silenced (id_in id.now) kept.agent;
+      agent = with_changed without_retransmissions (id_in id.now) kept.agent;
     })) }
 {
     let Some(mut kept) = handle.take(alloc) else {
@@ -343,7 +347,7 @@ pub extern "C" fn stunp_agent_cancel_retransmissions(
     answer
 }
 
-/// Gives the request of an id time-outs of its own.
+/// Sets the time-outs of the request of an id.
 #[unsafe(no_mangle)]
 pub extern "C" fn stunp_agent_configure(
     alloc: Global,
@@ -351,10 +355,10 @@ pub extern "C" fn stunp_agent_configure(
     id: &[u8],
     timeouts: &Timeouts,
 ) -> i64
-    ensures empty { IfNone handle.old.agent ((result ≡ code_of Refusal.EmptyHandle)
+    ensures empty { IfNone handle.old.agent ((result ≡ refusal_number Refusal.EmptyHandle)
         × (handle.new.agent ≡ None)) }
     ensures answer { IfSome handle.old.agent (λ kept. result ≡ number_answer
-        (unless_untimed timeouts.now (found (id_in id.now) kept.agent))) }
+        (unless_untimed timeouts.now (outstanding_answer (id_in id.now) kept.agent))) }
     ensures state { IfSome handle.old.agent (λ kept. handle.new.agent ≡ Some (record {
       agent = kept_after_configuring timeouts.now (id_in id.now) kept.agent;
     })) }
@@ -367,14 +371,14 @@ pub extern "C" fn stunp_agent_configure(
     answer
 }
 
-/// Names an address as one whose messages were taken.
+/// Marks an address as a validated peer.
 #[unsafe(no_mangle)]
 pub extern "C" fn stunp_agent_validated_peer(
     alloc: Global,
     handle: &mut AgentHandle,
     peer: &Address,
 ) -> i64
-    ensures empty { IfNone handle.old.agent ((result ≡ code_of Refusal.EmptyHandle)
+    ensures empty { IfNone handle.old.agent ((result ≡ refusal_number Refusal.EmptyHandle)
         × (handle.new.agent ≡ None)) }
     ensures answer { IfSome handle.old.agent (λ _. IsOrOutOfMemory result (done_answer
         (done_if_given (socket_address peer.now)))) }
@@ -382,7 +386,7 @@ pub extern "C" fn stunp_agent_validated_peer(
       agent = left_by result kept.agent (kept_after_naming kept.agent peer.now);
     })) }
 
-    // For an address that is kept already no failed allocation is answered.
+    // If the address is kept already, no failed allocation is returned.
     ensures there { IfSome handle.old.agent (λ kept.
         IsTrue (naming_adds_none kept.agent (socket_address peer.now)) →
         result ≡ done_answer (done_if_given (socket_address peer.now))) }
@@ -395,17 +399,17 @@ pub extern "C" fn stunp_agent_validated_peer(
     answer
 }
 
-/// Whether a message from an address was taken, or the address was named as such.
+/// Whether an address is a validated peer: a message from it was taken, or it was marked as one.
 #[unsafe(no_mangle)]
 pub extern "C" fn stunp_agent_is_validated_peer(
     alloc: Global,
     handle: &mut AgentHandle,
     peer: &Address,
 ) -> i64
-    ensures empty { IfNone handle.old.agent ((result ≡ code_of Refusal.EmptyHandle)
+    ensures empty { IfNone handle.old.agent ((result ≡ refusal_number Refusal.EmptyHandle)
         × (handle.new.agent ≡ None)) }
     ensures answer { IfSome handle.old.agent (λ kept. result ≡ number_answer
-        (at_address (socket_address peer.now) (known kept.agent))) }
+        (at_address (socket_address peer.now) (peer_answer kept.agent))) }
     ensures same { handle.new.agent ≡ handle.old.agent }
 {
     let Some(mut kept) = handle.take(alloc) else {
@@ -416,10 +420,10 @@ pub extern "C" fn stunp_agent_is_validated_peer(
     answer
 }
 
-/// How many addresses are kept from which a message was taken, or which were named.
+/// How many validated peers are kept.
 #[unsafe(no_mangle)]
 pub extern "C" fn stunp_agent_peer_count(alloc: Global, handle: &mut AgentHandle) -> i64
-    ensures empty { IfNone handle.old.agent ((result ≡ code_of Refusal.EmptyHandle)
+    ensures empty { IfNone handle.old.agent ((result ≡ refusal_number Refusal.EmptyHandle)
         × (handle.new.agent ≡ None)) }
     ensures answer { IfSome handle.old.agent (λ kept. result
         ≡ length_answer (Ok (length kept.agent.peers))) }
@@ -433,14 +437,14 @@ pub extern "C" fn stunp_agent_peer_count(alloc: Global, handle: &mut AgentHandle
     answer
 }
 
-/// Forgets that messages from an address were taken, or that it was named.
+/// Forgets a validated peer.
 #[unsafe(no_mangle)]
 pub extern "C" fn stunp_agent_forget_peer(
     alloc: Global,
     handle: &mut AgentHandle,
     peer: &Address,
 ) -> i64
-    ensures empty { IfNone handle.old.agent ((result ≡ code_of Refusal.EmptyHandle)
+    ensures empty { IfNone handle.old.agent ((result ≡ refusal_number Refusal.EmptyHandle)
         × (handle.new.agent ≡ None)) }
     ensures answer { IfSome handle.old.agent (λ _. result ≡ done_answer
         (done_if_given (socket_address peer.now))) }

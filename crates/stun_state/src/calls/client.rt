@@ -3,26 +3,29 @@
 ghost use Rattle.std.specs.Prelude.{◌≡◌, ◌⊎◌, length, pos, MatchOption};
 ghost use Rattle.std.specs.Prelude.{Some, None, Ok, IfNone, IfSome};
 ghost use Rattle.stun_auth.specs.ClientSigning.{signing_algorithm};
-ghost use Rattle.stun_state.specs.Answers.{done_if_given, texts_refusal};
 ghost use Rattle.stun_auth.specs.Client.{new_client};
+ghost use Rattle.stun_numbers.specs.Refusals.{refusal_number};
+ghost use Rattle.stun_numbers.specs.Buffers.{buffer_after, length_of};
+ghost use Rattle.stun_state.specs.Answers.{done_if_given, texts_refusal};
 ghost use Rattle.stun_state.specs.Client as on_client;
-ghost use Rattle.stun_state.specs.Client.{after_validating, validated, with_credentials};
+ghost use Rattle.stun_state.specs.Client.{client_after_validation, client_validation};
+ghost use Rattle.stun_state.specs.Client.{with_credentials};
 ghost use Rattle.stun_state.specs.Codes.{algorithm_or_none, algorithms_numbered};
-ghost use Rattle.stun_state.specs.Codes.{code_of, feature_numbered};
+ghost use Rattle.stun_state.specs.Codes.{feature_numbered};
 ghost use Rattle.stun_state.specs.Memory.{AsksAgain};
 ghost use Rattle.stun_state.specs.Numbers.{OrOutOfMemory, done_answer};
 ghost use Rattle.stun_state.specs.Numbers.{length_answer, reading_answer};
-ghost use Rattle.stun_state.specs.Signing.{buffer_after, length_of, signed_by_client};
+ghost use Rattle.stun_state.specs.Signing.{signed_by_client};
 
-use crate::codes::Refusal;
 use crate::handle::client::{Client, ClientHandle};
 use crate::{answers, client};
 use std::alloc::Global;
+use stun_numbers::refusal::Refusal;
 
 /// Fills a handle with a client without credentials.
 #[unsafe(no_mangle)]
 pub extern "C" fn stunp_client_new(alloc: Global, handle: &mut ClientHandle) -> i64
-    ensures full { IfSome handle.old.client (λ kept. (result ≡ code_of Refusal.FullHandle)
+    ensures full { IfSome handle.old.client (λ kept. (result ≡ refusal_number Refusal.FullHandle)
         × (handle.new.client ≡ Some kept)) }
     ensures made { IfNone handle.old.client (OrOutOfMemory result None handle.new.client (pos 0)
         (Some (record { client = new_client }))) }
@@ -41,7 +44,7 @@ pub extern "C" fn stunp_client_new(alloc: Global, handle: &mut ClientHandle) -> 
     }
 }
 
-/// Whose name and password are used.
+/// Sets the user name and the password.
 #[unsafe(no_mangle)]
 pub extern "C" fn stunp_client_set_credentials(
     alloc: Global,
@@ -49,13 +52,13 @@ pub extern "C" fn stunp_client_set_credentials(
     name: &[u8],
     password: &[u8],
 ) -> i64
-    ensures empty { IfNone handle.old.client ((result ≡ code_of Refusal.EmptyHandle)
+    ensures empty { IfNone handle.old.client ((result ≡ refusal_number Refusal.EmptyHandle)
         × (handle.new.client ≡ None)) }
     ensures answer { IfSome handle.old.client (λ kept. MatchOption
         (texts_refusal name.now password.now)
         (OrOutOfMemory result handle.old.client handle.new.client (pos 0)
         (Some (record { client = with_credentials name.now password.now kept.client })))
-        (λ refusal. (result ≡ code_of refusal) × (handle.new.client ≡ handle.old.client))) }
+        (λ refusal. (result ≡ refusal_number refusal) × (handle.new.client ≡ handle.old.client))) }
 {
     let Some(mut kept) = handle.take(alloc) else {
         return Refusal::EmptyHandle.code();
@@ -65,19 +68,19 @@ pub extern "C" fn stunp_client_set_credentials(
     answer
 }
 
-/// Which algorithms the client supports.
+/// Sets the algorithms that the client supports.
 #[unsafe(no_mangle)]
 pub extern "C" fn stunp_client_set_algorithms(
     alloc: Global,
     handle: &mut ClientHandle,
     algorithms: u32,
 ) -> i64
-    ensures empty { IfNone handle.old.client ((result ≡ code_of Refusal.EmptyHandle)
+    ensures empty { IfNone handle.old.client ((result ≡ refusal_number Refusal.EmptyHandle)
         × (handle.new.client ≡ None)) }
     ensures answer { IfSome handle.old.client (λ _. result ≡ done_answer
         (done_if_given (algorithms_numbered algorithms))) }
     ensures state { IfSome handle.old.client (λ kept. handle.new.client ≡ Some (record {
-      client = on_client.with_algorithms (algorithms_numbered algorithms) kept.client;
+      client = on_client.client_with_algorithms (algorithms_numbered algorithms) kept.client;
     })) }
 {
     let Some(mut kept) = handle.take(alloc) else {
@@ -88,19 +91,19 @@ pub extern "C" fn stunp_client_set_algorithms(
     answer
 }
 
-/// What the client does with the user's name.
+/// Sets whether the user's name is sent as its hash.
 #[unsafe(no_mangle)]
 pub extern "C" fn stunp_client_set_anonymous_username(
     alloc: Global,
     handle: &mut ClientHandle,
     feature: u32,
 ) -> i64
-    ensures empty { IfNone handle.old.client ((result ≡ code_of Refusal.EmptyHandle)
+    ensures empty { IfNone handle.old.client ((result ≡ refusal_number Refusal.EmptyHandle)
         × (handle.new.client ≡ None)) }
     ensures answer { IfSome handle.old.client (λ _. result ≡ done_answer
         (done_if_given (feature_numbered feature))) }
     ensures state { IfSome handle.old.client (λ kept. handle.new.client ≡ Some (record {
-      client = on_client.with_feature (feature_numbered feature) kept.client;
+      client = on_client.client_with_feature (feature_numbered feature) kept.client;
     })) }
 {
     let Some(mut kept) = handle.take(alloc) else {
@@ -127,7 +130,7 @@ pub extern "C" fn stunp_client_sign(
     buffer: &mut [u8],
     length: usize,
 ) -> i64
-    ensures empty { IfNone handle.old.client ((result ≡ code_of Refusal.EmptyHandle)
+    ensures empty { IfNone handle.old.client ((result ≡ refusal_number Refusal.EmptyHandle)
         × (handle.new.client ≡ None)
         × (buffer.new ≡ buffer.old)) }
     ensures answer { IfSome handle.old.client (λ kept. result
@@ -147,7 +150,7 @@ pub extern "C" fn stunp_client_sign(
 /// By which algorithm a message would be signed now.
 #[unsafe(no_mangle)]
 pub extern "C" fn stunp_client_signing_algorithm(alloc: Global, handle: &mut ClientHandle) -> i64
-    ensures empty { IfNone handle.old.client ((result ≡ code_of Refusal.EmptyHandle)
+    ensures empty { IfNone handle.old.client ((result ≡ refusal_number Refusal.EmptyHandle)
         × (handle.new.client ≡ None)) }
     ensures answer { IfSome handle.old.client (λ kept. result
         ≡ pos (algorithm_or_none (signing_algorithm kept.client.state))) }
@@ -161,23 +164,23 @@ pub extern "C" fn stunp_client_signing_algorithm(alloc: Global, handle: &mut Cli
     answer
 }
 
-/// What a response says.
+/// Reads a response: whether it is accepted, or asks for another request.
 #[unsafe(no_mangle)]
 pub extern "C" fn stunp_client_validate(
     alloc: Global,
     handle: &mut ClientHandle,
     message: &[u8],
 ) -> i64
-    ensures empty { IfNone handle.old.client ((result ≡ code_of Refusal.EmptyHandle)
+    ensures empty { IfNone handle.old.client ((result ≡ refusal_number Refusal.EmptyHandle)
         × (handle.new.client ≡ None)) }
     ensures answer { IfSome handle.old.client (λ kept. OrOutOfMemory result
         handle.old.client handle.new.client
-        (reading_answer (validated kept.client message.now))
-        (Some (record { client = after_validating kept.client message.now }))) }
+        (reading_answer (client_validation kept.client message.now))
+        (Some (record { client = client_after_validation kept.client message.now }))) }
 
-    // A failed allocation is answered only where another request is asked for.
+    // A failed allocation is returned only if another request is asked for.
     ensures resend { IfSome handle.old.client (λ kept.
-        (result ≡ reading_answer (validated kept.client message.now))
+        (result ≡ reading_answer (client_validation kept.client message.now))
         ⊎ AsksAgain kept.client message.now) }
 {
     let Some(mut kept) = handle.take(alloc) else {

@@ -1,24 +1,24 @@
-//! The calls of a server whose users are looked up elsewhere: who asks, and then the verdict and the
-//! answer with that user handed in.
+//! The calls of a server whose users are looked up elsewhere: who asks, and then the verdict and
+//! the answer with that user handed in.
 
 ghost use Rattle.std.specs.Prelude.{◌≡◌, length, Some, None, IfNone, IfSome};
+ghost use Rattle.stun_numbers.specs.Refusals.{refusal_number};
+ghost use Rattle.stun_numbers.specs.Buffers.{buffer_after, length_of};
 ghost use Rattle.stun_state.specs.Addresses.{socket_address};
 ghost use Rattle.stun_state.specs.Answers.{after_address, at_address};
 ghost use Rattle.stun_state.specs.Handed.{kept_after_signing_of, kept_after_validating_of};
-ghost use Rattle.stun_state.specs.Handed.{named_by, naming_answer, naming_length};
+ghost use Rattle.stun_state.specs.Handed.{named_in_bytes, naming_answer, naming_length};
 ghost use Rattle.stun_state.specs.Handed.{naming_written, signed_of, user_of_keys};
 ghost use Rattle.stun_state.specs.Handed.{user_of_password, validation_number_of};
-ghost use Rattle.stun_state.specs.Codes.{code_of};
 ghost use Rattle.stun_state.specs.Numbers.{IsOrOutOfMemory, OrOutOfMemory};
 ghost use Rattle.stun_state.specs.Numbers.{left_by, length_answer, number_answer};
-ghost use Rattle.stun_state.specs.Signing.{buffer_after, length_of};
 
 use crate::address::Address;
-use crate::codes::Refusal;
 use crate::handed::Given;
 use crate::handle::server::ServerHandle;
 use crate::{answers, handed};
 use std::alloc::Global;
+use stun_numbers::refusal::Refusal;
 
 /// By whose key a message that came from an address is judged.
 #[unsafe(no_mangle)]
@@ -30,7 +30,7 @@ pub extern "C" fn stunp_server_named_user(
     name: &mut [u8],
     name_length: &mut usize,
 ) -> i64
-    ensures empty { IfNone handle.old.server ((result ≡ code_of Refusal.EmptyHandle)
+    ensures empty { IfNone handle.old.server ((result ≡ refusal_number Refusal.EmptyHandle)
         × (handle.new.server ≡ None)
         × (name.new ≡ name.old) × (name_length.new ≡ name_length.old)) }
     ensures answer { IfSome handle.old.server (λ kept. result ≡ number_answer
@@ -38,12 +38,12 @@ pub extern "C" fn stunp_server_named_user(
         (naming_answer kept.server message.now (length name.old)))) }
     ensures name { IfSome handle.old.server (λ kept. name.new
         ≡ after_address (socket_address from.now) name.old
-        (λ from. naming_written name.old (named_by kept.server message.now from))) }
+        (λ from. naming_written name.old (named_in_bytes kept.server message.now from))) }
 
     // Also where the buffer has no room for it.
     ensures name_length { IfSome handle.old.server (λ kept. name_length.new
         ≡ after_address (socket_address from.now) name_length.old
-        (λ from. naming_length (named_by kept.server message.now from) name_length.old)) }
+        (λ from. naming_length (named_in_bytes kept.server message.now from) name_length.old)) }
     ensures same { handle.new.server ≡ handle.old.server }
 {
     let Some(kept) = handle.take(alloc) else {
@@ -55,8 +55,8 @@ pub extern "C" fn stunp_server_named_user(
     answer
 }
 
-/// Who signed a message that came from an address, where the server has just the user of a name and
-/// a password.
+/// Validates a message that came from an address. The server has just the user of a name and a
+/// password.
 #[unsafe(no_mangle)]
 pub extern "C" fn stunp_server_validate_of(
     alloc: Global,
@@ -68,7 +68,7 @@ pub extern "C" fn stunp_server_validate_of(
     name: &[u8],
     password: &[u8],
 ) -> i64
-    ensures empty { IfNone handle.old.server ((result ≡ code_of Refusal.EmptyHandle)
+    ensures empty { IfNone handle.old.server ((result ≡ refusal_number Refusal.EmptyHandle)
         × (handle.new.server ≡ None)) }
     ensures answer { IfSome handle.old.server (λ kept. OrOutOfMemory result
         handle.old.server handle.new.server
@@ -89,8 +89,8 @@ pub extern "C" fn stunp_server_validate_of(
     answer
 }
 
-/// Signs the message at the front of a buffer, which goes to an address, where the server has just
-/// the user of a name and a password.
+/// Signs the message at the front of a buffer, which goes to an address. The server has just the
+/// user of a name and a password.
 #[unsafe(no_mangle)]
 pub extern "C" fn stunp_server_sign_of(
     alloc: Global,
@@ -101,7 +101,7 @@ pub extern "C" fn stunp_server_sign_of(
     name: &[u8],
     password: &[u8],
 ) -> i64
-    ensures empty { IfNone handle.old.server ((result ≡ code_of Refusal.EmptyHandle)
+    ensures empty { IfNone handle.old.server ((result ≡ refusal_number Refusal.EmptyHandle)
         × (handle.new.server ≡ None)
         × (buffer.new ≡ buffer.old)) }
     ensures answer { IfSome handle.old.server (λ kept. IsOrOutOfMemory result (length_answer
@@ -126,8 +126,8 @@ pub extern "C" fn stunp_server_sign_of(
     answer
 }
 
-/// Who signed a message that came from an address, where the server has just the user of a name and
-/// stored keys.
+/// Validates a message that came from an address. The server has just the user of a name and stored
+/// keys.
 #[unsafe(no_mangle)]
 pub extern "C" fn stunp_server_validate_of_keys(
     alloc: Global,
@@ -140,7 +140,7 @@ pub extern "C" fn stunp_server_validate_of_keys(
     sha1: &[u8],
     sha256: &[u8],
 ) -> i64
-    ensures empty { IfNone handle.old.server ((result ≡ code_of Refusal.EmptyHandle)
+    ensures empty { IfNone handle.old.server ((result ≡ refusal_number Refusal.EmptyHandle)
         × (handle.new.server ≡ None)) }
     ensures answer { IfSome handle.old.server (λ kept. OrOutOfMemory result
         handle.old.server handle.new.server
@@ -161,8 +161,8 @@ pub extern "C" fn stunp_server_validate_of_keys(
     answer
 }
 
-/// Signs the message at the front of a buffer, which goes to an address, where the server has just
-/// the user of a name and stored keys.
+/// Signs the message at the front of a buffer, which goes to an address. The server has just the
+/// user of a name and stored keys.
 #[unsafe(no_mangle)]
 pub extern "C" fn stunp_server_sign_of_keys(
     alloc: Global,
@@ -174,7 +174,7 @@ pub extern "C" fn stunp_server_sign_of_keys(
     sha1: &[u8],
     sha256: &[u8],
 ) -> i64
-    ensures empty { IfNone handle.old.server ((result ≡ code_of Refusal.EmptyHandle)
+    ensures empty { IfNone handle.old.server ((result ≡ refusal_number Refusal.EmptyHandle)
         × (handle.new.server ≡ None)
         × (buffer.new ≡ buffer.old)) }
     ensures answer { IfSome handle.old.server (λ kept. IsOrOutOfMemory result (length_answer

@@ -1,41 +1,44 @@
 //! The calls on the long-term authenticator of a server (RFC 8489, section 9.2.4).
+
 ghost use Rattle.std.specs.FinMap as map;
 ghost use Rattle.std.specs.Prelude.{◌≡◌, length, pos, MatchOption, Some, None, Ok, IfNone, IfSome};
 ghost use Rattle.stun_auth.specs.Forgetting.{after_forgetting, without_place};
 ghost use Rattle.stun_auth.specs.ForgettingSteps.{after_step, next_address};
+ghost use Rattle.stun_auth.specs.Registered.{with_user};
+ghost use Rattle.stun_auth.specs.Validation.{new_server};
+ghost use Rattle.stun_numbers.specs.Refusals.{refusal_or, refusal_number};
+ghost use Rattle.stun_numbers.specs.Buffers.{buffer_after, length_of};
 ghost use Rattle.stun_state.specs.Addresses.{socket_address, start_for, start_told};
 ghost use Rattle.stun_state.specs.Answers.{after_address, after_start};
 ghost use Rattle.stun_state.specs.Answers.{at_start, done_if_given, text_refusal};
-ghost use Rattle.stun_state.specs.Answers.{texts_refusal, unless_refused};
-ghost use Rattle.stun_auth.specs.Registered.{with_user};
-ghost use Rattle.stun_auth.specs.Validation.{new_server};
-ghost use Rattle.stun_state.specs.Codes.{algorithms_numbered, code_of, feature_numbered};
+ghost use Rattle.stun_state.specs.Answers.{texts_refusal};
+ghost use Rattle.stun_state.specs.Codes.{algorithms_numbered, feature_numbered};
 ghost use Rattle.stun_state.specs.Memory.{LeavesServer};
 ghost use Rattle.stun_state.specs.Numbers.{OrOutOfMemory, done_answer};
 ghost use Rattle.stun_state.specs.Numbers.{found_answer, left_by, length_answer, number_answer};
 ghost use Rattle.stun_state.specs.Server as on_server;
-ghost use Rattle.stun_state.specs.Server.{UNBOUNDED, client_at, client_found};
+ghost use Rattle.stun_state.specs.Server.{UNBOUNDED, client_of_address, client_found};
 ghost use Rattle.stun_state.specs.Server.{kept_after_validating, name_length_of};
 ghost use Rattle.stun_state.specs.Server.{name_written, nonce_at, nonce_found};
 ghost use Rattle.stun_state.specs.Server.{nonce_written, step_answer, validation_number};
 ghost use Rattle.stun_state.specs.Server.{with_expiry, without_client, without_named};
-ghost use Rattle.stun_state.specs.Signing.{buffer_after, kept_after_signing, length_of, signed_for};
+ghost use Rattle.stun_state.specs.Signing.{kept_after_signing, signed_for};
 
 use crate::address::Address;
-use crate::codes::Refusal;
 use crate::handle::server::{Server, ServerHandle};
 use crate::{answers, server};
 use std::alloc::Global;
+use stun_numbers::refusal::Refusal;
 
 /// Fills a handle with a server of a realm.
 #[unsafe(no_mangle)]
 pub extern "C" fn stunp_server_new(alloc: Global, handle: &mut ServerHandle, realm: &[u8]) -> i64
-    ensures full { IfSome handle.old.server (λ kept. (result ≡ code_of Refusal.FullHandle)
+    ensures full { IfSome handle.old.server (λ kept. (result ≡ refusal_number Refusal.FullHandle)
         × (handle.new.server ≡ Some kept)) }
     ensures made { IfNone handle.old.server (MatchOption (text_refusal realm.now)
         (OrOutOfMemory result None handle.new.server (pos 0)
         (Some (record { server = new_server realm.now; most_addresses = UNBOUNDED })))
-        (λ refusal. (result ≡ code_of refusal) × (handle.new.server ≡ None))) }
+        (λ refusal. (result ≡ refusal_number refusal) × (handle.new.server ≡ None))) }
 {
     if let Some(kept) = handle.take(alloc) {
         handle.put(alloc, kept);
@@ -58,19 +61,19 @@ pub extern "C" fn stunp_server_new(alloc: Global, handle: &mut ServerHandle, rea
     }
 }
 
-/// Which algorithms the server supports.
+/// Sets the algorithms that the server supports.
 #[unsafe(no_mangle)]
 pub extern "C" fn stunp_server_set_algorithms(
     alloc: Global,
     handle: &mut ServerHandle,
     algorithms: u32,
 ) -> i64
-    ensures empty { IfNone handle.old.server ((result ≡ code_of Refusal.EmptyHandle)
+    ensures empty { IfNone handle.old.server ((result ≡ refusal_number Refusal.EmptyHandle)
         × (handle.new.server ≡ None)) }
     ensures answer { IfSome handle.old.server (λ _. result ≡ done_answer
         (done_if_given (algorithms_numbered algorithms))) }
     ensures state { IfSome handle.old.server (λ kept. handle.new.server ≡ Some (record kept {
-      server = on_server.with_algorithms (algorithms_numbered algorithms) kept.server;
+      server = on_server.server_with_algorithms (algorithms_numbered algorithms) kept.server;
     })) }
 {
     let Some(mut kept) = handle.take(alloc) else {
@@ -81,19 +84,19 @@ pub extern "C" fn stunp_server_set_algorithms(
     answer
 }
 
-/// Whether users may be named by a hash.
+/// Sets whether users may be named by a hash.
 #[unsafe(no_mangle)]
 pub extern "C" fn stunp_server_set_anonymous_username(
     alloc: Global,
     handle: &mut ServerHandle,
     feature: u32,
 ) -> i64
-    ensures empty { IfNone handle.old.server ((result ≡ code_of Refusal.EmptyHandle)
+    ensures empty { IfNone handle.old.server ((result ≡ refusal_number Refusal.EmptyHandle)
         × (handle.new.server ≡ None)) }
     ensures answer { IfSome handle.old.server (λ _. result ≡ done_answer
         (done_if_given (feature_numbered feature))) }
     ensures state { IfSome handle.old.server (λ kept. handle.new.server ≡ Some (record kept {
-      server = on_server.with_feature (feature_numbered feature) kept.server;
+      server = on_server.server_with_feature (feature_numbered feature) kept.server;
     })) }
 {
     let Some(mut kept) = handle.take(alloc) else {
@@ -104,14 +107,14 @@ pub extern "C" fn stunp_server_set_anonymous_username(
     answer
 }
 
-/// How long a nonce lasts.
+/// Sets how long a nonce lasts.
 #[unsafe(no_mangle)]
 pub extern "C" fn stunp_server_set_nonce_expiry(
     alloc: Global,
     handle: &mut ServerHandle,
     nanoseconds: u64,
 ) -> i64
-    ensures empty { IfNone handle.old.server ((result ≡ code_of Refusal.EmptyHandle)
+    ensures empty { IfNone handle.old.server ((result ≡ refusal_number Refusal.EmptyHandle)
         × (handle.new.server ≡ None)) }
     ensures answer { IfSome handle.old.server (λ _. result ≡ pos 0) }
     ensures state { IfSome handle.old.server (λ kept. handle.new.server ≡ Some (record kept {
@@ -133,7 +136,7 @@ pub extern "C" fn stunp_server_set_most_addresses(
     handle: &mut ServerHandle,
     most: usize,
 ) -> i64
-    ensures empty { IfNone handle.old.server ((result ≡ code_of Refusal.EmptyHandle)
+    ensures empty { IfNone handle.old.server ((result ≡ refusal_number Refusal.EmptyHandle)
         × (handle.new.server ≡ None)) }
     ensures answer { IfSome handle.old.server (λ _. result ≡ pos 0) }
     ensures state { IfSome handle.old.server (λ kept. handle.new.server ≡ Some (record kept {
@@ -164,7 +167,7 @@ pub extern "C" fn stunp_server_add_user(
     name: &[u8],
     password: &[u8],
 ) -> i64
-    ensures empty { IfNone handle.old.server ((result ≡ code_of Refusal.EmptyHandle)
+    ensures empty { IfNone handle.old.server ((result ≡ refusal_number Refusal.EmptyHandle)
         × (handle.new.server ≡ None)) }
     ensures answer { IfSome handle.old.server (λ kept. MatchOption
         (texts_refusal name.now password.now)
@@ -175,7 +178,7 @@ pub extern "C" fn stunp_server_add_user(
                 (record { username = name.now; password = password.now });
           };
         })))
-        (λ refusal. (result ≡ code_of refusal) × (handle.new.server ≡ handle.old.server))) }
+        (λ refusal. (result ≡ refusal_number refusal) × (handle.new.server ≡ handle.old.server))) }
 {
     let Some(mut kept) = handle.take(alloc) else {
         return Refusal::EmptyHandle.code();
@@ -192,10 +195,10 @@ pub extern "C" fn stunp_server_remove_user(
     handle: &mut ServerHandle,
     name: &[u8],
 ) -> i64
-    ensures empty { IfNone handle.old.server ((result ≡ code_of Refusal.EmptyHandle)
+    ensures empty { IfNone handle.old.server ((result ≡ refusal_number Refusal.EmptyHandle)
         × (handle.new.server ≡ None)) }
     ensures answer { IfSome handle.old.server (λ _. result ≡ done_answer
-        (unless_refused (text_refusal name.now) (Ok tt))) }
+        (refusal_or (text_refusal name.now) (Ok tt))) }
     ensures state { IfSome handle.old.server (λ kept. handle.new.server ≡ Some (record kept {
       server = without_named (text_refusal name.now) kept.server name.now;
     })) }
@@ -208,7 +211,7 @@ pub extern "C" fn stunp_server_remove_user(
     answer
 }
 
-/// Who signed a message that came from an address.
+/// Validates a message that came from an address, and returns the algorithm of its digest.
 #[unsafe(no_mangle)]
 pub extern "C" fn stunp_server_validate(
     alloc: Global,
@@ -218,10 +221,10 @@ pub extern "C" fn stunp_server_validate(
     now: u64,
     words: &[u32; 16],
 ) -> i64
-    ensures empty { IfNone handle.old.server ((result ≡ code_of Refusal.EmptyHandle)
+    ensures empty { IfNone handle.old.server ((result ≡ refusal_number Refusal.EmptyHandle)
         × (handle.new.server ≡ None)) }
 
-    // The number of what the authenticator answers, and what its call leaves.
+    // The number of what the authenticator returns, and what its call leaves.
     ensures answer { IfSome handle.old.server (λ kept. OrOutOfMemory result
         handle.old.server handle.new.server
         (validation_number kept message.now from.now now words.now)
@@ -229,8 +232,8 @@ pub extern "C" fn stunp_server_validate(
           server = kept_after_validating kept message.now from.now now words.now;
         }))) }
 
-    // Where nothing of the server changes, as where the same client is accepted again, no failed
-    // allocation is answered.
+    // If nothing of the server changes, as if the same client is accepted again, no failed
+    // allocation is returned.
     ensures unchanged { IfSome handle.old.server (λ kept.
         LeavesServer kept message.now now words.now (socket_address from.now) →
         result ≡ validation_number kept message.now from.now now words.now) }
@@ -252,19 +255,19 @@ pub extern "C" fn stunp_server_client(
     name: &mut [u8],
     name_length: &mut usize,
 ) -> i64
-    ensures empty { IfNone handle.old.server ((result ≡ code_of Refusal.EmptyHandle)
+    ensures empty { IfNone handle.old.server ((result ≡ refusal_number Refusal.EmptyHandle)
         × (handle.new.server ≡ None)
         × (name.new ≡ name.old) × (name_length.new ≡ name_length.old)) }
     ensures answer { IfSome handle.old.server (λ kept. result ≡ found_answer
         (client_found kept.server at.now (length name.old))) }
     ensures name { IfSome handle.old.server (λ kept. name.new
         ≡ after_address (socket_address at.now) name.old
-        (λ at. name_written name.old (client_at kept.server at))) }
+        (λ at. name_written name.old (client_of_address kept.server at))) }
 
     // Also where the buffer has no room for the name.
     ensures name_length { IfSome handle.old.server (λ kept. name_length.new
         ≡ after_address (socket_address at.now) name_length.old
-        (λ at. name_length_of (client_at kept.server at) name_length.old)) }
+        (λ at. name_length_of (client_of_address kept.server at) name_length.old)) }
     ensures same { handle.new.server ≡ handle.old.server }
 {
     let Some(mut kept) = handle.take(alloc) else {
@@ -284,7 +287,7 @@ pub extern "C" fn stunp_server_sign(
     length: usize,
     to: &Address,
 ) -> i64
-    ensures empty { IfNone handle.old.server ((result ≡ code_of Refusal.EmptyHandle)
+    ensures empty { IfNone handle.old.server ((result ≡ refusal_number Refusal.EmptyHandle)
         × (handle.new.server ≡ None)
         × (buffer.new ≡ buffer.old)) }
     ensures answer { IfSome handle.old.server (λ kept. result
@@ -307,7 +310,7 @@ pub extern "C" fn stunp_server_sign(
 /// Of how many addresses something is kept.
 #[unsafe(no_mangle)]
 pub extern "C" fn stunp_server_address_count(alloc: Global, handle: &mut ServerHandle) -> i64
-    ensures empty { IfNone handle.old.server ((result ≡ code_of Refusal.EmptyHandle)
+    ensures empty { IfNone handle.old.server ((result ≡ refusal_number Refusal.EmptyHandle)
         × (handle.new.server ≡ None)) }
     ensures answer { IfSome handle.old.server (λ kept. result
         ≡ length_answer (Ok (map.len kept.server.places))) }
@@ -329,7 +332,7 @@ pub extern "C" fn stunp_server_nonce(
     at: &Address,
     nonce: &mut [u8],
 ) -> i64
-    ensures empty { IfNone handle.old.server ((result ≡ code_of Refusal.EmptyHandle)
+    ensures empty { IfNone handle.old.server ((result ≡ refusal_number Refusal.EmptyHandle)
         × (handle.new.server ≡ None)
         × (nonce.new ≡ nonce.old)) }
     ensures answer { IfSome handle.old.server (λ kept. result ≡ length_answer
@@ -354,7 +357,7 @@ pub extern "C" fn stunp_server_remove_client(
     handle: &mut ServerHandle,
     at: &Address,
 ) -> i64
-    ensures empty { IfNone handle.old.server ((result ≡ code_of Refusal.EmptyHandle)
+    ensures empty { IfNone handle.old.server ((result ≡ refusal_number Refusal.EmptyHandle)
         × (handle.new.server ≡ None)) }
     ensures answer { IfSome handle.old.server (λ _. result ≡ done_answer
         (done_if_given (socket_address at.now))) }
@@ -374,7 +377,7 @@ pub extern "C" fn stunp_server_remove_client(
 /// Forgets all that is kept of an address.
 #[unsafe(no_mangle)]
 pub extern "C" fn stunp_server_forget(alloc: Global, handle: &mut ServerHandle, at: &Address) -> i64
-    ensures empty { IfNone handle.old.server ((result ≡ code_of Refusal.EmptyHandle)
+    ensures empty { IfNone handle.old.server ((result ≡ refusal_number Refusal.EmptyHandle)
         × (handle.new.server ≡ None)) }
     ensures answer { IfSome handle.old.server (λ _. result ≡ done_answer
         (done_if_given (socket_address at.now))) }
@@ -391,14 +394,14 @@ pub extern "C" fn stunp_server_forget(alloc: Global, handle: &mut ServerHandle, 
     answer
 }
 
-/// Forgets each address without a client whose nonce expired before a moment.
+/// Forgets each address without a client whose nonce expired before a time.
 #[unsafe(no_mangle)]
 pub extern "C" fn stunp_server_forget_expired(
     alloc: Global,
     handle: &mut ServerHandle,
     now: u64,
 ) -> i64
-    ensures empty { IfNone handle.old.server ((result ≡ code_of Refusal.EmptyHandle)
+    ensures empty { IfNone handle.old.server ((result ≡ refusal_number Refusal.EmptyHandle)
         × (handle.new.server ≡ None)) }
     ensures answer { IfSome handle.old.server (λ _. result ≡ pos 0) }
     ensures state { IfSome handle.old.server (λ kept. handle.new.server ≡ Some (record kept {
@@ -422,7 +425,7 @@ pub extern "C" fn stunp_server_forget_expired_within(
     from: &mut Address,
     most: usize,
 ) -> i64
-    ensures empty { IfNone handle.old.server ((result ≡ code_of Refusal.EmptyHandle)
+    ensures empty { IfNone handle.old.server ((result ≡ refusal_number Refusal.EmptyHandle)
         × (handle.new.server ≡ None)
         × (from.new ≡ from.old)) }
     ensures answer { IfSome handle.old.server (λ kept. result ≡ number_answer

@@ -15,7 +15,7 @@ pub struct Agent {
     pub agent: StunAgent<Global>,
 }
 
-/// What a caller keeps of an agent: all zero where it is empty, and else what `put` wrote.
+/// The caller's agent handle: all zero if it is empty, and otherwise what `put` wrote.
 #[repr(C)]
 pub struct AgentHandle {
     is_full: bool,

@@ -15,7 +15,7 @@ pub struct Client {
     pub client: LongTermClientAuth<Global>,
 }
 
-/// What a caller keeps of a client: all zero where it is empty, and else what `put` wrote.
+/// The caller's client handle: all zero if it is empty, and otherwise what `put` wrote.
 #[repr(C)]
 pub struct ClientHandle {
     is_full: bool,

@@ -17,7 +17,7 @@ pub struct Server {
     pub most_addresses: usize,
 }
 
-/// What a caller keeps of a server: all zero where it is empty, and else what `put` wrote.
+/// The caller's server handle: all zero if it is empty, and otherwise what `put` wrote.
 #[repr(C)]
 pub struct ServerHandle {
     is_full: bool,

@@ -32,4 +32,7 @@ words_of_serve (command ∷ others) =
 -- the line for wrong words
 abbrev pub usage_line : List ℕ
 usage_line =
-    codes "usage: stun_tool check PASSWORD | schedule TRANSPORT INITIAL_MS MAX_MS RETRANSMITS FINAL_MS [answer MS FROM] | negotiate CLIENT_ALGORITHMS CLIENT_FEATURE SERVER_ALGORITHMS SERVER_FEATURE | serve REALM" ++ 10 ∷ []
+    codes "usage: stun_tool check PASSWORD "
+    ++ codes "| schedule TRANSPORT INITIAL_MS MAX_MS RETRANSMITS FINAL_MS [answer MS FROM] "
+    ++ codes "| negotiate CLIENT_ALGORITHMS CLIENT_FEATURE SERVER_ALGORITHMS SERVER_FEATURE "
+    ++ codes "| serve REALM" ++ 10 ∷ []

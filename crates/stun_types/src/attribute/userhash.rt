@@ -45,7 +45,7 @@ impl Userhash {
     /// The hash of a user name at a realm: SHA-256 of the two with a colon between them (RFC 8489,
     /// section 14.4). Both are used as they are. It does not allocate.
     pub fn compute(user: &str, realm: &str) -> [u8; 32]
-        ensures { result ≡ keys.userhash user.now realm.now }
+        ensures { result ≡ keys.userhash_of user.now realm.now }
     {
         userhash(user, realm)
     }

@@ -8,7 +8,7 @@ ghost use Rattle.stun_base.specs.Header.{header_of, transaction_id_field};
 ghost use Rattle.stun_base.specs.Keys.OfCredentials.{keys_of};
 ghost use Rattle.stun_base.specs.MessageType.{class_in, IsResponse};
 ghost use Rattle.stun_types.specs.Attribute.{attribute_length};
-ghost use Rattle.stun_types.specs.Grammar.{spelled, spelled_attribute};
+ghost use Rattle.stun_types.specs.Grammar.{spelled_message, spelled_attribute};
 ghost use Rattle.stun_types.specs.Limits.{max_length};
 ghost use Rattle.stun_types.specs.Visible.{has_kind};
 ghost use Rattle.stun_types.specs.Walk.{walk};

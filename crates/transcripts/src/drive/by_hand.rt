@@ -11,7 +11,7 @@ use stun_base::instant::Instant;
 use stun_proto::replay::{AgentEvent, AgentStep};
 use stun_types::message::Message;
 
-/// No step of a run here comes after so many calls.
+/// How many calls a step of a run needs at most here.
 const MOST_CALLS: u64 = 400;
 
 /// What an agent by hand did.
@@ -152,7 +152,7 @@ fn take(
     steps.add(&step)
 }
 
-/// Makes the one call of the agent that an event stands for, and keeps what it did.
+/// Makes the one call of the agent that an event means, and keeps what it did.
 fn make(
     agent: &mut StunAgent,
     now: Instant,

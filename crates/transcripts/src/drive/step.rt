@@ -26,7 +26,7 @@ pub fn error_name(error: StunError) -> &'static str {
     }
 }
 
-/// Adds a moment: in milliseconds where it is so many of them, and in nanoseconds where it is not.
+/// Adds a moment: in milliseconds if they are whole, and else in nanoseconds.
 pub fn push_moment(moment: Instant, answer: &mut String) -> Result<(), Trouble> {
     let nanos = moment.as_nanos();
     let millis = nanos / 1_000_000;

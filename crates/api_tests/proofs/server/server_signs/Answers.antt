@@ -9,7 +9,7 @@ use Rattle.stun_base.specs.MessageType.{class_of, is_response}
 use Rattle.stun_types.specs.Limits.{LENGTH_LIMIT}
 use Rattle.stun_auth.specs.Additions.{Page}
 use Rattle.stun_auth.specs.ServerSigning.{server_signed}
-use Rattle.stun_auth.specs.Signed.{Added, IsSignableByServer, ServerMaySign, added_by_server}
+use Rattle.stun_auth.specs.Signed.{Added, IsSignableByServer, IsSignableAtServer, added_by_server}
 use Rattle.stun_auth.specs.Validation.{ServerSeen, sight}
 use Rattle.api_tests.proofs.server.server_signs.Goals as goal
 
@@ -31,7 +31,7 @@ sign_outgoing_message_unchecked-answer-requires-clause-signable c =
     let signed : IsOk
     (server_signed (sight s to) (is_response (class_of (type_field checked))) (page checked)) =
     ap is_ok (sym c.in_ok-_signed.ensures.answer) in
-    let may : ServerMaySign (sight s to) later bytes (LENGTH_LIMIT - length bytes) =
+    let may : IsSignableAtServer (sight s to) later bytes (LENGTH_LIMIT - length bytes) =
     c.what_was_signed_may_be_signed.ensures.server (sight s to) later bytes
     (LENGTH_LIMIT - length bytes) c.in_ok-unchecked.ensures.open short
     (subst (λ (message : List ℕ).

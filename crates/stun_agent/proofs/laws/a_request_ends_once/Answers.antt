@@ -1,3 +1,4 @@
+-- What ends a request takes it out, and its id comes back only with a new one.
 use Rattle.stun_agent.proofs.OnceLemmas.{ends_once}
 use Rattle.stun_agent.proofs.laws.a_request_ends_once.Goals as goal
 

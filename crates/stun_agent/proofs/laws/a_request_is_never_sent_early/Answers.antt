@@ -1,3 +1,4 @@
+-- What is sent is due, and what is due has waited.
 use Rattle.stun_agent.proofs.QuietLemmas.{due_waits, sent_is_due}
 use Rattle.stun_agent.proofs.laws.a_request_is_never_sent_early.Goals as goal
 

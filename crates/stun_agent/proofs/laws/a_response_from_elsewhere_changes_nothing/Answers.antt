@@ -1,3 +1,4 @@
+-- A response from another address answers no request, and is ignored.
 use Rattle.stun_base.specs.MessageType.{class_in}
 use Rattle.stun_agent.proofs.AnswerLemmas.{elsewhere_unanswered}
 use Rattle.stun_agent.proofs.ResponseLemmas.{unanswering_ignored}

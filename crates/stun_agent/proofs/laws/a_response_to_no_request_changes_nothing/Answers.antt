@@ -1,3 +1,4 @@
+-- A response of an id that is not outstanding answers no request, and is ignored.
 use Rattle.stun_base.specs.MessageType.{class_in}
 use Rattle.stun_agent.proofs.AnswerLemmas.{unknown_unanswered}
 use Rattle.stun_agent.proofs.ResponseLemmas.{unanswering_ignored}

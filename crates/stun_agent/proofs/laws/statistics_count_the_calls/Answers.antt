@@ -1,3 +1,4 @@
+-- Each call adds its tally, and tallies add up.
 use Rattle.stun_agent.proofs.TranscriptLemmas.{counts_calls, counts_nothing}
 use Rattle.stun_agent.proofs.laws.statistics_count_the_calls.Goals as goal
 

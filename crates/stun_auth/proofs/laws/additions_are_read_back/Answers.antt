@@ -1,3 +1,4 @@
+-- What signing adds is visible, and is the last of its type.
 use Rattle.stun_auth.proofs.JoinedLemmas.{WritingLaws, has_added}
 use Rattle.stun_auth.proofs.JoinedReading.{read_back}
 use Rattle.stun_auth.proofs.laws.additions_are_read_back.Goals as goal

@@ -1,3 +1,4 @@
+-- A message of a header, or of ERROR-CODE alone, has none of what signing adds.
 use Rattle.stun_auth.proofs.JoinedLemmas.{WritingLaws}
 use Rattle.stun_auth.proofs.SignedBases.{BuildingLaws, bare, with_error}
 use Rattle.stun_auth.proofs.laws.built_messages_can_be_signed.Goals as goal

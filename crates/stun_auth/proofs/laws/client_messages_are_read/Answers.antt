@@ -1,3 +1,4 @@
+-- A client adds attribute by attribute, so its message is read as what was added.
 use Rattle.std.proofs.Common.{◌∙◌, ap, sym}
 use Rattle.stun_auth.proofs.SignedReading.{reads_built}
 use Rattle.stun_auth.proofs.laws.client_messages_are_read.Goals as goal

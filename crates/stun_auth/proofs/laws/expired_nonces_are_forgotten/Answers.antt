@@ -1,3 +1,4 @@
+-- A place is left out if and only if its nonce has expired and it has no client.
 use Rattle.stun_auth.proofs.Forgotten.{get-places_kept, left_at, kept_at-client, kept_at-current}
 use Rattle.stun_auth.proofs.laws.expired_nonces_are_forgotten.Goals as goal
 

@@ -1,3 +1,4 @@
+-- Each of these answers comes before anything is kept.
 use Rattle.stun_auth.proofs.Unchanged.{needless-unchanged, refused-unchanged, repeated-unchanged}
 use Rattle.stun_auth.proofs.laws.messages_that_change_nothing.Goals as goal
 

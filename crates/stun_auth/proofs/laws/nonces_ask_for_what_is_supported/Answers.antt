@@ -1,3 +1,4 @@
+-- The security bits of a nonce are those of the settings, in base64 letters.
 use Rattle.stun_auth.proofs.NonceBits.{asks_for_algorithms-nonce_of, asks_for_userhash-nonce_of}
 use Rattle.stun_auth.proofs.NonceLengths.{nonce_is_short}
 use Rattle.stun_auth.proofs.NonceTexts.{bits_alike, bits_there, nonce_is_text}

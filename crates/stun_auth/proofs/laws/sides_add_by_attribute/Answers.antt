@@ -1,3 +1,4 @@
+-- Signing by a side is adding its list, attribute by attribute.
 use Rattle.stun_auth.proofs.SignedSides.{client_same, server_same, server_there}
 use Rattle.stun_auth.proofs.laws.sides_add_by_attribute.Goals as goal
 

@@ -1,3 +1,4 @@
+-- Adding the list of a side succeeds if its message is signable.
 use Rattle.std.proofs.Common.{◌≡◌, None, Some, Option, refl, ◌∙◌, ap}
 use Rattle.std.specs.Option.{IsSomeAnd}
 use Rattle.std.specs.Result.{is_ok}

@@ -1,3 +1,4 @@
+-- A built message with short texts and enough room is signable.
 use Rattle.std.proofs.Common.{◌∙◌, ap}
 use Rattle.std.specs.Result.{is_ok}
 use Rattle.stun_auth.specs.Additions.{added_all}

@@ -1,3 +1,4 @@
+-- What was built and what was added are visible, so the reading is of both.
 use Rattle.stun_auth.proofs.JoinedLemmas.{WritingLaws}
 use Rattle.stun_auth.proofs.SignedReading.{reads_as}
 use Rattle.stun_auth.proofs.laws.signed_messages_are_read.Goals as goal

@@ -13,7 +13,7 @@ use Rattle.stun_auth.specs.Seen.{PlaceSeen}
 use Rattle.stun_auth.specs.ServerSigning.{after_signing}
 use Rattle.stun_auth.specs.Signed.{added_at, added_by_server}
 use Rattle.stun_auth.specs.Validation.{ServerSeen, sight}
-use Rattle.stun_auth.proofs.Addresses.{address_total}
+use Rattle.stun_base.proofs.Addresses.{address_total}
 use Rattle.stun_auth.proofs.laws.signing_leaves_what_is_added.Goals as goal
 
 module _ (later : Bool) (users : Registered) (set : AlgorithmSet) where

@@ -1,3 +1,4 @@
+-- The length after each addition is known, and the whole fits.
 use Rattle.stun_auth.proofs.JoinedLemmas.{WritingLaws}
 use Rattle.stun_auth.proofs.SignedGrowth.{growth-most, room-enough}
 use Rattle.stun_auth.proofs.SignedReading.{written-within}

@@ -1,3 +1,4 @@
+-- A registered user is found by name, and no other entry is touched.
 use Rattle.stun_auth.proofs.UserKeys.{key-added, key-by_others, key-of_others, key-removed}
 use Rattle.stun_auth.proofs.laws.users_have_their_keys.Goals as goal
 

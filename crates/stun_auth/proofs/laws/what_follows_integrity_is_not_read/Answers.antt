@@ -1,8 +1,9 @@
+-- A verdict is a function of the reading, and the reading is of what is visible.
 use Rattle.std.proofs.Common.{◌≡◌, ℕ, List, ap}
 use Rattle.stun_types.specs.Tail.{AgreeUpToIntegrity}
 use Rattle.stun_auth.specs.ClientStep.{client_step}
 use Rattle.stun_auth.specs.Reading.{reading_of}
-use Rattle.stun_auth.specs.Validation.{after_message, answer, sight}
+use Rattle.stun_auth.specs.Validation.{after_validation, answer, sight}
 use Rattle.stun_auth.proofs.TailReading.{ReadAlike, reading-alike, short_term-alike}
 use Rattle.stun_auth.proofs.laws.what_follows_integrity_is_not_read.Goals as goal
 
@@ -24,7 +25,7 @@ returns-clause-reading c = same_reading c
 pub returns-clause-server : goal.returns-clause-server
 returns-clause-server c = λ s from now words bytes others agree. (
   ap (answer (sight s from) now words) (same_reading c bytes others agree),
-  ap (after_message s from now words) (same_reading c bytes others agree),
+  ap (after_validation s from now words) (same_reading c bytes others agree),
 )
 
 pub returns-clause-client : goal.returns-clause-client

@@ -1,3 +1,4 @@
+-- If each addition succeeded, its condition held, so the message was signable.
 use Rattle.std.proofs.Common.{◌≡◌, None, Some, Option, Ok, Err, refl, subst}
 use Rattle.std.specs.Prelude.{IsOk, Result}
 use Rattle.std.specs.Option.{IsSome, IsSomeAnd}

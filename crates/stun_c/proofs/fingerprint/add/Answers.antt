@@ -1,9 +1,9 @@
 -- What is written is the message with its FINGERPRINT, 8 bytes longer.
-use Rattle.std.proofs.Common.{◌≡◌, ◌+◌, ◌++◌, length, take, drop, rules, sym, ap, ◌∙◌, arith}
+use Rattle.std.proofs.Common.{◌≡◌, ◌+◌, ◌++◌, length, take, drop, Ok, rules, sym, ap, ◌∙◌, arith}
 use Rattle.std.proofs.lemmas.List.{length-take-le}
 use Rattle.stun_extra.specs.Fingerprint.{with_fingerprint}
-use Rattle.stun_c.specs.Answers.{buffer_after}
-use Rattle.stun_c.specs.Requests.{unless_refused}
+use Rattle.stun_numbers.specs.Buffers.{buffer_after}
+use Rattle.stun_numbers.specs.Refusals.{refusal_or}
 use Rattle.stun_c.proofs.Ending.{ended_fingerprint, length_fingerprinted}
 use Rattle.stun_c.proofs.fingerprint.add.Goals as goal
 
@@ -28,5 +28,6 @@ returns-in-Ok-clause-written c =
     c.append.ensures.written
     ∙ ((λ i. ended_fingerprint message i ++ drop (sym whole i) c.args.buffer.now)
     ∙ sym (ap
-    (λ refusal. buffer_after (unless_refused refusal (with_fingerprint message)) c.args.buffer.now)
+    (λ refusal. buffer_after (refusal_or refusal (Ok (with_fingerprint message)))
+    c.args.buffer.now)
     c.in-Ok.ensures.ok))

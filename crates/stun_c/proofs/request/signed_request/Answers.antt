@@ -4,9 +4,9 @@ use Rattle.byteorder.specs.Endian.{big_number}
 use Rattle.stun_base.specs.Attributes.{USERNAME}
 use Rattle.stun_base.specs.MessageType.{type_number}
 use Rattle.stun_base.specs.declared.wire.message_type.MessageClass.TheVariants.{Request}
-use Rattle.stun_types.specs.Grammar.{spelled}
+use Rattle.stun_types.specs.Grammar.{spelled_message}
 use Rattle.stun_types.specs.Writing.{with_integrity}
-use Rattle.stun_c.specs.Codes.{algorithm_numbered}
+use Rattle.stun_numbers.specs.Algorithms.{algorithm_numbered}
 use Rattle.stun_c.specs.Requests.{username_refusal}
 use Rattle.stun_c.proofs.Signed.{request_signed}
 use Rattle.stun_c.proofs.request.signed_request.Goals as goal
@@ -21,7 +21,7 @@ returns-clause-ok c =
     let is_username : c.in_ok-username.username ≡ c.args.name.now = search rules in
     let built = c.add_attribute.new.self.bytes in
     let written : built
-    ≡ spelled (type_number Request 0x001) c.in_ok-id.id
+    ≡ spelled_message (type_number Request 0x001) c.in_ok-id.id
     ([] ++ record { kind = USERNAME; value = c.in_ok-username.username } ∷ []) = search rules in
     let signed : c.finish.result.now
     ≡ with_integrity built c.in_ok-algorithm.algorithm c.args.key.now = search rules in

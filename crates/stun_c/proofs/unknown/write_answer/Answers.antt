@@ -3,7 +3,8 @@ use Rattle.std.proofs.Common.{◌≡◌, ◌≤◌, ◌+◌, ◌*◌, pos, lengt
 use Rattle.std.specs.Prelude.{Ok}
 use Rattle.stun_types.specs.Attribute.{attribute_length}
 use Rattle.stun_extra.specs.Unknown.{unknown_types}
-use Rattle.stun_c.specs.Answers.{fitted, written_number}
+use Rattle.stun_numbers.specs.Buffers.{within_room}
+use Rattle.stun_c.specs.Answers.{written_number}
 use Rattle.stun_c.specs.Extra.{unknown_answer}
 use Rattle.stun_c.proofs.Refused.{answer_number, answer_written}
 use Rattle.stun_c.proofs.unknown.write_answer.Goals as goal
@@ -13,7 +14,7 @@ returns-clause-answer c =
     let types = unknown_types c.args.known.now c.args.request.now in
     let room : 48 + attribute_length (2 * c.args.count) ≤ length c.args.out.now = omega arith in
     let number : written_number
-    (fitted (Ok (unknown_answer c.args.request.now types)) (length c.args.out.now))
+    (within_room (Ok (unknown_answer c.args.request.now types)) (length c.args.out.now))
     ≡ pos (48 + attribute_length (2 * c.args.count)) =
     answer_number c.args.request.now types c.args.count (length c.args.out.now) c.requires.count
     room in

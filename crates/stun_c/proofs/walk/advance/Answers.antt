@@ -2,8 +2,9 @@
 use Rattle.std.proofs.Common.{◌≡◌, ◌+◌, ◌∷◌, drop, sym, ◌∙◌, ap, arith}
 use Rattle.std.specs.Prelude.{slice_get}
 use Rattle.stun_types.specs.Walk.{walk_from}
-use Rattle.stun_c.specs.Walking.{shown}
-use Rattle.stun_c.proofs.Walking.{MetAt, met-shown, met-hidden, met_within, shown-end}
+use Rattle.stun_c.specs.Walking.{visible_after}
+use Rattle.stun_c.proofs.Walking.{MetAt, met-visible_after, met-hidden, met_within}
+use Rattle.stun_c.proofs.Walking.{visible_after-end}
 use Rattle.stun_c.proofs.walk.advance.Goals as goal
 
 shown_at : (c : goal.Then-shown)
@@ -28,13 +29,13 @@ hidden_at c = record {
 
 -- what was to be given begins with the attribute
 begins : (c : goal.Then-shown)
-    → shown c.args.cursor.now.hidden (walk_from c.args.cursor.now.place c.args.message.now)
+    → visible_after c.args.cursor.now.hidden (walk_from c.args.cursor.now.place c.args.message.now)
     ≡ (c.loop-attribute.cursor.place, c.in-Some.attribute)
-    ∷ shown c.hidden_behind-cursor.result
+    ∷ visible_after c.hidden_behind-cursor.result
     (walk_from (c.loop-attribute.cursor.place + c.padded_len.result) c.args.message.now)
 begins c =
     sym c.loop-attribute.invariant.left
-    ∙ met-shown c.loop-attribute.cursor.hidden (shown_at c)
+    ∙ met-visible_after c.loop-attribute.cursor.hidden (shown_at c)
     (sym c.is_shown-shown.ensures ∙ c.if-shown.true) c.hidden_behind-cursor.ensures
 
 pub returns-then-shown-clause-first : goal.returns-then-shown-clause-first
@@ -57,13 +58,15 @@ loop-attribute-preserved c = record {
 pub returns-clause-first : goal.returns-clause-first
 returns-clause-first c =
     let none =
-    shown-end c.loop-attribute.cursor.hidden c.loop-attribute.cursor.place c.args.message.now
+    visible_after-end c.loop-attribute.cursor.hidden c.loop-attribute.cursor.place
+    c.args.message.now
     c.in_default.ensures.none in
     ap (λ left. slice_get left 0) (sym none ∙ c.loop-attribute.invariant.left)
 
 pub returns-clause-rest : goal.returns-clause-rest
 returns-clause-rest c =
     let none =
-    shown-end c.loop-attribute.cursor.hidden c.loop-attribute.cursor.place c.args.message.now
+    visible_after-end c.loop-attribute.cursor.hidden c.loop-attribute.cursor.place
+    c.args.message.now
     c.in_default.ensures.none in
     none ∙ ap (drop 1) (sym none ∙ c.loop-attribute.invariant.left)

@@ -1,3 +1,4 @@
+-- The length in the first two bytes says where the packet ends.
 use Rattle.stun_extra.proofs.PacketLemmas.{packet-part, packet-whole}
 use Rattle.stun_extra.proofs.laws.packet_is_framed.Goals as goal
 

@@ -1,3 +1,4 @@
+-- The first byte tells a message from ChannelData, and each says its length.
 use Rattle.stun_extra.proofs.PacketLemmas.{channel-part, channel-whole, turn-message}
 use Rattle.stun_extra.proofs.laws.turn_is_framed.Goals as goal
 

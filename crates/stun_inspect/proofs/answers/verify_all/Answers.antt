@@ -2,7 +2,7 @@
 use Rattle.std.proofs.Common.{◌≡◌, true, IfOk, subst}
 use Rattle.stun_inspect.specs.Input.{is_raw}
 use Rattle.stun_cli.specs.Verdict.{verdict_of}
-use Rattle.stun_inspect.specs.Verify.{PrintsVerdict}
+use Rattle.stun_inspect.specs.Verify.{PrintsVerdictAndNotes}
 use Rattle.stun_inspect.proofs.answers.verify_all.Goals as goal
 
 pub returns : goal.returns
@@ -12,5 +12,5 @@ returns g c =
     let input = c.args.input.now in
     subst (λ keys. is_raw input ≡ true
     → IfOk c.verify_each.result
-    (λ status. PrintsVerdict (verdict_of input keys) status before after))
+    (λ status. PrintsVerdictAndNotes (verdict_of input keys) status before after))
     c.in_ok-credentials.ensures c.verify_each.ensures

@@ -4,14 +4,14 @@ use Rattle.stun_base.specs.Header.{HEADER_LENGTH}
 use Rattle.stun_types.specs.Visible.{before}
 use Rattle.stun_types.specs.Walk.{walk}
 use Rattle.stun_types.proofs.WalkLemmas.{before-walk_from, walk_from-end}
-use Rattle.stun_types.proofs.VisibleLemmas.{HasPassed-none, HasPassed-and, StandsAt}
-use Rattle.stun_inspect.specs.Telling.{told_at, shown}
-use Rattle.stun_inspect.proofs.TellingLemmas.{shown-visible, told-step}
+use Rattle.stun_types.proofs.VisibleLemmas.{HasSeenKinds-none, HasSeenKinds-and, StandsAt}
+use Rattle.stun_inspect.specs.Telling.{told_at, unhidden_members}
+use Rattle.stun_inspect.proofs.TellingLemmas.{unhidden_members-visible, told-step}
 use Rattle.stun_inspect.proofs.telling.tell.Goals as goal
 
 pub loop-attribute-init : goal.loop-attribute-init
 loop-attribute-init g c = record {
-  passed = HasPassed-none c.as_bytes-bytes.result.now;
+  passed = HasSeenKinds-none c.as_bytes-bytes.result.now;
   so_far =
       rw (before-walk_from HEADER_LENGTH HEADER_LENGTH c.as_bytes-bytes.result.now (omega arith))
       c.new-told.ensures.items;
@@ -30,7 +30,7 @@ loop-attribute-preserved g c =
     } in
     record {
       passed =
-          HasPassed-and at.invariant.passed stands and.integrity and.integrity_sha256
+          HasSeenKinds-and at.invariant.passed stands and.integrity and.integrity_sha256
           and.fingerprint;
       so_far = c.in_ok-push.ensures.items
           ∙ rw c.hider.ensures (told-step at.invariant.passed stands at.invariant.so_far);
@@ -49,4 +49,5 @@ returns-clause-told g c =
     (at.invariant.so_far ∙ ap (map (told_at (walk bytes))) whole)
 
 pub returns-clause-visible : goal.returns-clause-visible
-returns-clause-visible g c = ap shown (returns-clause-told g c) ∙ shown-visible c.args.message.now
+returns-clause-visible g c =
+    ap unhidden_members (returns-clause-told g c) ∙ unhidden_members-visible c.args.message.now

@@ -2,14 +2,14 @@
 use Rattle.std.proofs.Common.{◌≡◌, ◌-◌, length, map}
 use Rattle.stun_types.specs.Visible.{before}
 use Rattle.stun_types.specs.Walk.{walk}
-use Rattle.stun_types.specs.code.Visible.{HasPassed}
+use Rattle.stun_types.specs.code.Visible.{HasSeenKinds}
 use Rattle.stun_inspect.specs.Telling.{told_at}
 use Rattle.stun_inspect.proofs.telling.tell.Given as goal
 
 -- the attributes before the place are passed, and what is told so far is what is told of them
 abbrev pub invariant-loop-attribute : goal.invariant-loop-attribute
 invariant-loop-attribute g l = record {
-  passed : HasPassed l.place l.passed.integrity l.passed.integrity_sha256 l.passed.fingerprint
+  passed : HasSeenKinds l.place l.passed.integrity l.passed.integrity_sha256 l.passed.fingerprint
       l.bytes;
   so_far : l.told.items ≡ map (told_at (walk l.bytes)) (before l.place (walk l.bytes));
 }

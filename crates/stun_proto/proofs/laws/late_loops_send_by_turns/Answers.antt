@@ -1,6 +1,6 @@
 -- From turn to turn: which slots have passed, and at which of the turns.
-use Rattle.stun_proto.proofs.agent_runs.LateLemmas.{late_loops_are_bounded}
-use Rattle.stun_proto.proofs.agent_runs.LateLemmas.{loops_send_by_turns, turns_are_never_early}
+use Rattle.stun_proto.proofs.agent_runs.LateLaw.{late_loops_are_bounded, loops_send_by_turns}
+use Rattle.stun_proto.proofs.agent_runs.NeverEarly.{turns_are_never_early}
 use Rattle.stun_proto.proofs.laws.late_loops_send_by_turns.Goals as goal
 
 pub returns-clause-turns : goal.returns-clause-turns

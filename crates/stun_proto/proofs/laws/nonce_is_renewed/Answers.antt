@@ -1,3 +1,4 @@
+-- A 438 is read by the client as the server signed it, and its nonce is taken over.
 use Rattle.stun_proto.proofs.meetings.Renewed.{is_renewed}
 use Rattle.stun_proto.proofs.meetings.Signed.{NoncesAsk}
 use Rattle.stun_proto.proofs.meetings.SignedRuns.{SigningLaws, signed_is_read}

@@ -1,3 +1,4 @@
+-- The default timeouts are added up, and a new agent has nothing in the request's way.
 use Rattle.std.proofs.Common.{refl}
 use Rattle.stun_agent.specs.Timing.{sum_of_timeouts}
 use Rattle.stun_proto.proofs.laws.plan_of_a_request.Goals as goal

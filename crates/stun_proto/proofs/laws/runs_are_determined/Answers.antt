@@ -1,3 +1,4 @@
+-- In each state one step is possible.
 use Rattle.stun_proto.proofs.agent_runs.RunLemmas.{driven_same, run_determined}
 use Rattle.stun_proto.proofs.laws.runs_are_determined.Goals as goal
 

@@ -1,3 +1,4 @@
+-- Short texts leave room for all that is added, so each side can sign.
 use Rattle.stun_proto.proofs.meetings.Meeting.{all_signed}
 use Rattle.stun_proto.proofs.meetings.Signed.{NoncesAsk}
 use Rattle.stun_proto.proofs.meetings.SignedRuns.{RoomLaws, SigningLaws}

@@ -1,3 +1,4 @@
+-- Each message is read as it was signed, so the meeting goes as negotiation says.
 use Rattle.stun_proto.proofs.meetings.Meeting.{comes_to}
 use Rattle.stun_proto.proofs.meetings.Signed.{NoncesAsk}
 use Rattle.stun_proto.proofs.meetings.SignedRuns.{SigningLaws, signed_is_read}

@@ -6,8 +6,9 @@ ghost use Rattle.stun_base.specs.Header.{transaction_id_field, type_field};
 ghost use Rattle.stun_base.specs.MessageType.{method_of};
 ghost use Rattle.stun_auth.specs.declared.server.reason.LongTermServerAuthErrorReason.TheVariants.{Unauthorized};
 ghost use Rattle.stun_auth.specs.declared.server.reason.LongTermServerValidation.TheVariants.{Validated};
-ghost use Rattle.stun_proto.specs.Negotiation.{BINDING as BINDING_METHOD, asked};
-ghost use Rattle.stun_proto.specs.Negotiation.{first_answered, negotiated, outcome_of_success};
+ghost use Rattle.stun_proto.specs.Negotiation.{BINDING as BINDING_METHOD, client_request};
+ghost use Rattle.stun_proto.specs.Negotiation.{first_answered, whole_negotiation};
+ghost use Rattle.stun_proto.specs.Negotiation.{outcome_of_success};
 ghost use Rattle.stun_proto.specs.Negotiation.{second_answered, second_asked};
 ghost use Rattle.stun_proto.specs.Sides.{Passes, PassesAccepted, PassesResend, PassesUnauthorized};
 ghost use Rattle.stun_proto.specs.code.FirstAnswers.{end_of_challenge, end_of_first};
@@ -31,10 +32,10 @@ use stun_base::transaction_id::TransactionId;
 use stun_types::message::Message;
 use stun_types::prelude::*;
 
-/// A request: its id, the moment at which the server reads it, the random words of a nonce, and the
-/// server's calls just before the 401 is read, or before the second request is.
+/// A request: its id, the moment at which the server reads it, and the random words of a nonce.
+/// `before` has the server's calls just before the 401 is read, or before the second request is.
 #[derive(Clone, Copy)]
-pub(crate) struct Turn<'a> {
+pub(crate) struct Asking<'a> {
     pub(crate) id: TransactionId,
     pub(crate) moment: Instant,
     pub(crate) words: [u32; 16],
@@ -45,8 +46,8 @@ pub(crate) struct Turn<'a> {
 #[derive(Clone, Copy)]
 pub(crate) struct Meeting<'a> {
     pub(crate) from: SocketAddr,
-    pub(crate) first: Turn<'a>,
-    pub(crate) second: Turn<'a>,
+    pub(crate) first: Asking<'a>,
+    pub(crate) second: Asking<'a>,
 }
 
 /// The two sides meet: a request, its challenge, the request with credentials and its success, each
@@ -62,7 +63,7 @@ pub(crate) fn meet<A: Allocator + Copy>(
 ) -> Result<Outcome, NegotiateError>
     ensures settings { client.new.settings ≡ client.old.settings }
     ensures run { let m = meeting_of client.old.settings meeting.now in
-        IsRun result client.new.state server.new (negotiated m client.old.state server.old)
+        IsRun result client.new.state server.new (whole_negotiation m client.old.state server.old)
         (Passes m client.old.state server.old) }
 {
     let first = &meeting.first;
@@ -113,7 +114,8 @@ fn after_resend<A: Allocator + Copy>(
     ensures settings { client.new.settings ≡ client.old.settings }
     ensures run { let m = meeting_of client.old.settings meeting.now in
         IsRun result client.new.state server.new (second_asked m client.old.state server.old
-        (asked m.second.id client.old.state)) (PassesResend m client.old.state server.old) }
+        (client_request m.second.id client.old.state))
+        (PassesResend m client.old.state server.old) }
 {
     let second = &meeting.second;
     let proven = request(alloc, client, second.id)?;

@@ -6,13 +6,13 @@ ghost use Rattle.stun_base.specs.MessageType.{method_of, class_in, is_response};
 ghost use Rattle.stun_types.specs.Message.{IsMessage};
 ghost use Rattle.stun_types.specs.Writing.{IsOpen};
 ghost use Rattle.stun_auth.specs.Additions.{UnlessMemory};
-ghost use Rattle.stun_auth.specs.ClientStep.{ForReason as ForClientReason};
+ghost use Rattle.stun_auth.specs.ClientStep.{ForClientReason};
 ghost use Rattle.stun_auth.specs.ClientStep.{IsResend, UNAUTHORIZED, client_step};
 ghost use Rattle.stun_auth.specs.Reading.{reading_of};
 ghost use Rattle.stun_auth.specs.ServerSigning.{after_signing};
 ghost use Rattle.stun_auth.specs.Validation.{sight};
-ghost use Rattle.stun_proto.specs.Negotiation.{BINDING as BINDING_METHOD, asked};
-ghost use Rattle.stun_proto.specs.Negotiation.{failure, responded, success};
+ghost use Rattle.stun_proto.specs.Negotiation.{BINDING as BINDING_METHOD, client_request};
+ghost use Rattle.stun_proto.specs.Negotiation.{failure, server_response, success};
 ghost use Rattle.stun_proto.specs.code.Signed.{signed_page, written_message};
 
 use std::alloc::{AllocError, Allocator};
@@ -33,7 +33,8 @@ pub(crate) fn request<A: Allocator + Copy>(
     client: &mut LongTermClientAuth<A>,
     id: TransactionId,
 ) -> Result<MessageWriteVec<A>, StunWriteError>
-    ensures answer { UnlessMemory result (signed_page result ≡ asked id client.old.state) ⊤ }
+    ensures answer { UnlessMemory result
+        (signed_page result ≡ client_request id client.old.state) ⊤ }
     ensures message { IfOk result (λ signed. IsMessage signed.bytes) }
     ensures method { IfOk result (λ signed. method_of (type_field signed.bytes) ≡ BINDING_METHOD) }
     ensures id { IfOk result (λ signed. transaction_id_field signed.bytes ≡ id) }
@@ -54,7 +55,7 @@ pub(crate) fn challenge<A: Allocator + Copy>(
 ) -> Result<MessageWriteVec<A>, StunWriteError>
     requires { method_of (type_field request.now) ≡ BINDING_METHOD }
     ensures answer { UnlessMemory result (signed_page result
-        ≡ responded (failure UNAUTHORIZED (transaction_id_field request.now))
+        ≡ server_response (failure UNAUTHORIZED (transaction_id_field request.now))
         (sight server.old to)) ⊤ }
     ensures message { IfOk result (λ signed. IsMessage signed.bytes) }
     ensures server { OnOk result (server.new ≡ after_signing server.old to true) }
@@ -73,7 +74,7 @@ pub(crate) fn success<A: Allocator + Copy>(
 ) -> Result<MessageWriteVec<A>, StunWriteError>
     requires { method_of (type_field request.now) ≡ BINDING_METHOD }
     ensures answer { UnlessMemory result (signed_page result
-        ≡ responded (success (transaction_id_field request.now)) (sight server.old to)) ⊤ }
+        ≡ server_response (success (transaction_id_field request.now)) (sight server.old to)) ⊤ }
     ensures message { IfOk result (λ signed. IsMessage signed.bytes) }
     ensures server { OnOk result (server.new ≡ after_signing server.old to true) }
     ensures refused { OnErr result (server.new ≡ server.old) }
@@ -107,7 +108,7 @@ fn sign<A: Allocator + Copy>(
     requires open { IsOpen writer.bytes }
     requires response { is_response (class_in writer.bytes) ≡ true }
     ensures answer { UnlessMemory result (signed_page result
-        ≡ responded writer.bytes (sight server.old to)) ⊤ }
+        ≡ server_response writer.bytes (sight server.old to)) ⊤ }
     ensures message { IfOk result (λ signed. IsMessage signed.bytes) }
     ensures server { OnOk result (server.new ≡ after_signing server.old to true) }
     ensures refused { OnErr result (server.new ≡ server.old) }

@@ -2,10 +2,10 @@
 -- refusal.
 use Rattle.std.proofs.Common.{◌≡◌, ℕ, List, ◌∙◌, ap, subst, sym, Ok, Err}
 use Rattle.stun_auth.specs.Reading.{reading_of}
-use Rattle.stun_auth.specs.Validation.{Answer, ChangesNothing, after_message, answer, sight}
+use Rattle.stun_auth.specs.Validation.{Answer, ChangesNothing, after_validation, answer, sight}
 use Rattle.stun_base.proofs.DrawnWords.{next_words-source}
 use Rattle.stun_state.specs.Codes.{refusal_of_server}
-use Rattle.stun_state.specs.Server.{validation_answer}
+use Rattle.stun_state.specs.Server.{server_validation_answer}
 use Rattle.stun_state.proofs.Reasons.{server_refused}
 use Rattle.stun_state.proofs.server.validate_message.Goals as goal
 
@@ -13,7 +13,7 @@ pub returns-in-Ok-clause-answer : goal.returns-in-Ok-clause-answer
 returns-in-Ok-clause-answer c =
     let drawn = next_words-source 16 c.new-source.result c.new-source.ensures.count
     ∙ c.new-source.ensures.words in
-    ap validation_answer (ap Ok c.validated_algorithm.ensures ∙ c.in-Ok.ensures.answer
+    ap server_validation_answer (ap Ok c.validated_algorithm.ensures ∙ c.in-Ok.ensures.answer
     ∙ ap (λ ws. answer (sight c.args.server.now c.args.from) c.args.now ws
     (reading_of c.args.message.now)) drawn)
 
@@ -22,7 +22,7 @@ returns-in-Ok-clause-state c =
     let drawn = next_words-source 16 c.new-source.result c.new-source.ensures.count
     ∙ c.new-source.ensures.words in
     c.in-Ok.ensures.state
-    ∙ ap (λ ws. after_message c.args.server.now c.args.from c.args.now ws
+    ∙ ap (λ ws. after_validation c.args.server.now c.args.from c.args.now ws
     (reading_of c.args.message.now)) drawn
 
 pub returns-in-Err-clause-answer : goal.returns-in-Err-clause-answer
@@ -33,23 +33,23 @@ returns-in-Err-clause-answer c =
     → Answer =
     λ ws. answer (sight c.args.server.now c.args.from) c.args.now ws
     (reading_of c.args.message.now) in
-    server_refused c.in-Err.error c.from.result
-    (λ r. Err r ≡ validation_answer (right c.args.words)) (λ r. Unit {0})
-    (c.from.ensures ∙ ap refusal_of_server c.reason.ensures)
-    (λ is. ap validation_answer (is ∙ ap right drawn)) (λ none. none) c.in-Err.ensures.answer
+    server_refused c.in-Err.error c.server_refusal.result
+    (λ r. Err r ≡ server_validation_answer (right c.args.words)) (λ r. Unit {0})
+    (c.server_refusal.ensures ∙ ap refusal_of_server c.reason.ensures)
+    (λ is. ap server_validation_answer (is ∙ ap right drawn)) (λ none. none) c.in-Err.ensures.answer
 
 pub returns-in-Err-clause-state : goal.returns-in-Err-clause-state
 returns-in-Err-clause-state c =
     let drawn = next_words-source 16 c.new-source.result c.new-source.ensures.count
     ∙ c.new-source.ensures.words in
-    server_refused c.in-Err.error c.from.result
+    server_refused c.in-Err.error c.server_refusal.result
     (λ r. c.validate_incoming_message.new.self
-    ≡ after_message c.args.server.now c.args.from c.args.now c.args.words
+    ≡ after_validation c.args.server.now c.args.from c.args.now c.args.words
     (reading_of c.args.message.now))
     (λ r. c.validate_incoming_message.new.self ≡ c.args.server.now)
-    (c.from.ensures ∙ ap refusal_of_server c.reason.ensures)
+    (c.server_refusal.ensures ∙ ap refusal_of_server c.reason.ensures)
     (λ is. is
-    ∙ ap (λ ws. after_message c.args.server.now c.args.from c.args.now ws
+    ∙ ap (λ ws. after_validation c.args.server.now c.args.from c.args.now ws
     (reading_of c.args.message.now)) drawn)
     (λ same. same) c.in-Err.ensures.state
 
@@ -65,6 +65,6 @@ returns-in-Err-clause-unchanged c nothing =
     → Type 0 =
     λ ws. ChangesNothing (sight c.args.server.now c.args.from) c.args.now ws
     (reading_of c.args.message.now) in
-    ap Err (c.from.ensures ∙ ap refusal_of_server c.reason.ensures)
-    ∙ ap validation_answer
+    ap Err (c.server_refusal.ensures ∙ ap refusal_of_server c.reason.ensures)
+    ∙ ap server_validation_answer
     (c.in-Err.ensures.unchanged (subst Nothing (sym drawn) nothing) ∙ ap right drawn)

@@ -1,3 +1,4 @@
+-- The first of each kind hides the later ones, so at most one is visible.
 use Rattle.stun_types.proofs.OnceLemmas.{once-fingerprint, once-integrity, once-integrity_sha256}
 use Rattle.stun_types.proofs.laws.each_hiding_attribute_counts_once.Goals as goal
 

@@ -1,3 +1,4 @@
+-- The digest is of the bytes before it, which signing leaves as they were.
 use Rattle.stun_types.proofs.SigningLemmas.{HasOneMore-signed, verified_by-signed}
 use Rattle.stun_types.proofs.laws.signed_message_stands.Goals as goal
 

@@ -1,3 +1,4 @@
+-- The deciding attribute and all that it signs come before the tail.
 use Rattle.stun_types.proofs.TailLemmas.{verified_by-tail}
 use Rattle.stun_types.proofs.laws.tail_does_not_count.Goals as goal
 

@@ -1,3 +1,4 @@
+-- Messages that agree up to the deciding attribute have the same visible attributes.
 use Rattle.stun_types.proofs.AgreeLemmas.{agree-header, agree-verdict, agree-visible}
 use Rattle.stun_types.proofs.ContinuedLemmas.{agree-continued}
 use Rattle.stun_types.proofs.laws.what_follows_integrity_is_hidden.Goals as goal

@@ -1,7 +1,7 @@
 use Rattle.std.proofs.Common.{◌+◌, ◌-◌}
 use Rattle.std.specs.Prelude.{◌^◌}
 use Rattle.std.specs.Option.{option_map_or}
-use Rattle.stun_agent.specs.code.Deadlines.{IsIndexOf}
+use Rattle.stun_agent.specs.code.Deadlines.{IsDeadlineIndexOf}
 use Rattle.stun_agent.proofs.DueLemmas.{IsPassedTo}
 use Rattle.stun_agent.proofs.state.transactions.pass_slots.Given as goal
 
@@ -9,7 +9,7 @@ use Rattle.stun_agent.proofs.state.transactions.pass_slots.Given as goal
 abbrev pub invariant-loop-id : goal.invariant-loop-id
 invariant-loop-id g l = record {
   passed : IsPassedTo l.transport l.now l.last l.fn.all.entries l.all.entries;
-  index : IsIndexOf l.transport l.all.entries l.deadlines;
+  index : IsDeadlineIndexOf l.transport l.all.entries l.deadlines;
 }
 
 -- the ids rise

@@ -1,7 +1,7 @@
 -- What is signed is longer by what all additions take, and what may be signed is signed without
 -- memory.
 use Rattle.std.proofs.Common.{refl}
-use Rattle.stun_auth.specs.Additions.{written}
+use Rattle.stun_auth.specs.Additions.{written_page}
 use Rattle.stun_auth.proofs.Growth.{grown_answer, succeeds_reserved, wants_short}
 use Rattle.stun_auth.proofs.SignedLimits.{client_signable}
 use Rattle.stun_auth.proofs.client.LongTermClientAuth.sign_outgoing_message.Goals as goal
@@ -13,7 +13,7 @@ returns-clause-grows g c =
 
 pub returns-clause-succeeds : goal.returns-clause-succeeds
 returns-clause-succeeds g c = λ may enough.
-    succeeds_reserved (written g.W.MessageWrite.bytes g.W.MessageWrite.room) (λ reason. refl) _
+    succeeds_reserved (written_page g.W.MessageWrite.bytes g.W.MessageWrite.room) (λ reason. refl) _
     (g.W.MessageWrite.reserved c.args.writer) _ _
     (wants_short _ _ (g.W.MessageWrite.reserved c.args.writer)) c.signed.result c.signed.ensures
     (c.sides_sign_what_is_signable.ensures.client _ c.args.self.now.state

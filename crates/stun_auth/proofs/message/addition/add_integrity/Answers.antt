@@ -1,4 +1,4 @@
--- What the integrity attribute comes to.
+-- The outcome of adding the integrity attribute.
 use Rattle.stun_auth.proofs.Wanting.{signed_by}
 use Rattle.stun_auth.proofs.message.addition.add_integrity.Goals as goal
 

@@ -1,4 +1,4 @@
--- What one attribute comes to.
+-- The outcome of adding one attribute.
 use Rattle.stun_auth.proofs.Wanting.{added_by}
 use Rattle.stun_auth.proofs.message.addition.add_made.Goals as goal
 

@@ -1,3 +1,4 @@
+-- Each word of the page is the next of the source.
 use Rattle.std.proofs.Common.{◌≡◌, refl, sym, ◌∙◌, ap, take, length-set, arith}
 use Rattle.std.proofs.Math.Seq.{take-length}
 use Rattle.stun_base.specs.Words.{next_words}

@@ -1,3 +1,4 @@
+-- The letters are those of the words, but for the first where they would begin the cookie.
 use Rattle.std.proofs.Common.{◌≡◌, ◌++◌, ◌∷◌, [], drop, map, true, ◌∙◌, ap, lit<, rules}
 use Rattle.std.specs.String.{string_bytes}
 use Rattle.stun_auth.specs.Nonces.{letter, begins_with_cookie, security_byte}

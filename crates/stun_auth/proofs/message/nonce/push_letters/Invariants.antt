@@ -1,3 +1,4 @@
+-- The letters of the words before the index are written.
 use Rattle.std.proofs.Common.{◌≡◌, ◌++◌, take, map}
 use Rattle.std.specs.String.{string_bytes}
 use Rattle.stun_auth.specs.Nonces.{letter}

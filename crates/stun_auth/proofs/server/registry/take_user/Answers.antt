@@ -1,3 +1,4 @@
+-- The name that the map kept has the bytes by which it was sought.
 use Rattle.std.proofs.Common.{sym}
 use Rattle.std.specs.String.{string_bytes}
 use Rattle.std.proofs.lemmas.Map.Lookups.{exact_bytes}

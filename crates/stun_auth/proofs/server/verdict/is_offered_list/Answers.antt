@@ -1,4 +1,4 @@
--- Lists are equal exactly where their algorithms are.
+-- Lists are equal if and only if their algorithms are.
 use Rattle.std.proofs.Common.{map, ap, ◌∙◌}
 use Rattle.stun_types.specs.PasswordAlgorithms.{integrity_of}
 use Rattle.stun_auth.specs.Algorithms.{same_list}

@@ -1,3 +1,4 @@
+-- The hash holds the concatenation: one piece more is one step of `concat`.
 use Rattle.std.proofs.Common.{[]}
 use Rattle.stun_base.proofs.Pieces.{concat_more}
 use Rattle.stun_base.proofs.keys.hmac.feed_all.Goals as goal

@@ -1,3 +1,4 @@
+-- The bytes are copied over the front of a block of zeros.
 use Rattle.std.proofs.lemmas.List.{drop-replicate}
 use Rattle.stun_base.proofs.keys.hmac.filled.Goals as goal
 

@@ -1,3 +1,4 @@
+-- Each byte of the block is masked once, and the others stay.
 use Rattle.std.proofs.Common.{◌<◌, length, arith, bit_xor}
 use Rattle.std.proofs.lemmas.List.{map_more, take_more_set}
 use Rattle.std.proofs.lemmas.Grind.{common_steps}

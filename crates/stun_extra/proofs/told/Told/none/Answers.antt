@@ -1,3 +1,4 @@
+-- A table of zeros tells of no type.
 use Rattle.stun_extra.proofs.ToldLemmas.{is_told-none}
 use Rattle.stun_extra.proofs.told.Told.none.Goals as goal
 

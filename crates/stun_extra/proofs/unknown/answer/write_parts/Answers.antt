@@ -7,7 +7,7 @@ use Rattle.stun_base.specs.MessageType.{method_of, type_number}
 use Rattle.stun_base.specs.declared.wire.message_type.MessageClass.TheVariants.{Error}
 use Rattle.stun_types.specs.Attribute.{TypedValue}
 use Rattle.stun_types.specs.ErrorCode.{CodeAndReason, error_value}
-use Rattle.stun_extra.proofs.AnswerLemmas.{refusing_answer-spelled}
+use Rattle.stun_extra.proofs.AnswerLemmas.{refusing_answer-spelled_message}
 use Rattle.stun_extra.proofs.unknown.answer.write_parts.Goals as goal
 
 pub returns-clause-bytes : goal.returns-clause-bytes
@@ -24,7 +24,8 @@ returns-clause-bytes g c =
     ∙ (c.reason.ensures
     ∙ ap (λ (e : CodeAndReason). record { code = e.code; reason = codes "Unknown Attribute" })
     c.builder.ensures) in
-    second ∙ refusing_answer-spelled c.args.known.now c.of.result request c.in_ok-error.error
+    second ∙ refusing_answer-spelled_message c.args.known.now c.of.result request
+    c.in_ok-error.error
     error_is c.of.ensures
 
 pub returns-clause-open : goal.returns-clause-open

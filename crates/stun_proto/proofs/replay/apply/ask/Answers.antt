@@ -1,6 +1,7 @@
+-- The request is sent or refused, and the step that is kept says which.
 use Rattle.std.proofs.Common.{rules, ◌≡◌, ap, subst, refl, sym, ◌∷◌, [], ◌∙◌}
 use Rattle.stun_agent.specs.Datagrams.{Datagram}
-use Rattle.stun_proto.specs.code.Calls.{Keeps, kept}
+use Rattle.stun_proto.specs.code.Calls.{Keeps, kept_steps}
 use Rattle.std.specs.Option.{option_map_or}
 use Rattle.std.specs.Prelude.{Option, Some}
 use Rattle.stun_agent.specs.Agent.{request_refusal, after_send_request}
@@ -40,7 +41,7 @@ returns-in-Ok-clause-added g c =
     ap (λ (o : Option StunError). option_map_or (λ error. Refused c.args.now error) o
     (Transmitted c.args.now (transaction_id_field bytes) c.args.to bytes))
     (request_accepted _ _ c.in-Ok.transmit c.in-Ok.ensures.refused) in
-    subst (λ (s : Step). Keeps (kept c.args.log.now) (s ∷ []) (kept c.add.new.self))
+    subst (λ (s : Step). Keeps (kept_steps c.args.log.now) (s ∷ []) (kept_steps c.add.new.self))
     (lent ∙ sym step) (c.add.ensures _ c.transmitted.ensures)
 
 pub returns-in-Err-OutOfMemory-clause-refused : goal.returns-in-Err-OutOfMemory-clause-refused

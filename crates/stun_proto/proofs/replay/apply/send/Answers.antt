@@ -1,7 +1,8 @@
+-- The message is sent or refused, and the step that is kept says which.
 use Rattle.std.proofs.Common.{ap, subst, sym, ℕ, List, Bor, ◌∷◌, [], ◌∙◌}
 use Rattle.std.specs.declared.net.socket_addr.SocketAddr.{SocketAddr}
 use Rattle.stun_base.specs.declared.wire.transport.TransportType.{TransportType}
-use Rattle.stun_proto.specs.code.Calls.{Keeps, kept}
+use Rattle.stun_proto.specs.code.Calls.{Keeps, kept_steps}
 use Rattle.std.specs.Option.{option_map_or}
 use Rattle.std.specs.Prelude.{Option}
 use Rattle.stun_agent.specs.Agent.{after_send}
@@ -45,5 +46,5 @@ returns-in-Ok-clause-added g c =
     option_map_or (λ error. Refused c.args.now error) o
     (Sent c.args.now c.args.to c.args.bytes.now))
     (one_accepted _ _ c.in-Ok.transmit c.in-Ok.ensures.refused) in
-    subst (λ (s : Step). Keeps (kept c.args.log.now) (s ∷ []) (kept c.add.new.self))
+    subst (λ (s : Step). Keeps (kept_steps c.args.log.now) (s ∷ []) (kept_steps c.add.new.self))
     (lent ∙ sym step) (c.add.ensures _ c.sent.ensures)

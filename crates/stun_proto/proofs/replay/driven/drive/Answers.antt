@@ -1,3 +1,4 @@
+-- Each event leads the run one event further, and at the end it is the whole run.
 use Rattle.std.proofs.Common.{◌≡◌, [], drop, sym, arith, refl, ◌∙◌}
 use Rattle.std.proofs.lemmas.Bool.{eqb-false, eqb-true}
 use Rattle.std.proofs.lemmas.List.{drop_all}

@@ -1,5 +1,5 @@
 use Rattle.std.proofs.Common.{◌≡◌, drop}
-use Rattle.stun_proto.specs.code.Calls.{RunLeads, kept}
+use Rattle.stun_proto.specs.code.Calls.{RunLeads, kept_steps}
 use Rattle.stun_proto.proofs.replay.driven.drive.Given as goal
 
 -- the run goes on with the events that are left
@@ -7,5 +7,5 @@ abbrev pub invariant-loop-moment : goal.invariant-loop-moment
 invariant-loop-moment g l = record {
   counted : l.done ≡ l.moment-index;
   leads : RunLeads l.initial.agent l.events l.done l.from l.agent (drop l.moment-index l.events)
-      (kept l.log);
+      (kept_steps l.log);
 }

@@ -1,3 +1,4 @@
+-- The turns lead up to the time of the event, and then it is applied.
 use Rattle.stun_proto.proofs.agent_runs.DriveLemmas.{takes_whole, takes_turn_passes}
 use Rattle.stun_proto.proofs.replay.driven.take_event.Goals as goal
 

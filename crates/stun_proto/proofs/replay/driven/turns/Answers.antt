@@ -1,3 +1,4 @@
+-- Each turn ends before the bound or there, and goes on at the time that `poll` told.
 use Rattle.std.proofs.Common.{arith}
 use Rattle.stun_proto.proofs.agent_runs.DriveLemmas.{turns_start, turns_none}
 use Rattle.stun_proto.proofs.agent_runs.DriveLemmas.{turns_early, turns_late, turns_more}

@@ -1,8 +1,9 @@
+-- The answer is that of the server under the words that were drawn.
 use Rattle.std.proofs.Common.{◌≡◌, ◌∙◌, ap, subst, Ok, Err}
 use Rattle.std.specs.Prelude.{IsErr}
 use Rattle.stun_auth.specs.Reading.{reading_of}
-use Rattle.stun_auth.specs.Reasons.{ForReason}
-use Rattle.stun_auth.specs.Validation.{Answer, after_message, answer, sight}
+use Rattle.stun_auth.specs.Reasons.{ForServerReason}
+use Rattle.stun_auth.specs.Validation.{Answer, after_validation, answer, sight}
 use Rattle.stun_auth.specs.declared.server.reason.LongTermServerAuthErrorReason.{
   LongTermServerAuthErrorReason,
 }
@@ -26,7 +27,7 @@ returns-in-Ok-clause-server g c =
     let drawn = next_words-source 16 c.new-source.result c.new-source.ensures.count
     ∙ c.new-source.ensures.words in
     c.in-Ok.ensures.state
-    ∙ ap (λ ws. after_message c.args.server.now c.args.from c.args.now ws
+    ∙ ap (λ ws. after_validation c.args.server.now c.args.from c.args.now ws
     (reading_of c.args.message.now)) drawn
 
 pub returns-in-Err-clause-answer : goal.returns-in-Err-clause-answer
@@ -38,7 +39,7 @@ returns-in-Err-clause-answer g c =
     answer (sight c.args.server.now c.args.from) c.args.now c.args.words
     (reading_of c.args.message.now) in
     let P : LongTermServerAuthErrorReason → Type 0 =
-    λ r. ForReason r (c.server_refusal.result ≡ Ok (Err r)) (IsErr c.server_refusal.result) in
+    λ r. ForServerReason r (c.server_refusal.result ≡ Ok (Err r)) (IsErr c.server_refusal.result) in
     either reason
     (λ given is.
     told_as answer_of c.server_refusal.result (Err reason) right given
@@ -54,12 +55,12 @@ returns-in-Err-clause-server g c =
     ∙ c.new-source.ensures.words in
     let reason = c.in-Err.error in
     let P : LongTermServerAuthErrorReason → Type 0 =
-    λ r. ForReason r (c.server_refusal.result ≡ Ok (Err r)) (IsErr c.server_refusal.result) in
+    λ r. ForServerReason r (c.server_refusal.result ≡ Ok (Err r)) (IsErr c.server_refusal.result) in
     either reason
     (λ given is.
     on_told c.server_refusal.result (Err reason) _ given
     (is ∙ ap
-    (λ ws. after_message c.args.server.now c.args.from c.args.now ws
+    (λ ws. after_validation c.args.server.now c.args.from c.args.now ws
     (reading_of c.args.message.now)) drawn))
     (λ none is. on_untold c.server_refusal.result _ none)
     (subst P c.reason.ensures c.server_refusal.ensures) c.in-Err.ensures.state
@@ -68,7 +69,7 @@ pub returns-in-Err-clause-err : goal.returns-in-Err-clause-err
 returns-in-Err-clause-err g c =
     let reason = c.in-Err.error in
     let P : LongTermServerAuthErrorReason → Type 0 =
-    λ r. ForReason r (c.server_refusal.result ≡ Ok (Err r)) (IsErr c.server_refusal.result) in
+    λ r. ForServerReason r (c.server_refusal.result ≡ Ok (Err r)) (IsErr c.server_refusal.result) in
     either reason
     (λ given is. off_told c.server_refusal.result (Err reason) _ given)
     (λ none is. off_untold c.server_refusal.result _ is)

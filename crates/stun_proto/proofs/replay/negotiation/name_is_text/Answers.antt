@@ -1,3 +1,4 @@
+-- The name was made of a string, so it is UTF-8.
 use Rattle.std.proofs.Common.{subst, Option, IfSome}
 use Rattle.std.specs.Prelude.{IsUtf8}
 use Rattle.stun_base.specs.Credentials.{NameAndPassword}

@@ -1,3 +1,4 @@
+-- The meeting's run is the run that is negotiated, with turns of the client's settings.
 use Rattle.std.proofs.Common.{◌≡◌, ◌≤◌, length, arith, Option, Some, None, sym, subst, IfSome}
 use Rattle.std.specs.Prelude.{IsUtf8}
 use Rattle.stun_base.specs.Credentials.{NameAndPassword}
@@ -5,7 +6,7 @@ use Rattle.stun_auth.specs.Client.{ClientState}
 use Rattle.stun_proto.specs.Honest.{AreShort, ComesTo, strongest}
 use Rattle.stun_proto.specs.Matching.{AreTexts}
 use Rattle.stun_proto.specs.Negotiating.{lists, meeting, met_by}
-use Rattle.stun_proto.specs.Negotiation.{Meeting, Round, negotiated}
+use Rattle.stun_proto.specs.Negotiation.{Meeting, Round, whole_negotiation}
 use Rattle.stun_proto.specs.Sides.{Passes}
 use Rattle.stun_proto.specs.code.Sides.{IsRun}
 use Rattle.stun_proto.proofs.meetings.Outcomes.{ends_at_strongest}
@@ -21,13 +22,13 @@ whole : (g : _) (c : goal.After-meet g) →
     let m = meeting c.args.client.now.settings c.args.from c.args.ids c.args.moments c.args.words
     (lists c.args.between) in
     IsRun c.meet.result c.meet.new.client.state c.meet.new.server
-    (negotiated m c.args.client.now.state c.args.server.now)
+    (whole_negotiation m c.args.client.now.state c.args.server.now)
     (Passes m c.args.client.now.state c.args.server.now)
 whole g c =
     let k = c.args.client.now in
     let s = c.args.server.now in
     subst (λ (m : Meeting). IsRun c.meet.result c.meet.new.client.state c.meet.new.server
-    (negotiated m k.state s) (Passes m k.state s))
+    (whole_negotiation m k.state s) (Passes m k.state s))
     (λ i. record {
       settings = k.settings;
       from = c.args.from;
@@ -59,7 +60,8 @@ returns-clause-strongest g c = λ new who honest.
     let texts : AreTexts s.registered.realm who.username =
     record { realm = c.realm_is_text.ensures; username = name } in
     let law =
-    subst (λ (state : ClientState). ComesTo c.args.from who (strongest m s) (negotiated m state s))
+    subst (λ (state : ClientState). ComesTo c.args.from who (strongest m s)
+    (whole_negotiation m state s))
     (sym new) (c.strongest_is_agreed.ensures m who s texts honest) in
     if_some_map (met_by c.meet.result c.meet.new.client.state c.meet.new.server)
     (λ met is. subst (ComesTo c.args.from who (strongest m s)) (sym is) law) (whole g c).steps
@@ -83,7 +85,8 @@ returns-clause-headline g c = λ who client.
     record { realm = client.realm_fits; username = client.name_fits; words = words } in
     let honest = c.short_names_are_signed.ensures m who s texts short client.ready in
     let law =
-    subst (λ (state : ClientState). ComesTo c.args.from who (strongest m s) (negotiated m state s))
+    subst (λ (state : ClientState). ComesTo c.args.from who (strongest m s)
+    (whole_negotiation m state s))
     (sym client.new) (c.strongest_is_agreed.ensures m who s texts honest) in
     ends_at_strongest m s who c.meet.result c.meet.new.client.state c.meet.new.server
     (if_some_map (met_by c.meet.result c.meet.new.client.state c.meet.new.server)

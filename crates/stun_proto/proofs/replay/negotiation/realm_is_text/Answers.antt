@@ -1,3 +1,4 @@
+-- The realm was made of a string, so it is UTF-8.
 use Rattle.std.proofs.Common.{subst}
 use Rattle.std.specs.Prelude.{IsUtf8}
 use Rattle.stun_proto.proofs.replay.negotiation.realm_is_text.Goals as goal

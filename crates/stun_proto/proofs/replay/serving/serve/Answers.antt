@@ -1,7 +1,8 @@
+-- The replies are those of the list of calls; each sentence is then a fact of that list.
 use Rattle.std.proofs.Common.{◌∙◌, ap, arith, sym, subst, ◌∷◌, []}
 use Rattle.std.proofs.lemmas.List.{map-append}
 use Rattle.stun_auth.specs.Validation.{sight}
-use Rattle.stun_proto.specs.Accepting.{ValidatesAccepted}
+use Rattle.stun_proto.specs.Accepting.{ValidatesEachAccepted}
 use Rattle.stun_proto.specs.Isolation.{IsIsolated}
 use Rattle.stun_proto.specs.Replies.{message_read}
 use Rattle.stun_proto.specs.Serving.{replies_of, reply_of}
@@ -26,7 +27,7 @@ returns-clause-accepted g c =
     let told =
     told_all c.args.server.now c.loop-done.server _ c.args.calls.now c.loop-done.done (omega arith)
     c.loop-done.invariant.told in
-    subst (ValidatesAccepted c.args.server.now c.args.calls.now) (sym told)
+    subst (ValidatesEachAccepted c.args.server.now c.args.calls.now) (sym told)
     (validates_accepted c.accepted_messages_are_validated.ensures c.args.server.now
     c.args.calls.now)
 

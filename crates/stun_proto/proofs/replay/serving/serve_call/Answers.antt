@@ -1,3 +1,4 @@
+-- A call that signs is answered for the bytes that it holds; the others are as they are.
 use Rattle.std.proofs.Common.{◌≡◌, List, ℕ, sym, subst, IfOk, OnOk}
 use Rattle.stun_types.specs.Message.{refusal}
 use Rattle.stun_base.specs.MessageType.{class_in, is_response}

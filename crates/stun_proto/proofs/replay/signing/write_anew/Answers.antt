@@ -1,7 +1,8 @@
+-- What was written so far is the message's own attributes, in its order.
 use Rattle.std.proofs.Common.{rules, arith, ◌≡◌, [], ◌∷◌, sym, ◌∙◌, ap, subst, Err}
 use Rattle.std.proofs.lemmas.Grind.{common_steps}
 use Rattle.stun_base.specs.Header.{type_field}
-use Rattle.stun_types.specs.Grammar.{spelled}
+use Rattle.stun_types.specs.Grammar.{spelled_message}
 use Rattle.stun_types.specs.WriteVec.{Written}
 use Rattle.stun_auth.specs.Additions.{UnlessMemory}
 use Rattle.stun_proto.specs.Signing.{written_anew}
@@ -34,8 +35,8 @@ loop-attribute-init g c =
     record {
       written = begins_anew message _ _
           (c.in_ok-writer.ensures.bytes
-          ∙ ap (λ t. spelled t c.transaction_id.result []) c.get_type.ensures
-          ∙ ap (λ i. spelled (type_field message) i []) c.transaction_id.ensures)
+          ∙ ap (λ t. spelled_message t c.transaction_id.result []) c.get_type.ensures
+          ∙ ap (λ i. spelled_message (type_field message) i []) c.transaction_id.ensures)
           (search rules);
       is_open = c.in_ok-writer.ensures.open;
       type_is = first_of (search rules, grind (arith, common_steps));

@@ -1,5 +1,6 @@
+-- Each transmission leaves less to do, and the last poll has none.
 use Rattle.std.proofs.Common.{subst, refl, inr, true, false}
-use Rattle.stun_proto.specs.code.Calls.{SendsOne, kept}
+use Rattle.stun_proto.specs.code.Calls.{SendsOne, kept_steps}
 use Rattle.stun_proto.specs.Run.{sending}
 use Rattle.stun_proto.proofs.agent_runs.TurnLemmas.{leads_start, leads_sent}
 use Rattle.stun_proto.proofs.agent_runs.TurnLemmas.{moved_sent, sends_all, less_sent}
@@ -12,19 +13,19 @@ pub returns-then-not-send_one : goal.returns-then-not-send_one
 returns-then-not-send_one g c =
     let old = c.loop-alloc.agent in
     let new = c.send_one.new.agent in
-    let before = kept c.loop-alloc.log in
-    let after = kept c.send_one.new.log in
+    let before = kept_steps c.loop-alloc.log in
+    let after = kept_steps c.send_one.new.log in
     let none : SendsOne c.args.now old new before after false =
     subst (SendsOne c.args.now old new before after) c.if-not-send_one.true c.send_one.ensures in
-    sends_all c.args.now c.args.agent.now old new (kept c.args.log.now) before after
+    sends_all c.args.now c.args.agent.now old new (kept_steps c.args.log.now) before after
     c.loop-alloc.invariant.leads c.loop-alloc.invariant.moved none
 
 pub loop-alloc-smaller : goal.loop-alloc-smaller
 loop-alloc-smaller g c =
     let old = c.loop-alloc.agent in
     let new = c.send_one.new.agent in
-    let before = kept c.loop-alloc.log in
-    let after = kept c.send_one.new.log in
+    let before = kept_steps c.loop-alloc.log in
+    let after = kept_steps c.send_one.new.log in
     less_sent c.args.now old new before after
     (subst (SendsOne c.args.now old new before after) c.if-not-send_one.false c.send_one.ensures)
 
@@ -33,9 +34,9 @@ loop-alloc-preserved g c =
     let first = c.args.agent.now in
     let old = c.loop-alloc.agent in
     let new = c.send_one.new.agent in
-    let start = kept c.args.log.now in
-    let before = kept c.loop-alloc.log in
-    let after = kept c.send_one.new.log in
+    let start = kept_steps c.args.log.now in
+    let before = kept_steps c.loop-alloc.log in
+    let after = kept_steps c.send_one.new.log in
     let sent : SendsOne c.args.now old new before after true =
     subst (SendsOne c.args.now old new before after) c.if-not-send_one.false c.send_one.ensures in
     record {

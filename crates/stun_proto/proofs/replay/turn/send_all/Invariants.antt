@@ -1,4 +1,4 @@
-use Rattle.stun_proto.specs.code.Calls.{Leads, kept}
+use Rattle.stun_proto.specs.code.Calls.{Leads, kept_steps}
 use Rattle.stun_proto.specs.Run.{sending}
 use Rattle.stun_proto.specs.code.Work.{work}
 use Rattle.stun_proto.proofs.agent_runs.TurnLemmas.{HasMoved}
@@ -8,7 +8,8 @@ use Rattle.stun_proto.proofs.replay.turn.send_all.Given as goal
 abbrev pub invariant-loop-alloc : goal.invariant-loop-alloc
 invariant-loop-alloc g l =
     record {
-      leads : Leads l.now sending sending l.initial.agent l.agent (kept l.initial.log) (kept l.log);
+      leads : Leads l.now sending sending l.initial.agent l.agent (kept_steps l.initial.log)
+          (kept_steps l.log);
       moved : HasMoved l.initial.agent l.agent;
     }
 

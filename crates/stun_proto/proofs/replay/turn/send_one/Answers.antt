@@ -1,3 +1,4 @@
+-- What `poll_transmit` lends is the step that is kept.
 use Rattle.std.proofs.Common.{rules, ◌≡◌}
 use Rattle.stun_agent.specs.Agent.{after_poll_transmit}
 use Rattle.stun_proto.proofs.agent_runs.TurnLemmas.{sends_one}

@@ -1,3 +1,4 @@
+-- Sending and ending alternate until `poll` tells a later time.
 use Rattle.std.proofs.Common.{◌<◌, ◌≤◌, inl, inr, arith}
 use Rattle.stun_base.specs.Moments.{last_moment}
 use Rattle.stun_agent.specs.Transactions.{wake_up}

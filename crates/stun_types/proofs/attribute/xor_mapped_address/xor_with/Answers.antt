@@ -1,3 +1,4 @@
+-- Each octet is combined with its octet of the key, and those behind it stay.
 use Rattle.std.proofs.Common.{◌<◌, ℕ, length, arith}
 use Rattle.std.proofs.lemmas.Grind.{common_steps}
 use Rattle.std.proofs.lemmas.List.{take_more_set}

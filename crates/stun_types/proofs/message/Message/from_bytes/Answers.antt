@@ -1,19 +1,21 @@
+-- The walk ends at the stated end if and only if the bytes are a message.
 use Rattle.std.proofs.Common.{◌+◌, length, arith, ◌≢◌, refl, ap}
 use Rattle.stun_base.specs.Header.{HEADER_LENGTH}
 use Rattle.stun_types.specs.Message.{IsMessage}
-use Rattle.stun_types.specs.Walk.{walk, taken}
+use Rattle.stun_types.specs.Walk.{walk, attributes_length}
 use Rattle.stun_types.proofs.HeaderLemmas.{fields_of}
 use Rattle.stun_types.proofs.VisibleLemmas.{StandsAt-read}
 use Rattle.stun_types.proofs.MessageLemmas.{HasTaken-step, next_place-within, refusal-none}
-use Rattle.stun_types.proofs.MessageLemmas.{refusal-unfilled, taken-end, taken-all}
+use Rattle.stun_types.proofs.MessageLemmas.{refusal-unfilled, attributes_length-end}
+use Rattle.stun_types.proofs.MessageLemmas.{attributes_length-all}
 use Rattle.stun_types.proofs.message.Message.from_bytes.Goals as goal
 
 -- the walk ends before the end of the bytes
 unfilled : (c : goal.In_default)
-    → HEADER_LENGTH + taken (walk c.args.bytes.now) ≢ length c.args.bytes.now
+    → HEADER_LENGTH + attributes_length (walk c.args.bytes.now) ≢ length c.args.bytes.now
 unfilled c filled =
     let end =
-    taken-end c.loop-place.place c.args.bytes.now c.loop-place.invariant.taken
+    attributes_length-end c.loop-place.place c.args.bytes.now c.loop-place.invariant.taken
     c.in_default.ensures.none in
     absurd (omega arith)
 
@@ -40,7 +42,8 @@ is_message : (c : goal.After-loop-place) → IsMessage c.args.bytes.now
 is_message c =
     let field = ap (λ header. header.data_length) c.in_ok-header.ensures.value in
     let end =
-    taken-all c.loop-place.place c.args.bytes.now c.loop-place.invariant.taken (omega arith) in
+    attributes_length-all c.loop-place.place c.args.bytes.now c.loop-place.invariant.taken
+    (omega arith) in
     record {
       header = c.in_ok-header.ensures.ok.0 refl;
       stated = omega (arith, field);

@@ -1,3 +1,4 @@
+-- Nothing that was passed decides but the weaker one that is kept.
 use Rattle.std.proofs.Common.{◌≡◌, ◌-◌, true, length, drop}
 use Rattle.std.specs.Prelude.{IfSome}
 use Rattle.stun_types.specs.Attribute.{has_attribute}

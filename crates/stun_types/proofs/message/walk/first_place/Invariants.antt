@@ -1,3 +1,4 @@
+-- None of the type has been passed.
 use Rattle.std.proofs.Common.{◌-◌, length}
 use Rattle.stun_types.proofs.SearchLemmas.{IsSought}
 use Rattle.stun_types.proofs.message.walk.first_place.Given as goal

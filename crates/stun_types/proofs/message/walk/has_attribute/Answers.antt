@@ -1,3 +1,4 @@
+-- The first attribute of the type ends the walk, or else there is none.
 use Rattle.std.proofs.Common.{◌≡◌, ◌∙◌, ap, sym, refl, rules, true, false}
 use Rattle.std.specs.Prelude.{◌==◌}
 use Rattle.stun_types.specs.Visible.{has_kind}

@@ -1,3 +1,4 @@
+-- The length is set as if the digest were there, and then the digest of that is appended.
 use Rattle.std.proofs.Common.{subst, sym, ◌≡◌, ◌+◌, ◌-◌, ◌^◌, min, length, arith, ap, ◌∙◌}
 use Rattle.stun_base.specs.Algorithm.{digest_length}
 use Rattle.stun_types.specs.Message.{with_length}

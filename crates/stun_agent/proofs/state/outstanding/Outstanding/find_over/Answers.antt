@@ -4,7 +4,7 @@ use Rattle.std.proofs.Common.{rules, ℕ, ◌≡◌, ◌∙◌, ap, sym, subst, 
 use Rattle.std.specs.Prelude.{max, None, fold}
 use Rattle.std.specs.Option.{option_map, option_map_or}
 use Rattle.stun_base.specs.Moments.{moment_after}
-use Rattle.stun_agent.specs.Transactions.{Transaction, first_over, wake_up, awaited, an_hour}
+use Rattle.stun_agent.specs.Transactions.{Transaction, first_over, wake_up, awaited_moment, an_hour}
 use Rattle.stun_agent.specs.code.Transactions.{Outstanding, id_and_repeats}
 use Rattle.stun_agent.specs.Deadlines.{early_requests}
 use Rattle.stun_agent.specs.code.Deadlines.{early}
@@ -40,7 +40,7 @@ returns-clause-until g c over =
     let hour : longest ≡ moment_after c.args.now an_hour = search rules in
     let least : c.sooner.result
     ≡ fold min longest
-    (map (λ (e : ℕ × Transaction). awaited inside.transport e.1) inside.requests.entries) =
+    (map (λ (e : ℕ × Transaction). awaited_moment inside.transport e.1) inside.requests.entries) =
     sooner_is _ _ _ c.sooner.ensures
     ∙ ap (λ o. option_map_or (λ m. min m longest) o longest) c.find_ended-ended.ensures.first
     ∙ sym first in
@@ -48,7 +48,8 @@ returns-clause-until g c over =
     ∙ ap (λ h.
     max c.args.now
     (fold min h
-    (map (λ (e : ℕ × Transaction). awaited inside.transport e.1) inside.requests.entries))) hour
+    (map (λ (e : ℕ × Transaction). awaited_moment inside.transport e.1) inside.requests.entries)))
+    hour
     ∙ ap (λ (o : Outstanding). wake_up o.transport c.args.now o.requests) c.self.view_is
 
 pub returns-clause-work : goal.returns-clause-work

@@ -1,3 +1,4 @@
+-- The timeouts are summed until they no longer rise; the rest are alike.
 use Rattle.std.proofs.Common.{◌≡◌, ◌≤◌, sym, arith}
 use Rattle.std.specs.Duration.{max_nanos}
 use Rattle.stun_agent.specs.Timing.{settings_of, timeout}

@@ -1,3 +1,4 @@
+-- The sum is of the timeouts before the index, each at most the longest there is.
 use Rattle.std.proofs.Common.{◌≡◌, ◌≤◌, ◌*◌}
 use Rattle.std.specs.Duration.{max_nanos}
 use Rattle.stun_agent.specs.Timing.{settings_of, sum_of_timeouts}

@@ -1,3 +1,4 @@
+-- Doubling is a shift; where it would pass the longest wait, that is the timeout.
 use Rattle.stun_agent.proofs.TimingLemmas.{timeout_by_shift, timeout_past_maximum}
 use Rattle.stun_agent.proofs.state.rto.RequestRto.timeout_nanos.Goals as goal
 

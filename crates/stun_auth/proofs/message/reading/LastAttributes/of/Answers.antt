@@ -1,4 +1,4 @@
--- One attribute more is noted, and the same last ones come of what is left.
+-- One attribute more is noted, and the rest gives the same last ones.
 use Rattle.std.proofs.Common.{sym, ◌∙◌, ap}
 use Rattle.stun_auth.proofs.ReadingLemmas.{noted_from, noted-passed}
 use Rattle.stun_auth.proofs.message.reading.LastAttributes.of.Goals as goal

@@ -1,4 +1,4 @@
--- What was noted so far, with the attributes that are left, comes to the last ones of the message.
+-- What was noted so far, with the attributes that are left, gives the last ones of the message.
 use Rattle.std.proofs.Common.{◌≡◌}
 use Rattle.stun_types.specs.Visible.{visible}
 use Rattle.stun_auth.specs.code.LastAttributes.{last_attributes}

@@ -1,3 +1,4 @@
+-- The index gains one pair, seen as a set of pairs.
 use Rattle.std.proofs.Common.{◌∙◌, ap}
 use Rattle.std.specs.FinSet as set
 use Rattle.std.specs.String.{string_bytes}

@@ -3,7 +3,7 @@ use Rattle.std.proofs.Common.{◌≡◌, ◌-◌, true}
 use Rattle.std.specs.BTreeMap.Range.{is_from_start}
 use Rattle.std.specs.declared.net.socket_addr.SocketAddr.{SocketAddr}
 use Rattle.stun_base.specs.Address.{address_cmp}
-use Rattle.stun_auth.specs.ForgettingSteps.{next_from, places_kept_where, start_of}
+use Rattle.stun_auth.specs.ForgettingSteps.{next_address_from, places_kept_where, start_of}
 use Rattle.stun_auth.proofs.SteppingLemmas.{is_passed}
 use Rattle.stun_auth.proofs.server.places.Places.forget_expired_within.Given as goal
 
@@ -12,6 +12,6 @@ invariant-loop-looked g l = record {
   left : l.self ≡ places_kept_where (is_passed (start_of l.fn.from) l.start) l.now l.fn.self;
   within : (q : SocketAddr) → is_from_start address_cmp l.start q ≡ true
       → is_from_start address_cmp (start_of l.fn.from) q ≡ true;
-  next : next_from l.fn.self (start_of l.fn.from) l.most
-      ≡ next_from l.fn.self l.start (l.most - l._looked);
+  next : next_address_from l.fn.self (start_of l.fn.from) l.most
+      ≡ next_address_from l.fn.self l.start (l.most - l._looked);
 }

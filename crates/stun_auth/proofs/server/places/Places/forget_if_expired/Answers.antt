@@ -1,6 +1,6 @@
 -- The place of one address is forgotten where it has expired, and stays where it has not.
 use Rattle.std.proofs.Common.{sym, ◌∙◌}
-use Rattle.stun_auth.proofs.SteppingLemmas.{kept_if_current, kept_if_expired}
+use Rattle.stun_auth.proofs.KeptPlaces.{kept_if_current, kept_if_expired}
 use Rattle.stun_auth.proofs.server.places.Places.forget_if_expired.Goals as goal
 
 pub returns-then-has_expired : goal.returns-then-has_expired

@@ -1,3 +1,4 @@
+-- The place is found by its address, in the map as it is seen.
 use Rattle.std.proofs.Common.{◌∙◌, ap}
 use Rattle.std.specs.Option.{option_map}
 use Rattle.std.specs.FinMap as map

@@ -1,3 +1,4 @@
+-- The place is changed where it is there, or else made, and no other is touched.
 use Rattle.std.proofs.Common.{Some, None, ◌∙◌, sym, ap}
 use Rattle.std.specs.String.{string_bytes}
 use Rattle.std.specs.Option.{option_map}

@@ -5,8 +5,8 @@ use Rattle.std.specs.Option.{is_some, option_map}
 use Rattle.std.specs.FinMap as map
 use Rattle.std.specs.FinSet as set
 use Rattle.std.specs.String.{string_bytes}
-use Rattle.stun_base.specs.Keys.{userhash}
-use Rattle.stun_auth.specs.code.NameIndex.{HashedNames, IsIndexOf}
+use Rattle.stun_base.specs.Keys.{userhash_of}
+use Rattle.stun_auth.specs.code.NameIndex.{HashedNames, IsNameIndexOf}
 use Rattle.stun_auth.specs.Registered.{Registered}
 use Rattle.stun_auth.specs.code.Users.{HasKeys, secret_of, secrets_seen}
 use Rattle.stun_auth.specs.declared.server.registry.User.{User}
@@ -24,8 +24,8 @@ invariant_of-self-in-Ok g c =
     subst (λ n. HasKeys realm r.supported n c.in_ok-user.user) c.as_str.ensures.value
     (subst (λ n. HasKeys n r.supported c.as_str.result.now c.in_ok-user.user)
     c.as_str-realm.ensures.value c.in_ok-user.ensures.keys) in
-    let hash : c.userhash-hash.result ≡ userhash name realm = c.userhash-hash.ensures
-    ∙ (λ i. userhash (c.as_str-2.ensures.value i) (c.as_str-3.ensures.value i)) in
+    let hash : c.userhash-hash.result ≡ userhash_of name realm = c.userhash-hash.ensures
+    ∙ (λ i. userhash_of (c.as_str-2.ensures.value i) (c.as_str-3.ensures.value i)) in
     let copied : string_bytes c.in_ok-clone.field-0 ≡ name = search rules in (
       keys_after_add realm r.supported r.users c.put_user.new.users name c.in_ok-user.user
           c.in-Ok.ensures.ok keys c.self.invariant.0,
@@ -42,8 +42,8 @@ invariant_of-self-in-Err g c =
     let r = c.self.inside in
     let realm = string_bytes r.realm in
     let name = string_bytes c.args.name in
-    let hash : c.userhash-hash.result ≡ userhash name realm = c.userhash-hash.ensures
-    ∙ (λ i. userhash (c.as_str-2.ensures.value i) (c.as_str-3.ensures.value i)) in
+    let hash : c.userhash-hash.result ≡ userhash_of name realm = c.userhash-hash.ensures
+    ∙ (λ i. userhash_of (c.as_str-2.ensures.value i) (c.as_str-3.ensures.value i)) in
     let copied : string_bytes c.in_ok-clone.field-0 ≡ name = search rules in
     let absent : map.contains_key (secrets_seen r.users.entries) name ≡ false =
     ap is_some
@@ -61,8 +61,8 @@ invariant_of-self-in-Err g c =
       keys_where_same realm r.supported c.put_user.new.users r.users.entries c.in-Err.ensures.same
           c.self.invariant.0,
       subst (λ (es : List (String g.row.A.Denot × User g.row.A.Denot)).
-          IsIndexOf realm (secrets_seen es) c.remove.new.self) (sym c.in-Err.ensures.same)
-          (subst (λ (names : HashedNames). IsIndexOf realm (secrets_seen r.users.entries) names)
+          IsNameIndexOf realm (secrets_seen es) c.remove.new.self) (sym c.in-Err.ensures.same)
+          (subst (λ (names : HashedNames). IsNameIndexOf realm (secrets_seen r.users.entries) names)
           (sym undone) c.self.invariant.1),
     )
 

@@ -1,3 +1,4 @@
+-- The user is found by name, and its keys are those that were made for it.
 use Rattle.std.proofs.Common.{◌∙◌, ap, Some, None}
 use Rattle.std.specs.String.{string_bytes}
 use Rattle.stun_auth.specs.Registered.{key_at}

@@ -1,3 +1,4 @@
+-- The index is ordered by hash and name, so the first pair is the least name of the hash.
 use Rattle.std.proofs.Common.{◌∙◌, ap}
 use Rattle.std.specs.Option.{option_copied}
 use Rattle.std.specs.String.{string_bytes}

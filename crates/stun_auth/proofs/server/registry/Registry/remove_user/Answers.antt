@@ -2,7 +2,7 @@
 use Rattle.std.proofs.Common.{◌≡◌, ◌∙◌, ap}
 use Rattle.std.specs.FinMap as map
 use Rattle.std.specs.String.{string_bytes}
-use Rattle.stun_base.specs.Keys.{userhash}
+use Rattle.stun_base.specs.Keys.{userhash_of}
 use Rattle.stun_auth.specs.Registered.{Registered}
 use Rattle.stun_auth.specs.code.Users.{secrets_seen}
 use Rattle.stun_auth.proofs.LeastNames.{index_after_remove}
@@ -15,9 +15,9 @@ invariant_of-self g c =
     let realm = string_bytes r.realm in
     let name = c.args.name.now in
     let kept : string_bytes c.in-Some.name ≡ name = c.in-Some.ensures.name in
-    let hash : c.userhash-hash.result ≡ userhash name realm =
+    let hash : c.userhash-hash.result ≡ userhash_of name realm =
     c.userhash-hash.ensures
-    ∙ (λ i. userhash ((c.as_str.ensures.value ∙ kept) i) (c.as_str-in-Some.ensures.value i)) in (
+    ∙ (λ i. userhash_of ((c.as_str.ensures.value ∙ kept) i) (c.as_str-in-Some.ensures.value i)) in (
       keys_after_remove realm r.supported r.users c.take_user.new.users name
           c.take_user.ensures.updates c.self.invariant.0,
       index_after_remove realm name (secrets_seen r.users.entries) r.hashed c.self.invariant.1

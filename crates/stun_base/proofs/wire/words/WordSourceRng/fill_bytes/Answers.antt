@@ -1,3 +1,4 @@
+-- The bytes are those of the next words of the stream, as the trait says.
 use Rattle.std.proofs.Common.{rules}
 use Rattle.rand_core.proofs.StepsLemmas.{meets_fill_bytes}
 use Rattle.stun_base.proofs.wire.words.WordSourceRng.fill_bytes.Goals as goal

@@ -1,3 +1,4 @@
+-- It is the next word of the stream, as the trait says.
 use Rattle.std.proofs.Common.{rules}
 use Rattle.rand_core.proofs.StepsLemmas.{meets_next_u32}
 use Rattle.stun_base.proofs.wire.words.WordSourceRng.next_u32.Goals as goal

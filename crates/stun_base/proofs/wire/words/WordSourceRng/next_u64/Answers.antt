@@ -1,3 +1,4 @@
+-- It is made of the next two words of the stream, as the trait says.
 use Rattle.std.proofs.Common.{rules}
 use Rattle.rand_core.proofs.StepsLemmas.{meets_next_u64}
 use Rattle.stun_base.proofs.wire.words.WordSourceRng.next_u64.Goals as goal

@@ -7,8 +7,8 @@ use Rattle.stun_auth.specs.ClientStep.{IsResend, client_step}
 use Rattle.stun_auth.specs.Reading.{reading_of}
 use Rattle.stun_auth.specs.Validation.{sight}
 use Rattle.stun_proto.specs.code.Meetings.{meeting_of}
-use Rattle.stun_proto.specs.Negotiation.{ended, outcome_of_success, responded}
-use Rattle.stun_proto.specs.Negotiation.{succeeded, success, unwritten}
+use Rattle.stun_proto.specs.Negotiation.{ending_with, outcome_of_success, server_response}
+use Rattle.stun_proto.specs.Negotiation.{success_sent, success, ending_unwritten}
 use Rattle.stun_proto.specs.Sides.{PassesAccepted, sides}
 use Rattle.stun_proto.proofs.meetings.Runs.{ends, refused, stops}
 use Rattle.stun_proto.proofs.replay.negotiation.meeting.after_accepted.Goals as goal
@@ -20,12 +20,14 @@ returns-in_err-granted-clause-run g c =
     let m = meeting_of k.settings c.args.meeting.now in
     let reason = c.in_err-granted.field-0.0 in
     let stays = c.in_err-granted.ensures.refused in
-    refused c.from_residual.result reason (responded (success m.second.id) (sight s m.from))
-    (succeeded m c.args.algorithm k.state s) (PassesAccepted m k.state s) c.from_residual.ensures.1
+    refused c.from_residual.result reason (server_response (success m.second.id) (sight s m.from))
+    (success_sent m c.args.algorithm k.state s)
+    (PassesAccepted m k.state s) c.from_residual.ensures.1
     (subst (λ n.
-    UnlessMemory {V = Written} (Err reason) (Err reason ≡ responded (success n) (sight s m.from))
+    UnlessMemory {V = Written} (Err reason)
+    (Err reason ≡ server_response (success n) (sight s m.from))
     (Unit {0})) c.requires.id c.in_err-granted.ensures.answer)
-    (λ x i. unwritten x k.state (sym stays i)) (inl (λ i. sides k.state (stays i)))
+    (λ x i. ending_unwritten x k.state (sym stays i)) (inl (λ i. sides k.state (stays i)))
 
 pub success-requires : goal.success-requires
 success-requires g c = c.requires.method
@@ -39,7 +41,7 @@ returns-in_err-answer-clause-run g c =
     let s = c.args.server.now in
     let m = meeting_of k.settings c.args.meeting.now in
     let signed = c.in_ok-granted.ensures.answer
-    ∙ ap (λ n. responded (success n) (sight s m.from)) c.requires.id in
+    ∙ ap (λ n. server_response (success n) (sight s m.from)) c.requires.id in
     stops c.from_residual-in_err-answer.result _ (PassesAccepted m k.state s)
     c.from_residual-in_err-answer.ensures.1
     (inr (
@@ -58,11 +60,11 @@ returns-clause-run g c =
     let a = c.args.algorithm in
     let step = ap (λ b. client_step k.settings k.state (reading_of b)) c.data.ensures in
     ends c.outcome.result (PassesAccepted m k.state s)
-    (ap (λ o. ended o c.read.new.client.state c.success.new.server)
+    (ap (λ o. ending_with o c.read.new.client.state c.success.new.server)
     (c.outcome.ensures ∙ ap (outcome_of_success a) c.in_ok-answer.ensures.answer)
-    ∙ (λ i. ended
+    ∙ (λ i. ending_with
     (outcome_of_success a (client_step k.settings k.state (reading_of c.data.result.now)).answer)
     (c.in_ok-answer.ensures.client i).state (c.in_ok-granted.ensures.server i))
-    ∙ (λ i. succeeded m a k.state s
+    ∙ (λ i. success_sent m a k.state s
     ((ap Ok (ap page_of c.data.ensures) ∙ c.in_ok-granted.ensures.answer
-    ∙ ap (λ n. responded (success n) (sight s m.from)) c.requires.id) i)))
+    ∙ ap (λ n. server_response (success n) (sight s m.from)) c.requires.id) i)))

@@ -10,11 +10,12 @@ use Rattle.stun_auth.specs.declared.server.reason.LongTermServerValidation.TheVa
 use Rattle.stun_auth.specs.Additions.{page_of}
 use Rattle.stun_auth.specs.Client.{ClientSide}
 use Rattle.stun_auth.specs.Reading.{reading_of}
-use Rattle.stun_auth.specs.Validation.{ServerSeen, after_message, answer, sight}
+use Rattle.stun_auth.specs.Validation.{ServerSeen, after_validation, answer, sight}
 use Rattle.stun_proto.specs.code.FirstAnswers.{answer_of}
 use Rattle.stun_proto.specs.code.Meetings.{meeting_of}
 use Rattle.stun_proto.specs.code.Sides.{IsRun}
-use Rattle.stun_proto.specs.Negotiation.{asked, ended, second_answered, second_asked, unwritten}
+use Rattle.stun_proto.specs.Negotiation.{client_request, ending_with, second_answered, second_asked}
+use Rattle.stun_proto.specs.Negotiation.{ending_unwritten}
 use Rattle.stun_proto.specs.Serving.{after_calls}
 use Rattle.stun_proto.specs.Sides.{PassesAccepted, PassesResend, sides}
 use Rattle.stun_proto.specs.declared.replay.negotiation.Outcome.TheVariants.{ServerRefused}
@@ -30,10 +31,10 @@ returns-in_err-proven-clause-run g c =
     let s = c.args.server.now in
     let m = meeting_of k.settings c.args.meeting.now in
     let stays = c.in_err-proven.ensures.stays in
-    refused c.from_residual.result c.in_err-proven.field-0.0 (asked m.second.id k.state)
+    refused c.from_residual.result c.in_err-proven.field-0.0 (client_request m.second.id k.state)
     (second_asked m k.state s) (PassesResend m k.state s) c.from_residual.ensures.1
     c.in_err-proven.ensures.answer
-    (λ x i. unwritten x (sym stays i).state s) (inl (λ i. sides (stays i).state s))
+    (λ x i. ending_unwritten x (sym stays i).state s) (inl (λ i. sides (stays i).state s))
 
 pub returns-in_err-serve-clause-run : goal.returns-in_err-serve-clause-run
 returns-in_err-serve-clause-run g c =
@@ -75,18 +76,19 @@ returns-clause-run g c =
     let s = c.args.server.now in
     let meeting = c.args.meeting.now in
     let m = meeting_of k.settings meeting in
-    let t = after_message (after_calls s m.second.before) m.from m.second.now m.second.words
+    let t = after_validation (after_calls s m.second.before) m.from m.second.now m.second.words
     (reading_of c.in_ok-proven.proven.bytes) in
     let read = c.message_in-again.ensures ∙ c.data.ensures in
     let called = c.in_ok-serve.ensures.server in
     let left = c.in_ok-verdict.ensures.server
-    ∙ (λ i. after_message (called i) m.from m.second.now m.second.words (reading_of (read i))) in
+    ∙ (λ i. after_validation (called i) m.from m.second.now m.second.words (reading_of (read i))) in
     let told = c.in_ok-verdict.ensures.answer
     ∙ (λ i. answer (sight (called i) m.from) m.second.now m.second.words (reading_of (read i))) in
     let given : answer_of c.in_ok-verdict.verdict ≡ Err c.in-Err.reason =
     ap answer_of c.in-Err.is in
     ends (ServerRefused c.in-Err.reason) (PassesResend m k.state s)
-    ((λ i. ended (ServerRefused c.in-Err.reason) (c.in_ok-proven.ensures.stays i).state (left i))
+    ((λ i. ending_with (ServerRefused c.in-Err.reason) (c.in_ok-proven.ensures.stays i).state
+    (left i))
     ∙ ap (second_answered m k.state t) (sym given ∙ told)
     ∙ ap (second_asked m k.state s) c.in_ok-proven.ensures.answer)
 
@@ -106,12 +108,12 @@ returns-in-Ok-clause-run g c =
     let s = c.args.server.now in
     let meeting = c.args.meeting.now in
     let m = meeting_of k.settings meeting in
-    let t = after_message (after_calls s m.second.before) m.from m.second.now m.second.words
+    let t = after_validation (after_calls s m.second.before) m.from m.second.now m.second.words
     (reading_of c.in_ok-proven.proven.bytes) in
     let read = c.message_in-again.ensures ∙ c.data.ensures in
     let called = c.in_ok-serve.ensures.server in
     let left = c.in_ok-verdict.ensures.server
-    ∙ (λ i. after_message (called i) m.from m.second.now m.second.words (reading_of (read i))) in
+    ∙ (λ i. after_validation (called i) m.from m.second.now m.second.words (reading_of (read i))) in
     let told = c.in_ok-verdict.ensures.answer
     ∙ (λ i. answer (sight (called i) m.from) m.second.now m.second.words (reading_of (read i))) in
     let r = c.after_accepted.result in

@@ -11,8 +11,9 @@ use Rattle.stun_auth.specs.ServerSigning.{after_signing}
 use Rattle.stun_auth.specs.Validation.{ServerSeen, sight}
 use Rattle.stun_proto.specs.code.Meetings.{meeting_of}
 use Rattle.stun_proto.specs.code.Sides.{IsRun}
-use Rattle.stun_proto.specs.Negotiation.{asked, challenge_answered, challenged, ended}
-use Rattle.stun_proto.specs.Negotiation.{failure, responded, second_asked, unwritten}
+use Rattle.stun_proto.specs.Negotiation.{client_request, challenge_answered, challenge_sent}
+use Rattle.stun_proto.specs.Negotiation.{ending_with}
+use Rattle.stun_proto.specs.Negotiation.{failure, server_response, second_asked, ending_unwritten}
 use Rattle.stun_proto.specs.Serving.{after_calls}
 use Rattle.stun_proto.specs.Sides.{PassesResend, PassesUnauthorized, sides}
 use Rattle.stun_proto.proofs.meetings.Runs.{challenge_ends, ended_by, ends}
@@ -27,13 +28,15 @@ returns-in_err-failure-clause-run g c =
     let reason = c.in_err-failure.field-0.0 in
     let stays = c.in_err-failure.ensures.refused in
     refused c.from_residual.result reason
-    (responded (failure UNAUTHORIZED m.first.id) (sight s m.from)) (challenged m k.state s)
+    (server_response (failure UNAUTHORIZED m.first.id) (sight s m.from))
+    (challenge_sent m k.state s)
     (PassesUnauthorized m k.state s) c.from_residual.ensures.1
     (subst (λ n.
     UnlessMemory {V = Written} (Err reason)
-    (Err reason ≡ responded (failure UNAUTHORIZED n) (sight s m.from)) (Unit {0})) c.requires.id
+    (Err reason ≡ server_response (failure UNAUTHORIZED n) (sight s m.from))
+    (Unit {0})) c.requires.id
     c.in_err-failure.ensures.answer)
-    (λ x i. unwritten x k.state (sym stays i)) (inl (λ i. sides k.state (stays i)))
+    (λ x i. ending_unwritten x k.state (sym stays i)) (inl (λ i. sides k.state (stays i)))
 
 pub returns-in_err-serve-clause-run : goal.returns-in_err-serve-clause-run
 returns-in_err-serve-clause-run g c =
@@ -41,7 +44,7 @@ returns-in_err-serve-clause-run g c =
     let s = c.args.server.now in
     let m = meeting_of k.settings c.args.meeting.now in
     let signed = c.in_ok-failure.ensures.answer
-    ∙ ap (λ n. responded (failure UNAUTHORIZED n) (sight s m.from)) c.requires.id in
+    ∙ ap (λ n. server_response (failure UNAUTHORIZED n) (sight s m.from)) c.requires.id in
     let stopped = c.in_err-serve.ensures.stopped in
     let done = c.in_err-serve.field-0.0.done in
     let left = stopped.1
@@ -67,7 +70,7 @@ returns-in_err-answer-clause-run g c =
     let m = meeting_of k.settings c.args.meeting.now in
     let calls = m.first.before in
     let signed = c.in_ok-failure.ensures.answer
-    ∙ ap (λ n. responded (failure UNAUTHORIZED n) (sight s m.from)) c.requires.id in
+    ∙ ap (λ n. server_response (failure UNAUTHORIZED n) (sight s m.from)) c.requires.id in
     let left = c.in_ok-serve.ensures.server
     ∙ (λ i. after_calls (c.in_ok-failure.ensures.server i)
     (sym (take_all (length calls) calls (omega arith)) i)) in
@@ -86,7 +89,7 @@ returns-in-Some-clause-run g c =
     let meeting = c.args.meeting.now in
     let m = meeting_of k.settings meeting in
     let signed = c.in_ok-failure.ensures.answer
-    ∙ ap (λ n. responded (failure UNAUTHORIZED n) (sight s m.from)) c.requires.id in
+    ∙ ap (λ n. server_response (failure UNAUTHORIZED n) (sight s m.from)) c.requires.id in
     let t = after_calls (after_signing s m.from true) m.first.before in
     let left = c.in_ok-serve.ensures.server
     ∙ ap (λ u. after_calls u m.first.before) c.in_ok-failure.ensures.server in
@@ -97,11 +100,11 @@ returns-in-Some-clause-run g c =
     let told = c.in_ok-answer.ensures.answer
     ∙ ap (λ b. (client_step k.settings k.state (reading_of b)).answer) c.data.ensures in
     ends c.in-Some.outcome (PassesUnauthorized m k.state s)
-    ((λ i. ended c.in-Some.outcome (taken i).state (left i))
+    ((λ i. ending_with c.in-Some.outcome (taken i).state (left i))
     ∙ ended_by _ _ _ c.in-Some.outcome (sym c.end_of_challenge.ensures ∙ c.in-Some.is)
     (challenge_ends m step.state t c.in_ok-answer.answer)
     ∙ ap (challenge_answered m t step.state) told
-    ∙ ap (challenged m k.state s) signed)
+    ∙ ap (challenge_sent m k.state s) signed)
 
 pub returns-clause-run : goal.returns-clause-run
 returns-clause-run g c =
@@ -110,7 +113,7 @@ returns-clause-run g c =
     let meeting = c.args.meeting.now in
     let m = meeting_of k.settings meeting in
     let signed = c.in_ok-failure.ensures.answer
-    ∙ ap (λ n. responded (failure UNAUTHORIZED n) (sight s m.from)) c.requires.id in
+    ∙ ap (λ n. server_response (failure UNAUTHORIZED n) (sight s m.from)) c.requires.id in
     let t = after_calls (after_signing s m.from true) m.first.before in
     let left = c.in_ok-serve.ensures.server
     ∙ ap (λ u. after_calls u m.first.before) c.in_ok-failure.ensures.server in
@@ -125,7 +128,7 @@ returns-clause-run g c =
     not_ended _ _ _ (sym c.end_of_challenge.ensures ∙ c.in-None.is)
     (challenge_ends m step.state t c.in_ok-answer.answer) in
     goes_on r (PassesUnauthorized m k.state s) (PassesResend m step.state t)
-    (again.1 ∙ ap (challenge_answered m t step.state) told ∙ ap (challenged m k.state s) signed)
+    (again.1 ∙ ap (challenge_answered m t step.state) told ∙ ap (challenge_sent m k.state s) signed)
     (λ x later.
     inr (
       page_of c.in_ok-failure.failure.bytes,
@@ -134,5 +137,6 @@ returns-clause-run g c =
     ))
     (subst (λ (p : ClientSide × ServerSeen). let n = meeting_of p.0.settings meeting in
     IsRun r c.after_resend.new.client.state c.after_resend.new.server
-    (second_asked n p.0.state p.1 (asked n.second.id p.0.state)) (PassesResend n p.0.state p.1))
+    (second_asked n p.0.state p.1 (client_request n.second.id p.0.state))
+    (PassesResend n p.0.state p.1))
     (λ i. (taken i, left i)) c.after_resend.ensures.run)

@@ -9,10 +9,11 @@ use Rattle.stun_auth.specs.declared.server.reason.LongTermServerAuthErrorReason.
 use Rattle.stun_auth.specs.Additions.{page_of}
 use Rattle.stun_auth.specs.Client.{ClientSide}
 use Rattle.stun_auth.specs.Reading.{reading_of}
-use Rattle.stun_auth.specs.Validation.{ServerSeen, after_message, answer, sight}
+use Rattle.stun_auth.specs.Validation.{ServerSeen, after_validation, answer, sight}
 use Rattle.stun_proto.specs.code.Meetings.{meeting_of}
 use Rattle.stun_proto.specs.code.Sides.{IsRun}
-use Rattle.stun_proto.specs.Negotiation.{asked, ended, first_answered, first_asked, unwritten}
+use Rattle.stun_proto.specs.Negotiation.{client_request, ending_with, first_answered, first_asked}
+use Rattle.stun_proto.specs.Negotiation.{ending_unwritten}
 use Rattle.stun_proto.specs.Sides.{Passes, PassesUnauthorized, sides}
 use Rattle.stun_proto.proofs.meetings.Runs.{ended_by, ends, first_ends}
 use Rattle.stun_proto.proofs.meetings.Runs.{goes_on, not_ended, refused, stops}
@@ -28,10 +29,10 @@ returns-in_err-unproven-clause-run g c =
     let s = c.args.server.now in
     let m = meeting_of k.settings c.args.meeting.now in
     let stays = c.in_err-unproven.ensures.stays in
-    refused c.from_residual.result c.in_err-unproven.field-0.0 (asked m.first.id k.state)
+    refused c.from_residual.result c.in_err-unproven.field-0.0 (client_request m.first.id k.state)
     (first_asked m k.state s) (Passes m k.state s) c.from_residual.ensures.1
     c.in_err-unproven.ensures.answer
-    (λ x i. unwritten x (sym stays i).state s) (inl (λ i. sides (stays i).state s))
+    (λ x i. ending_unwritten x (sym stays i).state s) (inl (λ i. sides (stays i).state s))
 
 pub returns-in_err-answer-clause-run : goal.returns-in_err-answer-clause-run
 returns-in_err-answer-clause-run g c =
@@ -47,15 +48,15 @@ returns-in-Some-clause-run g c =
     let k = c.args.client.now in
     let s = c.args.server.now in
     let m = meeting_of k.settings c.args.meeting.now in
-    let t = after_message s m.from m.first.now m.first.words
+    let t = after_validation s m.from m.first.now m.first.words
     (reading_of c.in_ok-unproven.unproven.bytes) in
     let read = c.message_in-asked.ensures ∙ c.data.ensures in
     let left = c.in_ok-answer.ensures.server
-    ∙ (λ i. after_message s m.from m.first.now m.first.words (reading_of (read i))) in
+    ∙ (λ i. after_validation s m.from m.first.now m.first.words (reading_of (read i))) in
     let told = c.in_ok-answer.ensures.answer
     ∙ (λ i. answer (sight s m.from) m.first.now m.first.words (reading_of (read i))) in
     ends c.in-Some.outcome (Passes m k.state s)
-    ((λ i. ended c.in-Some.outcome (c.in_ok-unproven.ensures.stays i).state (left i))
+    ((λ i. ending_with c.in-Some.outcome (c.in_ok-unproven.ensures.stays i).state (left i))
     ∙ ended_by _ _ _ c.in-Some.outcome (sym c.end_of_first.ensures ∙ c.in-Some.is)
     (first_ends m k.state t c.in_ok-answer.answer)
     ∙ ap (first_answered m k.state t) told
@@ -77,11 +78,11 @@ returns-clause-run g c =
     let s = c.args.server.now in
     let meeting = c.args.meeting.now in
     let m = meeting_of k.settings meeting in
-    let t = after_message s m.from m.first.now m.first.words
+    let t = after_validation s m.from m.first.now m.first.words
     (reading_of c.in_ok-unproven.unproven.bytes) in
     let read = c.message_in-asked.ensures ∙ c.data.ensures in
     let left = c.in_ok-answer.ensures.server
-    ∙ (λ i. after_message s m.from m.first.now m.first.words (reading_of (read i))) in
+    ∙ (λ i. after_validation s m.from m.first.now m.first.words (reading_of (read i))) in
     let told = c.in_ok-answer.ensures.answer
     ∙ (λ i. answer (sight s m.from) m.first.now m.first.words (reading_of (read i))) in
     let r = c.after_unauthorized.result in

@@ -1,3 +1,4 @@
+-- A 401 is built, and signed for the address.
 use Rattle.std.proofs.Common.{◌≡◌, List, ℕ, sym, subst, Ok, Err}
 use Rattle.std.specs.declared.result.Result.{Result}
 use Rattle.stun_base.specs.Header.{transaction_id_field}
@@ -6,7 +7,7 @@ use Rattle.stun_types.specs.WriteVec.{Written}
 use Rattle.stun_auth.specs.Additions.{UnlessMemory}
 use Rattle.stun_auth.specs.ClientStep.{UNAUTHORIZED}
 use Rattle.stun_auth.specs.Validation.{sight}
-use Rattle.stun_proto.specs.Negotiation.{failure, responded}
+use Rattle.stun_proto.specs.Negotiation.{failure, server_response}
 use Rattle.stun_proto.specs.code.Signed.{signed_page}
 use Rattle.stun_proto.proofs.meetings.Typed.{by_reason, failure_responds, unless_map}
 use Rattle.stun_proto.proofs.replay.negotiation.messages.challenge.Goals as goal
@@ -23,7 +24,7 @@ unauthorized-requires g c = c.requires
 
 pub returns-in_err-writer-clause-answer : goal.returns-in_err-writer-clause-answer
 returns-in_err-writer-clause-answer g c =
-    let X = responded (failure UNAUTHORIZED (transaction_id_field c.args.request.now))
+    let X = server_response (failure UNAUTHORIZED (transaction_id_field c.args.request.now))
     (sight c.args.server.now c.args.to) in
     by_reason c.from_residual.result _ (λ r. UnlessMemory r (signed_page r ≡ X) (Unit {0}))
     c.from_residual.ensures.1
@@ -45,7 +46,7 @@ pub returns-clause-answer : goal.returns-clause-answer
 returns-clause-answer g c =
     subst (λ b.
     UnlessMemory c.sign.result
-    (signed_page c.sign.result ≡ responded b (sight c.args.server.now c.args.to)) (Unit {0}))
+    (signed_page c.sign.result ≡ server_response b (sight c.args.server.now c.args.to)) (Unit {0}))
     (same_bytes _ _ c.in_ok-writer.ensures.answer) c.sign.ensures.answer
 
 pub returns-clause-message : goal.returns-clause-message

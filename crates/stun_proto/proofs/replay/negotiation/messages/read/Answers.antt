@@ -1,6 +1,7 @@
+-- The client's step is of the message that the bytes are.
 use Rattle.std.proofs.Common.{◌≡◌, ◌∙◌, ap, subst, Ok, Err, List, ℕ}
 use Rattle.std.specs.Prelude.{IsErr}
-use Rattle.stun_auth.specs.ClientStep.{ClientAnswer, ForReason, IsResend, client_step}
+use Rattle.stun_auth.specs.ClientStep.{ClientAnswer, ForClientReason, IsResend, client_step}
 use Rattle.stun_auth.specs.Reading.{reading_of}
 use Rattle.stun_auth.specs.declared.client.answer.LongTermClientAuthErrorReason.{
   LongTermClientAuthErrorReason,
@@ -32,7 +33,7 @@ returns-in-Err-clause-answer g c =
     let right : ClientAnswer =
     (client_step k.settings k.state (reading_of c.args.bytes.now)).answer in
     let P : LongTermClientAuthErrorReason → Type 0 =
-    λ r. ForReason r (c.client_refusal.result ≡ Ok (Err r)) (IsErr c.client_refusal.result) in
+    λ r. ForClientReason r (c.client_refusal.result ≡ Ok (Err r)) (IsErr c.client_refusal.result) in
     either_client reason
     (λ given is.
     told c.client_refusal.result (Err reason) right given
@@ -46,7 +47,7 @@ returns-in-Err-clause-client g c =
     let k = c.args.client.now in
     let reason = c.in-Err.error in
     let P : LongTermClientAuthErrorReason → Type 0 =
-    λ r. ForReason r (c.client_refusal.result ≡ Ok (Err r)) (IsErr c.client_refusal.result) in
+    λ r. ForClientReason r (c.client_refusal.result ≡ Ok (Err r)) (IsErr c.client_refusal.result) in
     either_client reason
     (λ given is.
     on_told c.client_refusal.result (Err reason) _ given
@@ -59,7 +60,7 @@ pub returns-in-Err-clause-err : goal.returns-in-Err-clause-err
 returns-in-Err-clause-err g c =
     let reason = c.in-Err.error in
     let P : LongTermClientAuthErrorReason → Type 0 =
-    λ r. ForReason r (c.client_refusal.result ≡ Ok (Err r)) (IsErr c.client_refusal.result) in
+    λ r. ForClientReason r (c.client_refusal.result ≡ Ok (Err r)) (IsErr c.client_refusal.result) in
     either_client reason
     (λ given is. off_told c.client_refusal.result (Err reason) _ given)
     (λ none is. off_untold c.client_refusal.result _ is)
@@ -72,7 +73,7 @@ returns-in-Err-clause-memory g c =
     let Resends : List ℕ
     → Type 0 = λ m. IsResend (client_step k.settings k.state (reading_of m)).answer in
     let P : LongTermClientAuthErrorReason → Type 0 =
-    λ r. ForReason r (c.client_refusal.result ≡ Ok (Err r)) (IsErr c.client_refusal.result) in
+    λ r. ForClientReason r (c.client_refusal.result ≡ Ok (Err r)) (IsErr c.client_refusal.result) in
     either_client reason
     (λ given is. off_told c.client_refusal.result (Err reason) _ given)
     (λ none is.

@@ -1,3 +1,4 @@
+-- A request of the id is built, and signed by the client.
 use Rattle.std.proofs.Common.{rules}
 use Rattle.stun_proto.proofs.meetings.Typed.{AddingLaws, has_id, has_method}
 use Rattle.stun_proto.proofs.meetings.Typed.{if_ok_map, request_added, request_signed}

@@ -1,7 +1,8 @@
+-- A response is signed for its address, and what is added is visible.
 use Rattle.std.proofs.Common.{◌≡◌, Bool, subst, OnOk}
 use Rattle.stun_auth.specs.ServerSigning.{after_signing}
 use Rattle.stun_auth.specs.Validation.{sight}
-use Rattle.stun_proto.specs.Negotiation.{responded}
+use Rattle.stun_proto.specs.Negotiation.{server_response}
 use Rattle.stun_proto.proofs.meetings.Typed.{AddingLaws, if_ok_map}
 use Rattle.stun_proto.proofs.meetings.Typed.{response_signed, server_has_added}
 use Rattle.stun_proto.proofs.replay.negotiation.messages.sign.Goals as goal
@@ -15,7 +16,7 @@ laws g c = record {
 }
 
 pub returns-clause-answer : goal.returns-clause-answer
-unfolding responded
+unfolding server_response
 returns-clause-answer g c =
     response_signed (laws g c) (sight c.args.server.now c.args.to) c.args.writer.bytes _
     c.sign_outgoing_message.result _ c.requires.response c.sign_outgoing_message.ensures.answer

@@ -1,3 +1,4 @@
+-- A 401 has a code that is allowed and room, so only memory can refuse it.
 use Rattle.std.proofs.Common.{◌≡◌, [], ◌∷◌, length, Option, Some, None}
 use Rattle.std.proofs.Common.{sym, ◌∙◌, ap, arith, Ok, Err, MatchOption}
 use Rattle.stun_base.specs.Attributes.{ERROR_CODE}
@@ -6,7 +7,7 @@ use Rattle.stun_base.specs.MessageType.{type_number}
 use Rattle.stun_base.specs.declared.wire.error.StunWriteError.{StunWriteError}
 use Rattle.stun_base.specs.declared.wire.message_type.MessageClass.TheVariants as Class
 use Rattle.stun_types.specs.ErrorCode.{CodeAndReason, error_refusal, error_value}
-use Rattle.stun_types.specs.Grammar.{spelled}
+use Rattle.stun_types.specs.Grammar.{spelled_message}
 use Rattle.stun_types.specs.WriteVec.{Written}
 use Rattle.stun_auth.specs.Additions.{UnlessMemory}
 use Rattle.stun_auth.specs.ClientStep.{UNAUTHORIZED}
@@ -57,9 +58,9 @@ returns-clause-answer g c =
     let id = transaction_id_field c.args.request.now in
     let error_is = c.in_ok-error.ensures.value ∙ c.builder.ensures in
     ap Ok (c.in_ok-add_attribute.ensures.spelled _ _ [] c.in_ok-writer.ensures.bytes
-    ∙ ap (λ n. spelled (type_number Class.Error n) id
+    ∙ ap (λ n. spelled_message (type_number Class.Error n) id
     (record { kind = ERROR_CODE; value = error_value c.in_ok-error.error } ∷ [])) c.requires
-    ∙ ap (λ (e : CodeAndReason). spelled (type_number Class.Error 1) id
+    ∙ ap (λ (e : CodeAndReason). spelled_message (type_number Class.Error 1) id
     (record { kind = ERROR_CODE; value = error_value e } ∷ [])) error_is)
 
 pub returns-clause-open : goal.returns-clause-open

@@ -1,7 +1,8 @@
+-- One attribute is passed, and what hides others is noted as it is passed.
 use Rattle.std.proofs.Common.{◌+◌, sym, ◌∙◌, ap, arith}
 use Rattle.std.proofs.lemmas.Grind.{common_steps}
 use Rattle.stun_types.proofs.WalkLemmas.{has_attribute-within}
-use Rattle.stun_types.proofs.VisibleLemmas.{StandsAt, HasPassed-and, visible_from-shown}
+use Rattle.stun_types.proofs.VisibleLemmas.{StandsAt, HasSeenKinds-and, visible_from-shown}
 use Rattle.stun_types.proofs.VisibleLemmas.{visible_from-hidden, visible_from-end}
 use Rattle.stun_types.proofs.message.attributes_iter.MessageAttributesIterIterator.next.Goals as goal
 
@@ -34,7 +35,8 @@ hidden_at c = record {
 pub invariant_of-self : goal.invariant_of-self
 invariant_of-self c =
     let and = c.and-self-inside.ensures in
-    HasPassed-and c.loop-attribute.invariant.passed (shown_at c) and.integrity and.integrity_sha256
+    HasSeenKinds-and c.loop-attribute.invariant.passed
+    (shown_at c) and.integrity and.integrity_sha256
     and.fingerprint
 
 pub returns-then-counts-clause-steps : goal.returns-then-counts-clause-steps
@@ -62,7 +64,7 @@ loop-attribute-preserved c =
     let and = c.and-self-inside.ensures in
     record {
       passed =
-          HasPassed-and c.loop-attribute.invariant.passed (hidden_at c) and.integrity
+          HasSeenKinds-and c.loop-attribute.invariant.passed (hidden_at c) and.integrity
           and.integrity_sha256 and.fingerprint;
       left = sym
           (visible_from-hidden c.loop-attribute.invariant.passed (hidden_at c)

@@ -1,0 +1,30 @@
+//! The numbers of algorithms, as `include/stunp.h` has them.
+
+ghost use Rattle.std.specs.Prelude.{◌≡◌, IfOk, IfErr, Some, None};
+ghost use Rattle.stun_numbers.specs.Algorithms.{algorithm_number, algorithm_numbered};
+
+use crate::refusal::Refusal;
+use stun_base::algorithm::IntegrityAlgorithm;
+
+/// The number of an algorithm.
+pub fn algorithm_number(algorithm: IntegrityAlgorithm) -> u32
+    ensures { result ≡ algorithm_number algorithm }
+{
+    match algorithm {
+        IntegrityAlgorithm::Sha1 => 1,
+        IntegrityAlgorithm::Sha256 => 2,
+    }
+}
+
+/// The algorithm of a number, or `BadArgument`.
+pub fn algorithm_numbered(number: u32) -> Result<IntegrityAlgorithm, Refusal>
+    ensures ok { IfOk result (λ algorithm. algorithm_numbered number ≡ Some algorithm) }
+    ensures err { IfErr result (λ refusal. (algorithm_numbered number ≡ None)
+        × (refusal ≡ Refusal.BadArgument)) }
+{
+    match number {
+        1 => Ok(IntegrityAlgorithm::Sha1),
+        2 => Ok(IntegrityAlgorithm::Sha256),
+        _ => Err(Refusal::BadArgument),
+    }
+}

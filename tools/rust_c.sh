@@ -23,7 +23,9 @@ only() {
 only target/export/target/release/libstunp.a "$out/libstunp.a"
 only target/export/target/program/release/libstunp.a "$out/libstunp-program.a"
 cp target/export/target/release/libstunp.so "$out/libstunp.so.0"
-ln -sf libstunp.so.0 "$out/libstunp.so"
+# A copy: `rt ci` refuses a repository in which a link stands.
+rm -f "$out/libstunp.so"
+cp "$out/libstunp.so.0" "$out/libstunp.so"
 
 # Each library has the calls that the headers declare, and shows no other symbol.
 sed -n 's/^[a-z0-9_]* \(stunp_[a-z0-9_]*\)(.*/\1/p' include/stunp.h include/stunp_state.h |

@@ -102,7 +102,8 @@
  *             int64_t ended = stunp_agent_poll(agent, now, &until, id, sizeof id);
  *             if (ended != 0) return ended;
  *             size_t received = receive(&from, bytes, sizeof bytes, until);
- *             if (stunp_read_header(bytes, received, &header) < 0) continue;
+ *             if (stunp_parse(bytes, received) < 0) continue; // damaged, or nothing: wait on
+ *             stunp_read_header(bytes, received, &header);
  *             if (header.message_class < STUNP_SUCCESS) continue; // no response
  *             if (stunp_agent_is_outstanding(agent, header.id, STUNP_ID_LENGTH, &to) != 1)
  *                 continue;
@@ -111,8 +112,8 @@
  *             int64_t verdict = stunp_client_validate(client, bytes, received);
  *             if (verdict == STUNP_INTEGRITY_FAILED) continue; // forged: wait on
  *             int64_t taken = stunp_agent_handle(agent, bytes, received, &from, moment());
+ *             if (taken < 0) return taken;     // no memory: it is outstanding still
  *             if (verdict < 0) return verdict; // this request has ended
- *             if (taken < 0) return taken;
  *             is_to_ask = stunp_is_resend(verdict);
  *             if (is_to_ask) continue;
  *             if (header.message_class == STUNP_ERROR) return stunp_error_code(bytes, received);

@@ -3,8 +3,9 @@
  *
  * Link libstunp_state.a, libstunp.a (stunp.h) for the messages themselves, and libstunp_heap.a
  * (heap.c) or an allocator of your own. The first is crates/stun_state/out/libstun_state.a where
- * `rt lib` in crates/stun_state proves and builds it. Beside these the archive needs what every
- * C compiler has: memcpy, memmove, memset, and __udivti3 and __umodti3 of its runtime.
+ * `rt lib` in crates/stun_state proves and builds it. Beside these it needs what every C compiler
+ * has: memcpy, memmove, memset, and __udivti3 and __umodti3 of its runtime. An archive of target/c
+ * (stunp.h) needs a C library and -lpthread -ldl -lm; its libstunp.a has memory by malloc.
  *
  * The calls, in the order of this file:
  *
@@ -45,13 +46,13 @@
  * what a call writes to overlaps nothing else that is passed. Texts are UTF-8 and taken as they
  * are. What the handles keep is allocated by three functions of the program, which stand below.
  *
- * Threads. The archive has no writable data and no thread-locals, and handles share nothing. So
- * a handle may move from one thread to another that waits for it (a mutex, a join). Each thread
- * may use a handle of its own. Two threads at once may not use one, not even by calls that take
- * it as const. That is trusted, not proved. No call may be made from a signal handler, nor in
- * the forked child of a process with threads. After any other fork each of the two processes may
- * go on with its copy of a handle, and frees it; where they share the memory of the handle, or
- * what rattle_alloc gave, only one of them may.
+ * Threads. The proved archives have no writable data and no thread-locals; those of target/c have
+ * what Rust's standard library has. Handles share nothing. So a handle may move from one thread to
+ * another that waits for it (a mutex, a join). Each thread may use a handle of its own. Two threads
+ * at once may not use one, not even by calls that take it as const. That is trusted, not proved. No
+ * call may be made from a signal handler, nor in the forked child of a process with threads. After
+ * any other fork each of the two processes may go on with its copy of a handle, and frees it; where
+ * they share the memory of the handle, or what rattle_alloc gave, only one of them may.
  *
  * Time and chance. No call reads a clock, a socket or a source of random bytes. Times are
  * nanoseconds from a start that the caller chooses once for a handle. The clock does not go back

@@ -672,7 +672,7 @@ int64_t stunp_userhash(const void *username, size_t username_length, const void 
 /* ---- Packets and streams. */
 
 /* Whether a packet is to be given to STUN, where other protocols share its port: it begins with a
- * header of STUN, whose first byte is 0 to 3 (section 8; RFC 7983, section 7).
+ * header of STUN, whose first byte is 0 to 3 (section 7; RFC 7983, section 7).
  *
  * Returns 1 or 0. Never fails. */
 int64_t stunp_is_stun(const uint8_t *packet, size_t length);

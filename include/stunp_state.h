@@ -417,9 +417,11 @@ int64_t stunp_agent_is_outstanding(const stunp_agent *agent, const uint8_t *id, 
                                    stunp_address *peer);
 
 /* Cancels a request: stunp_agent_poll then returns STUNP_CANCELLED for it, one call for each
- * request that is over. Or only ends its retransmissions: a response is waited for as long as
- * before, and without one it ends as STUNP_CANCELLED. Or gives it time-outs of its own: it goes on
- * from its last transmission as if it had had them from the first.
+ * request that is over. Until that poll it is outstanding: its id may not be used again, and a
+ * response still ends it. Then stunp_agent_handle returns 1, and no STUNP_CANCELLED comes. Or only
+ * ends its retransmissions: a response is waited for as long as before, and without one it ends as
+ * STUNP_CANCELLED. Or gives it time-outs of its own: it goes on from its last transmission as if it
+ * had had them from the first.
  *
  * Each returns 1, or 0 where none is outstanding. Each fails: STUNP_EMPTY_HANDLE,
  * STUNP_BAD_ARGUMENT; and stunp_agent_configure with STUNP_BAD_ARGUMENT for the size of the

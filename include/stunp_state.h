@@ -271,8 +271,8 @@ typedef enum stunp_ending {
     STUNP_TIMED_OUT = 1,    /* stunp_agent_poll: no response came to a request in time */
     STUNP_CANCELLED = 2,    /* stunp_agent_poll: a request ended that was cancelled, or whose
                              * retransmissions were */
-    STUNP_RESEND = 3,       /* stunp_client_validate: a 401 or 438 was taken up; sign a new request
-                             * and send it */
+    STUNP_RESEND = 3,       /* stunp_client_validate: a 401 or 438 was taken up (a 438 before the
+                             * first 401 changes nothing); sign a new request and send it */
     STUNP_RESEND_SHA1 = 4,  /* the same, and its MESSAGE-INTEGRITY verifies under the key that was
                              * kept before it */
     STUNP_RESEND_SHA256 = 5 /* the same, and its MESSAGE-INTEGRITY-SHA256 does */

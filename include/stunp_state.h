@@ -235,11 +235,11 @@ typedef struct stunp_server { bool is_full; void *state; } stunp_server;
 typedef struct stunp_client { bool is_full; void *state; } stunp_client;
 
 /* An address: 4 octets (IPv4) or 16 (IPv6) in network order at the front, and a port in the
- * processor's order. A call that takes one fails with STUNP_BAD_ARGUMENT where `length` is
- * neither, right after the refusal for the handle. Of an IPv4 address the other 12 octets are not
- * read, and are written as 0. An IPv4 address and the same address mapped into IPv6 are two. The
- * scope of an IPv6 address is not kept: a link-local address is the same one on each interface,
- * and you give its scope to the socket again. */
+ * processor's order. A call that takes one fails with STUNP_BAD_ARGUMENT where `length` is neither,
+ * right after the refusal for the handle; but stunp_server_sign_of and stunp_server_sign_of_keys
+ * after those for the user. Of an IPv4 address the other 12 octets are not read, and are written as
+ * 0. An IPv4 address and the same address mapped into IPv6 are two. No scope of an IPv6 address is
+ * kept: a link-local one is the same on each interface, and you give the socket its scope again. */
 typedef struct {
     uint8_t octets[16];
     uint16_t port;
@@ -543,9 +543,10 @@ int64_t stunp_server_remove_user(stunp_server *server, const void *name, size_t 
  *     the nonce is not the current one STUNP_UNAUTHORIZED if its security bits were changed, else
  *     STUNP_STALE_NONCE (438); STUNP_UNAUTHORIZED for an unknown user, an algorithm that the
  *     server does not support, or a digest that does not verify.
- * STUNP_OUT_OF_MEMORY may come in place of each of the last two where a nonce must be made or a
- * client kept. Each of them but that may make a nonce for the address, which stunp_server_sign
- * then sends. */
+ * In place of the verdict on a request or an indication STUNP_OUT_OF_MEMORY may come, where a nonce
+ * must be made or a client kept. Each other refusal of the last row makes a nonce where none is
+ * current, which stunp_server_sign then sends; but not STUNP_BAD_REQUEST where REALM, NONCE or a
+ * name is missing. A response makes none. */
 int64_t stunp_server_validate(stunp_server *server, const uint8_t *message, size_t length,
                               const stunp_address *from, uint64_t now, const uint32_t words[16]);
 
@@ -560,7 +561,7 @@ int64_t stunp_server_client(const stunp_server *server, const stunp_address *at,
                             size_t room, size_t *name_length);
 
 /* Signs the message in the first `length` bytes of a buffer of `room` bytes, which goes to an
- * address: NONCE and REALM in a response, and, for an address without a client, the offered
+ * address: in a response NONCE and REALM and, for an address without a client, the offered
  * algorithms; for a client of SHA-256 PASSWORD-ALGORITHM, and for each client the integrity
  * attribute. At most 848 bytes are added. Sign each answer but a 400, which goes out as it is
  * (section 9.2.4). Before any nonce was made for the address the message stays as it is.

@@ -36,9 +36,9 @@
  * they are: to prepare them by OpaqueString (RFC 8265) is the caller's part.
  *
  * Threads. The proved archives have no writable data and no thread-locals; those of target/c have
- * what Rust's standard library has. Each call may run in many threads at once, each with its own
- * output. A buffer, a cursor or a writer may move from one thread to another that waits for it (a
- * mutex, a join). No call is made in constant time.
+ * some, of Rust's libraries. Each call may run in many threads at once, each with its own output. A
+ * buffer, a cursor or a writer may move from one thread to another that waits for it (a mutex, a
+ * join). No call is made in constant time.
  *
  * Errors. A call that fails returns one of the numbers below zero of stunp_refusal, and leaves
  * its output as it was. The number is of the first reason in the order that the call's comment

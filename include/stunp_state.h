@@ -4,8 +4,8 @@
  * Link libstunp_state.a, libstunp.a (stunp.h) for the messages themselves, and libstunp_heap.a
  * (heap.c) or an allocator of your own. The first is crates/stun_state/out/libstun_state.a where
  * `rt lib` in crates/stun_state proves and builds it. Beside these it needs what every C compiler
- * has: memcpy, memmove, memset, and __udivti3 and __umodti3 of its runtime. An archive of target/c
- * (stunp.h) needs a C library and -lpthread -ldl -lm; its libstunp.a has memory by malloc.
+ * has: memcpy, memmove, memset, and __udivti3 and __umodti3 of its runtime. Those of target/c
+ * (stunp.h) need a C library with -lpthread -ldl -lm; libstunp.a there has its memory from malloc.
  *
  * The calls, in the order of this file:
  *
@@ -47,7 +47,7 @@
  * are. What the handles keep is allocated by three functions of the program, which stand below.
  *
  * Threads. The proved archives have no writable data and no thread-locals; those of target/c have
- * what Rust's standard library has. Handles share nothing. So a handle may move from one thread to
+ * some, of Rust's libraries. Handles share nothing. So a handle may move from one thread to
  * another that waits for it (a mutex, a join). Each thread may use a handle of its own. Two threads
  * at once may not use one, not even by calls that take it as const. That is trusted, not proved. No
  * call may be made from a signal handler, nor in the forked child of a process with threads. After

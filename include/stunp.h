@@ -35,9 +35,10 @@
  * else that is passed. Numbers are in the processor's own order. Texts are UTF-8 and taken as
  * they are: to prepare them by OpaqueString (RFC 8265) is the caller's part.
  *
- * Threads. The archive has no writable data and no thread-locals, so each call may run in many
- * threads at once, each with its own output. A buffer, a cursor or a writer may move from one
- * thread to another that waits for it (a mutex, a join). No call is made in constant time.
+ * Threads. The proved archives have no writable data and no thread-locals; those of target/c have
+ * some, of Rust's libraries. Each call may run in many threads at once, each with its own output. A
+ * buffer, a cursor or a writer may move from one thread to another that waits for it (a mutex, a
+ * join). No call is made in constant time.
  *
  * Errors. A call that fails returns one of the numbers below zero of stunp_refusal, and leaves
  * its output as it was. The number is of the first reason in the order that the call's comment
@@ -671,7 +672,7 @@ int64_t stunp_userhash(const void *username, size_t username_length, const void 
 /* ---- Packets and streams. */
 
 /* Whether a packet is to be given to STUN, where other protocols share its port: it begins with a
- * header of STUN, whose first byte is 0 to 3 (section 8; RFC 7983, section 7).
+ * header of STUN, whose first byte is 0 to 3 (section 7; RFC 7983, section 7).
  *
  * Returns 1 or 0. Never fails. */
 int64_t stunp_is_stun(const uint8_t *packet, size_t length);

@@ -3,8 +3,9 @@
  *
  * Link libstunp_state.a, libstunp.a (stunp.h) for the messages themselves, and libstunp_heap.a
  * (heap.c) or an allocator of your own. The first is crates/stun_state/out/libstun_state.a where
- * `rt lib` in crates/stun_state proves and builds it. Beside these the archive needs what every
- * C compiler has: memcpy, memmove, memset, and __udivti3 and __umodti3 of its runtime.
+ * `rt lib` in crates/stun_state proves and builds it. Beside these it needs what every C compiler
+ * has: memcpy, memmove, memset, and __udivti3 and __umodti3 of its runtime. Those of target/c
+ * (stunp.h) need a C library with -lpthread -ldl -lm; libstunp.a there has its memory from malloc.
  *
  * The calls, in the order of this file:
  *
@@ -45,13 +46,13 @@
  * what a call writes to overlaps nothing else that is passed. Texts are UTF-8 and taken as they
  * are. What the handles keep is allocated by three functions of the program, which stand below.
  *
- * Threads. The archive has no writable data and no thread-locals, and handles share nothing. So
- * a handle may move from one thread to another that waits for it (a mutex, a join). Each thread
- * may use a handle of its own. Two threads at once may not use one, not even by calls that take
- * it as const. That is trusted, not proved. No call may be made from a signal handler, nor in
- * the forked child of a process with threads. After any other fork each of the two processes may
- * go on with its copy of a handle, and frees it; where they share the memory of the handle, or
- * what rattle_alloc gave, only one of them may.
+ * Threads. The proved archives have no writable data and no thread-locals; those of target/c have
+ * some, of Rust's libraries. Handles share nothing. So a handle may move from one thread to
+ * another that waits for it (a mutex, a join). Each thread may use a handle of its own. Two threads
+ * at once may not use one, not even by calls that take it as const. That is trusted, not proved. No
+ * call may be made from a signal handler, nor in the forked child of a process with threads. After
+ * any other fork each of the two processes may go on with its copy of a handle, and frees it; where
+ * they share the memory of the handle, or what rattle_alloc gave, only one of them may.
  *
  * Time and chance. No call reads a clock, a socket or a source of random bytes. Times are
  * nanoseconds from a start that the caller chooses once for a handle. The clock does not go back
@@ -102,7 +103,8 @@
  *             int64_t ended = stunp_agent_poll(agent, now, &until, id, sizeof id);
  *             if (ended != 0) return ended;
  *             size_t received = receive(&from, bytes, sizeof bytes, until);
- *             if (stunp_read_header(bytes, received, &header) < 0) continue;
+ *             if (stunp_parse(bytes, received) < 0) continue; // damaged, or nothing: wait on
+ *             stunp_read_header(bytes, received, &header);
  *             if (header.message_class < STUNP_SUCCESS) continue; // no response
  *             if (stunp_agent_is_outstanding(agent, header.id, STUNP_ID_LENGTH, &to) != 1)
  *                 continue;
@@ -111,8 +113,8 @@
  *             int64_t verdict = stunp_client_validate(client, bytes, received);
  *             if (verdict == STUNP_INTEGRITY_FAILED) continue; // forged: wait on
  *             int64_t taken = stunp_agent_handle(agent, bytes, received, &from, moment());
+ *             if (taken < 0) return taken;     // no memory: it is outstanding still
  *             if (verdict < 0) return verdict; // this request has ended
- *             if (taken < 0) return taken;
  *             is_to_ask = stunp_is_resend(verdict);
  *             if (is_to_ask) continue;
  *             if (header.message_class == STUNP_ERROR) return stunp_error_code(bytes, received);
@@ -233,11 +235,11 @@ typedef struct stunp_server { bool is_full; void *state; } stunp_server;
 typedef struct stunp_client { bool is_full; void *state; } stunp_client;
 
 /* An address: 4 octets (IPv4) or 16 (IPv6) in network order at the front, and a port in the
- * processor's order. A call that takes one fails with STUNP_BAD_ARGUMENT where `length` is
- * neither, right after the refusal for the handle. Of an IPv4 address the other 12 octets are not
- * read, and are written as 0. An IPv4 address and the same address mapped into IPv6 are two. The
- * scope of an IPv6 address is not kept: a link-local address is the same one on each interface,
- * and you give its scope to the socket again. */
+ * processor's order. A call that takes one fails with STUNP_BAD_ARGUMENT where `length` is neither,
+ * right after the refusal for the handle; but stunp_server_sign_of and stunp_server_sign_of_keys
+ * after those for the user. Of an IPv4 address the other 12 octets are not read, and are written as
+ * 0. An IPv4 address and the same address mapped into IPv6 are two. No scope of an IPv6 address is
+ * kept: a link-local one is the same on each interface, and you give the socket its scope again. */
 typedef struct {
     uint8_t octets[16];
     uint16_t port;
@@ -269,8 +271,8 @@ typedef enum stunp_ending {
     STUNP_TIMED_OUT = 1,    /* stunp_agent_poll: no response came to a request in time */
     STUNP_CANCELLED = 2,    /* stunp_agent_poll: a request ended that was cancelled, or whose
                              * retransmissions were */
-    STUNP_RESEND = 3,       /* stunp_client_validate: a 401 or 438 was taken up; sign a new request
-                             * and send it */
+    STUNP_RESEND = 3,       /* stunp_client_validate: a 401 or 438 was taken up (a 438 before the
+                             * first 401 changes nothing); sign a new request and send it */
     STUNP_RESEND_SHA1 = 4,  /* the same, and its MESSAGE-INTEGRITY verifies under the key that was
                              * kept before it */
     STUNP_RESEND_SHA256 = 5 /* the same, and its MESSAGE-INTEGRITY-SHA256 does */
@@ -415,9 +417,11 @@ int64_t stunp_agent_is_outstanding(const stunp_agent *agent, const uint8_t *id, 
                                    stunp_address *peer);
 
 /* Cancels a request: stunp_agent_poll then returns STUNP_CANCELLED for it, one call for each
- * request that is over. Or only ends its retransmissions: a response is waited for as long as
- * before, and without one it ends as STUNP_CANCELLED. Or gives it time-outs of its own: it goes on
- * from its last transmission as if it had had them from the first.
+ * request that is over. Until that poll it is outstanding: its id may not be used again, and a
+ * response still ends it. Then stunp_agent_handle returns 1, and no STUNP_CANCELLED comes. Or only
+ * ends its retransmissions: a response is waited for as long as before, and without one it ends as
+ * STUNP_CANCELLED. Or gives it time-outs of its own: it goes on from its last transmission as if it
+ * had had them from the first.
  *
  * Each returns 1, or 0 where none is outstanding. Each fails: STUNP_EMPTY_HANDLE,
  * STUNP_BAD_ARGUMENT; and stunp_agent_configure with STUNP_BAD_ARGUMENT for the size of the
@@ -539,9 +543,10 @@ int64_t stunp_server_remove_user(stunp_server *server, const void *name, size_t 
  *     the nonce is not the current one STUNP_UNAUTHORIZED if its security bits were changed, else
  *     STUNP_STALE_NONCE (438); STUNP_UNAUTHORIZED for an unknown user, an algorithm that the
  *     server does not support, or a digest that does not verify.
- * STUNP_OUT_OF_MEMORY may come in place of each of the last two where a nonce must be made or a
- * client kept. Each of them but that may make a nonce for the address, which stunp_server_sign
- * then sends. */
+ * In place of the verdict on a request or an indication STUNP_OUT_OF_MEMORY may come, where a nonce
+ * must be made or a client kept. Each other refusal of the last row makes a nonce where none is
+ * current, which stunp_server_sign then sends; but not STUNP_BAD_REQUEST where REALM, NONCE or a
+ * name is missing. A response makes none. */
 int64_t stunp_server_validate(stunp_server *server, const uint8_t *message, size_t length,
                               const stunp_address *from, uint64_t now, const uint32_t words[16]);
 
@@ -556,7 +561,7 @@ int64_t stunp_server_client(const stunp_server *server, const stunp_address *at,
                             size_t room, size_t *name_length);
 
 /* Signs the message in the first `length` bytes of a buffer of `room` bytes, which goes to an
- * address: NONCE and REALM in a response, and, for an address without a client, the offered
+ * address: in a response NONCE and REALM and, for an address without a client, the offered
  * algorithms; for a client of SHA-256 PASSWORD-ALGORITHM, and for each client the integrity
  * attribute. At most 848 bytes are added. Sign each answer but a 400, which goes out as it is
  * (section 9.2.4). Before any nonce was made for the address the message stays as it is.

@@ -103,10 +103,11 @@ static void forget_interface(struct msghdr *message) {
 
 /* ---- Sockets */
 
-/* Says why there is no socket, and closes what there is of it. */
-static int fails(int fd) {
-    perror("socket");
-    if (fd >= 0) close(fd);
+/* Closes what is no use, and answers -1. errno goes on to tell why. */
+static int give_up(int fd) {
+    int error = errno;
+    close(fd);
+    errno = error;
     return -1;
 }
 
@@ -135,10 +136,7 @@ static int open_family(int family, unsigned long *port, bool is_shared) {
         *port = ntohs(any.sin6_port);
         return fd;
     }
-    int error = errno;
-    close(fd);
-    errno = error;
-    return -1;
+    return give_up(fd);
 }
 
 /* Both families on one port, or whichever the machine has. */
@@ -172,25 +170,35 @@ void close_server(const struct listener *listener) {
     for (int i = 0; i < listener->number; i++) close(listener->sockets[i]);
 }
 
+/* A socket of a server's family, whose own address it writes, or -1, and errno tells why. */
+static int open_to(const struct peer *server, stunp_address *own) {
+    struct peer any = {.name.ss_family = server->name.ss_family,
+                       .name_length = server->name_length};
+    int fd = socket(any.name.ss_family, SOCK_DGRAM, 0);
+    if (fd < 0) return -1;
+    if (bind(fd, (struct sockaddr *)&any.name, any.name_length) < 0
+        || getsockname(fd, (struct sockaddr *)&any.name, &any.name_length) < 0)
+        return give_up(fd);
+    if (any.name.ss_family == AF_INET6) set(fd, IPPROTO_IPV6, IPV6_RECVERR, 1);
+    else set(fd, IPPROTO_IP, IP_RECVERR, 1);
+    *own = address_of(&any);
+    return fd;
+}
+
 int open_client(const char *host, const char *port, struct peer *server, stunp_address *own) {
     struct addrinfo wanted = {.ai_socktype = SOCK_DGRAM}, *found;
-    int error = getaddrinfo(host, port, &wanted, &found);
+    int error = getaddrinfo(host, port, &wanted, &found), fd = -1;
     if (error != 0) {
         fprintf(stderr, "%s: %s\n", host, gai_strerror(error));
         return -1;
     }
-    *server = (struct peer){.name_length = found->ai_addrlen};
-    memcpy(&server->name, found->ai_addr, found->ai_addrlen);
+    for (struct addrinfo *one = found; one != NULL && fd < 0; one = one->ai_next) {
+        *server = (struct peer){.name_length = one->ai_addrlen};
+        memcpy(&server->name, one->ai_addr, one->ai_addrlen);
+        fd = open_to(server, own);
+    }
+    if (fd < 0) perror("socket");
     freeaddrinfo(found);
-    struct peer any = {.name.ss_family = server->name.ss_family,
-                       .name_length = server->name_length};
-    int fd = socket(any.name.ss_family, SOCK_DGRAM, 0);
-    if (fd < 0 || bind(fd, (struct sockaddr *)&any.name, any.name_length) < 0
-        || getsockname(fd, (struct sockaddr *)&any.name, &any.name_length) < 0)
-        return fails(fd);
-    if (any.name.ss_family == AF_INET6) set(fd, IPPROTO_IPV6, IPV6_RECVERR, 1);
-    else set(fd, IPPROTO_IP, IP_RECVERR, 1);
-    *own = address_of(&any);
     return fd;
 }
 

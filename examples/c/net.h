@@ -57,8 +57,8 @@ struct listener {
 bool open_server(unsigned long *port, bool is_shared, struct listener *listener);
 void close_server(const struct listener *listener);
 
-/* Finds a server, and opens a socket of its kind, whose own address it writes. Answers -1 after it
- * told why. */
+/* Finds a server, and opens a socket of its kind, whose own address it writes. Of several addresses
+ * it takes the first to which a socket opens. Answers -1 after it told why. */
 int open_client(const char *host, const char *port, struct peer *server, stunp_address *own);
 
 /* What comes to a socket within so many nanoseconds: a datagram, or word of one that was sent. */

@@ -5,7 +5,8 @@
  *
  * The peer, an address of numbers, is to send back what comes to it, as turnutils_peer of coturn
  * does. It prints what was allocated and what came back each way. Status 0; or 1, and why on
- * standard error; or 2 for wrong words. It gives up after 30 s, and ends what was allocated. */
+ * standard error; or 2 for wrong words. It gives up after 30 s, and ends what was allocated. After
+ * `--` no word is an option, as a PASSWORD that begins with `-`. */
 #define _GNU_SOURCE
 #include "exchange.h"
 #include "heap.h"

@@ -7,6 +7,7 @@
  * --user FILE         takes them of a file with a line `NAME PASSWORD`; `-` is standard input
  * --sha256            supports HMAC-SHA256 beside HMAC-SHA1
  * --within SECONDS    gives up after so long; the library does after 39.5 s
+ * --                  what follows is no option, as a PASSWORD that begins with `-`
  *
  * Without a name it takes an answer that nobody signed; with one, only an answer that the server
  * signed. Status 0; or 1, and why on standard error: `no answer`, `refused CODE`, `unsupported ..`

@@ -13,6 +13,7 @@
  * --ahead SECONDS     SIGUSR1 moves the clock so far ahead, to see nonces expire (for tests)
  * --any-method        judges requests of other methods too, and answers them 508 once validated
  * -v                  prints a line for each datagram: from where, the answer, and who had signed
+ * --                  what follows is no option, as a PASSWORD that begins with `-`
  *
  * Port 0 is any free one. The first line of output is `port N`. SIGTERM ends it with status 0. */
 #define _GNU_SOURCE

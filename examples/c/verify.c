@@ -2,7 +2,7 @@
  *
  *     verify PASSWORD < MESSAGE
  *
- * Status 0; or 1 where none does, or 2 for wrong words. */
+ * Status 0; or 1 where none does or nothing can be read, or 2 for wrong words. */
 #include "stunp.h"
 #include <stdio.h>
 
@@ -24,6 +24,10 @@ int main(int count, char **words) {
         return 2;
     }
     size_t length = fread(message, 1, sizeof message, stdin);
+    if (ferror(stdin)) {
+        perror("standard input");
+        return 1;
+    }
     int64_t verdict = stunp_verify(message, length, words[1], strlen(words[1]));
     puts(text_of(verdict));
     return verdict > 0 ? 0 : 1;

@@ -14,8 +14,9 @@
 bool read_number(const char *word, unsigned long least, unsigned long most, unsigned long *number) {
     char *end;
     if (word == NULL || *word < '0' || *word > '9') return false;
+    errno = 0; /* strtoul sets it where the number is above ULONG_MAX */
     *number = strtoul(word, &end, 10);
-    return *end == 0 && *number >= least && *number <= most;
+    return errno == 0 && *end == 0 && *number >= least && *number <= most;
 }
 
 static bool read_seconds(const char *word, unsigned long least, unsigned long most,
@@ -37,8 +38,8 @@ static bool read_value(const char *word, const struct option *option) {
 }
 
 int read_options(int count, char **words, const struct option *options) {
-    int left = 0;
-    for (int i = 1; i < count; i++) {
+    int left = 0, i = 1;
+    for (; i < count && strcmp(words[i], "--") != 0; i++) {
         const struct option *one = options;
         while (one->name != NULL && strcmp(words[i], one->name) != 0) one++;
         if (one->name == NULL && words[i][0] == '-') return -1;
@@ -46,6 +47,7 @@ int read_options(int count, char **words, const struct option *options) {
         else if (one->flag != NULL) *one->flag = true;
         else if (!read_value(words[++i], one)) return -1;
     }
+    while (++i < count) words[left++] = words[i];
     return left;
 }
 

@@ -19,7 +19,7 @@ struct option {
 bool read_number(const char *word, unsigned long least, unsigned long most, unsigned long *number);
 
 /* Takes the options, which end with one without a name, out of the words. The others are left at
- * their front, and their number is the answer, or -1. */
+ * their front, and their number is the answer, or -1. No word after `--` is an option. */
 int read_options(int count, char **words, const struct option *options);
 
 /* Hands users to a call until it answers below 0, and answers what it answered last. Passwords are
@@ -28,7 +28,7 @@ int read_options(int count, char **words, const struct option *options);
 typedef int64_t take_user(void *taker, const char *name, const char *password);
 int64_t take_words(char **words, int count, take_user *take, void *taker);
 
-/* The same of a file with a line for each, `NAME PASSWORD`, of 64 KiB at most; `-` is standard
+/* The same of a file with a line for each, `NAME PASSWORD`, of less than 64 KiB; `-` is standard
  * input. The name ends with the first blank. Answers NOT_READ after it told why. */
 enum { NOT_READ = -1000 };
 int64_t take_file(const char *path, take_user *take, void *taker);

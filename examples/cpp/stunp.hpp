@@ -57,7 +57,7 @@ template <class T = int64_t> class [[nodiscard]] result {
 // Of a call whose value is its answer.
 template <class T = int64_t, class Call, class... Rest> result<T> ask(Call of, Rest... arguments) {
     int64_t answer = call(of, arguments...);
-    return result<T>(answer, T(answer));
+    return result<T>(answer, answer < 0 ? T{} : T(answer));
 }
 
 using address = stunp_address;

@@ -101,8 +101,8 @@ static void reply(const uint8_t *request, int64_t code, const stunp_address *fro
     waiting[after_waiting++].length = (size_t)length;
 }
 
-/* The first transmission of each run is lost. Before an answer come two forged ones: from
- * elsewhere, and unsigned. */
+/* The first transmission of each run is lost. Before an answer come two forged ones, from elsewhere
+ * and unsigned, and a damaged one. */
 static void send_to(const stunp_address *to, const uint8_t *bytes, size_t length) {
     want("the server's address", memcmp(to, &server_address, sizeof *to), 0);
     if (transmissions++ == 0 || peer == SILENT) return;
@@ -113,6 +113,8 @@ static void send_to(const stunp_address *to, const uint8_t *bytes, size_t length
     }
     reply(bytes, 401, &stranger_address);
     reply(bytes, 0, &server_address);
+    reply(bytes, 0, &server_address);
+    waiting[after_waiting - 1].bytes[STUNP_HEADER_LENGTH + 3] = 12; /* 4 more than there are */
     waiting[after_waiting].from = &server_address;
     waiting[after_waiting].length = serve(&server, bytes, length, &client_address,
                                           waiting[after_waiting].bytes, sizeof waiting[0].bytes);

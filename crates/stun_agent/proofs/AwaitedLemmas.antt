@@ -40,7 +40,8 @@ module _ (transport : TransportType) where
   abbrev least : Option ℕ → Transactions → Option ℕ
   least c es = fold sooner c (awaited_moments transport es)
 
-  least_le : (es : Transactions) (c : Option ℕ) (n k : ℕ) (t : Transaction) → at k es ≡ Some t
+  -- nothing that is awaited is less
+  pub least_le : (es : Transactions) (c : Option ℕ) (n k : ℕ) (t : Transaction) → at k es ≡ Some t
       → is_cancelled t.sending ≡ false → least c es ≡ Some n → n ≤ awaited_moment transport t
   least_le [] c n k t h live f = cc
   least_le (e ∷ es) c n k t h live f =
@@ -64,7 +65,8 @@ module _ (transport : TransportType) where
           (first_le (awaited_moments transport es) c (awaited_moment transport e.1) n f)
       by false false is h f rest = rest (sooner c (awaited_moment transport e.1)) h f
 
-  least_some : (es : Transactions) (c : Option ℕ) (k : ℕ) (t : Transaction) → at k es ≡ Some t
+  -- where a moment is awaited, there is a least
+  pub least_some : (es : Transactions) (c : Option ℕ) (k : ℕ) (t : Transaction) → at k es ≡ Some t
       → is_cancelled t.sending ≡ false → least c es ≡ None → ⊥
   least_some [] c k t h live f = cc
   least_some (e ∷ es) c k t h live f =
@@ -84,11 +86,16 @@ module _ (transport : TransportType) where
           sooner_stays (awaited_moments transport es) c (awaited_moment transport e.1) f
 
   -- a request that awaits a moment
-  abbrev Awaits : Transactions → ℕ → Type 0
+  abbrev pub Awaits : Transactions → ℕ → Type 0
   Awaits es n = (k : ℕ) × (t : Transaction) × (at k es ≡ Some t) × (is_cancelled t.sending ≡ false)
       × (awaited_moment transport t ≡ n)
 
-  least_in : (es : Transactions) (c : Option ℕ) (n : ℕ) → IsAscending es → least c es ≡ Some n
+  pub awaits_tail : (e : ℕ × Transaction) (es : Transactions) (n : ℕ) → IsAscending (e ∷ es)
+      → Awaits es n → Awaits (e ∷ es) n
+  awaits_tail e es n s (k, t, h, live, is) = (k, t, tail_at k e es t s h, live, is)
+
+  -- the least is awaited, or is the one at first
+  pub least_in : (es : Transactions) (c : Option ℕ) (n : ℕ) → IsAscending es → least c es ≡ Some n
       → (c ≡ Some n) ⊎ Awaits es n
   least_in [] c n s f = inl f
   least_in (e ∷ es) c n s f =
@@ -97,7 +104,7 @@ module _ (transport : TransportType) where
     where
       later : {d : Option ℕ} → (d ≡ Some n) ⊎ Awaits es n → (d ≡ Some n) ⊎ Awaits (e ∷ es) n
       later (inl same) = inl same
-      later (inr (k, t, h, live, is)) = inr (k, t, tail_at k e es t s h, live, is)
+      later (inr found) = inr (awaits_tail e es n s found)
 
       first : is_cancelled e.1.sending ≡ false → (c ≡ Some n) ⊎ (awaited_moment transport e.1 ≡ n)
           → (c ≡ Some n) ⊎ Awaits (e ∷ es) n

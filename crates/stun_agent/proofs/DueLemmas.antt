@@ -19,7 +19,7 @@ use Rattle.stun_agent.specs.Transactions.{after_slot, slot_passed, after_slots, 
 use Rattle.stun_agent.specs.code.Deadlines.{deadline_of, is_slot, is_passed}
 use Rattle.stun_agent.specs.code.Deadlines.{is_slot_after, least_due, IsDeadlineIndexOf}
 use Rattle.stun_agent.specs.code.Transactions.{length_sent}
-use Rattle.stun_agent.proofs.Ascending.{find-none, find-least, IsAscending-map}
+use Rattle.stun_agent.proofs.Ascending.{find-none, find-least}
 use Rattle.stun_agent.proofs.DeadlineLemmas.{entry_of, entry_at, other_key}
 use Rattle.stun_agent.proofs.DeadlineLemmas.{least-le, least-some, least-in, Passes}
 use Rattle.stun_agent.proofs.EntryLemmas.{same_key, lookup_found}
@@ -200,10 +200,6 @@ passed_start transport now old =
 module _ (transport : TransportType) (now : ℕ) (last : Option ℕ) (old all : Transactions)
     (ds : List Deadline) (ascends : IsAscending old) (index : IsDeadlineIndexOf transport all ds)
     (passed : IsPassedTo transport now last old all) where
-  pub passed_ascends : IsAscending all
-  passed_ascends =
-      subst IsAscending (sym passed.is) (IsAscending-map (passed_at transport now last) old ascends)
-
   at_all : (k : ℕ) → at k all ≡ option_map (λ v. passed_at transport now last (k, v)) (at k old)
   at_all k = ap (at k) passed.is ∙ lookup-map (passed_at transport now last) k old
 

@@ -1,9 +1,6 @@
 -- Named requests and their index stay so, whatever is put in, taken out or changed.
-use Rattle.std.proofs.Common.{ℕ, ◌≡◌, Bool, true, false, cond, List}
-use Rattle.std.proofs.Common.{[], ◌∷◌, subst, ap, sym, refl, ◌∙◌}
+use Rattle.std.proofs.Common.{ℕ, ◌≡◌, List, [], ◌∷◌, subst, ap, sym, refl, ◌∙◌}
 use Rattle.std.specs.Prelude.{Option, Some, None, IsPermutation}
-use Rattle.std.specs.Option.{option_map, option_map_or}
-use Rattle.std.specs.Map.{set_value}
 use Rattle.std.specs.Ordering.{nat_cmp}
 use Rattle.std.specs.BTreeMap.{is_at}
 use Rattle.std.specs.List.{AllByRecursion}
@@ -16,7 +13,7 @@ use Rattle.stun_agent.specs.declared.state.transaction.Change.TheVariants.{Silen
 use Rattle.stun_agent.specs.declared.state.transaction.Change.TheVariants.{Configure}
 use Rattle.stun_agent.specs.code.Deadlines.{deadline_of, entries_at}
 use Rattle.stun_agent.specs.code.Deadlines.{AreIndexed, IsDeadlineIndexOf, IsReplaced}
-use Rattle.stun_agent.specs.code.Transactions.{Outstanding, changed_transaction, deadlines_around}
+use Rattle.stun_agent.specs.code.Transactions.{Outstanding, changed_transaction}
 use Rattle.stun_agent.proofs.Ascending.{IsAscending-insert, IsAscending-remove, IsAscending-map}
 use Rattle.stun_agent.proofs.DeadlineLemmas.{entry, index_with, index_without}
 use Rattle.stun_agent.proofs.NamedLemmas.{named-with, named-without}
@@ -87,27 +84,3 @@ pub change-bytes : (change : Change) (t : Transaction)
 change-bytes Silence t = refl
 change-bytes Cancel t = refl
 change-bytes (Configure settings) t = refl
-
--- where there is no transaction, nothing is changed
-pub absent_stays : (transport : TransportType) (f : Transaction → Transaction) (id : ℕ)
-    (all : Transactions)
-    → ◌≡◌ {A = Option (Deadline × Deadline)} None
-    (option_map (deadlines_around transport f id) (at id all)) → with_change_at f id all ≡ all
-absent_stays transport f id all h = by (at id all) h
-  where
-    by : (o : Option Transaction)
-        → ◌≡◌ {A = Option (Deadline × Deadline)} None
-        (option_map (deadlines_around transport f id) o)
-        → option_map_or (λ t. set_value (is_at (nat_cmp id)) all (f t)) o all ≡ all
-    by None h = refl
-    by (Some t) h = cc
-
--- nor taken out
-pub without_absent : (id : ℕ) (all : Transactions) → at id all ≡ None → without id all ≡ all
-without_absent id [] h = refl
-without_absent id (e ∷ es) h = by (is_at (nat_cmp id) e.0) h (without_absent id es)
-  where
-    by : (b : Bool) → cond b (Some e.1) (at id es) ≡ None → (at id es ≡ None → without id es ≡ es)
-        → cond b es (e ∷ without id es) ≡ e ∷ es
-    by true h rest = cc
-    by false h rest = ap (λ xs. e ∷ xs) (rest h)

@@ -21,10 +21,6 @@ abbrev pub AreSilentTo : TransportType → ℕ → Option ℕ → Transactions �
 AreSilentTo transport now last all = (k : ℕ) (t : Transaction) → at k all ≡ Some t
     → is_passed last k ≡ true → is_due transport now t ≡ true → repeats t.sending ≡ false
 
-pub silent_start : (transport : TransportType) (now : ℕ) (all : Transactions)
-    → AreSilentTo transport now None all
-silent_start transport now all k t there h due = absurd (let no : false ≡ true = h in cc)
-
 module _ (transport : TransportType) (now : ℕ) (last : Option ℕ) (all : Transactions)
     (ds : List Deadline) (ascends : IsAscending all) (index : IsDeadlineIndexOf transport all ds)
     (silent : AreSilentTo transport now last all) where

@@ -21,10 +21,6 @@ pub or-from_second : {E : Type 0} (o p : Option E) (e : E) → o ≡ None → p 
 or-from_second None p e h k = k
 or-from_second (Some f) p e h k = cc
 
-pub or-from_both : {E : Type 0} (o p : Option E) → o ≡ None → p ≡ None → option_or o p ≡ None
-or-from_both None p h k = k
-or-from_both (Some f) p h k = cc
-
 -- an error that is handed on
 pub handed_on : (T U : Type 0) {E : Type 0} (o : Option E) (e limit : E)
     → MatchOption o (IsOkUnless {T = T} {E = E} (Err e) limit) (IsErrOf {T = T} {E = E} (Err e))

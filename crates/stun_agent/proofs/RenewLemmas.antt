@@ -48,16 +48,6 @@ told_there transport f id all before after h = by (at id all) refl h
 module _ (transport : TransportType) (f : Transaction → Transaction) (id : ℕ) (all : Transactions)
     (ds : List Deadline) (before after : Deadline) (index : IsDeadlineIndexOf transport all ds)
     (told : IsTold transport f id all before after) where
-  -- it has the deadline that is told, alone
-  pub told_alone : entries_at before.id ds ≡ before ∷ []
-  told_alone =
-      subst (λ (d : Deadline). entries_at d.id ds ≡ d ∷ []) (sym told.before_is)
-      (index.entries id ∙ ap (entry transport id) told.there)
-
-  pub told_same : after.id ≡ before.id
-  told_same = ap (λ (d : Deadline). d.id) told.after_is
-      ∙ sym (ap (λ (d : Deadline). d.id) told.before_is)
-
   -- the map is changed at this id, and the deadline is replaced
   pub index_changed : (new : List Deadline) → IsReplaced before after ds new
       → IsDeadlineIndexOf transport (with_change_at f id all) new

@@ -47,8 +47,8 @@ pub fn a_response_from_elsewhere_changes_nothing()
     ensures { IgnoresElsewhere }
 {}
 
-/// Two requests are sent at the same time with the same settings, over UDP and over TCP. Both end
-/// at the same time (RFC 8489, section 6.2.2).
+/// Let two requests be sent at one time with the same settings, one over UDP and one over TCP. Then
+/// the plans of both end at one time (RFC 8489, section 6.2.2).
 pub fn both_transports_end_at_one_moment()
     ensures { EndsAlike }
 {}

@@ -65,7 +65,7 @@ AreInTurn from [] = Unit {0}
 AreInTurn from (c ∷ comings) =
     (from ≤ c.0) × (c.0 < last_moment) × AreInTurn (next_from c.0 c.1) comings
 
--- whatever comes at such moments, there is a loop in which it does, so late as it is
+-- for whatever comes at such moments there is a loop, on time or late
 abbrev pub LoopsExist : Type 0
 LoopsExist =
     (from wait : ℕ) (a : Agent) (comings : Comings) → AreInTurn from comings

@@ -43,7 +43,7 @@ pub record IsReady (m : Meeting) (who : NameAndPassword) (server : ServerSeen) :
   -- the second request is read while the nonce is current
   pub in_time : m.second.now ≤ moment_after m.first.now server.expiry
 
--- `honest` is short for: it is ready, and no signing of the meeting is refused
+-- it is ready, and no signing of the meeting is refused
 pub record IsHonest (m : Meeting) (who : NameAndPassword) (server : ServerSeen) : Type 0 where
   pub ready : IsReady m who server
   pub signed : IsOk (whole_negotiation m initial server).ending

@@ -1,7 +1,7 @@
 -- A client and a server whose calls their users make one by one, each on what the other side has
 -- sent, in order: what the clauses of these calls say, and that the two are in a meeting as
--- `negotiate` has it. Each definition of the meeting is what is left from one call on, the last
--- call first.
+-- `negotiate` has it, of Binding messages without other attributes. Each definition of the meeting
+-- is what is left from one call on, the last call first.
 use Rattle.std.specs.Prelude.{◌≡◌, ℕ, List, true}
 use Rattle.std.specs.declared.result.Result.{Result}
 use Rattle.std.specs.declared.result.Result.TheVariants.{Ok, Err}

@@ -1,5 +1,6 @@
 -- A client and a server that meet (RFC 8489, sections 9.2.3 to 9.2.5), computed step by step over
 -- the bytes of their messages: a request, its challenge, the request with credentials, its success.
+-- All are Binding messages, without attributes but those of signing and ERROR-CODE.
 use Rattle.std.specs.Prelude.{ℕ, List, [], ◌∷◌, true}
 use Rattle.std.specs.declared.result.Result.{Result}
 use Rattle.std.specs.declared.result.Result.TheVariants.{Ok, Err}

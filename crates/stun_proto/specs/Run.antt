@@ -95,9 +95,9 @@ steps_of_event now (CancelRetransmissions id) agent = []
 steps_of_event now (Configure id initial retransmits last max) agent = []
 steps_of_event now (ValidatePeer address) agent = []
 
--- ---- one turn at a moment: transmissions until there are none, then ends until there are none,
--- and again while the next moment is this
--- one
+-- ---- one turn at a moment
+-- transmissions until there are none, then ends until there are none, and again while the next
+-- moment is this one
 pub data Phase : Type 0 where
   sending : Phase
   ending : Phase
@@ -140,9 +140,9 @@ pub data Turns (bound : ℕ) : ℕ → Agent → List Step → Agent → Type 0 
       → ((moment : ℕ) → IsAwaited a moment → from ≤ moment → bound ≤ moment)
       → Turns bound from a [] a
 
--- ---- a run up to a bound: before an event the awaited moments below its own have their turns,
--- then comes the event, and a turn. After
--- the last event the awaited moments below the bound have their turns
+-- ---- a run up to a bound
+-- before an event the awaited moments below its own have their turns, then comes the event, and a
+-- turn. After the last event the awaited moments below the bound have their turns
 pub data Run (bound : ℕ) : ℕ → Agent → List (ℕ × AgentEvent) → List Step → Agent → Type 0 where
   done : {a b : Agent} {from : ℕ} {steps : List Step} → Turns bound from a steps b
       → Run bound from a [] steps b

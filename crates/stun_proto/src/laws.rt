@@ -1,4 +1,5 @@
-//! Laws of runs: what holds of the definitions alone, and what equalities are.
+//! Laws of runs: what holds of the definitions alone, and which step of a run one call of a server
+//! is.
 ghost use Rattle.std.specs.Prelude.{◌≡◌, ◌≤◌, ◌-◌, List, [], Ok, length, ℕ};
 ghost use Rattle.std.specs.declared.net.socket_addr.SocketAddr.{SocketAddr as Address};
 ghost use Rattle.std.specs.Global.{Vec as TheVec};
@@ -103,11 +104,10 @@ pub fn runs_keep_plans()
         → IsDriven until a events steps b → KeepPlans until a events steps }
 {}
 
-/// An agent that began with no request outstanding, and that a user polls in a loop of their own,
-/// on time (`Loop`): each turn comes no later than `poll` said to wait until. It makes the steps of
-/// `drive` with the same events. So the third sentence holds of it (RFC 8489, section 6.2.1). And
-/// whatever comes at moments that do not go back, there is a loop in which it does, on time or
-/// late.
+/// Let an agent begin with no request outstanding, and let a user poll it on time in a loop
+/// (`Loop`): no turn comes later than `poll` said. Then it makes the steps of `drive` with the same
+/// events. So the third sentence holds of it (RFC 8489, section 6.2.1). For any events at moments
+/// that do not go back there is a loop, on time or late.
 pub fn loops_are_driven()
     ensures driven { LoopsAreDriven }
     ensures plans { LoopsSendByPlan }
@@ -148,10 +148,11 @@ pub fn one_call_validates()
     stun_auth::laws::accepted_messages_are_validated();
 }
 
-/// Calls that a user makes on one server, one by one, are a run of `serve`. Each is as the clauses
-/// of the server's own call say (`IsMade`), from the server that the one before left. They have the
-/// replies of the run, and leave its server. So the first sentence holds of them (RFC 8489, section
-/// 9.2.4).
+/// Calls that a user makes on one server, one by one, are a run of `serve`. They are calls as
+/// `ServerCall` has them: no user is handed in (`validate_incoming_message_of`), and there is no
+/// `forget_expired_within`. Each is as the clauses of the server's own call say (`IsMade`), from
+/// the server that the one before left. They have the replies of the run, and leave its server. So
+/// the first sentence holds of them (RFC 8489, section 9.2.4).
 pub fn calls_are_a_run()
     ensures served { CallsAreServed }
     ensures validated { CallsAreValidated }
@@ -176,7 +177,7 @@ pub fn a_validation_is_made<A: Allocator + Copy, R: Rng>(
         (reply_with (reply_of_answer result) server.new))
         (server.new ≡ server.old) }
 {
-    // For the proof: it tells that the bytes are a message.
+    // For the proof alone: its clause tells that the bytes are a message.
     let _bytes = message.as_bytes();
     server.validate_incoming_message(message, from, now, rng)
 }
@@ -208,12 +209,12 @@ pub fn best_is_strongest()
     ensures { BestIsStrongest }
 {}
 
-/// Two messages have the same bytes, but for the length in the header, up to the end of the
-/// integrity attribute that decides in both. They get the same reply and leave the same server,
-/// with the same place of their address. So does each run in which one of them is in the place of
-/// the other. So nobody changes what a server makes of a signed request by appending to it, with
-/// one exception. A MESSAGE-INTEGRITY-SHA256 that is put after a MESSAGE-INTEGRITY has the digest
-/// that decides (RFC 8489, sections 14.5 to 14.7).
+/// Let two messages have the same bytes up to the end of the integrity attribute that decides in
+/// both, but for the length field. Then they get the same reply and leave the same server, with the
+/// same place of their address. So do two runs, in which one is in the place of the other. So
+/// nobody changes what a server makes of a signed request by appending to it, with one exception. A
+/// MESSAGE-INTEGRITY-SHA256 that is put after a MESSAGE-INTEGRITY has the digest that decides (RFC
+/// 8489, sections 14.5 to 14.7).
 pub fn appending_changes_no_reply()
     ensures agreeing { AgreeingAreAnsweredAlike }
     ensures appended { ContinuedAreAnsweredAlike }
@@ -230,9 +231,10 @@ pub fn shards_serve_as_one()
     ensures { ShardsServeAsOne }
 {}
 
-/// A client that is ready, where no signing is refused (`IsHonest`), is accepted with its second
-/// request. The algorithm is the strongest that both sides support. Both sides then know each
-/// other. Where there is none, the client gives up and keeps nothing (RFC 8489, section 9.2).
+/// Let a client be ready, and let no signing be refused (`IsHonest`). Where the two can agree on an
+/// algorithm (`best_is_strongest`), the client is accepted with its second request, by that
+/// algorithm. Both sides then know each other. Else the client gives up and keeps nothing (RFC
+/// 8489, section 9.2).
 ///
 /// This is a law over the steps of a meeting, which are computed over the bytes of its messages.
 pub fn strongest_is_agreed()
@@ -244,10 +246,11 @@ pub fn strongest_is_agreed()
     auth_laws::sides_add_by_attribute();
 }
 
-/// The users of a client and a server make their calls one by one, each on what the other side has
-/// sent, in order (`HaveMet`). Then the two are in a meeting as `negotiate` has it. They come to
-/// the same outcome, and both sides are left the same. So an honest client is accepted with its
-/// second request and the strongest algorithm of both (RFC 8489, section 9.2).
+/// Let the users of a client and a server make their calls one by one, in order, each on what the
+/// other has sent (`HaveMet`). Then the two are in a meeting as `negotiate` has it, of Binding
+/// messages without other attributes. They come to the same outcome, and both sides are left the
+/// same. So an honest client and its server agree as `strongest_is_agreed` says (RFC 8489, section
+/// 9.2).
 pub fn calls_are_a_meeting()
     ensures negotiated { MeetingsAreNegotiated }
     ensures strongest { MeetingsAgree }
@@ -292,9 +295,9 @@ pub fn a_hashed_name_is_validated()
 }
 
 /// An authenticated client sends a request after its nonce has ended. The server refuses it with
-/// `StaleNonce`, unless the nonce that is current by then is the old one, drawn again. Then the
-/// client reads one error of code 438 that the server signed. Its next request is accepted while
-/// the nonce of that error is current (RFC 8489, sections 9.2.4 and 9.2.5).
+/// `StaleNonce`, or accepts it if the nonce that is current by then is the old one, drawn again. If
+/// it is refused, the client reads one error of code 438 that the server signed. Its next request
+/// is then accepted while the nonce of that error is current (RFC 8489, sections 9.2.4 and 9.2.5).
 ///
 /// - The messages are of any method. They have any attributes of their own but those that signing
 ///   adds.

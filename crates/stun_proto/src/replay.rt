@@ -11,7 +11,7 @@ mod signing;
 mod step_log;
 mod turn;
 
-// The laws on meetings are here too, beside `negotiate`.
+// Three laws on meetings are here too, beside `negotiate`.
 pub use crate::laws::{nonce_is_renewed, short_names_are_signed, strongest_is_agreed};
 pub use call::{ServerCall, ServerReply};
 pub use driven::drive;

@@ -3,12 +3,12 @@ ghost use Rattle.std.specs.Prelude.{◌≡◌, ◌+◌, ◌≤◌, ◌<◌, leng
 ghost use Rattle.std.specs.Prelude.{IfSome, IsSomeAnd, IfOk, OnOk, OnErr};
 ghost use Rattle.std.specs.Borrow.{sem};
 ghost use Rattle.std.specs.Option.{option_map};
-ghost use Rattle.stun_agent.specs.Agent.{poll_answer, after_poll, ended_by_poll};
+ghost use Rattle.stun_agent.specs.Agent.{poll_answer, after_poll};
 ghost use Rattle.stun_agent.specs.Agent.{sent_by_poll, after_poll_transmit, datagram_of};
 ghost use Rattle.stun_agent.specs.Datagrams.{lent_datagram};
 ghost use Rattle.stun_agent.specs.Deadlines.{early_requests, most_reads, IsUnused};
-ghost use Rattle.stun_agent.specs.Transactions.{IsNamed, AreKept, next_awaited, wake_up, at};
-ghost use Rattle.stun_agent.specs.code.Transactions.{contents, id_and_repeats};
+ghost use Rattle.stun_agent.specs.Transactions.{IsNamed, AreKept, next_awaited, at};
+ghost use Rattle.stun_agent.specs.code.Transactions.{contents};
 
 use crate::agent::{StunAgent, StunAgentPollRet};
 use crate::calls::transmit::Transmit;
@@ -50,8 +50,9 @@ impl<A: Allocator + Copy> StunAgent<A> {
 
     /// As `poll`, which is this call with a blank of its own. It also returns how often it read the
     /// deadlines of requests. That is at most once more than there are requests that are cancelled
-    /// or await at most `now`, and at most 195 times. The count takes no bytes, and
-    /// contracts alone see it.
+    /// or await at most `now`, and at most 195 times.
+    ///
+    /// The count takes no bytes, and contracts alone see it.
     pub fn poll_counted<L: Ledger>(
         &mut self,
         now: Instant,

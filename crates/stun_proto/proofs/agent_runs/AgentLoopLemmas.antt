@@ -10,10 +10,9 @@ use Rattle.std.specs.List.Sorted.{IsStrictlySortedBy}
 use Rattle.std.specs.Map.{lookup, keys_of}
 use Rattle.std.specs.Ordering.{nat_cmp}
 use Rattle.std.specs.BTreeMap.{is_at}
-use Rattle.std.specs.declared.cmp.Ordering.TheVariants.{Less}
 use Rattle.std.proofs.lemmas.Bool.{lt-leb}
-use Rattle.std.proofs.lemmas.Map.Entries.{lookup_head, lookup_tail}
-use Rattle.std.proofs.lemmas.Map.Keys.{sorted_head, sorted_tail}
+use Rattle.std.proofs.lemmas.Map.Entries.{lookup_head}
+use Rattle.std.proofs.lemmas.Map.Keys.{sorted_tail}
 use Rattle.stun_base.specs.Moments.{last_moment, moment_after}
 use Rattle.stun_base.specs.declared.wire.transport.TransportType.{TransportType}
 use Rattle.stun_agent.specs.Agent.{Agent, after_poll_transmit, sent_by_poll}
@@ -21,8 +20,8 @@ use Rattle.stun_agent.specs.Agent.{tally_of_sent, with_transactions}
 use Rattle.stun_agent.specs.Transactions.{IsAscending, Transaction, Transactions}
 use Rattle.stun_agent.specs.Transactions.{after_slot, after_slots, an_hour, at, awaited_moment}
 use Rattle.stun_agent.specs.Transactions.{has_slots, is_cancelled, is_due, is_over, repeats}
-use Rattle.stun_agent.proofs.Ascending.{lookup_among}
-use Rattle.stun_agent.proofs.EntryLemmas.{own_key, later_key}
+use Rattle.stun_agent.proofs.AwaitedLemmas.{Awaits, awaits_tail}
+use Rattle.stun_agent.proofs.EntryLemmas.{own_key}
 use Rattle.stun_proto.specs.declared.replay.event.AgentEvent.{AgentEvent}
 use Rattle.stun_proto.specs.AgentLoop.{AreInTurn, Comings, Loop, LoopsAreDriven, LoopsExist}
 use Rattle.stun_proto.specs.AgentLoop.{LoopsSendByPlan, events_in, handed, polled, rest, wait_of}
@@ -47,22 +46,9 @@ module _ (transport : TransportType) where
   waits_less m n (e ∷ es) le w = let late = w.0.1 in
       ((w.0.0, omega arith), waits_less m n es le w.1)
 
-  -- one of them awaits this moment
-  abbrev Awaits : Transactions → ℕ → Type 0
-  Awaits es n = (k : ℕ) × (v : Transaction) × (lookup (is_at (nat_cmp k)) es ≡ Some v)
-      × (is_cancelled v.sending ≡ false) × (awaited_moment transport v ≡ n)
-
-  awaits_tail : (e : ℕ × Transaction) (es : Transactions) (n : ℕ) → IsAscending (e ∷ es)
-      → Awaits es n → Awaits (e ∷ es) n
-  awaits_tail e es n s (k, v, found, live, is) =
-      let less : nat_cmp e.0 k
-      ≡ Less = lookup_among (λ y. nat_cmp e.0 y ≡ Less) es k v
-      (sorted_head nat_cmp e.0 (keys_of es) s) found in
-      (k, v, lookup_tail (is_at (nat_cmp k)) e es (later_key k e.0 less) ∙ found, live, is)
-
   -- this moment is awaited, or each awaits a later one
   found_or_later : (m : ℕ) (es : Transactions) → IsAscending es → Waits m es
-      → Awaits es m ⊎ Waits (m + 1) es
+      → Awaits transport es m ⊎ Waits (m + 1) es
   found_or_later m [] s w = inr tt
   found_or_later m (e ∷ es) s w = by (order m (awaited_moment transport e.1) w.0.1)
       (found_or_later m es (sorted_tail nat_cmp e.0 (keys_of es) s) w.1)
@@ -78,10 +64,11 @@ module _ (transport : TransportType) where
           then (inr less) = inr (omega arith)
 
       by : (m ≡ awaited_moment transport e.1) ⊎ (m + 1 ≤ awaited_moment transport e.1)
-          → Awaits es m ⊎ Waits (m + 1) es → Awaits (e ∷ es) m ⊎ Waits (m + 1) (e ∷ es)
+          → Awaits transport es m ⊎ Waits (m + 1) es
+          → Awaits transport (e ∷ es) m ⊎ Waits (m + 1) (e ∷ es)
       by (inl same) others = inl
           (e.0, e.1, lookup_head (is_at (nat_cmp e.0)) e es (own_key e.0), w.0.0, sym same)
-      by (inr less) (inl found) = inl (awaits_tail e es m s found)
+      by (inr less) (inl found) = inl (awaits_tail transport e es m s found)
       by (inr less) (inr later) = inr ((w.0.0, less), later)
 
   -- what awaits this moment is looked up

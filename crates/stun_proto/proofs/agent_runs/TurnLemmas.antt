@@ -150,20 +150,6 @@ leads_ended now a old new first before after leads (e, found, is, added) = recor
       (ends e found (subst (λ x. Turn now ending x more b) is t)));
 }
 
-pub ends_all : (now : ℕ) (a old new : Agent) (first before after : Option (List Step)) (wait : ℕ)
-    → Leads now ending ending a old first before → HasMoved a old
-    → EndsOne now old new before after (Some wait) → EndsAll now a new first after wait
-ends_all now a old new first before after wait leads moved (found, waits, is, added) = record {
-  leads = record {
-    steps = leads.steps;
-    added = subst (Keeps first leads.steps) (sym added) leads.added;
-    goes_on = λ more b t. leads.goes_on more b (subst (λ x. Turn now ending x more b) is t);
-  };
-  progress = subst (HasMoved a) (sym is) moved;
-  settled = subst (λ x. ended_by_poll now x ≡ None) (sym is) found;
-  waits = waits ∙ ap (λ x. wake_up x.transport now x.transactions) (sym is);
-}
-
 -- ---- a turn
 pub leads_both : (now : ℕ) (a old mid new : Agent) (first before between after : Option (List Step))
     (wait : ℕ) → Leads now sending sending a old first before

@@ -95,14 +95,16 @@ impl From<Stopped> for NegotiateError {
 /// 3. The client sends a request with the second id. The server reads it at the second moment.
 /// 4. The server sends a success, which the client reads.
 ///
-/// Each message is signed by the side that sends it, and read through its bytes. The server makes
-/// the first list of calls just before the client reads the 401. It makes the second list just
-/// before it reads the second request.
+/// All are Binding messages. Before they are signed they have no attributes, but ERROR-CODE in the
+/// 401. Each message is signed by the side that sends it, and read through its bytes. The server
+/// makes the first list of calls just before the client reads the 401. It makes the second list
+/// just before it reads the second request.
 ///
 /// A ready client is accepted with its second request and with the strongest algorithm that both
-/// sides support. Both sides then know each other. Where there is no such algorithm, the client
-/// fails with `UnsupportedFeature` and keeps nothing. The server then knows no client at its
-/// address (RFC 8489, section 9.2). A client is ready if:
+/// sides support. Both sides then know each other. There are two exceptions: the sides share no
+/// algorithm, or the client must send a hash of its name and the server takes none. Then the client
+/// fails with `UnsupportedFeature` and keeps nothing. The server knows no client at its address
+/// (RFC 8489, section 9.2). A client is ready if:
 ///
 /// - It is new, and has the name and password of a registered user. No two registered users share a
 ///   USERHASH.
@@ -204,7 +206,7 @@ fn realm_is_text<A: Allocator + Copy>(server: &LongTermServerAuth<A>)
     let _realm = server.realm();
 }
 
-/// The name of a client's user is a text. For the proof alone, as above.
+/// The name of a client's user is a text. For the proof alone: it brings in what a `&str` promises.
 fn name_is_text<A: Allocator>(client: &LongTermClientAuth<A>)
     ensures { IfSome client.now.settings.credentials (λ who. IsUtf8 who.username) }
 {

@@ -39,7 +39,7 @@ use stun_types::message::Message;
 /// - consistent algorithms;
 /// - the digest under the key of the registered user whom it names.
 ///
-/// They are judged by the place that the earlier calls of its address leave.
+/// It is judged by the place that the earlier calls of its address leave.
 ///
 /// The one error is that an allocation failed: the server is then as after the first `done` calls.
 /// The call whose allocation failed is none of them, unless it was complete and only its reply

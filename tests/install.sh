@@ -6,7 +6,8 @@
 set -eu
 cd "$(dirname "$0")"
 cc=${CC:-cc}
-if ! "$cc" --version >/dev/null 2>&1 || ! command -v make >/dev/null; then
+. ../tools/compiler.sh
+if ! there "${CC-}" cc || ! command -v make >/dev/null; then
     echo 'install: no C compiler and make'
     exit 0
 fi
@@ -77,13 +78,13 @@ flags() {
 }
 strict='-std=c99 -Wall -Wextra -Wpedantic -Werror'
 for memory in LIBRARYS_MEMORY OWN_MEMORY; do
-    "$cc" $strict -D$memory c/installed.c $(flags stunp_state) -o "$scratch/installed"
+    $cc $strict -D$memory c/installed.c $(flags stunp_state) -o "$scratch/installed"
     prints "$version" "$scratch/installed"
 done
 # The first archive wants no memory, but for one of the exported crate with the program's memory.
 messages='stunp'
 ! nm -u "$STUN_C" 2>/dev/null | grep -q rattle_alloc || messages='stunp stunp_heap'
-"$cc" c/arguments.c $(flags $messages) -o "$scratch/arguments"
+$cc c/arguments.c $(flags $messages) -o "$scratch/arguments"
 prints 'arguments: passed' "$scratch/arguments"
 if command -v pkg-config >/dev/null; then checked="$checked, pkg-config"; fi
 # The memory functions under other names, by the recipe of stunp_state.h.
@@ -94,7 +95,7 @@ if command -v objcopy >/dev/null; then
         strict="$strict -Drattle_$name=mine_$name"
     done
     objcopy $renamed "$root/usr/lib/libstunp_state.a" "$scratch/renamed.a"
-    "$cc" $strict -DOWN_MEMORY c/installed.c "$scratch/renamed.a" $(flags $messages) \
+    $cc $strict -DOWN_MEMORY c/installed.c "$scratch/renamed.a" $(flags $messages) \
         -o "$scratch/renamed"
     prints "$version" "$scratch/renamed"
     checked="$checked, renamed memory"
@@ -113,7 +114,7 @@ find_package(stunp ${RELEASE} REQUIRED)
 add_executable(installed ${SOURCE})
 target_link_libraries(installed stunp::stunp_state)
 PROJECT
-    quiet cmake -S "$scratch/project" -B "$scratch/built" -DCMAKE_C_COMPILER="$cc" \
+    quiet env CC="$cc" cmake -S "$scratch/project" -B "$scratch/built" \
         -DCMAKE_PREFIX_PATH="$root/usr" -DRELEASE="$version" -DSOURCE="$PWD/c/installed.c"
     quiet cmake --build "$scratch/built"
     prints "$version" "$scratch/built/installed"

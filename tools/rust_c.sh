@@ -35,11 +35,11 @@ for seen in "-g $out/libstunp.a" "-g $out/libstunp-program.a" "-D $out/libstunp.
     cmp "$out/declared" "$out/defined"
 done
 
-# expect WANTED COMMAND..: the command prints this, whatever its status.
+# expect WANTED COMMAND..: the command prints this, with status 0.
 expect() {
     wanted=$1
     shift
-    printed=$("$@" || true)
+    printed=$("$@") || { echo "rust_c: $*: ended with $?, printed '$printed'" >&2; exit 1; }
     [ "$printed" = "$wanted" ] ||
         { echo "rust_c: $*: printed '$printed', not '$wanted'" >&2; exit 1; }
 }

@@ -29,10 +29,14 @@ RUNNING = []  # every server that was started
 # ---- Programs
 
 
+def compiler():
+    """The words of the C compiler: those of CC, or `cc`."""
+    return os.environ.get("CC", "").split() or ["cc"]
+
+
 def build(folder):
     """Builds the programs of ../c. Answers their paths, and whether with sanitizers; or why not."""
-    compiler = os.environ.get("CC", "cc")
-    if shutil.which(compiler) is None:
+    if not os.environ.get("CC") and shutil.which("cc") is None:
         return None, "no C compiler"
     if not STATE.exists() and (TOP / "crates/stun_state").exists() and shutil.which("rt"):
         subprocess.run(["rt", "lib"], cwd=TOP / "crates/stun_state", capture_output=True)
@@ -43,31 +47,31 @@ def build(folder):
     sanitized = ["-fsanitize=address,undefined", "-fno-sanitize-recover=all"]
     empty = folder / "empty.c"
     empty.write_text("int main(void) { return 0; }\n")
-    words = [compiler, *sanitized, empty, "-o", folder / "empty"]
-    tried = subprocess.run(words, capture_output=True)
-    has = tried.returncode == 0
+    words = [*compiler(), *sanitized, empty, "-o", folder / "empty"]
+    has = all(subprocess.run(tried, capture_output=True).returncode == 0
+              for tried in (words, [folder / "empty"]))
     flags = " ".join(flags + (sanitized if has else []))
     archives = (f"STATE={STATE}", f"LIBRARY={STATELESS}")
-    values = (f"CC={compiler}", f"CFLAGS={flags}", f"OUT={folder}", *archives)
+    values = (f"CC={' '.join(compiler())}", f"CFLAGS={flags}", f"OUT={folder}", *archives)
     subprocess.run(["make", "-s", "-C", TOP / "examples/c", *values, "udp"], check=True)
-    build_helpers(compiler, folder)
+    build_helpers(folder)
     return has, None
 
 
-def build_helpers(compiler, folder):
+def build_helpers(folder):
     """Builds the programs and the library of this folder's own."""
     parts = TOP / "examples/c"
-    paths = (f"-I{TOP}/include", f"-I{parts}")
+    command = [*compiler(), "-O1", f"-I{TOP}/include", f"-I{parts}"]
     wiped = (HERE / "wiped.c", parts / "heap.c", STATE, STATELESS, "-o", folder / "wiped")
-    subprocess.run([compiler, "-O1", *paths, *wiped], check=True)
+    subprocess.run([*command, *wiped], check=True)
     client = (parts / name for name in ("request.c", "net.c", "words.c", "heap.c"))
     drained = (HERE / "drained.c", *client, STATE, STATELESS, "-o", folder / "drained")
-    subprocess.run([compiler, "-O1", *paths, *drained], check=True)
+    subprocess.run([*command, *drained], check=True)
     places = (*(parts / name for name in ("places.c", "net.c", "heap.c")), STATE, STATELESS)
     crowded = (HERE / "crowded.c", *places, "-o", folder / "crowded")
-    subprocess.run([compiler, "-O1", *paths, *crowded], check=True)
-    faults = (HERE / "faults.c", "-o", folder / "faults.so", "-ldl")
-    subprocess.run([compiler, "-O1", "-shared", "-fPIC", *faults], check=True)
+    subprocess.run([*command, *crowded], check=True)
+    faults = ("-shared", "-fPIC", HERE / "faults.c", "-o", folder / "faults.so", "-ldl")
+    subprocess.run([*command, *faults], check=True)
 
 
 class Server:

@@ -11,7 +11,6 @@ the table of a run. Status 0 where each row came out as it should; the last line
 """
 import concurrent.futures
 import contextlib
-import os
 import pathlib
 import re
 import shutil
@@ -498,9 +497,9 @@ def cases(folder, versions, start):
     ice_check, turn_client = folder / "ice_check", folder / "turn_client"
     yield from of_ours(ice_check, turn_client, folder / "udp_server")
     if versions["libnice-dev"] and shutil.which("pkg-config"):
-        libnice, compiler = folder / "libnice_ice", os.environ.get("CC", "cc")
+        libnice, source = folder / "libnice_ice", harness.HERE / "libnice_ice.c"
         flags = interop.run("pkg-config", "--cflags", "--libs", "nice")[0].split()
-        built = interop.run(compiler, harness.HERE / "libnice_ice.c", "-o", libnice, *flags)
+        built = interop.run(*harness.compiler(), source, "-o", libnice, *flags)
         assert built[1] == 0, built
         yield from of_agent(f"libnice {versions['libnice-dev']}", [libnice], ice_check)
     if versions["python3-aioice"]:

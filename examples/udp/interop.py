@@ -310,7 +310,8 @@ def with_coturn(number):
 def with_libnice(number, folder):
     peer, program = f"libnice {number}", folder / "libnice_peer"
     flags = run("pkg-config", "--cflags", "--libs", "nice")
-    built = run("cc", "-O1", harness.HERE / "libnice_peer.c", "-o", program, *flags[0].split())
+    source = harness.HERE / "libnice_peer.c"
+    built = run(*harness.compiler(), "-O1", source, "-o", program, *flags[0].split())
     assert built[1] == 0, built
     for offered in ((), ("--sha256",)):
         row(peer, " ".join(("StunAgent → udp_server", *offered)), "each validated the other",

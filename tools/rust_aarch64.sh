@@ -4,21 +4,21 @@
 set -eu
 cd "$(dirname "$0")/.."
 packages="qemu-user gcc-aarch64-linux-gnu libc6-dev-arm64-cross rustc-web"
-# Not in the repository: `rt ci` refuses one in which a link stands.
-library=${XDG_CACHE_HOME:-$HOME/.cache}/stunp-aarch64
 cd target/export
 
 if ! dpkg -s $packages > /dev/null 2>&1; then
     apt-get install -qq -y --no-install-recommends $packages > /dev/null
 fi
+# rustc takes a library of its own version alone. It has links, so it is not in the repository: `rt
+# ci` refuses one with a link.
+version=$(dpkg-query -W -f '${Version}' rustc-web)
+library=${XDG_CACHE_HOME:-$HOME/.cache}/stunp-aarch64/$version
 if [ ! -d "$library/usr" ]; then
     dpkg --print-foreign-architectures | grep -q arm64 || {
         dpkg --add-architecture arm64
         apt-get update -qq
     }
     mkdir -p "$library"
-    # rustc takes a library of its own version alone.
-    version=$(dpkg-query -W -f '${Version}' rustc-web)
     (cd "$library" && apt-get download -qq "libstd-rust-web-dev:arm64=$version" &&
         dpkg-deb -x libstd-rust-web-dev_*_arm64.deb .)
 fi

@@ -1,5 +1,6 @@
 """What the tests of the UDP programs share: building and running them, a relay, a socket."""
 import collections
+import contextlib
 import itertools
 import os
 import pathlib
@@ -22,8 +23,7 @@ STATE = pathlib.Path(os.environ.get("STUN_STATE", TOP / "crates/stun_state/out/l
 STATELESS = pathlib.Path(os.environ.get("STUN_C", TOP / "crates/stun_c/out/libstun_c.a"))
 REALM, NAME, PASSWORD = "example.org", "alice", "wonderland"
 USER = (REALM, NAME, PASSWORD)
-SECONDS = 170  # the whole run has an end
-RUNNING = []  # every server that was started
+SCRATCH = []  # the folder of the run, while there is one
 
 
 # ---- Programs
@@ -83,7 +83,6 @@ class Server:
         words = [*within, program, str(port), *words]
         pipes = dict(stdout=subprocess.PIPE, stderr=self.errors, text=True)
         self.process = subprocess.Popen(words, env={**os.environ, **dict(environment)}, **pipes)
-        RUNNING.append(self.process)
         self.lines, self.is_up = [], threading.Event()
         threading.Thread(target=self.listen, daemon=True).start()
         self.is_up.wait(20)
@@ -250,9 +249,45 @@ def has_ipv6():
         return False
 
 
-def give_up(*_):
-    """Ends what was started, and the run."""
-    for process in RUNNING:
-        process.kill()
-    print(f"udp: not done in {SECONDS} s", file=sys.stderr, flush=True)
-    os._exit(1)
+@contextlib.contextmanager
+def scratch():
+    """A folder for all that is built and written. It goes even where the run gives up."""
+    with tempfile.TemporaryDirectory() as folder:
+        SCRATCH.append(folder)
+        tempfile.tempdir = folder
+        try:
+            yield pathlib.Path(folder)
+        finally:
+            tempfile.tempdir = None
+            SCRATCH.remove(folder)
+
+
+def begun():
+    """The processes that this one began, and those that they began."""
+    children, found = collections.defaultdict(list), [os.getpid()]
+    for stat in pathlib.Path("/proc").glob("[0-9]*/stat"):
+        with contextlib.suppress(OSError):
+            parent = stat.read_bytes().rsplit(b")", 1)[1].split()[1]
+            children[int(parent)].append(int(stat.parent.name))
+    for process in found:
+        found += children[process]
+    return found[1:]
+
+
+def end_within(seconds=170):
+    """The run has an end: after so many seconds, or more on fewer than four processors."""
+    seconds = round(seconds * max(1, 4 / (os.cpu_count() or 1)))
+
+    def give_up(*_):
+        """Ends what was started, and the run. First its programs go, so that none is started
+        anew."""
+        for folder in SCRATCH:
+            shutil.rmtree(folder, ignore_errors=True)
+        for process in begun():
+            with contextlib.suppress(OSError):
+                os.kill(process, signal.SIGKILL)
+        print(f"udp: not done in {seconds} s", file=sys.stderr, flush=True)
+        os._exit(1)
+
+    signal.signal(signal.SIGALRM, give_up)
+    signal.alarm(seconds)

@@ -11,14 +11,11 @@ the table of a run. Status 0 where each row came out as it should; the last line
 """
 import concurrent.futures
 import contextlib
-import pathlib
 import re
 import shutil
-import signal
 import socket
 import subprocess
 import sys
-import tempfile
 import threading
 import time
 
@@ -437,9 +434,7 @@ def of_agent(name, agent, ice_check):
 
 def started(*words, port=None):
     """A program of coturn's on a port, which is ended at the end."""
-    one = interop.Peer(*words, "-p", port, port=port)
-    harness.RUNNING.append(one.process)
-    return one
+    return interop.Peer(*words, "-p", port, port=port)
 
 
 def turnserver(folder, *words):
@@ -520,14 +515,13 @@ def tried(case):
 
 def main():
     with contextlib.ExitStack() as stack:
-        folder = pathlib.Path(stack.enter_context(tempfile.TemporaryDirectory()))
+        folder = stack.enter_context(harness.scratch())
         is_sanitized, missing = harness.build(folder)
         if missing:
             print(f"ice and turn: nothing checked: {missing}")
             return 0
         versions = installed()
-        signal.signal(signal.SIGALRM, harness.give_up)
-        signal.alarm(harness.SECONDS)
+        harness.end_within()
         all_cases = list(cases(folder, versions, stack.enter_context))
         with concurrent.futures.ThreadPoolExecutor(6) as pool:
             rows = list(pool.map(tried, all_cases))

@@ -9,6 +9,7 @@ stun-client. With --install those that are missing, and what builds them, are in
 without it a line after the table names them. docs/INTEROP.md has the table of a run. Status 0 where
 each row that could be tried came out as it should.
 """
+import contextlib
 import os
 import pathlib
 import signal
@@ -105,13 +106,15 @@ class Peer:
         self.out.close()
 
 
+@contextlib.contextmanager
 def turnserver(*words):
     port = free_port()
-    folder = tempfile.mkdtemp()
-    return Peer("turnserver", "-n", "--listening-ip=127.0.0.1", "--listening-ip=::1",
-                "--relay-ip=127.0.0.1", "-p", port, "--no-tls", "--no-dtls", "--no-cli",
-                "--log-file=stdout", f"--pidfile={folder}/pid", f"--userdb={folder}/db", *words,
-                port=port)
+    here = ("--listening-ip=127.0.0.1", "--listening-ip=::1", "--relay-ip=127.0.0.1", "-p", port)
+    with tempfile.TemporaryDirectory() as folder:
+        files = f"--pidfile={folder}/pid", f"--userdb={folder}/db"
+        with Peer("turnserver", "-n", *here, "--no-tls", "--no-dtls", "--no-cli",
+                  "--log-file=stdout", *files, *words, port=port) as peer:
+            yield peer
 
 
 # ---- Their clients against udp_server

@@ -2,8 +2,8 @@
 # Builds the archives and the examples against them, and compares what they print. It installs the
 # archives into a scratch folder and builds over that (tests/install.sh). What the archives answer
 # tests/check.sh tests. Where STUN_C and STUN_STATE name other archives, as libstunp.a and
-# libstunp-program.a of tools/rust_c.sh, nothing is proved. Without a C compiler and make it checks
-# nothing. The last line says what was checked.
+# libstunp-program.a of tools/rust_c.sh, nothing is proved. LIBRARIES tells what those want beside.
+# Without a C compiler and make it checks nothing. The last line says what was checked.
 set -eu
 cd "$(dirname "$0")"
 python3 ../bench/bars.py >/dev/null # the tables of bench/README.md have the bars of the programs
@@ -21,8 +21,10 @@ if [ -z "${STUN_C-}" ] || [ -z "${STUN_STATE-}" ]; then
     fi
     STUN_C=$PWD/../crates/stun_c/out/libstun_c.a
     STUN_STATE=$PWD/../crates/stun_state/out/libstun_state.a
+    LIBRARIES=''
 fi
-export STUN_C STUN_STATE
+: "${LIBRARIES=-lpthread -ldl -lm}"
+export STUN_C STUN_STATE LIBRARIES
 
 # expect STATUS WANTED COMMAND..: the command ends with this status, and prints this.
 expect() {
@@ -36,7 +38,7 @@ expect() {
 }
 
 rm -rf c/out
-make -s -C c CC="${CC:-cc}" LIBRARY="$STUN_C" STATE="$STUN_STATE"
+make -s -C c CC="${CC:-cc}" LIBRARY="$STUN_C" STATE="$STUN_STATE" SYSTEM="$LIBRARIES"
 
 password='VOkJxbRl1RmTxUk/WvJxBt'
 
@@ -65,7 +67,7 @@ if there "${CXX-}" c++; then
         "$scratch/empty"; } 2>/dev/null || sanitized=''
     ${CC:-cc} -O1 -I../include -c c/heap.c -o "$scratch/heap.o"
     ${CXX:-c++} -std=c++17 -Wall -Wextra -Wpedantic -Werror $sanitized -I../include \
-        cpp/check.cpp "$scratch/heap.o" "$STUN_STATE" "$STUN_C" -o "$scratch/wrapped"
+        cpp/check.cpp "$scratch/heap.o" "$STUN_STATE" "$STUN_C" $LIBRARIES -o "$scratch/wrapped"
     "$scratch/wrapped" >"$scratch/said"
     cmp "$scratch/said" cpp/check.txt
     checked='C, C++'

@@ -1,8 +1,9 @@
 #!/bin/sh
 # Builds the archives, and tests them: by the transcripts (play.py), and by what only C can pass.
 # Where STUN_C and STUN_STATE name other archives, as libstunp.a and libstunp-program.a of
-# tools/rust_c.sh, nothing is proved. Sanitizers watch where the compiler has them. Without a C
-# compiler it checks nothing. The last line says what was checked.
+# tools/rust_c.sh, nothing is proved. LIBRARIES tells what those want beside. Sanitizers watch
+# where the compiler has them. Without a C compiler it checks nothing. The last line says what was
+# checked.
 set -eu
 cd "$(dirname "$0")"
 cc=${CC:-cc} plus=${CXX:-c++}
@@ -28,17 +29,16 @@ passes() {
     fi
 }
 
-proved='' system=''
+proved=''
 if [ -z "${STUN_C-}" ] || [ -z "${STUN_STATE-}" ]; then
     quiet ../tools/archives.sh
     STUN_C=$PWD/../crates/stun_c/out/libstun_c.a
     STUN_STATE=$PWD/../crates/stun_state/out/libstun_state.a
-    proved=yes
-else
-    system='-lpthread -ldl -lm'
+    proved=yes LIBRARIES=''
 fi
-export STUN_C STUN_STATE
-messages="$STUN_C $system" archives="$STUN_STATE $STUN_C $system"
+: "${LIBRARIES=-lpthread -ldl -lm}"
+export STUN_C STUN_STATE LIBRARIES
+messages="$STUN_C $LIBRARIES" archives="$STUN_STATE $STUN_C $LIBRARIES"
 heap='../examples/c/heap.c'
 
 # The headers declare what the archives export, and so does the example for Rust.
@@ -83,7 +83,7 @@ for name in arguments attributes extra; do
     $cc $c99 c/$name.c $messages -o "$scratch/$name"
     passes $name "$scratch/$name"
 done
-passes refused env LIBRARIES="$system" ./refused.sh
+passes refused ./refused.sh
 for name in agents handles hostile many users worked; do
     $cc $c99 -Wno-conversion -I"$scratch" c/$name.c $heap $archives -o "$scratch/$name"
     passes $name "$scratch/$name"

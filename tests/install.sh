@@ -1,8 +1,9 @@
 #!/bin/sh
 # Installs the archives that STUN_C and STUN_STATE name, by absolute paths, or those of `rt lib`,
 # into a scratch folder, builds programs over it, by pkg-config and by CMake where they are there,
-# and takes all of it out again. Where an archive is missing, make says what to run, and proves
-# nothing. Without a C compiler and make this checks nothing. The last line says what was checked.
+# and takes all of it out again. LIBRARIES tells what the archives want beside. Where an archive is
+# missing, make says what to run, and proves nothing. Without a C compiler and make this checks
+# nothing. The last line says what was checked.
 set -eu
 cd "$(dirname "$0")"
 cc=${CC:-cc}
@@ -47,7 +48,7 @@ echo tool >"$scratch/bin/stun_tool"
 chmod +x "$scratch/bin/stun_tool"
 in_root() {
     make -s -C "$@" CC="$cc" DESTDIR="$root" PREFIX=/usr OUT="$scratch/heap" \
-        MESSAGES="$STUN_C" STATE="$STUN_STATE" \
+        MESSAGES="$STUN_C" STATE="$STUN_STATE" SYSTEM="${LIBRARIES-}" \
         PROGRAMS="$scratch/bin/stun_tool $scratch/bin/stun_inspect"
 }
 told=$(in_root .. install)
@@ -73,7 +74,7 @@ flags() {
             PKG_CONFIG_ALLOW_SYSTEM_CFLAGS=1 PKG_CONFIG_ALLOW_SYSTEM_LIBS=1 \
             pkg-config --cflags --libs "$@"
     else
-        echo "-I$root/usr/include -L$root/usr/lib -lstunp_state -lstunp -lstunp_heap"
+        echo "-I$root/usr/include -L$root/usr/lib -lstunp_state -lstunp ${LIBRARIES-} -lstunp_heap"
     fi
 }
 strict='-std=c99 -Wall -Wextra -Wpedantic -Werror'

@@ -1,10 +1,10 @@
 #!/bin/sh
 # Exports the library as plain Rust to target/export, and tries what comes out: warnings, pages,
-# tests, transcripts. It needs cargo, the Rust of rust/Cargo.toml and Python 3.9. Where the crates of
-# Debian are installed, or can be by root, it needs no network beside. Without clippy its warnings
-# are left out. So are the programs, their tests and the transcripts under a Rust that is older than
-# rust/checks/Cargo.toml wants. With --can it tells by its status whether the crates of Debian and
-# the newer Rust are there.
+# tests, transcripts. It needs cargo, the Rust of rust/Cargo.toml and Python 3.9. Where the crates
+# of Debian are installed, or can be by root, it needs no network beside. Without clippy its
+# warnings are left out. So are the programs, their tests and the transcripts under a Rust that is
+# older than rust/checks/Cargo.toml wants. With --can it tells by its status whether the crates of
+# Debian and the newer Rust are there.
 set -eu
 cd "$(dirname "$0")/.."
 out=target/export

@@ -67,13 +67,14 @@ python3 tests/play.py "$out/play" crates/transcripts/data/*.txt > "$out/played" 
     { cat "$out/played" >&2; exit 1; }
 tail -n 1 "$out/played"
 # The same installed, in the place of the two archives.
-STUN_C="$out/libstunp.a" STUN_STATE="$out/libstunp-program.a" tests/install.sh
+STUN_C="$out/libstunp.a" STUN_STATE="$out/libstunp-program.a" LIBRARIES="$libraries" \
+    tests/install.sh
 if [ "${1-}" = udp ]; then
     built=target/export/target/debug/examples
     (cd target/export && cargo build --quiet --examples)
     # Either archive's place is this one's.
     cp "$out/libstunp-program.a" "$out/again.a"
-    STUN_C="$out/libstunp-program.a" STUN_STATE="$out/again.a" \
+    STUN_C="$out/libstunp-program.a" STUN_STATE="$out/again.a" LIBRARIES="$libraries" \
         python3 examples/udp/check.py --server "$built/udp_server" --client "$built/udp_client"
 fi
 echo "rust_c: passed"

@@ -20,6 +20,7 @@ import stun
 HERE = pathlib.Path(__file__).resolve().parent
 TOP = HERE.parent.parent
 STATE = pathlib.Path(os.environ.get("STUN_STATE", TOP / "crates/stun_state/out/libstun_state.a"))
+BESIDE = os.environ.get("LIBRARIES", "")  # what these archives want of the system
 STATELESS = pathlib.Path(os.environ.get("STUN_C", TOP / "crates/stun_c/out/libstun_c.a"))
 REALM, NAME, PASSWORD = "example.org", "alice", "wonderland"
 USER = (REALM, NAME, PASSWORD)
@@ -51,7 +52,7 @@ def build(folder):
     has = all(subprocess.run(tried, capture_output=True).returncode == 0
               for tried in (words, [folder / "empty"]))
     flags = " ".join(flags + (sanitized if has else []))
-    archives = (f"STATE={STATE}", f"LIBRARY={STATELESS}")
+    archives = (f"STATE={STATE}", f"LIBRARY={STATELESS}", f"SYSTEM={BESIDE}")
     values = (f"CC={' '.join(compiler())}", f"CFLAGS={flags}", f"OUT={folder}", *archives)
     subprocess.run(["make", "-s", "-C", TOP / "examples/c", *values, "udp"], check=True)
     build_helpers(folder)
@@ -62,12 +63,13 @@ def build_helpers(folder):
     """Builds the programs and the library of this folder's own."""
     parts = TOP / "examples/c"
     command = [*compiler(), "-O1", f"-I{TOP}/include", f"-I{parts}"]
-    wiped = (HERE / "wiped.c", parts / "heap.c", STATE, STATELESS, "-o", folder / "wiped")
+    archives = (STATE, STATELESS, *BESIDE.split())
+    wiped = (HERE / "wiped.c", parts / "heap.c", *archives, "-o", folder / "wiped")
     subprocess.run([*command, *wiped], check=True)
     client = (parts / name for name in ("request.c", "net.c", "words.c", "heap.c"))
-    drained = (HERE / "drained.c", *client, STATE, STATELESS, "-o", folder / "drained")
+    drained = (HERE / "drained.c", *client, *archives, "-o", folder / "drained")
     subprocess.run([*command, *drained], check=True)
-    places = (*(parts / name for name in ("places.c", "net.c", "heap.c")), STATE, STATELESS)
+    places = (*(parts / name for name in ("places.c", "net.c", "heap.c")), *archives)
     crowded = (HERE / "crowded.c", *places, "-o", folder / "crowded")
     subprocess.run([*command, *crowded], check=True)
     faults = ("-shared", "-fPIC", HERE / "faults.c", "-o", folder / "faults.so", "-ldl")

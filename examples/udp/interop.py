@@ -396,7 +396,7 @@ def main():
     if "--install" in sys.argv:
         install()
     subprocess.run(["make", "-s", "-C", harness.TOP / "examples/c", "udp", f"STATE={harness.STATE}",
-                    f"LIBRARY={harness.STATELESS}"], check=True)
+                    f"LIBRARY={harness.STATELESS}", f"SYSTEM={harness.BESIDE}"], check=True)
     versions = {package: version(package) for package in PACKAGES}
     if versions["coturn"]:
         with_coturn(versions["coturn"])

@@ -1,5 +1,5 @@
-//! Gives the shared library its name for the loader. Before 1.0 the releases of one second number go
-//! together, as include/stunp.h says of the archives.
+//! Gives the shared library its name for the loader. Before 1.0 only the releases of one second
+//! number go together, as the names of calls in include/stunp.h tell.
 
 fn main() {
     println!("cargo:rerun-if-changed=build.rs");

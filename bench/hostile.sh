@@ -17,10 +17,10 @@ else
     . ./common.sh
     system='' told='the archive, proved'
 fi
-tried 'the driver' "$CC" -O1 -g -Wall -Wextra -Werror -fsanitize=address,undefined \
+tried 'the driver' $CC -O1 -g -Wall -Wextra -Werror -fsanitize=address,undefined \
     -fno-sanitize-recover=all -I../include hostile.c "$archive" $system -o out/hostile
 out/hostile
-tried 'the growth' "$CC" -O2 -std=c99 -D_DEFAULT_SOURCE -Wall -Wextra -Werror -I../include \
+tried 'the growth' $CC -O2 -std=c99 -D_DEFAULT_SOURCE -Wall -Wextra -Werror -I../include \
     growth.c "$archive" $system -lm -o out/growth
 echo "microseconds, by $told"
 out/growth

@@ -141,14 +141,14 @@ def main():
                      int(sys.argv[2]) if len(sys.argv) > 2 else 400000)
     count = int(sys.argv[1]) if len(sys.argv) > 1 else 100000
     subprocess.run(["make", "-s", "-C", check.TOP / "examples/c", "udp", f"STATE={check.STATE}",
-                    f"LIBRARY={check.STATELESS}"], check=True)
+                    f"LIBRARY={check.STATELESS}", f"SYSTEM={check.harness.BESIDE}"], check=True)
     print("| Server | Datagrams in turn | Unanswered at most, or sent a second "
           "| Answered a second | Processor µs a datagram | KiB before → after "
           "| Lost | Dropped by the kernel |\n|---|---|---|---|---|---|---|---|")
     with tempfile.TemporaryDirectory() as folder:
         load = pathlib.Path(folder) / "load"
         subprocess.run(["cc", "-O2", f"-I{check.TOP}/include", HERE / "load.c", check.STATELESS,
-                        "-o", load], check=True)
+                        *check.harness.BESIDE.split(), "-o", load], check=True)
         rows = [("u", 64, 1), ("ug", 64, 1), ("usg", 64, 1), ("s", 64, 1), ("usg", 1000, 1)]
         for workers in sorted({1, CORES}):
             for mix, window, loaders in rows:

@@ -5,7 +5,7 @@
 set -eu
 cd "$(dirname "$0")"
 . ./common.sh
-tried 'the driver' "$CC" -O2 -Wall -Wextra -Werror -Wno-deprecated-declarations -I../include \
+tried 'the driver' $CC -O2 -Wall -Wextra -Werror -Wno-deprecated-declarations -I../include \
     bench.c "$archive" -lcrypto -o out/bench
 
 # Instructions of one call: those from entering its function to leaving it, over so many calls.

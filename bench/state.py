@@ -118,14 +118,14 @@ def archives(is_built):
 def build(room, chosen):
     """The program over the archives."""
     if chosen.exported:
-        over = [os.path.join(TOP, "target", "c", "libstunp-program.a")]
+        over = [os.path.join(TOP, "target", "c", "libstunp-program.a"), "-lpthread", "-ldl", "-lm"]
     else:
         over = list(archives(chosen.built))
     source = os.path.join(HERE, "state.c")
     program = os.path.join(room, "state")
-    compiler = os.environ.get("CC", "cc")
+    compiler = os.environ.get("CC", "").split() or ["cc"]
     flags = ["-std=c99", "-O2", "-Wall", "-Wextra", "-Werror", "-I" + os.path.join(TOP, "include")]
-    done([compiler, *flags, source, *over, "-o", program])
+    done([*compiler, *flags, source, *over, "-o", program])
     return program
 
 

@@ -2,12 +2,13 @@
 # Builds the archives and the examples against them, and compares what they print. It installs the
 # archives into a scratch folder and builds over that (tests/install.sh). What the archives answer
 # tests/check.sh tests. Where STUN_C and STUN_STATE name other archives, as libstunp.a and
-# libstunp-program.a of tools/rust_c.sh, nothing is proved. Without a C compiler and make it checks
-# nothing. The last line says what was checked.
+# libstunp-program.a of tools/rust_c.sh, nothing is proved. LIBRARIES tells what those want beside.
+# Without a C compiler and make it checks nothing. The last line says what was checked.
 set -eu
 cd "$(dirname "$0")"
 python3 ../bench/bars.py >/dev/null # the tables of bench/README.md have the bars of the programs
-if ! "${CC:-cc}" --version >/dev/null 2>&1 || ! command -v make >/dev/null; then
+. ../tools/compiler.sh
+if ! there "${CC-}" cc || ! command -v make >/dev/null; then
     echo "examples: no C compiler and make"
     exit 0
 fi
@@ -20,22 +21,24 @@ if [ -z "${STUN_C-}" ] || [ -z "${STUN_STATE-}" ]; then
     fi
     STUN_C=$PWD/../crates/stun_c/out/libstun_c.a
     STUN_STATE=$PWD/../crates/stun_state/out/libstun_state.a
+    LIBRARIES=''
 fi
-export STUN_C STUN_STATE
+: "${LIBRARIES=-lpthread -ldl -lm}"
+export STUN_C STUN_STATE LIBRARIES
 
-# expect WANTED COMMAND..: the command prints this, whatever its status.
+# expect STATUS WANTED COMMAND..: the command ends with this status, and prints this.
 expect() {
-    wanted=$1
-    shift
-    printed=$("$@" || true)
-    if [ "$printed" != "$wanted" ]; then
-        echo "examples: $*: printed '$printed', not '$wanted'" >&2
+    status=$1 wanted=$2 ended=0
+    shift 2
+    printed=$("$@") || ended=$?
+    if [ "$ended" != "$status" ] || [ "$printed" != "$wanted" ]; then
+        echo "examples: $*: status $ended, printed '$printed', not $status, '$wanted'" >&2
         exit 1
     fi
 }
 
 rm -rf c/out
-make -s -C c CC="${CC:-cc}" LIBRARY="$STUN_C" STATE="$STUN_STATE"
+make -s -C c CC="${CC:-cc}" LIBRARY="$STUN_C" STATE="$STUN_STATE" SYSTEM="$LIBRARIES"
 
 password='VOkJxbRl1RmTxUk/WvJxBt'
 
@@ -47,24 +50,24 @@ password='VOkJxbRl1RmTxUk/WvJxBt'
     printf '\000\010\000\024\232\352\247\014\277\330\313\126\170\036\362\265\262\323\362\111'
     printf '\301\265\161\242\200\050\000\004\345\172\073\317'
 } >"$scratch/sample"
-expect 'valid MESSAGE-INTEGRITY' c/out/verify "$password" <"$scratch/sample"
-expect 'invalid' c/out/verify 'another password' <"$scratch/sample"
-expect 'not a message' c/out/verify "$password" </dev/null
+expect 0 'valid MESSAGE-INTEGRITY' c/out/verify "$password" <"$scratch/sample"
+expect 1 'invalid' c/out/verify 'another password' <"$scratch/sample"
+expect 1 'not a message' c/out/verify "$password" </dev/null
 
 c/out/build 1 evtj:h6vY "$password" >"$scratch/sha1"
-expect 'valid MESSAGE-INTEGRITY' c/out/verify "$password" <"$scratch/sha1"
+expect 0 'valid MESSAGE-INTEGRITY' c/out/verify "$password" <"$scratch/sha1"
 c/out/build 2 evtj:h6vY "$password" >"$scratch/sha256"
-expect 'valid MESSAGE-INTEGRITY-SHA256' c/out/verify "$password" <"$scratch/sha256"
+expect 0 'valid MESSAGE-INTEGRITY-SHA256' c/out/verify "$password" <"$scratch/sha256"
 checked='C'
 
 # The wrapper for C++17, under sanitizers where the compiler has them.
-if "${CXX:-c++}" --version >/dev/null 2>&1; then
+if there "${CXX-}" c++; then
     sanitized='-fsanitize=address,undefined -fno-sanitize-recover=all'
-    echo 'int main() {}' | "${CXX:-c++}" $sanitized -x c++ - -o "$scratch/empty" 2>/dev/null ||
-        sanitized=''
-    "${CC:-cc}" -O1 -I../include -c c/heap.c -o "$scratch/heap.o"
-    "${CXX:-c++}" -std=c++17 -Wall -Wextra -Wpedantic -Werror $sanitized -I../include \
-        cpp/check.cpp "$scratch/heap.o" "$STUN_STATE" "$STUN_C" -o "$scratch/wrapped"
+    { echo 'int main() {}' | ${CXX:-c++} $sanitized -x c++ - -o "$scratch/empty" &&
+        "$scratch/empty"; } 2>/dev/null || sanitized=''
+    ${CC:-cc} -O1 -I../include -c c/heap.c -o "$scratch/heap.o"
+    ${CXX:-c++} -std=c++17 -Wall -Wextra -Wpedantic -Werror $sanitized -I../include \
+        cpp/check.cpp "$scratch/heap.o" "$STUN_STATE" "$STUN_C" $LIBRARIES -o "$scratch/wrapped"
     "$scratch/wrapped" >"$scratch/said"
     cmp "$scratch/said" cpp/check.txt
     checked='C, C++'
@@ -76,7 +79,7 @@ if echo 'fn main() {}' |
     mkdir "$scratch/libraries"
     cp "$STUN_C" "$scratch/libraries/libstun_c.a"
     rustc --edition 2024 -O rust/main.rs -L "$scratch/libraries" -o "$scratch/main"
-    expect 'Ok(1)
+    expect 0 'Ok(1)
 Ok(2)' "$scratch/main"
     checked="$checked, Rust"
 fi

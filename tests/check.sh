@@ -1,12 +1,14 @@
 #!/bin/sh
 # Builds the archives, and tests them: by the transcripts (play.py), and by what only C can pass.
 # Where STUN_C and STUN_STATE name other archives, as libstunp.a and libstunp-program.a of
-# tools/rust_c.sh, nothing is proved. Sanitizers watch where the compiler has them. Without a C
-# compiler it checks nothing. The last line says what was checked.
+# tools/rust_c.sh, nothing is proved. LIBRARIES tells what those want beside. Sanitizers watch
+# where the compiler has them. Without a C compiler it checks nothing. The last line says what was
+# checked.
 set -eu
 cd "$(dirname "$0")"
 cc=${CC:-cc} plus=${CXX:-c++}
-if ! "$cc" --version >/dev/null 2>&1; then
+. ../tools/compiler.sh
+if ! there "${CC-}" cc; then
     echo 'tests: no C compiler'
     exit 0
 fi
@@ -16,28 +18,27 @@ trap 'rm -rf "$scratch"' EXIT
 # quiet COMMAND..: its output is told only where it fails.
 quiet() { "$@" >"$scratch/output" 2>&1 || { cat "$scratch/output" >&2 && exit 1; }; }
 
-# passes NAME COMMAND..: the command ends with the line `NAME: passed`.
+# passes NAME COMMAND..: the command prints `NAME: passed` and no more, with status 0.
 passes() {
     wanted="$1: passed"
     shift
-    printed=$("$@" || true)
+    printed=$("$@") || { echo "tests: $*: ended with $?, printed '$printed'" >&2 && exit 1; }
     if [ "$printed" != "$wanted" ]; then
         echo "tests: $*: printed '$printed', not '$wanted'" >&2
         exit 1
     fi
 }
 
-proved='' system=''
+proved=''
 if [ -z "${STUN_C-}" ] || [ -z "${STUN_STATE-}" ]; then
     quiet ../tools/archives.sh
     STUN_C=$PWD/../crates/stun_c/out/libstun_c.a
     STUN_STATE=$PWD/../crates/stun_state/out/libstun_state.a
-    proved=yes
-else
-    system='-lpthread -ldl -lm'
+    proved=yes LIBRARIES=''
 fi
-export STUN_C STUN_STATE
-messages="$STUN_C $system" archives="$STUN_STATE $STUN_C $system"
+: "${LIBRARIES=-lpthread -ldl -lm}"
+export STUN_C STUN_STATE LIBRARIES
+messages="$STUN_C $LIBRARIES" archives="$STUN_STATE $STUN_C $LIBRARIES"
 heap='../examples/c/heap.c'
 
 # The headers declare what the archives export, and so does the example for Rust.
@@ -46,30 +47,30 @@ heap='../examples/c/heap.c'
 # The headers are C99 and C++17, with all warnings.
 strict='-Wall -Wextra -Wpedantic -Wconversion -Werror -I../include -I../examples/c'
 has_plus=''
-if "$plus" --version >/dev/null 2>&1; then has_plus=yes; fi
+if there "${CXX-}" c++; then has_plus=yes; fi
 for header in stunp stunp_state; do
     alone="$strict -fsyntax-only -include ../include/$header.h"
-    "$cc" -std=c99 $alone -x c /dev/null
-    [ -z "$has_plus" ] || "$plus" -std=c++17 $alone -x c++ /dev/null
+    $cc -std=c99 $alone -x c /dev/null
+    [ -z "$has_plus" ] || $plus -std=c++17 $alone -x c++ /dev/null
 done
-
-# sanitizers COMPILER..: those that it has.
-sanitizers() {
-    all='-fsanitize=address,undefined -fno-sanitize-recover=all'
-    echo 'int main(void) { return 0; }' | "$@" $all - -o "$scratch/empty" 2>/dev/null &&
-        echo "$all" || true
-}
 
 # runs COMPILER..: whether what it builds runs.
 runs() {
     echo 'int main(void) { return 0; }' >"$scratch/empty.c"
     "$@" "$scratch/empty.c" -o "$scratch/empty" 2>/dev/null && "$scratch/empty" 2>/dev/null
 }
-c99="-std=c99 -D_DEFAULT_SOURCE -O1 -g $strict $(sanitizers "$cc" -x c)"
-[ -z "$has_plus" ] || plus17="-std=c++17 $strict $(sanitizers "$plus" -x c++)"
+
+# sanitizers COMPILER..: those that it has.
+sanitizers() {
+    all='-fsanitize=address,undefined -fno-sanitize-recover=all'
+    ! runs "$@" $all || echo "$all"
+}
+sanitized=$(sanitizers $cc)
+c99="-std=c99 -D_DEFAULT_SOURCE -O1 -g $strict $sanitized"
+[ -z "$has_plus" ] || plus17="-std=c++17 $strict $(sanitizers $plus -x c++)"
 
 # The transcripts, and each allocation refused.
-"$cc" $c99 c/play.c $heap $archives -o "$scratch/play"
+$cc $c99 c/play.c $heap $archives -o "$scratch/play"
 python3 play.py "$scratch/play" ../crates/transcripts/data/*.txt >"$scratch/played" ||
     { cat "$scratch/played" >&2 && exit 1; }
 
@@ -79,20 +80,20 @@ python3 play.py "$scratch/play" ../crates/transcripts/data/*.txt >"$scratch/play
 sed -n 's/^ \*     //p; /\*\/$/q' ../include/stunp.h >"$scratch/answer.h"
 sed -n 's/^ \*     //p; /\*\/$/q' ../include/stunp_state.h >"$scratch/ask.h"
 for name in arguments attributes extra; do
-    "$cc" $c99 c/$name.c $messages -o "$scratch/$name"
+    $cc $c99 c/$name.c $messages -o "$scratch/$name"
     passes $name "$scratch/$name"
 done
-passes refused env LIBRARIES="$system" ./refused.sh
+passes refused ./refused.sh
 for name in agents handles hostile many users worked; do
-    "$cc" $c99 -Wno-conversion -I"$scratch" c/$name.c $heap $archives -o "$scratch/$name"
+    $cc $c99 -Wno-conversion -I"$scratch" c/$name.c $heap $archives -o "$scratch/$name"
     passes $name "$scratch/$name"
 done
 if [ -n "$has_plus" ]; then
     for name in arguments attributes extra; do
-        "$plus" $plus17 -x c++ c/$name.c -x none $messages -o "$scratch/$name"
+        $plus $plus17 -x c++ c/$name.c -x none $messages -o "$scratch/$name"
         passes $name "$scratch/$name"
     done
-    "$plus" $plus17 -I"$scratch" -x c++ c/worked.c -x none $archives -o "$scratch/worked"
+    $plus $plus17 -I"$scratch" -x c++ c/worked.c -x none $archives -o "$scratch/worked"
     passes worked "$scratch/worked"
 fi
 
@@ -100,15 +101,15 @@ fi
 races=''
 threads="-std=c99 -D_DEFAULT_SOURCE -O1 -g $strict -Wno-conversion c/threads.c $heap $archives"
 threads="$threads -pthread"
-"$cc" $c99 -Wno-conversion c/threads.c $heap $archives -pthread -o "$scratch/threads"
+$cc $c99 -Wno-conversion c/threads.c $heap $archives -pthread -o "$scratch/threads"
 passes threads "$scratch/threads"
-if runs "$cc" -fsanitize=thread; then
-    "$cc" -fsanitize=thread $threads -o "$scratch/threads"
+if runs $cc -fsanitize=thread; then
+    $cc -fsanitize=thread $threads -o "$scratch/threads"
     quiet "$scratch/threads"
     races=' ThreadSanitizer'
 fi
 if command -v valgrind >/dev/null; then
-    "$cc" $threads -o "$scratch/threads"
+    $cc $threads -o "$scratch/threads"
     quiet valgrind -q --tool=helgrind --error-exitcode=1 "$scratch/threads" 20
     races="$races helgrind"
 fi
@@ -122,8 +123,8 @@ neighbour() {
     printf '#include <stdint.h>\n#include <%s>\nint main(void) { return 0; }\n' "$2" \
         >"$scratch/probe.c"
     shift 3
-    "$cc" -std=gnu11 "$scratch/probe.c" "$@" -o "$scratch/probe" 2>/dev/null || return 0
-    "$cc" -std=gnu11 -O1 -g -Wall -Wextra -Werror -I../include -I../examples/c -D"$macro" \
+    $cc -std=gnu11 "$scratch/probe.c" "$@" -o "$scratch/probe" 2>/dev/null || return 0
+    $cc -std=gnu11 -O1 -g -Wall -Wextra -Werror -I../include -I../examples/c -D"$macro" \
         c/beside.c $heap $archives "$@" -o "$scratch/beside"
     passes beside "$scratch/beside"
     neighbours="$neighbours $name"
@@ -151,6 +152,6 @@ if [ -n "$proved" ]; then
     asks_for "$bytes|__udivti3|__umodti3|rattle_alloc|rattle_realloc|rattle_dealloc" stun_state
 fi
 
-echo "tests: passed in C${has_plus:+ and C++}; threads plain${races:+ and under$races};" \
-    "beside${neighbours:- no other library};" \
+echo "tests: passed in C${has_plus:+ and C++}${sanitized:+, under sanitizers};" \
+    "threads plain${races:+ and under$races}; beside${neighbours:- no other library};" \
     "$(tail -n 1 "$scratch/played"); $(tail -n 1 "$scratch/fuzzed")"

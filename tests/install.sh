@@ -1,12 +1,14 @@
 #!/bin/sh
 # Installs the archives that STUN_C and STUN_STATE name, by absolute paths, or those of `rt lib`,
 # into a scratch folder, builds programs over it, by pkg-config and by CMake where they are there,
-# and takes all of it out again. Where an archive is missing, make says what to run, and proves
-# nothing. Without a C compiler and make this checks nothing. The last line says what was checked.
+# and takes all of it out again. LIBRARIES tells what the archives want beside. Where an archive is
+# missing, make says what to run, and proves nothing. Without a C compiler and make this checks
+# nothing. The last line says what was checked.
 set -eu
 cd "$(dirname "$0")"
 cc=${CC:-cc}
-if ! "$cc" --version >/dev/null 2>&1 || ! command -v make >/dev/null; then
+. ../tools/compiler.sh
+if ! there "${CC-}" cc || ! command -v make >/dev/null; then
     echo 'install: no C compiler and make'
     exit 0
 fi
@@ -46,7 +48,7 @@ echo tool >"$scratch/bin/stun_tool"
 chmod +x "$scratch/bin/stun_tool"
 in_root() {
     make -s -C "$@" CC="$cc" DESTDIR="$root" PREFIX=/usr OUT="$scratch/heap" \
-        MESSAGES="$STUN_C" STATE="$STUN_STATE" \
+        MESSAGES="$STUN_C" STATE="$STUN_STATE" SYSTEM="${LIBRARIES-}" \
         PROGRAMS="$scratch/bin/stun_tool $scratch/bin/stun_inspect"
 }
 told=$(in_root .. install)
@@ -72,18 +74,18 @@ flags() {
             PKG_CONFIG_ALLOW_SYSTEM_CFLAGS=1 PKG_CONFIG_ALLOW_SYSTEM_LIBS=1 \
             pkg-config --cflags --libs "$@"
     else
-        echo "-I$root/usr/include -L$root/usr/lib -lstunp_state -lstunp -lstunp_heap"
+        echo "-I$root/usr/include -L$root/usr/lib -lstunp_state -lstunp ${LIBRARIES-} -lstunp_heap"
     fi
 }
 strict='-std=c99 -Wall -Wextra -Wpedantic -Werror'
 for memory in LIBRARYS_MEMORY OWN_MEMORY; do
-    "$cc" $strict -D$memory c/installed.c $(flags stunp_state) -o "$scratch/installed"
+    $cc $strict -D$memory c/installed.c $(flags stunp_state) -o "$scratch/installed"
     prints "$version" "$scratch/installed"
 done
 # The first archive wants no memory, but for one of the exported crate with the program's memory.
 messages='stunp'
 ! nm -u "$STUN_C" 2>/dev/null | grep -q rattle_alloc || messages='stunp stunp_heap'
-"$cc" c/arguments.c $(flags $messages) -o "$scratch/arguments"
+$cc c/arguments.c $(flags $messages) -o "$scratch/arguments"
 prints 'arguments: passed' "$scratch/arguments"
 if command -v pkg-config >/dev/null; then checked="$checked, pkg-config"; fi
 # The memory functions under other names, by the recipe of stunp_state.h.
@@ -94,7 +96,7 @@ if command -v objcopy >/dev/null; then
         strict="$strict -Drattle_$name=mine_$name"
     done
     objcopy $renamed "$root/usr/lib/libstunp_state.a" "$scratch/renamed.a"
-    "$cc" $strict -DOWN_MEMORY c/installed.c "$scratch/renamed.a" $(flags $messages) \
+    $cc $strict -DOWN_MEMORY c/installed.c "$scratch/renamed.a" $(flags $messages) \
         -o "$scratch/renamed"
     prints "$version" "$scratch/renamed"
     checked="$checked, renamed memory"
@@ -113,7 +115,7 @@ find_package(stunp ${RELEASE} REQUIRED)
 add_executable(installed ${SOURCE})
 target_link_libraries(installed stunp::stunp_state)
 PROJECT
-    quiet cmake -S "$scratch/project" -B "$scratch/built" -DCMAKE_C_COMPILER="$cc" \
+    quiet env CC="$cc" cmake -S "$scratch/project" -B "$scratch/built" \
         -DCMAKE_PREFIX_PATH="$root/usr" -DRELEASE="$version" -DSOURCE="$PWD/c/installed.c"
     quiet cmake --build "$scratch/built"
     prints "$version" "$scratch/built/installed"

@@ -6,7 +6,8 @@
 set -eu
 cd "$(dirname "$0")"
 cc=${CC:-cc}
-if ! "$cc" --version >/dev/null 2>&1; then
+. ../tools/compiler.sh
+if ! there "${CC-}" cc; then
     echo 'refused: no C compiler'
     exit 0
 fi
@@ -32,15 +33,15 @@ begins() {
 }
 begins 'STUNP_REQUEST, STUNP_BINDING' "$scratch/right.c"
 begins 'STUNP_BINDING, STUNP_REQUEST' "$scratch/exchanged.c"
-"$cc" $strict -fsyntax-only "$scratch/right.c"
-wants enum-conversion "$cc" $strict -fsyntax-only "$scratch/exchanged.c"
+$cc $strict -fsyntax-only "$scratch/right.c"
+wants enum-conversion $cc $strict -fsyntax-only "$scratch/exchanged.c"
 # An algorithm is no class either.
 begins 'STUNP_SHA1, STUNP_BINDING' "$scratch/exchanged.c"
-wants enum-conversion "$cc" $strict -fsyntax-only "$scratch/exchanged.c"
+wants enum-conversion $cc $strict -fsyntax-only "$scratch/exchanged.c"
 
 # links OPTION..: the right program, linked and run.
 links() {
-    "$cc" $strict "$@" "$scratch/right.c" "$STUN_C" ${LIBRARIES-} -o "$scratch/right" &&
+    $cc $strict "$@" "$scratch/right.c" "$STUN_C" ${LIBRARIES-} -o "$scratch/right" &&
         "$scratch/right"
 }
 if [ -n "${STUN_C-}" ]; then
@@ -60,10 +61,10 @@ int main(void) {
     return answer == 0 ? 0 : 1;
 }
 AGENT
-"$cc" $strict -DWHICH=STUNP_TCP -fsyntax-only "$scratch/agent.c"
-wants enum-conversion "$cc" $strict -DWHICH=STUNP_REQUIRED -fsyntax-only "$scratch/agent.c"
+$cc $strict -DWHICH=STUNP_TCP -fsyntax-only "$scratch/agent.c"
+wants enum-conversion $cc $strict -DWHICH=STUNP_REQUIRED -fsyntax-only "$scratch/agent.c"
 keeps() {
-    "$cc" $strict -DWHICH=STUNP_TCP "$@" "$scratch/agent.c" ../examples/c/heap.c \
+    $cc $strict -DWHICH=STUNP_TCP "$@" "$scratch/agent.c" ../examples/c/heap.c \
         "$STUN_STATE" "$STUN_C" ${LIBRARIES-} -o "$scratch/agent" && "$scratch/agent"
 }
 if [ -n "${STUN_C-}" ] && [ -n "${STUN_STATE-}" ]; then

@@ -7,8 +7,8 @@
 # bare     a folder with the tools of this machine, an empty environment and, where mounts can be
 #          made, without a sight of this repository
 # debian   a minimal Debian with a C compiler, make, CMake and pkg-config, made by debootstrap and
-#          kept in target/debian. It is left out where there is no debootstrap, no root or no
-#          network; cargo is that of this machine.
+#          kept in ~/.cache/stunp-debian. It is left out where there is no debootstrap, root or
+#          network. Cargo is that of this machine, where it is in a folder of its own.
 #
 # The last line of each root says what was tried.
 set -eu
@@ -18,17 +18,19 @@ shift
 top=$(cd "$(dirname "$0")/.." && pwd)
 scratch=$(mktemp -d)
 trap 'rm -rf "$scratch"' EXIT
+. "$top/tools/compiler.sh"
 tools=/usr/bin:/bin
 PATH=$PATH:/usr/sbin:/sbin
 rust=$(rustc --print sysroot 2>/dev/null) || rust=''
 
-# laid FOLDER: what released.sh takes: the release, transcripts of the pages, crates for cargo.
+# laid FOLDER RUST: what released.sh takes: the release, transcripts of the pages, crates for cargo
+# where RUST is a folder.
 laid() {
     mkdir -p "$1/home"
     cp "$release" "$1/release.tar.gz"
     cp "$top/tests/released.sh" "$top/tests/c/installed.c" "$1"
     python3 "$top/tools/transcripts.py" --write "$1/pages"
-    if [ -n "$rust" ]; then
+    if [ -n "$2" ]; then
         (cd "$top/target/export" &&
          cargo vendor --quiet --offline --respect-source-config "$1/vendor" >/dev/null)
     fi
@@ -42,10 +44,13 @@ empty() {
 }
 
 bare() {
-    laid "$scratch/bare"
+    laid "$scratch/bare" "$rust"
     cd "$scratch/bare"
     set -- sh released.sh "$PWD/prefix"
-    if ! command -v "${CC:-cc}" >/dev/null || ! command -v make >/dev/null; then
+    path=${rust:+$rust/bin:}$tools has=0
+    (PATH=$path && there "${CC-}" cc && command -v make >/dev/null) || has=$?
+    [ "$has" != 2 ] || exit 1
+    if [ "$has" != 0 ]; then
         echo 'release: a bare folder: left out, no C compiler and make'
         return
     fi
@@ -56,11 +61,11 @@ bare() {
     done
     if [ -n "$private" ]; then
         echo 'release: a bare folder, the repository out of sight:'
-        empty "${rust:+$rust/bin:}$tools" HOME="$PWD/home" TOP="$top" $private sh -c \
+        empty "$path" ${CC:+"CC=$CC"} HOME="$PWD/home" TOP="$top" $private sh -c \
             'mount -t tmpfs none "$TOP" && [ ! -e "$TOP/Makefile" ] && exec "$@"' - "$@"
     else
         echo 'release: a bare folder, the repository in sight (no mount can be made):'
-        empty "${rust:+$rust/bin:}$tools" HOME="$PWD/home" "$@"
+        empty "$path" ${CC:+"CC=$CC"} HOME="$PWD/home" "$@"
     fi
     cd "$top"
 }
@@ -77,26 +82,29 @@ based() {
 }
 
 debian() {
-    root=$top/target/debian
+    # Not in the repository: `rt ci` refuses one in which a link stands.
+    root=${XDG_CACHE_HOME:-$HOME/.cache}/stunp-debian
     if ! based "$root"; then
         echo 'release: a minimal Debian: left out, no debootstrap, root or network'
         return
     fi
+    own=$rust
+    case $own in / | /usr | /usr/local) own='' ;; esac
     # Cargo and its linker ask /proc where they are.
     proc='unshare -m'
-    if ! $proc mount -t proc proc "$root/proc" 2>/dev/null; then proc='' rust=''; fi
+    if ! $proc mount -t proc proc "$root/proc" 2>/dev/null; then proc='' own=''; fi
     rm -rf "$root/work" "$root/opt/rust" "$root/usr/local"
     mkdir "$root/usr/local"
-    laid "$root/work"
-    if [ -n "$rust" ]; then
+    laid "$root/work" "$own"
+    if [ -n "$own" ]; then
         mkdir "$root/opt/rust"
-        cp -al "$rust/bin" "$rust/lib" "$root/opt/rust" 2>/dev/null ||
-            cp -a "$rust/bin" "$rust/lib" "$root/opt/rust"
+        cp -al "$own/bin" "$own/lib" "$root/opt/rust" 2>/dev/null ||
+            cp -a "$own/bin" "$own/lib" "$root/opt/rust"
     fi
     inside='exec chroot "$ROOT" sh -c "cd /work && exec sh released.sh /usr/local"'
     [ -z "$proc" ] || inside="mount -t proc proc \"\$ROOT/proc\" && $inside"
     echo 'release: a minimal Debian:'
-    empty "${rust:+/opt/rust/bin:}/usr/local/bin:$tools:/usr/sbin" HOME=/work/home ROOT="$root" \
+    empty "${own:+/opt/rust/bin:}/usr/local/bin:$tools:/usr/sbin" HOME=/work/home ROOT="$root" \
         $proc sh -c "$inside"
     rm -rf "$root/work" "$root/opt/rust"
 }

@@ -43,10 +43,10 @@ done
 # in_c SAYS: the program of README.md and one that uses all archives, where pkg-config finds them.
 in_c() {
     sed -n '/^    #include <stdio.h>/,/^    }$/s/^    //p' "$folder/README.md" >check.c
-    "$cc" $strict check.c $(pkg-config --cflags --libs stunp) -o check
+    $cc $strict check.c $(pkg-config --cflags --libs stunp) -o check
     prints valid ./check <pages/request.bin
     for memory in LIBRARYS_MEMORY OWN_MEMORY; do
-        "$cc" $strict -D$memory installed.c $(pkg-config --cflags --libs stunp_state) -o installed
+        $cc $strict -D$memory installed.c $(pkg-config --cflags --libs stunp_state) -o installed
         prints "$version" ./installed
     done
     prints "$version" pkg-config --modversion stunp_heap

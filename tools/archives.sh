@@ -3,13 +3,10 @@
 # out/proof.txt, from which a release quotes.
 set -eu
 cd "$(dirname "$0")/.."
+said=$(mktemp)
+trap 'rm -f "$said" "$said.failed"' EXIT
 for crate in stun_c stun_state; do
-    said=$(mktemp)
     { (cd crates/$crate && rt lib 2>&1) || echo >"$said.failed"; } | tee "$said"
-    if [ -e "$said.failed" ]; then
-        rm "$said" "$said.failed"
-        exit 1
-    fi
+    [ ! -e "$said.failed" ] || exit 1
     cat "$said" >crates/$crate/out/proof.txt
-    rm "$said"
 done

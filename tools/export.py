@@ -321,7 +321,9 @@ def main():
             + "".join(("" if crate in shown + LIBRARY else "#[cfg(test)]\n") + f"pub mod {crate};\n"
                       for crate in sorted(names)))
     export_c.write(out, exported, places, ROOT)
-    if not shutil.which("rustfmt"):
+    # rustup has a rustfmt that runs nothing where the component is not there.
+    asks = ["cargo", "fmt", "--version"]
+    if not shutil.which("cargo") or subprocess.run(asks, capture_output=True).returncode != 0:
         print("rustfmt is not there: the layout is not rustfmt's", file=sys.stderr)
     elif subprocess.run(["cargo", "fmt", "--all"], cwd=out, check=False).returncode != 0:
         sys.exit("rustfmt refuses what was written")

@@ -29,8 +29,9 @@ ARCHIVES = ("stun_c", "stun_state")
 PROGRAMS = ("stun_tool", "stun_inspect")
 
 # What must be built before.
-BUILT = (*("crates/%s/out/lib%s.a" % (name, name) for name in ARCHIVES),
-         *("crates/%s/out/%s" % (name, name) for name in PROGRAMS), "target/export/Cargo.toml")
+BUILT_ARCHIVES = tuple("crates/%s/out/lib%s.a" % (name, name) for name in ARCHIVES)
+BUILT_PROGRAMS = tuple("crates/%s/out/%s" % (name, name) for name in PROGRAMS)
+BUILT = (*BUILT_ARCHIVES, *BUILT_PROGRAMS, "target/export/Cargo.toml")
 # What is copied, and to where.
 KEPT = (
     ("crates/transcripts/data", "transcripts"),
@@ -160,10 +161,14 @@ def write(target, text):
 
 
 def install(folder):
-    """The prefix, by the rules of include/Makefile. Its files for pkg-config name its place."""
+    """The prefix, by the rules of include/Makefile. Its files for pkg-config name its place. What
+    is installed is told: the environment may name other archives."""
+    messages, state = ("../" + path for path in BUILT_ARCHIVES)
+    programs = " ".join("../" + path for path in BUILT_PROGRAMS)
     with tempfile.TemporaryDirectory() as scratch:
         run("make", "-s", "-C", os.path.join(TOP, "include"), "install", "TO=" + folder,
-            "NAMED=$${pcfiledir}/../..", "OUT=" + scratch,
+            "NAMED=$${pcfiledir}/../..", "OUT=" + scratch, "MESSAGES=" + messages,
+            "STATE=" + state, "PROGRAMS=" + programs,
             env={key: word for key, word in os.environ.items() if key[:4] != "MAKE"})
 
 
@@ -248,12 +253,15 @@ def verify(out, log):
 
 def main():
     words = sys.argv[1:]
-    if words[:1] == ["--verify"] and len(words) in (2, 3):
-        return verify(words[1], *(words[2:] or [LOG]))
+    is_verified = words[:1] == ["--verify"]
+    words = words[is_verified:]
     if len(words) not in (1, 2) or words[0].startswith("-"):
         sys.exit(__doc__)
+    log = os.path.abspath(words[1]) if words[1:] else LOG
+    if is_verified:
+        return verify(words[0], log)
     folder = os.path.abspath(os.path.join(words[0], "stunp-" + version()))
-    assemble(folder, *(words[1:] or [LOG]))
+    assemble(folder, log)
     pack(folder, folder + ".tar.gz")
     print("release: %s.tar.gz" % folder)
 

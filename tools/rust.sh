@@ -1,8 +1,10 @@
 #!/bin/sh
 # Exports the library as plain Rust to target/export, and tries what comes out: warnings, pages,
-# tests, transcripts. It needs cargo and Python 3.9. Where the crates of Debian are installed, or
-# can be by root, it needs no network beside. With --can it tells by its status whether they are
-# there.
+# tests, transcripts. It needs cargo, the Rust of rust/Cargo.toml and Python 3.9. Where the crates
+# of Debian are installed, or can be by root, it needs no network beside. Without clippy its
+# warnings are left out. So are the programs, their tests and the transcripts under a Rust that is
+# older than rust/checks/Cargo.toml wants. With --can it tells by its status whether the crates of
+# Debian and the newer Rust are there.
 set -eu
 cd "$(dirname "$0")/.."
 out=target/export
@@ -13,15 +15,36 @@ has_packages() {
     command -v dpkg > /dev/null && dpkg -s $packages > /dev/null 2>&1
 }
 
+# wanted FOLDER: the Rust that its package wants, as 1.85.
+wanted() { sed -n 's/^rust-version = "\(.*\)"/\1/p' "$1/Cargo.toml"; }
+
+# has_rust VERSION: whether this Rust is as new, and cargo is there.
+has_rust() {
+    minor=$("${RUSTC:-rustc}" --version 2> /dev/null | sed -n 's/^rustc 1\.\([0-9]*\).*/\1/p')
+    [ "${minor:-0}" -ge "${1#1.}" ] && cargo --version > /dev/null 2>&1
+}
+
+least=$(wanted rust) newer=$(wanted rust/checks) missing=''
+[ "${1:-}" != --can ] || least=$newer
+has_rust "$least" || missing="cargo and rustc $least"
+python3 -c 'import sys; sys.exit(sys.version_info < (3, 9))' 2> /dev/null ||
+    missing="$missing${missing:+, }Python 3.9"
+if [ -n "$missing" ]; then
+    echo "The exported crate wants what is not there: $missing." >&2
+    exit 1
+fi
 if ! has_packages && command -v apt-get > /dev/null && [ "$(id -u)" = 0 ]; then
     { apt-get update -qq &&
         apt-get install -qq -y --no-install-recommends $packages; } > /dev/null ||
         echo "The crates of Debian cannot be installed: cargo fetches them." >&2
 fi
 if [ "${1:-}" = --can ]; then
-    has_packages
-    exit
+    has_packages && exit
+    echo "The crates of Debian are not there: $packages." >&2
+    exit 1
 fi
+without=''
+has_rust "$newer" || without='--exclude seatcrane-checks'
 python3 tools/export_test.py
 python3 tools/export.py "$out"
 mkdir -p "$out/.cargo"
@@ -35,10 +58,18 @@ fi
 
 cd "$out"
 export RUSTFLAGS="-D warnings" RUSTDOCFLAGS="-D warnings"
-cargo clippy --quiet --workspace --all-targets --all-features
-cargo clippy --quiet --no-default-features
+if cargo clippy --version > /dev/null 2>&1; then
+    cargo clippy --quiet --workspace $without --all-targets --all-features
+    cargo clippy --quiet --no-default-features
+else
+    echo "No clippy is there: its warnings are left out." >&2
+fi
 cargo doc --quiet --no-deps
 # With the memory of the program the calls for C are linked by a program alone (rust_c.sh).
-cargo test --quiet --workspace --exclude seatcrane-stun-c --all-features
+cargo test --quiet --workspace --exclude seatcrane-stun-c $without --all-features
+if [ -n "$without" ]; then
+    echo "The programs, their tests and the transcripts are left out: they want Rust $newer." >&2
+    exit
+fi
 cargo build --quiet --package seatcrane-checks
 target/debug/transcripts ../../crates/transcripts/data/*.txt

@@ -1,8 +1,8 @@
 #!/bin/sh
 # Builds the calls for C of the exported crate (target/export, by tools/rust.sh), and runs the tests
-# of tests/c and the transcripts over them. It needs cargo, a C compiler, ld, objcopy and nm. What
-# it leaves in target/c: libstunp.a and libstunp.so with malloc, and libstunp-program.a, whose
-# memory comes from the program.
+# of tests/c and the transcripts over them. It needs cargo, a C compiler and the binutils. What it
+# leaves in target/c: libstunp.a and libstunp.so with malloc, and libstunp-program.a, whose memory
+# comes from the program.
 set -eu
 cd "$(dirname "$0")/.."
 out=$PWD/target/c
@@ -17,15 +17,19 @@ only() {
     ld -r --whole-archive "$1" -o "$out/one.o"
     objcopy --wildcard --keep-global-symbol='stunp_*' -R .llvmbc -R .llvmcmd "$out/one.o"
     rm -f "$2"
-    ar rcs "$2" "$out/one.o"
+    ar rcsD "$2" "$out/one.o"
     rm "$out/one.o"
 }
 only target/export/target/release/libstunp.a "$out/libstunp.a"
 only target/export/target/program/release/libstunp.a "$out/libstunp-program.a"
-cp target/export/target/release/libstunp.so "$out/libstunp.so.0"
+# The name for the loader has as many numbers of the version as releases that go together share.
+shared=libstunp.so.$(sed 's/^\(0\.[0-9]*\)\..*/\1/; s/^\([1-9][0-9]*\)\..*/\1/' VERSION)
+rm -f "$out"/libstunp.so*
+cp target/export/target/release/libstunp.so "$out/$shared"
 # A copy: `rt ci` refuses a repository in which a link stands.
-rm -f "$out/libstunp.so"
-cp "$out/libstunp.so.0" "$out/libstunp.so"
+cp "$out/$shared" "$out/libstunp.so"
+objdump -p "$out/libstunp.so" | grep -qx " *SONAME  *$shared" ||
+    { echo "rust_c: the shared library does not have the name $shared" >&2; exit 1; }
 
 # Each library has the calls that the headers declare, and shows no other symbol.
 sed -n 's/^[a-z0-9_]* \(stunp_[a-z0-9_]*\)(.*/\1/p' include/stunp.h include/stunp_state.h |
@@ -35,11 +39,11 @@ for seen in "-g $out/libstunp.a" "-g $out/libstunp-program.a" "-D $out/libstunp.
     cmp "$out/declared" "$out/defined"
 done
 
-# expect WANTED COMMAND..: the command prints this, whatever its status.
+# expect WANTED COMMAND..: the command prints this, with status 0.
 expect() {
     wanted=$1
     shift
-    printed=$("$@" || true)
+    printed=$("$@") || { echo "rust_c: $*: ended with $?, printed '$printed'" >&2; exit 1; }
     [ "$printed" = "$wanted" ] ||
         { echo "rust_c: $*: printed '$printed', not '$wanted'" >&2; exit 1; }
 }
@@ -63,13 +67,14 @@ python3 tests/play.py "$out/play" crates/transcripts/data/*.txt > "$out/played" 
     { cat "$out/played" >&2; exit 1; }
 tail -n 1 "$out/played"
 # The same installed, in the place of the two archives.
-STUN_C="$out/libstunp.a" STUN_STATE="$out/libstunp-program.a" tests/install.sh
+STUN_C="$out/libstunp.a" STUN_STATE="$out/libstunp-program.a" LIBRARIES="$libraries" \
+    tests/install.sh
 if [ "${1-}" = udp ]; then
     built=target/export/target/debug/examples
     (cd target/export && cargo build --quiet --examples)
     # Either archive's place is this one's.
     cp "$out/libstunp-program.a" "$out/again.a"
-    STUN_C="$out/libstunp-program.a" STUN_STATE="$out/again.a" \
+    STUN_C="$out/libstunp-program.a" STUN_STATE="$out/again.a" LIBRARIES="$libraries" \
         python3 examples/udp/check.py --server "$built/udp_server" --client "$built/udp_client"
 fi
 echo "rust_c: passed"

@@ -174,14 +174,15 @@ def wrapped_in_c(scratch):
 
 
 def in_c(archives):
-    if shutil.which(os.environ.get("CC", "cc")) is None:
+    named = os.environ.get("CC", "").split()
+    if not named and shutil.which("cc") is None:
         print("transcripts: no C compiler is there, what pages show in C is left out")
         return True
     with tempfile.TemporaryDirectory() as scratch:
         source, program = os.path.join(scratch, "check.c"), os.path.join(scratch, "check")
         with open(source, "w") as opened:
             opened.write(block_after(readme(), "behind handles."))
-        compiler = [os.environ.get("CC", "cc"), "-Wall", "-Wextra", "-Werror",
+        compiler = [*(named or ["cc"]), "-Wall", "-Wextra", "-Werror",
                     "-I" + os.path.join(TOP, "include"), source]
         if not prints("", compiler + archives + ["-o", program]):
             return False
@@ -189,7 +190,8 @@ def in_c(archives):
             if not prints("valid\n", [program], stdin=binary):
                 return False
         print("transcripts: the program in C of README.md prints valid")
-        if archives != ["crates/stun_c/out/libstun_c.a"] or shutil.which("c++") is None:
+        has_both = shutil.which("cc") and shutil.which("c++")
+        if archives != ["crates/stun_c/out/libstun_c.a"] or not has_both:
             return True
         if not wrapped_in_c(scratch):
             return False

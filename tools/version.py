@@ -7,20 +7,35 @@ Prints each place that tells another, then how many were compared."""
 import re
 import sys
 
-# A file, the text around the version, and whether it is the number of C (10000, 100 and 1 times its
-# parts).
-PLACES = (
-    ("rust/Cargo.toml", r'(?m)^version = "(.*)"', False),
-    ("rust/capi/Cargo.toml", r'(?m)^version = "(.*)"', False),
-    ("rust/checks/Cargo.toml", r'(?m)^version = "(.*)"', False),
-    ("crates/stun_inspect/src/usage.rt", r'VERSION: &str = "stun_inspect (.*)\\n"', False),
-    ("crates/stun_inspect/specs/Run.antt", r'codes "stun_inspect ([0-9.]*)"', False),
-    ("CHANGELOG.md", r"(?m)^## (.*)", False),
-    ("README.md", r"\| Version \| ([0-9.]+[0-9])", False),
-    ("include/stunp.h", r"#define STUNP_VERSION (\d+)", True),
-    ("crates/stun_c/src/lib.rt", r"fn stunp_version\(\) -> i64\n[^{]*\{[^}]*\}\n\{\n    (\d+)\n",
-     True),
-    ("crates/stun_state/src/calls/release.rt", r"const VERSION: i64 = (\d+);", True),
+# A file, and the text around the version as it is written.
+TEXTS = (
+    ("rust/Cargo.toml", r'(?m)^version = "(.*)"'),
+    ("rust/capi/Cargo.toml", r'(?m)^version = "(.*)"'),
+    ("rust/checks/Cargo.toml", r'(?m)^version = "(.*)"'),
+    ("crates/stun_inspect/src/usage.rt", r'VERSION: &str = "stun_inspect (.*)\\n"'),
+    ("crates/stun_inspect/specs/Run.antt", r'codes "stun_inspect ([0-9.]*)"'),
+    ("CHANGELOG.md", r"(?m)^## (.*)"),
+    ("README.md", r"\| Version \| ([0-9.]+[0-9])"),
+)
+# The same, where it is the number of C: 10000, 100 and 1 times its parts.
+NUMBERS = (
+    ("include/stunp.h", r"#define STUNP_VERSION (\d+)"),
+    ("crates/stun_c/src/lib.rt", r"fn stunp_version\(\) -> i64\n[^{]*\{[^}]*\}\n\{\n    (\d+)\n"),
+    ("crates/stun_state/src/calls/release.rt", r"const VERSION: i64 = (\d+);"),
+)
+# The same, where its first two parts are in the names of calls, each time that they are named.
+RELEASE, STATE_RELEASE = r"\bstunp_release_(\d\w*)", r"\bstunp_state_release_(\d\w*)"
+NAMES = (
+    ("include/stunp.h", RELEASE),
+    ("include/stunp_state.h", RELEASE),
+    ("include/stunp_state.h", STATE_RELEASE),
+    ("crates/stun_c/src/lib.rt", RELEASE),
+    ("crates/stun_state/src/calls/release.rt", STATE_RELEASE),
+    ("tests/refused.sh", r"-Dstunp_release_(\d\w*)="),
+    ("tests/refused.sh", r"-Dstunp_state_release_(\d\w*)="),
+    ("tests/c/arguments.c", RELEASE),
+    ("tests/c/handles.c", STATE_RELEASE),
+    ("docs/PROVED.md", RELEASE),
 )
 
 
@@ -28,16 +43,19 @@ def main():
     with open("VERSION") as opened:
         version = opened.read().strip()
     first, second, third = map(int, version.split("."))
-    number = str(10000 * first + 100 * second + third)
-    wrong = 0
-    for path, pattern, is_number in PLACES:
-        with open(path) as opened:
-            found = re.search(pattern, opened.read())
-        wanted = number if is_number else version
-        if found is None or found.group(1) != wanted:
-            wrong += 1
-            print("%s tells %s, not %s" % (path, found.group(1) if found else "no version", wanted))
-    print("version: %d compared, %d differ" % (len(PLACES), wrong))
+    compared = wrong = 0
+    for places, wanted in (
+            (TEXTS, version), (NUMBERS, str(10000 * first + 100 * second + third)),
+            (NAMES, "%d_%d" % (first, second))):
+        for path, pattern in places:
+            with open(path) as opened:
+                found = re.findall(pattern, opened.read()) or ["no version"]
+            told = found if places is NAMES else found[:1]
+            compared += 1
+            if told != [wanted] * len(told):
+                wrong += 1
+                print("%s tells %s, not %s" % (path, " and ".join(told), wanted))
+    print("version: %d compared, %d differ" % (compared, wrong))
     return wrong == 0
 
 

@@ -102,9 +102,8 @@ def run(*words):
     return subprocess.run([str(word) for word in words], capture_output=True, text=True, timeout=60)
 
 
-def coturn():
+def coturn(folder):
     user, realm, password = LONG_TERM
-    folder = tempfile.mkdtemp()
     words = ["turnserver", "-n", "--listening-ip=127.0.0.1", "--relay-ip=127.0.0.1", "-p",
              str(SERVER_PORT), "--no-tls", "--no-dtls", "--no-cli", "--log-file=stdout",
              f"--pidfile={folder}/pid", f"--userdb={folder}/db", "--lt-cred-mech", "-r", realm,
@@ -151,7 +150,8 @@ def pair(name, number, *words):
 def main():
     if os.geteuid() != 0:
         sys.exit(__doc__)
-    coturn()
+    with tempfile.TemporaryDirectory() as folder:
+        coturn(folder)
     pair("aioice.txt", version("python3-aioice"), HERE / "aioice_pair.py")
     with tempfile.TemporaryDirectory() as folder:
         flags = run("pkg-config", "--cflags", "--libs", "nice").stdout

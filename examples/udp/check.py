@@ -14,9 +14,7 @@ The last line says what was checked. Without a compiler or the archive it says s
 import argparse
 import concurrent.futures
 import pathlib
-import signal
 import sys
-import tempfile
 
 import alone
 import harness
@@ -113,8 +111,7 @@ def main():
     words.add_argument("--client", action="append", default=[])
     words.add_argument("--only", default="", help="cases whose name has this in it")
     chosen = words.parse_args()
-    with tempfile.TemporaryDirectory() as folder:
-        folder = pathlib.Path(folder)
+    with harness.scratch() as folder:
         is_sanitized, missing = harness.build(folder)
         if missing:
             print(f"udp: nothing checked: {missing}")
@@ -122,8 +119,7 @@ def main():
         servers = [str(folder / "udp_server"), *chosen.server]
         clients = [str(folder / "udp_client"), *chosen.client]
         hosts = ["127.0.0.1", "::1"] if harness.has_ipv6() else ["127.0.0.1"]
-        signal.signal(signal.SIGALRM, harness.give_up)
-        signal.alarm(harness.SECONDS)
+        harness.end_within()
         all_cases = [case for case in cases(servers, clients, hosts) if chosen.only in case[0]]
         with concurrent.futures.ThreadPoolExecutor(8) as pool:
             results = list(pool.map(tried, all_cases))

@@ -1,5 +1,6 @@
 """What the tests of the UDP programs share: building and running them, a relay, a socket."""
 import collections
+import contextlib
 import itertools
 import os
 import pathlib
@@ -19,20 +20,24 @@ import stun
 HERE = pathlib.Path(__file__).resolve().parent
 TOP = HERE.parent.parent
 STATE = pathlib.Path(os.environ.get("STUN_STATE", TOP / "crates/stun_state/out/libstun_state.a"))
+BESIDE = os.environ.get("LIBRARIES", "")  # what these archives want of the system
 STATELESS = pathlib.Path(os.environ.get("STUN_C", TOP / "crates/stun_c/out/libstun_c.a"))
 REALM, NAME, PASSWORD = "example.org", "alice", "wonderland"
 USER = (REALM, NAME, PASSWORD)
-SECONDS = 170  # the whole run has an end
-RUNNING = []  # every server that was started
+SCRATCH = []  # the folder of the run, while there is one
 
 
 # ---- Programs
 
 
+def compiler():
+    """The words of the C compiler: those of CC, or `cc`."""
+    return os.environ.get("CC", "").split() or ["cc"]
+
+
 def build(folder):
     """Builds the programs of ../c. Answers their paths, and whether with sanitizers; or why not."""
-    compiler = os.environ.get("CC", "cc")
-    if shutil.which(compiler) is None:
+    if not os.environ.get("CC") and shutil.which("cc") is None:
         return None, "no C compiler"
     if not STATE.exists() and (TOP / "crates/stun_state").exists() and shutil.which("rt"):
         subprocess.run(["rt", "lib"], cwd=TOP / "crates/stun_state", capture_output=True)
@@ -43,31 +48,32 @@ def build(folder):
     sanitized = ["-fsanitize=address,undefined", "-fno-sanitize-recover=all"]
     empty = folder / "empty.c"
     empty.write_text("int main(void) { return 0; }\n")
-    words = [compiler, *sanitized, empty, "-o", folder / "empty"]
-    tried = subprocess.run(words, capture_output=True)
-    has = tried.returncode == 0
+    words = [*compiler(), *sanitized, empty, "-o", folder / "empty"]
+    has = all(subprocess.run(tried, capture_output=True).returncode == 0
+              for tried in (words, [folder / "empty"]))
     flags = " ".join(flags + (sanitized if has else []))
-    archives = (f"STATE={STATE}", f"LIBRARY={STATELESS}")
-    values = (f"CC={compiler}", f"CFLAGS={flags}", f"OUT={folder}", *archives)
+    archives = (f"STATE={STATE}", f"LIBRARY={STATELESS}", f"SYSTEM={BESIDE}")
+    values = (f"CC={' '.join(compiler())}", f"CFLAGS={flags}", f"OUT={folder}", *archives)
     subprocess.run(["make", "-s", "-C", TOP / "examples/c", *values, "udp"], check=True)
-    build_helpers(compiler, folder)
+    build_helpers(folder)
     return has, None
 
 
-def build_helpers(compiler, folder):
+def build_helpers(folder):
     """Builds the programs and the library of this folder's own."""
     parts = TOP / "examples/c"
-    paths = (f"-I{TOP}/include", f"-I{parts}")
-    wiped = (HERE / "wiped.c", parts / "heap.c", STATE, STATELESS, "-o", folder / "wiped")
-    subprocess.run([compiler, "-O1", *paths, *wiped], check=True)
+    command = [*compiler(), "-O1", f"-I{TOP}/include", f"-I{parts}"]
+    archives = (STATE, STATELESS, *BESIDE.split())
+    wiped = (HERE / "wiped.c", parts / "heap.c", *archives, "-o", folder / "wiped")
+    subprocess.run([*command, *wiped], check=True)
     client = (parts / name for name in ("request.c", "net.c", "words.c", "heap.c"))
-    drained = (HERE / "drained.c", *client, STATE, STATELESS, "-o", folder / "drained")
-    subprocess.run([compiler, "-O1", *paths, *drained], check=True)
-    places = (*(parts / name for name in ("places.c", "net.c", "heap.c")), STATE, STATELESS)
+    drained = (HERE / "drained.c", *client, *archives, "-o", folder / "drained")
+    subprocess.run([*command, *drained], check=True)
+    places = (*(parts / name for name in ("places.c", "net.c", "heap.c")), *archives)
     crowded = (HERE / "crowded.c", *places, "-o", folder / "crowded")
-    subprocess.run([compiler, "-O1", *paths, *crowded], check=True)
-    faults = (HERE / "faults.c", "-o", folder / "faults.so", "-ldl")
-    subprocess.run([compiler, "-O1", "-shared", "-fPIC", *faults], check=True)
+    subprocess.run([*command, *crowded], check=True)
+    faults = ("-shared", "-fPIC", HERE / "faults.c", "-o", folder / "faults.so", "-ldl")
+    subprocess.run([*command, *faults], check=True)
 
 
 class Server:
@@ -79,7 +85,6 @@ class Server:
         words = [*within, program, str(port), *words]
         pipes = dict(stdout=subprocess.PIPE, stderr=self.errors, text=True)
         self.process = subprocess.Popen(words, env={**os.environ, **dict(environment)}, **pipes)
-        RUNNING.append(self.process)
         self.lines, self.is_up = [], threading.Event()
         threading.Thread(target=self.listen, daemon=True).start()
         self.is_up.wait(20)
@@ -246,9 +251,45 @@ def has_ipv6():
         return False
 
 
-def give_up(*_):
-    """Ends what was started, and the run."""
-    for process in RUNNING:
-        process.kill()
-    print(f"udp: not done in {SECONDS} s", file=sys.stderr, flush=True)
-    os._exit(1)
+@contextlib.contextmanager
+def scratch():
+    """A folder for all that is built and written. It goes even where the run gives up."""
+    with tempfile.TemporaryDirectory() as folder:
+        SCRATCH.append(folder)
+        tempfile.tempdir = folder
+        try:
+            yield pathlib.Path(folder)
+        finally:
+            tempfile.tempdir = None
+            SCRATCH.remove(folder)
+
+
+def begun():
+    """The processes that this one began, and those that they began."""
+    children, found = collections.defaultdict(list), [os.getpid()]
+    for stat in pathlib.Path("/proc").glob("[0-9]*/stat"):
+        with contextlib.suppress(OSError):
+            parent = stat.read_bytes().rsplit(b")", 1)[1].split()[1]
+            children[int(parent)].append(int(stat.parent.name))
+    for process in found:
+        found += children[process]
+    return found[1:]
+
+
+def end_within(seconds=170):
+    """The run has an end: after so many seconds, or more on fewer than four processors."""
+    seconds = round(seconds * max(1, 4 / (os.cpu_count() or 1)))
+
+    def give_up(*_):
+        """Ends what was started, and the run. First its programs go, so that none is started
+        anew."""
+        for folder in SCRATCH:
+            shutil.rmtree(folder, ignore_errors=True)
+        for process in begun():
+            with contextlib.suppress(OSError):
+                os.kill(process, signal.SIGKILL)
+        print(f"udp: not done in {seconds} s", file=sys.stderr, flush=True)
+        os._exit(1)
+
+    signal.signal(signal.SIGALRM, give_up)
+    signal.alarm(seconds)

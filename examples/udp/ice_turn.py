@@ -11,15 +11,11 @@ the table of a run. Status 0 where each row came out as it should; the last line
 """
 import concurrent.futures
 import contextlib
-import os
-import pathlib
 import re
 import shutil
-import signal
 import socket
 import subprocess
 import sys
-import tempfile
 import threading
 import time
 
@@ -438,9 +434,7 @@ def of_agent(name, agent, ice_check):
 
 def started(*words, port=None):
     """A program of coturn's on a port, which is ended at the end."""
-    one = interop.Peer(*words, "-p", port, port=port)
-    harness.RUNNING.append(one.process)
-    return one
+    return interop.Peer(*words, "-p", port, port=port)
 
 
 def turnserver(folder, *words):
@@ -498,9 +492,9 @@ def cases(folder, versions, start):
     ice_check, turn_client = folder / "ice_check", folder / "turn_client"
     yield from of_ours(ice_check, turn_client, folder / "udp_server")
     if versions["libnice-dev"] and shutil.which("pkg-config"):
-        libnice, compiler = folder / "libnice_ice", os.environ.get("CC", "cc")
+        libnice, source = folder / "libnice_ice", harness.HERE / "libnice_ice.c"
         flags = interop.run("pkg-config", "--cflags", "--libs", "nice")[0].split()
-        built = interop.run(compiler, harness.HERE / "libnice_ice.c", "-o", libnice, *flags)
+        built = interop.run(*harness.compiler(), source, "-o", libnice, *flags)
         assert built[1] == 0, built
         yield from of_agent(f"libnice {versions['libnice-dev']}", [libnice], ice_check)
     if versions["python3-aioice"]:
@@ -521,14 +515,13 @@ def tried(case):
 
 def main():
     with contextlib.ExitStack() as stack:
-        folder = pathlib.Path(stack.enter_context(tempfile.TemporaryDirectory()))
+        folder = stack.enter_context(harness.scratch())
         is_sanitized, missing = harness.build(folder)
         if missing:
             print(f"ice and turn: nothing checked: {missing}")
             return 0
         versions = installed()
-        signal.signal(signal.SIGALRM, harness.give_up)
-        signal.alarm(harness.SECONDS)
+        harness.end_within()
         all_cases = list(cases(folder, versions, stack.enter_context))
         with concurrent.futures.ThreadPoolExecutor(6) as pool:
             rows = list(pool.map(tried, all_cases))

@@ -9,6 +9,7 @@ stun-client. With --install those that are missing, and what builds them, are in
 without it a line after the table names them. docs/INTEROP.md has the table of a run. Status 0 where
 each row that could be tried came out as it should.
 """
+import contextlib
 import os
 import pathlib
 import signal
@@ -105,13 +106,15 @@ class Peer:
         self.out.close()
 
 
+@contextlib.contextmanager
 def turnserver(*words):
     port = free_port()
-    folder = tempfile.mkdtemp()
-    return Peer("turnserver", "-n", "--listening-ip=127.0.0.1", "--listening-ip=::1",
-                "--relay-ip=127.0.0.1", "-p", port, "--no-tls", "--no-dtls", "--no-cli",
-                "--log-file=stdout", f"--pidfile={folder}/pid", f"--userdb={folder}/db", *words,
-                port=port)
+    here = ("--listening-ip=127.0.0.1", "--listening-ip=::1", "--relay-ip=127.0.0.1", "-p", port)
+    with tempfile.TemporaryDirectory() as folder:
+        files = f"--pidfile={folder}/pid", f"--userdb={folder}/db"
+        with Peer("turnserver", "-n", *here, "--no-tls", "--no-dtls", "--no-cli",
+                  "--log-file=stdout", *files, *words, port=port) as peer:
+            yield peer
 
 
 # ---- Their clients against udp_server
@@ -310,7 +313,8 @@ def with_coturn(number):
 def with_libnice(number, folder):
     peer, program = f"libnice {number}", folder / "libnice_peer"
     flags = run("pkg-config", "--cflags", "--libs", "nice")
-    built = run("cc", "-O1", harness.HERE / "libnice_peer.c", "-o", program, *flags[0].split())
+    source = harness.HERE / "libnice_peer.c"
+    built = run(*harness.compiler(), "-O1", source, "-o", program, *flags[0].split())
     assert built[1] == 0, built
     for offered in ((), ("--sha256",)):
         row(peer, " ".join(("StunAgent → udp_server", *offered)), "each validated the other",
@@ -392,7 +396,7 @@ def main():
     if "--install" in sys.argv:
         install()
     subprocess.run(["make", "-s", "-C", harness.TOP / "examples/c", "udp", f"STATE={harness.STATE}",
-                    f"LIBRARY={harness.STATELESS}"], check=True)
+                    f"LIBRARY={harness.STATELESS}", f"SYSTEM={harness.BESIDE}"], check=True)
     versions = {package: version(package) for package in PACKAGES}
     if versions["coturn"]:
         with_coturn(versions["coturn"])

@@ -27,7 +27,6 @@ class Side:
     def __init__(self, *words):
         pipes = dict(stdin=subprocess.PIPE, stdout=subprocess.PIPE, stderr=subprocess.PIPE)
         self.process = subprocess.Popen([str(word) for word in words], text=True, **pipes)
-        harness.RUNNING.append(self.process)
         line = self.process.stdout.readline().split()
         assert len(line) == 4, f"{words}: {line} {self.process.stderr.read()}"
         self.host, self.ports, self.ufrag, self.password = line

@@ -1,7 +1,6 @@
 """Network namespaces for tests: hosts and routers that need no rights, and go with the process."""
 import os
 import shutil
-import signal
 import subprocess
 import sys
 
@@ -76,9 +75,7 @@ def main(name, seconds, lay_out, tried):
             return 0
         again = (sys.executable, sys.argv[0], "--inside", *sys.argv[1:])
         return subprocess.run([*OWN, *again]).returncode
-    harness.SECONDS = seconds
-    signal.signal(signal.SIGALRM, harness.give_up)
-    signal.alarm(seconds)
+    harness.end_within(seconds)
     try:
         lay_out()
     except Refused as why:

@@ -375,11 +375,11 @@ def play_run(program, what, run):
 
 def strain_library(folder):
     """Compiles `strain.c`, where a C compiler is there."""
-    compiler = os.environ.get("CC", "cc")
-    if not shutil.which(compiler):
+    compiler = os.environ.get("CC", "").split() or ["cc"]
+    if not os.environ.get("CC") and not shutil.which("cc"):
         return None
     library = os.path.join(folder, "strain.so")
-    command = [compiler, "-shared", "-fPIC", "-O1", "-Wall", "-Wextra", "-Werror",
+    command = [*compiler, "-shared", "-fPIC", "-O1", "-Wall", "-Wextra", "-Werror",
                os.path.join(HERE, "strain.c"), "-o", library, "-ldl"]
     subprocess.run(command, check=True)
     return library

@@ -52,10 +52,11 @@ for clang in "${CLANG:-clang}" clang-19 clang-16 clang-15 clang-14; do
 done
 
 cc=${CC:-cc}
-if ! "$cc" --version >/dev/null 2>&1; then
+. "$top/tools/compiler.sh"
+if ! there "${CC-}" cc; then
     echo 'fuzz: no C compiler'
     exit 0
 fi
-can '' 'int main(void) { return 0; }' "$cc" $sanitized || sanitized=''
-build "$cc" $sanitized -DPLAIN
+can '' 'int main(void) { return 0; }' $cc $sanitized || sanitized=''
+build $cc $sanitized -DPLAIN
 "$scratch/fuzz" "$scratch"/seeds/*

@@ -57,10 +57,12 @@ for name in arguments attributes extra; do
 done
 expect "refused: passed" env STUN_C="$out/libstunp.a" STUN_STATE="$out/libstunp-program.a" \
     LIBRARIES="$libraries" tests/refused.sh
-# These look at the memory that is taken.
-for name in agents handles hostile many users play; do
-    ${CC:-cc} $strict "tests/c/$name.c" examples/c/heap.c "$out/libstunp-program.a" $libraries \
-        -o "$out/$name"
+# These look at the memory that is taken. `worked` has the examples of the headers.
+sed -n 's/^ \*     //p; /\*\/$/q' include/stunp.h > "$out/answer.h"
+sed -n 's/^ \*     //p; /\*\/$/q' include/stunp_state.h > "$out/ask.h"
+for name in agents handles hostile many users worked play; do
+    ${CC:-cc} $strict -I"$out" "tests/c/$name.c" examples/c/heap.c "$out/libstunp-program.a" \
+        $libraries -o "$out/$name"
     [ $name = play ] || expect "$name: passed" "$out/$name"
 done
 python3 tests/play.py "$out/play" crates/transcripts/data/*.txt > "$out/played" ||

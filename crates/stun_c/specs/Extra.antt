@@ -59,7 +59,7 @@ fingerprinted_message buffer count =
 
 -- ---- types that are not known (sections 6.3.1 and 14.13)
 
--- as many types a caller may say to know
+-- the most types that a caller may name as known
 abbrev pub ALL_KNOWN : ℕ
 ALL_KNOWN = 256
 

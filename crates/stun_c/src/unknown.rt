@@ -25,7 +25,7 @@ use stun_types::attribute::attribute_length;
 use stun_types::message::{Message, MessageWriteMutSlice};
 use stun_types::prelude::*;
 
-/// The most types that a caller may say to know.
+/// The most types that a caller may name as known.
 const ALL_KNOWN: usize = 256;
 
 /// Makes types of numbers.

@@ -20,7 +20,7 @@ pub enum StunParseError {
     /// The message has no visible attribute of this type.
     #[error("attribute {0} is missing")]
     MissingAttribute(AttributeType),
-    /// The value of the attribute is malformed.
+    /// The value of the attribute is malformed, or its type is another than the one that is read.
     #[error("an attribute is malformed")]
     InvalidAttributeData,
 }

@@ -326,8 +326,8 @@ pub extern "C" fn stunp_id(message: &[u8], out: &mut [u8]) -> i64
     reading::id(message, out)
 }
 
-/// The place of the first visible attribute after a place, with its type and its value's length, or
-/// 0 where there is none, or why the bytes are no message.
+/// The place of the first visible attribute after a place, with its type and its value's length.
+/// Returns 0 where there is none, or why the bytes are no message.
 #[unsafe(no_mangle)]
 pub extern "C" fn stunp_next(
     message: &[u8],
@@ -346,8 +346,8 @@ pub extern "C" fn stunp_next(
 }
 
 /// The place of the first visible attribute that is ahead of a cursor, with its type and its
-/// value's length, or 0 where there is none, or why the cursor or the bytes are refused. The cursor
-/// goes past the attribute.
+/// value's length; the cursor goes past it. Returns 0 where there is none, or why the cursor or the
+/// bytes are refused.
 #[unsafe(no_mangle)]
 pub extern "C" fn stunp_walk(
     message: &[u8],

@@ -276,8 +276,8 @@ pub trait MessageWriteExt: MessageWrite {
     ///
     /// The caller knows three things. The message has no integrity attribute. With this one it has
     /// at most 65532 bytes after its header. The writer has room for it: 24 bytes for HMAC-SHA1, 36
-    /// for HMAC-SHA256. It fails only if an allocation fails. Bytes and room then stay as they were,
-    /// and no reservation is lost.
+    /// for HMAC-SHA256. It fails only if an allocation fails. Bytes and room then stay as they
+    /// were, and no reservation is lost.
     final fn add_message_integrity_with_key_unchecked<A: Allocator>(
         &mut self,
         key: &IntegrityKey<A>,

@@ -36,7 +36,7 @@ pub enum ValidateError {
     IntegrityFailed,
 }
 
-/// Why something was not written. The writer stays as it was.
+/// Why something was not written. The bytes and the room of the writer stay as they were.
 #[derive(Debug, Clone, Copy, PartialEq, Eq, Error)]
 pub enum StunWriteError {
     /// This call does not write attributes of this type; another call does, or none.

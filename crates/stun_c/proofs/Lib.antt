@@ -1,6 +1,7 @@
 mod Appended
 mod Ending
 mod ErrorTexts
+mod Frames
 mod Lengths
 mod Members
 mod Refused

@@ -13,11 +13,11 @@ use Rattle.stun_types.specs.Attribute.{attribute_length}
 use Rattle.stun_types.specs.Grammar.{spelled_message, spelled_attribute}
 use Rattle.stun_types.specs.Message.{with_length}
 use Rattle.stun_types.specs.Writing.{empty_answer, length_with, with_attribute}
-use Rattle.stun_extra.specs.Unknown.{spelled_types}
+use Rattle.stun_extra.specs.Unknown.{spelled_types, unknown_attribute_error}
 use Rattle.stun_numbers.specs.declared.refusal.Refusal.TheVariants.{BufferTooSmall}
 use Rattle.stun_numbers.specs.Buffers.{buffer_after, within_room}
 use Rattle.stun_c.specs.Answers.{written_number}
-use Rattle.stun_c.specs.Extra.{error_420, refused_front, types_attribute, unknown_answer}
+use Rattle.stun_c.specs.Extra.{refused_front, types_attribute, unknown_answer}
 use Rattle.stun_c.proofs.Lengths.{length-spelled_attribute, length-with_attribute}
 
 -- a header takes 20 bytes
@@ -27,7 +27,7 @@ length-begun request = refl
 -- the front of a buffer, its header and then its error
 pub front_written : (request out begun written : List ℕ)
     → begun ≡ empty_answer Error request ++ drop 20 out
-    → written ≡ with_attribute (take 20 begun) error_420 ++ drop 48 begun
+    → written ≡ with_attribute (take 20 begun) unknown_attribute_error ++ drop 48 begun
     → written ≡ refused_front request ++ drop 48 out
 unfolding refused_front
 front_written request out begun written is_begun is_written =
@@ -38,7 +38,7 @@ front_written request out begun written is_begun is_written =
     ∙ drop_at header (drop 20 out) 20 (length-begun request) in
     let rest : drop 48 begun ≡ drop 48 out = sym (drop-drop 28 20 begun)
     ∙ (ap (drop 28) behind ∙ drop-drop 28 20 out) in
-    is_written ∙ (λ i. with_attribute (front i) error_420 ++ rest i)
+    is_written ∙ (λ i. with_attribute (front i) unknown_attribute_error ++ rest i)
 
 length-front : (request : List ℕ) → length (refused_front request) ≡ 48
 unfolding refused_front
@@ -140,10 +140,10 @@ pub answer_spelled : (request : List ℕ) (types : List AttributeType)
     → unknown_answer request types
     ≡ spelled_message (type_number Error (method_of (type_field request)))
     (transaction_id_field request)
-    (error_420 ∷ types_attribute types ∷ [])
+    (unknown_attribute_error ∷ types_attribute types ∷ [])
 unfolding unknown_answer refused_front
 answer_spelled request types =
-    let error = spelled_attribute error_420 in
+    let error = spelled_attribute unknown_attribute_error in
     let value = spelled_attribute (types_attribute types) in
     let one : value ++ [] ≡ value = append-nil value in
     let whole : length value ≡ attribute_length (length (spelled_types types)) =

@@ -1,18 +1,17 @@
 -- What the calls over `stun_extra` return: FINGERPRINT, types that are not known, and streams.
-use Rattle.std.specs.Prelude.{ℕ, ℤ, pos, ◌+◌, ◌-◌, List, [], ◌++◌, length, map, take, drop, codes}
+use Rattle.std.specs.Prelude.{ℕ, ℤ, pos, ◌+◌, ◌-◌, List, [], ◌++◌, length, map, take, drop}
 use Rattle.std.specs.Prelude.{nat_lt, ◌==◌, if◌then◌else◌, Option, Some, None, Result, Ok, Err}
 use Rattle.std.specs.Option.{option_or}
-use Rattle.stun_base.specs.Attributes.{ERROR_CODE, FINGERPRINT}
+use Rattle.stun_base.specs.Attributes.{FINGERPRINT}
 use Rattle.stun_base.specs.MessageType.{class_in, class_number}
 use Rattle.stun_base.specs.declared.wire.attribute_type.AttributeType.{AttributeType}
 use Rattle.stun_base.specs.declared.wire.message_type.MessageClass.TheVariants.{Error}
 use Rattle.stun_types.specs.Attribute.{TypedValue}
-use Rattle.stun_types.specs.ErrorCode.{error_value}
 use Rattle.stun_types.specs.Message.{refusal}
 use Rattle.stun_types.specs.Writing.{empty_answer, with_attribute}
 use Rattle.stun_extra.specs.Fingerprint.{fingerprint_in, with_fingerprint}
 use Rattle.stun_extra.specs.Unknown.{UNKNOWN_ATTRIBUTES, spelled_types, types_of}
-use Rattle.stun_extra.specs.Unknown.{unknown_attributes_in, unknown_types}
+use Rattle.stun_extra.specs.Unknown.{unknown_attribute_error, unknown_attributes_in, unknown_types}
 use Rattle.stun_extra.specs.declared.fingerprint.Fingerprint.{Fingerprint}
 use Rattle.stun_extra.specs.declared.fingerprint.Fingerprint.TheVariants.{Right, Wrong}
 use Rattle.stun_extra.specs.declared.fingerprint.Fingerprint.TheVariants.{Misplaced, Absent}
@@ -59,7 +58,7 @@ fingerprinted_message buffer count =
 
 -- ---- types that are not known (sections 6.3.1 and 14.13)
 
--- as many types a caller may say to know
+-- the most types that a caller may name as known
 abbrev pub ALL_KNOWN : ℕ
 ALL_KNOWN = 256
 
@@ -88,17 +87,10 @@ abbrev pub types_after : Option Refusal → List AttributeType → List ℕ → 
 types_after None types numbers = numbers_after types numbers
 types_after (Some refusal) types numbers = numbers
 
--- the error of such an answer (section 14.8)
-abbrev pub error_420 : TypedValue
-error_420 =
-    record {
-      kind = ERROR_CODE;
-      value = error_value (record { code = 420; reason = codes "Unknown Attribute" });
-    }
-
 -- the front of the answer to a request: an error response with its method and its id, and the error
 unfoldable pub refused_front : List ℕ → List ℕ
-refused_front request = with_attribute (empty_answer Error request) error_420
+refused_front request =
+    with_attribute (empty_answer Error request) unknown_attribute_error
 
 -- UNKNOWN-ATTRIBUTES of types (section 14.13)
 abbrev pub types_attribute : List AttributeType → TypedValue

@@ -31,8 +31,8 @@ visible_after hidden (m ∷ members) =
     if is_shown hidden m.1.kind then m ∷ visible_after (max hidden (rank m.1.kind)) members
     else visible_after (max hidden (rank m.1.kind)) members
 
--- what is before a cursor: at 0 all visible attributes, and at another place those from there that
--- are visible
+-- what is ahead of a cursor: at 0 all visible attributes, and at another place those from there
+-- that are visible
 abbrev pub ahead : Cursor → List ℕ → List Member
 ahead cursor bytes =
     if cursor.place == 0 then visible bytes

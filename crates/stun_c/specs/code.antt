@@ -3,3 +3,5 @@
 pub mod Room
 -- a message and its FINGERPRINT, as it is written
 pub mod Ended
+-- how many bytes a frame speaks of
+pub mod Frames

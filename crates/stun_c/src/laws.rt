@@ -16,10 +16,11 @@ ghost use Rattle.stun_types.specs.Grammar.{spelled_message};
 ghost use Rattle.stun_types.specs.Visible.{visible};
 ghost use Rattle.stun_types.specs.Writing.{with_integrity};
 ghost use Rattle.stun_extra.specs.Fingerprint.{fingerprint_refusal};
+ghost use Rattle.stun_extra.specs.Unknown.{unknown_attribute_error};
 ghost use Rattle.stun_numbers.specs.Refusals.{refusal_of_write};
 ghost use Rattle.stun_c.specs.declared.walk.Cursor.{Cursor};
 ghost use Rattle.stun_c.specs.Codes.{error_text};
-ghost use Rattle.stun_c.specs.Extra.{error_420, types_attribute, unknown_answer};
+ghost use Rattle.stun_c.specs.Extra.{types_attribute, unknown_answer};
 ghost use Rattle.stun_c.specs.Reading.{value_at};
 ghost use Rattle.stun_c.specs.Requests.{binding_request, key_length};
 ghost use Rattle.stun_c.specs.Walking.{ahead};
@@ -60,7 +61,7 @@ pub fn fingerprint_is_refused()
 pub fn refusal_is_spelled()
     ensures { (request : List ℕ) (types : List AttributeType) → unknown_answer request types
         ≡ spelled_message (type_number MessageClass.Error (method_of (type_field request)))
-        (transaction_id_field request) (error_420 ∷ types_attribute types ∷ []) }
+        (transaction_id_field request) (unknown_attribute_error ∷ types_attribute types ∷ []) }
 {}
 
 /// The value of the attribute at a place of a message is in the message, 4 bytes after the place:

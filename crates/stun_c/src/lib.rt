@@ -1,7 +1,7 @@
 //! The calls for programs in C and Rust, which `include/stunp.h` declares.
 //!
 //! Each calls the crates below, and its clause cites their definitions. None allocates, and calls
-//! share nothing.
+//! share nothing. A call that refuses returns the number of the refusal, which is below zero.
 #![tactic(auto)]
 
 ghost use Rattle.std.specs.Prelude.{◌≡◌, ◌↔◌, ◌⊎◌, drop, length, pos};
@@ -326,8 +326,8 @@ pub extern "C" fn stunp_id(message: &[u8], out: &mut [u8]) -> i64
     reading::id(message, out)
 }
 
-/// The place of the first visible attribute after a place, with its type and its value's length, or
-/// 0 where there is none.
+/// The place of the first visible attribute after a place, with its type and its value's length.
+/// Returns 0 where there is none, or why the bytes are no message.
 #[unsafe(no_mangle)]
 pub extern "C" fn stunp_next(
     message: &[u8],
@@ -345,8 +345,9 @@ pub extern "C" fn stunp_next(
     reading::next(message, place, kind, value_length)
 }
 
-/// The place of the first visible attribute that is before a cursor, with its type and its value's
-/// length, or 0 where there is none; the cursor goes past it.
+/// The place of the first visible attribute that is ahead of a cursor, with its type and its
+/// value's length; the cursor goes past it. Returns 0 where there is none, or why the cursor or the
+/// bytes are refused.
 #[unsafe(no_mangle)]
 pub extern "C" fn stunp_walk(
     message: &[u8],

@@ -97,7 +97,7 @@ fn number_of(value: &[u8]) -> u64
     }
 }
 
-/// Writes the number in the attribute at a place of a message. Returns of how many bytes it is, or
+/// Writes the number in the attribute at a place of a message. Returns how many bytes it has, or
 /// the number of the refusal.
 pub fn number_at(message: &[u8], place: usize, number: &mut u64) -> i64
     ensures answer { result ≡ written_number (sized_at message.now place) }

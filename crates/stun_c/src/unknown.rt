@@ -8,10 +8,11 @@ ghost use Rattle.stun_base.specs.declared.wire.message_type.MessageClass.{Messag
 ghost use Rattle.stun_types.specs.Attribute.{attribute_length};
 ghost use Rattle.stun_types.specs.Grammar.{spelled_attribute};
 ghost use Rattle.stun_types.specs.Writing.{empty_answer, with_attribute};
-ghost use Rattle.stun_extra.specs.Unknown.{spelled_types, types_of, unknown_types};
+ghost use Rattle.stun_extra.specs.Unknown.{spelled_types, types_of, unknown_attribute_error};
+ghost use Rattle.stun_extra.specs.Unknown.{unknown_types};
 ghost use Rattle.stun_numbers.specs.Buffers.{within_room, buffer_after};
 ghost use Rattle.stun_c.specs.Answers.{written_number};
-ghost use Rattle.stun_c.specs.Extra.{answer_made, error_420, known_refusal, numbers_after};
+ghost use Rattle.stun_c.specs.Extra.{answer_made, known_refusal, numbers_after};
 ghost use Rattle.stun_c.specs.Extra.{refused_front, told_number, types_after, types_attribute};
 ghost use Rattle.stun_c.specs.Extra.{unknown_answer, unknown_made, unknown_of};
 
@@ -25,7 +26,7 @@ use stun_types::attribute::attribute_length;
 use stun_types::message::{Message, MessageWriteMutSlice};
 use stun_types::prelude::*;
 
-/// The most types that a caller may say to know.
+/// The most types that a caller may name as known.
 const ALL_KNOWN: usize = 256;
 
 /// Makes types of numbers.
@@ -142,7 +143,8 @@ fn begin_answer(request: &Message<'_>, out: &mut [u8])
 /// Writes the ERROR-CODE of a 420 after a header, whose length field counts it then.
 fn append_error(out: &mut [u8])
     requires { 48 ≤ length out.old }
-    ensures { out.new ≡ with_attribute (take 20 out.old) error_420 ++ drop 48 out.old }
+    ensures { out.new ≡ with_attribute (take 20 out.old) unknown_attribute_error
+        ++ drop 48 out.old }
 {
     let mut value = [0; 4 + PHRASE.len()];
     write_error(&mut value, 420, PHRASE);

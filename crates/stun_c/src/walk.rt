@@ -48,7 +48,7 @@ fn is_shown(hidden: u32, kind: AttributeType) -> bool
     hidden == 0 || hidden < rank(kind)
 }
 
-/// How much those hide and one of this type.
+/// How much they hide together with one of this type.
 fn hidden_behind(hidden: u32, kind: AttributeType) -> u32
     ensures { result ≡ max hidden (rank kind.0) }
 {
@@ -125,7 +125,7 @@ fn begun(message: &[u8], cursor: Cursor) -> Result<Cursor, Refusal>
     Ok(cursor)
 }
 
-/// The place of the first visible attribute that is before a cursor, or 0, or the number of the
+/// The place of the first visible attribute that is ahead of a cursor, or 0, or the number of the
 /// refusal. Its type and the length of its value are written, and the cursor goes past it.
 pub fn walk(message: &[u8], cursor: &mut Cursor, kind: &mut u16, value_length: &mut usize) -> i64
     ensures answer { result ≡ walk_answer (cursor_refusal cursor.old message.now)

@@ -1,7 +1,7 @@
 -- The entries of password algorithms: how many there are, which one is at an index, and the steps
 -- of reading and writing.
-use Rattle.std.proofs.Common.{◌≡◌, ℕ, zero, suc, ◌+◌, ◌*◌, ◌<◌, ◌≤◌, List, [], ◌∷◌, ◌++◌, length}
-use Rattle.std.proofs.Common.{take, drop, get_or, true, false, ◌&&◌, refl, ap, sym, ◌∙◌, arith}
+use Rattle.std.proofs.Common.{◌≡◌, ℕ, zero, suc, ◌+◌, ◌*◌, ◌<◌, List, [], ◌∷◌, ◌++◌, length, take}
+use Rattle.std.proofs.Common.{drop, get_or, true, refl, ap, sym, ◌∙◌, arith}
 use Rattle.std.specs.Prelude.{Option, Some, None, ◌^◌, ◌==◌, if◌then◌else◌}
 use Rattle.std.specs.Option.{is_some, unwrap_or}
 use Rattle.std.specs.List.{slice_get}
@@ -121,37 +121,10 @@ there : (list : Option (List PasswordAlgorithmValue)) → is_some list ≡ true
 there None some = absurd (cc)
 there (Some list) some = refl
 
--- whether all is known is known of the first and of the others
-known : (others : Option (List PasswordAlgorithmValue)) (first : Option PasswordAlgorithmValue)
-    → is_some (in_front_of others first) ≡ (is_some first && is_some others)
-known None None = refl
-known None (Some first) = refl
-known (Some others) None = refl
-known (Some others) (Some first) = refl
-
 -- the list of known entries is what they read as
 pub entry_list-read : (bytes : List ℕ) → are_entries bytes ≡ true
     → entries bytes ≡ Some (entry_list bytes)
 entry_list-read bytes known = there (entries bytes) known
-
--- one entry, and then the others
-pub are_entries-step : (bytes : List ℕ) → 4 ≤ length bytes
-    → are_entries bytes ≡ (is_some (entry_at_front bytes) && are_entries (drop 4 bytes))
-are_entries-step [] long = absurd (omega arith)
-are_entries-step (a ∷ []) long = absurd (omega arith)
-are_entries-step (a ∷ b ∷ []) long = absurd (omega arith)
-are_entries-step (a ∷ b ∷ c ∷ []) long = absurd (omega arith)
-are_entries-step (a ∷ b ∷ c ∷ d ∷ rest) long =
-    known (entries rest) (entry_at_front (a ∷ b ∷ c ∷ d ∷ []))
-
--- fewer than four bytes are no entry
-pub are_entries-short : (bytes : List ℕ) → 0 < length bytes → length bytes < 4
-    → are_entries bytes ≡ false
-are_entries-short [] some short = absurd (omega arith)
-are_entries-short (a ∷ []) some short = refl
-are_entries-short (a ∷ b ∷ []) some short = refl
-are_entries-short (a ∷ b ∷ c ∷ []) some short = refl
-are_entries-short (a ∷ b ∷ c ∷ d ∷ rest) some short = absurd (omega arith)
 
 -- bytes are numbers of 8 bits
 pub record AreBytes (bytes : List ℕ) : Type 0 where

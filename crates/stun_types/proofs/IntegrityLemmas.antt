@@ -1,21 +1,26 @@
--- Where the deciding attribute is.
+-- Where the deciding attribute is, and what tells that its value is its digest.
 use Rattle.std.proofs.Common.{◌≡◌, ℕ, zero, suc, ◌+◌, ◌++◌, ◌-◌, ◌≤◌, Bool, true, false, cond}
-use Rattle.std.proofs.Common.{List, [], ◌∷◌, length, take, drop, Some, None, refl, subst, arith}
+use Rattle.std.proofs.Common.{List, [], ◌∷◌, length, take, drop, Some, None, refl, sym, subst}
+use Rattle.std.proofs.Common.{arith}
 use Rattle.std.specs.Prelude.{find, IfSome, IsTrue, Option, nat_eq, ◌==◌, ◌↔◌}
 use Rattle.std.specs.Cmp.Lexicographic.{other_text, pointwise, same_text}
 use Rattle.std.specs.Option.{option_or}
 use Rattle.std.specs.List.{AllByRecursion}
+use Rattle.std.proofs.lemmas.Bool.Decides.{nat_tests}
 use Rattle.std.proofs.lemmas.List.{append-nil, drop-take}
 use Rattle.std.specs.List.{concat}
 use Rattle.byteorder.specs.Endian.{big_bytes}
 use Rattle.std.proofs.lemmas.List.Elements.{All-filter, All-from_recursion, recursion_from_All}
+use Rattle.stun_base.specs.declared.keys.algorithm.IntegrityAlgorithm.{IntegrityAlgorithm}
+use Rattle.stun_base.specs.Algorithm.{digest, digest_length}
 use Rattle.stun_base.specs.Attributes.{MESSAGE_INTEGRITY, MESSAGE_INTEGRITY_SHA256}
 use Rattle.stun_base.specs.Header.{HEADER_LENGTH}
-use Rattle.stun_types.specs.Attribute.{has_attribute, first_attribute}
+use Rattle.stun_types.specs.Attribute.{TypedValue, has_attribute, first_attribute}
 use Rattle.stun_types.specs.Walk.{Member, next_place, walk_up_to, walk}
 use Rattle.stun_types.specs.code.Walk.{IsInside}
 use Rattle.stun_types.specs.Visible.{is_visible, visible}
 use Rattle.stun_types.specs.Integrity.{first_of, deciding, covered_bytes}
+use Rattle.stun_types.specs.Integrity.{integrity_algorithm, is_digest}
 use Rattle.stun_types.proofs.WalkLemmas.{whole_within}
 
 -- what holds of each element holds of the one that is found
@@ -112,3 +117,20 @@ test_of_texts r xs ys told = by r (pointwise nat_eq xs ys) refl told.0 told.1
     by true false is there back = absurd (other_text xs ys is (there refl))
     by false true is there back = back (same_text xs ys is)
     by false false is there back = refl
+
+-- a test whether a value is the digest of the two pieces tells whether it is that of the attribute
+pub is_digest-told : {r : Bool} {claimed made start : List ℕ} {place count : ℕ}
+    (bytes key : List ℕ) (attribute : TypedValue) (algorithm : IntegrityAlgorithm)
+    → integrity_algorithm attribute ≡ algorithm → HEADER_LENGTH ≤ place
+    → length attribute.value ≡ digest_length (integrity_algorithm attribute)
+    → claimed ≡ attribute.value → count ≡ length attribute.value
+    → start ≡ take 2 bytes ++ big_bytes 2 (place + 4 + count - 20)
+    → made ≡ digest algorithm key (concat (start ∷ take (place - 4) (drop 4 bytes) ∷ []))
+    → IsTrue r ↔ (claimed ≡ made) → r ≡ is_digest bytes key (place, attribute)
+is_digest-told {r} {claimed} {made} {start} {place} {count} bytes key attribute algorithm is
+    behind whole claims counts starts makes told =
+    let covers = covered_pieces bytes place (length attribute.value) behind in
+    let long : (length attribute.value == digest_length (integrity_algorithm attribute)) ≡ true =
+    grind (arith, nat_tests, whole) in
+    let texts = test_of_texts r claimed made told in
+    rw (long, is, sym covers, texts, claims, makes, starts, counts) refl

@@ -8,7 +8,7 @@ use Rattle.std.specs.declared.net.ip_addr.IpAddr.TheVariants.{V4, V6}
 use Rattle.std.specs.declared.net.ipv4_addr.Ipv4Addr.{Ipv4Addr}
 use Rattle.std.specs.declared.net.ipv6_addr.Ipv6Addr.{Ipv6Addr}
 use Rattle.stun_types.specs.code.AttributeLaws.{HasOctets}
-use Rattle.stun_types.specs.XorMappedAddress.{IsHidden, xor_bytes, xor_key, xor_port, xored_address}
+use Rattle.stun_types.specs.XorMappedAddress.{IsHidden, xor_bytes, xor_key, xored_address}
 
 -- one byte more, at a successor
 xor_bytes-suc : (xs ks : List ℕ) (i : ℕ) → i < length xs → i < length ks
@@ -34,11 +34,6 @@ xor_bytes-twice (x ∷ xs) (k ∷ ks) long =
     let first : bit_xor (bit_xor x k) k ≡ x = xor_assoc x k k ∙ ap (λ n. bit_xor x n) (xor_self k)
     ∙ xor_zero_r x in
     rw (first, xor_bytes-twice xs ks (omega arith))
-
--- a port that is hidden twice is as it was
-pub xor_port-twice : (port : ℕ) → xor_port (xor_port port) ≡ port
-xor_port-twice port =
-    xor_assoc port 0x2112 0x2112 ∙ ap (λ n. bit_xor port n) (xor_self 0x2112) ∙ xor_zero_r port
 
 -- segments are those of their octets
 pub segments_of-octets_of : (segments : List ℕ) → segments_of (octets_of segments) ≡ segments

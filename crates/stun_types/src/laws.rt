@@ -1,5 +1,4 @@
-//! Laws of messages: first those that the crates above use, then the equality of messages, then
-//! constants.
+//! Laws of messages, which the crates above use.
 //!
 //! A law is a function whose contract is the law. It does nothing, or makes one call.
 ghost use Rattle.std.specs.Prelude.{◌≡◌, ℕ, false, Some, ◌≤◌, ◌<◌, ◌^◌};

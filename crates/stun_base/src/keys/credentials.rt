@@ -436,7 +436,7 @@ impl<'a, A: Allocator> fmt::Debug for CredentialsKey<'a, A> {
         ensures writes { WritesOnOk W.write_str_gives f.old result
             (codes "CredentialsKey { .. }") f.new }
 
-        // So it is whatever width, precision or other option is asked.
+        // It writes the same with every width, precision and other option.
         ensures styled { WritesStyledOnOk W.write_str_gives f.old result
             (codes "CredentialsKey { .. }") f.new }
     {

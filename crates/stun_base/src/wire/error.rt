@@ -20,7 +20,7 @@ pub enum StunParseError {
     /// The message has no visible attribute of this type.
     #[error("attribute {0} is missing")]
     MissingAttribute(AttributeType),
-    /// The value of the attribute is malformed.
+    /// The value of the attribute is malformed, or its type is another than the one that is read.
     #[error("an attribute is malformed")]
     InvalidAttributeData,
 }
@@ -36,7 +36,7 @@ pub enum ValidateError {
     IntegrityFailed,
 }
 
-/// Why something was not written. The writer stays as it was.
+/// Why something was not written. The bytes and the room of the writer stay as they were.
 #[derive(Debug, Clone, Copy, PartialEq, Eq, Error)]
 pub enum StunWriteError {
     /// This call does not write attributes of this type; another call does, or none.

@@ -85,7 +85,8 @@ impl ErrorCode<'_> {
 
 impl<'a> ErrorCode<'a> {
     /// Begins an attribute of this code. Until a reason is set, it is `Bad Request` for 400,
-    /// `Unauthorized` for 401, `Stale Nonce` for 438, and empty for any other code.
+    /// `Unauthorized` for 401, `Stale Nonce` for 438, and empty for any other code. `Unauthorized`
+    /// is the phrase of RFC 5389 (section 15.6); RFC 8489 has `Unauthenticated` (section 14.8).
     pub fn builder(code: u16) -> ErrorCodeBuilder<'a>
         ensures { result ≡ record { code = code; reason = default_reason code } }
     {

@@ -1,5 +1,4 @@
-//! Laws of attributes: first of writing and reading, which the crates above use, then of equality
-//! and copies, then of constants.
+//! Laws of attributes: of writing and reading, which the crates above use.
 ghost use Rattle.std.specs.Prelude.{◌≡◌, ◌<◌, ◌^◌, ℕ};
 ghost use Rattle.std.specs.Prelude.{List, slice_index};
 ghost use Rattle.std.specs.Net.Socket.{socket_flowinfo, socket_ip, socket_port, socket_scope_id};
@@ -29,7 +28,7 @@ pub fn entries_are_spelled()
         → ((i : ℕ) → slice_index bytes i < 2 ^ 8) → ReadsSpelledEntries bytes list }
 {}
 
-/// The digest under a key of the algorithm that makes keys of a digest is that digest.
+/// The password algorithm of a digest leads back to that digest.
 pub fn same_integrity(integrity: IntegrityAlgorithm) -> IntegrityAlgorithm
     ensures { result ≡ integrity }
 {

@@ -8,7 +8,7 @@ ghost use Rattle.stun_base.specs.Header.{header_of, transaction_id_field};
 ghost use Rattle.stun_base.specs.Keys.OfCredentials.{keys_of};
 ghost use Rattle.stun_base.specs.MessageType.{class_in, IsResponse};
 ghost use Rattle.stun_types.specs.Attribute.{attribute_length};
-ghost use Rattle.stun_types.specs.Grammar.{spelled_message, spelled_attribute};
+ghost use Rattle.stun_types.specs.Grammar.{spelled_attribute};
 ghost use Rattle.stun_types.specs.Limits.{max_length};
 ghost use Rattle.stun_types.specs.Visible.{has_kind};
 ghost use Rattle.stun_types.specs.Walk.{walk};
@@ -94,8 +94,8 @@ pub trait MessageWriteExt: MessageWrite {
     /// attribute or of FINGERPRINT. `MessageIntegrityExists`: the message has an integrity
     /// attribute. `AttributeExists`: it has an attribute of this type. `TooLarge`: it would have
     /// more than 65532 bytes after its header. `TooSmall`: the writer has too little room.
-    /// `OutOfMemory`: an allocation fails. If it fails, bytes, room and reservation stay as they
-    /// were.
+    /// `OutOfMemory`: an allocation fails. If it fails, bytes and room stay as they were, and no
+    /// reservation is lost.
     final fn add_attribute<A: Attribute>(&mut self, attribute: &A) -> Result<(), StunWriteError>
     where
         Self: Sized,
@@ -184,7 +184,7 @@ pub trait MessageWriteExt: MessageWrite {
     /// It fails with the first of these that holds. `MessageIntegrityExists`: the message has an
     /// integrity attribute. `TooLarge`: it would have more than 65532 bytes after its header.
     /// `TooSmall`: the writer has too little room. `OutOfMemory`: an allocation fails. If it fails,
-    /// bytes, room and reservation stay as they were.
+    /// bytes and room stay as they were, and no reservation is lost.
     final fn add_message_integrity_with_key<A: Allocator>(
         &mut self,
         key: &IntegrityKey<A>,
@@ -276,8 +276,8 @@ pub trait MessageWriteExt: MessageWrite {
     ///
     /// The caller knows three things. The message has no integrity attribute. With this one it has
     /// at most 65532 bytes after its header. The writer has room for it: 24 bytes for HMAC-SHA1, 36
-    /// for HMAC-SHA256. It fails only if an allocation fails; bytes, room and reservation then stay
-    /// as they were.
+    /// for HMAC-SHA256. It fails only if an allocation fails. Bytes and room then stay as they
+    /// were, and no reservation is lost.
     final fn add_message_integrity_with_key_unchecked<A: Allocator>(
         &mut self,
         key: &IntegrityKey<A>,

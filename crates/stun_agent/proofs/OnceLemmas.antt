@@ -26,7 +26,7 @@ use Rattle.stun_agent.specs.Statistics.{response_received}
 use Rattle.stun_agent.specs.Calls.{AgentCall, send, send_request, receive, validate, forget}
 use Rattle.stun_agent.specs.Calls.{poll, poll_transmit, cancel_retransmissions, cancel}
 use Rattle.stun_agent.specs.Calls.{configure, after_agent_call, after_agent_calls, is_id}
-use Rattle.stun_agent.specs.Calls.{is_outstanding, begins, ends, takes_request, count_if, count}
+use Rattle.stun_agent.specs.Calls.{is_outstanding, begins, ends, takes_request, one_if, count}
 use Rattle.stun_agent.specs.Transactions.{Transaction, Transactions, IsAscending, at, with}
 use Rattle.stun_agent.specs.Transactions.{without, with_change_at, without_retransmissions}
 use Rattle.stun_agent.specs.Transactions.{with_cancellation, with_settings}
@@ -169,8 +169,8 @@ not_refused_is_new a bytes to h = by_header (header_refusal bytes) h
 -- what a call balances
 abbrev IsBalanced : ℕ → Bool → Bool → Transactions → Transactions → Type 0
 IsBalanced id begun ended before after =
-    count_if begun + count_if (is_some (at id before))
-    ≡ count_if ended + count_if (is_some (at id after))
+    one_if begun + one_if (is_some (at id before))
+    ≡ one_if ended + one_if (is_some (at id after))
 
 balanced_request : (id : ℕ) (a : Agent) (bytes : List ℕ) (to : SocketAddr) (now : ℕ)
     → IsBalanced id (is_none (request_refusal a bytes to) && is_id id (transaction_id_field bytes))
@@ -192,10 +192,10 @@ balanced_request id a bytes to now = by (request_refusal a bytes to) refl
         subst (λ k. at id (with k (request_of a bytes to now) a.transactions)
         ≡ Some (request_of a bytes to now)) (sym key)
         (lookup-insert_same id (request_of a bytes to now) a.transactions) in
-        ap (λ (o : Option Transaction). 1 + count_if (is_some o)) none
-        ∙ sym (ap (λ (o : Option Transaction). 0 + count_if (is_some o)) here)
+        ap (λ (o : Option Transaction). 1 + one_if (is_some o)) none
+        ∙ sym (ap (λ (o : Option Transaction). 0 + one_if (is_some o)) here)
     fresh is false apart =
-        sym (ap (λ (o : Option Transaction). 0 + count_if (is_some o))
+        sym (ap (λ (o : Option Transaction). 0 + one_if (is_some o))
         (lookup-insert_other id (transaction_id_field bytes) (request_of a bytes to now)
         a.transactions apart))
 
@@ -215,10 +215,10 @@ balanced_without id other all t s there = by (is_id id other) refl
         let here : at id all ≡ Some t = subst (λ k. at k all ≡ Some t) key there in
         let gone : at id (without other all) ≡ None =
         subst (λ k. at id (without k all) ≡ None) (sym key) (at-without id all s) in
-        ap (λ (o : Option Transaction). 0 + count_if (is_some o)) here
-        ∙ sym (ap (λ (o : Option Transaction). 1 + count_if (is_some o)) gone)
+        ap (λ (o : Option Transaction). 0 + one_if (is_some o)) here
+        ∙ sym (ap (λ (o : Option Transaction). 1 + one_if (is_some o)) gone)
     by false apart =
-        sym (ap (λ (o : Option Transaction). 0 + count_if (is_some o))
+        sym (ap (λ (o : Option Transaction). 0 + one_if (is_some o))
         (lookup-remove_other id other all apart))
 
 balanced_response : (id : ℕ) (moment : Option ℕ) (bytes : List ℕ) (from : SocketAddr) (a : Agent)
@@ -256,13 +256,13 @@ balanced_response id moment bytes from a s = by (answered_request bytes from a) 
         (with_validated from
         (with_transactions a (without (transaction_id_field bytes) a.transactions))))
         found a).transactions
-    by None is = sym (ap (λ b. count_if b + count_if (is_some (at id a.transactions))) (unknown is))
+    by None is = sym (ap (λ b. one_if b + one_if (is_some (at id a.transactions))) (unknown is))
     by (Some t) is =
         balanced_without id (transaction_id_field bytes) a.transactions t s
         (answered_there bytes from a t is)
         ∙ sym (ap
-        (λ b. count_if b
-        + count_if (is_some (at id (without (transaction_id_field bytes) a.transactions))))
+        (λ b. one_if b
+        + one_if (is_some (at id (without (transaction_id_field bytes) a.transactions))))
         (known t is))
 
 balanced_class : (class : MessageClass) (id : ℕ) (moment : Option ℕ) (bytes : List ℕ)
@@ -297,18 +297,18 @@ balanced_slots : (id now : ℕ) (a : Agent) (found : Option (ℕ × Transaction)
     (with_transactions a
     (after_slots a.transport now (option_map (λ e. e.0) found) a.transactions))).transactions
 balanced_slots id now a None =
-    sym (ap (λ b. 0 + count_if b)
+    sym (ap (λ b. 0 + one_if b)
     (ap is_some (lookup-map (slot_passed a.transport now None) id a.transactions)
     ∙ is_some-option_map _ (at id a.transactions)))
 balanced_slots id now a (Some e) =
-    sym (ap (λ b. 0 + count_if b)
+    sym (ap (λ b. 0 + one_if b)
     (ap is_some (lookup-map (slot_passed a.transport now (Some e.0)) id a.transactions)
     ∙ is_some-option_map _ (at id a.transactions)))
 
 balanced_changed : (f : Transaction → Transaction) (id other : ℕ) (all : Transactions)
     → IsBalanced id false false all (with_change_at f other all)
 balanced_changed f id other all =
-    sym (ap (λ b. 0 + count_if b) (is_some-with_change_at f id other all))
+    sym (ap (λ b. 0 + one_if b) (is_some-with_change_at f id other all))
 
 balanced_send : (b : Bool) (id : ℕ) (bytes : List ℕ) (a : Agent)
     → IsBalanced id false false a.transactions (cond b a (after_send bytes a)).transactions
@@ -337,8 +337,8 @@ summed : (b o e p x y z : ℕ) → b + o ≡ e + p → x + p ≡ y + z → (b + 
 summed b o e p x y z h k = omega (arith, h, k)
 
 pub balanced_calls : (id : ℕ) (calls : List AgentCall) (a : Agent) → IsAscending a.transactions
-    → count begins id calls a + count_if (is_outstanding id a)
-    ≡ count ends id calls a + count_if (is_outstanding id (after_agent_calls calls a))
+    → count begins id calls a + one_if (is_outstanding id a)
+    ≡ count ends id calls a + one_if (is_outstanding id (after_agent_calls calls a))
 balanced_calls id [] a s = refl
 balanced_calls id (call ∷ calls) a s =
     summed _ _ _ _ _ _ _ (balanced_call id call a s)
@@ -349,7 +349,7 @@ from_nothing x y o h k = omega (arith, h, k)
 
 pub ends_once : (id : ℕ) (calls : List AgentCall) (start : Agent) → start.transactions ≡ []
     → count begins id calls start
-    ≡ count ends id calls start + count_if (is_outstanding id (after_agent_calls calls start))
+    ≡ count ends id calls start + one_if (is_outstanding id (after_agent_calls calls start))
 ends_once id calls start none =
     from_nothing _ _ _ (balanced_calls id calls start (subst IsAscending (sym none) ascending_none))
-    (ap (λ (all : Transactions). count_if (is_some (at id all))) none)
+    (ap (λ (all : Transactions). one_if (is_some (at id all))) none)

@@ -22,7 +22,7 @@ use Rattle.stun_agent.specs.Statistics.{response_received}
 use Rattle.stun_agent.specs.Calls.{AgentCall, send, send_request, receive, validate}
 use Rattle.stun_agent.specs.Calls.{forget, poll, poll_transmit, cancel_retransmissions}
 use Rattle.stun_agent.specs.Calls.{cancel, configure, after_agent_call, after_agent_calls}
-use Rattle.stun_agent.specs.Calls.{is_id, repeats_request, count_if, transmissions_allowed}
+use Rattle.stun_agent.specs.Calls.{is_id, repeats_request, one_if, transmissions_allowed}
 use Rattle.stun_agent.specs.Calls.{repetitions_until_end, most_transmissions_allowed}
 use Rattle.stun_agent.specs.Timing.{slots}
 use Rattle.stun_agent.specs.Transactions.{Transaction, Transactions, IsAscending, at, with, without}
@@ -106,9 +106,9 @@ transport_calls (call ∷ calls) a =
 -- what a call does to the slot of a transaction, and what is left of that
 record TakesSlot (transport : TransportType) (t : Transaction) (repeated : Bool)
     (after : Option Transaction) : Type 0 where
-  within : t.slot + count_if repeated ≤ max t.slot (slots transport t.settings)
+  within : t.slot + one_if repeated ≤ max t.slot (slots transport t.settings)
   rises : IfSome after
-      (λ u. (t.slot + count_if repeated ≤ u.slot)
+      (λ u. (t.slot + one_if repeated ≤ u.slot)
       × (u.slot ≤ max t.slot (slots transport t.settings)))
 
 stays : (transport : TransportType) (t u : Transaction) (after : Option Transaction)
@@ -317,9 +317,9 @@ bounded id (call ∷ calls) a t s there =
   where
     by : (after : Option Transaction) → at id (after_agent_call call a).transactions ≡ after
         → IfSome after
-        (λ u. (t.slot + count_if (repeats_request id call a) ≤ u.slot)
+        (λ u. (t.slot + one_if (repeats_request id call a) ≤ u.slot)
         × (u.slot ≤ max t.slot (slots a.transport t.settings)))
-        → t.slot + count_if (repeats_request id call a) ≤ max t.slot (slots a.transport t.settings)
+        → t.slot + one_if (repeats_request id call a) ≤ max t.slot (slots a.transport t.settings)
         → slots a.transport t.settings ≤ max 1 t.settings.transmissions - 1
         → transmissions_allowed id a ≡ t.settings.transmissions
         → ((u : Transaction) → IsAscending (after_agent_call call a).transactions
@@ -327,7 +327,7 @@ bounded id (call ∷ calls) a t s there =
         → u.slot + repetitions_until_end id calls (after_agent_call call a)
         ≤ max u.slot (max 1 (most_transmissions_allowed id calls (after_agent_call call a)) - 1))
         → t.slot
-        + (count_if (repeats_request id call a)
+        + (one_if (repeats_request id call a)
         + cond (is_some after) (repetitions_until_end id calls (after_agent_call call a)) 0)
         ≤ max t.slot
         (max 1 (max (transmissions_allowed id a)
@@ -346,17 +346,17 @@ once_over_tcp id (call ∷ calls) a t s there tcp =
     let slot = slot_call id call a t s there in
     let none : slots a.transport t.settings ≡ 0 =
     ap (λ transport. slots transport t.settings) tcp in
-    let here : count_if (repeats_request id call a) ≡ 0 = omega (arith, slot.within, none) in
+    let here : one_if (repeats_request id call a) ≡ 0 = omega (arith, slot.within, none) in
     by (at id (after_agent_call call a).transactions) refl here
     (once_over_tcp id calls (after_agent_call call a))
   where
     by : (after : Option Transaction) → at id (after_agent_call call a).transactions ≡ after
-        → count_if (repeats_request id call a) ≡ 0
+        → one_if (repeats_request id call a) ≡ 0
         → ((u : Transaction) → IsAscending (after_agent_call call a).transactions
         → at id (after_agent_call call a).transactions ≡ Some u
         → (after_agent_call call a).transport ≡ Tcp
         → repetitions_until_end id calls (after_agent_call call a) ≡ 0)
-        → count_if (repeats_request id call a)
+        → one_if (repeats_request id call a)
         + cond (is_some after) (repetitions_until_end id calls (after_agent_call call a)) 0 ≡ 0
     by None is here rest = omega (arith, here)
     by (Some u) is here rest =

@@ -117,14 +117,14 @@ repeats_request id (cancel other) agent = false
 repeats_request id (configure other settings) agent = false
 
 -- 1 where it is so
-abbrev pub count_if : Bool → ℕ
-count_if b = if b then 1 else 0
+abbrev pub one_if : Bool → ℕ
+one_if b = if b then 1 else 0
 
 -- how many of the calls do this to the transaction
 abbrev pub count : (ℕ → AgentCall → Agent → Bool) → ℕ → List AgentCall → Agent → ℕ
 count happens id [] agent = 0
 count happens id (call ∷ calls) agent =
-    count_if (happens id call agent) + count happens id calls (after_agent_call call agent)
+    one_if (happens id call agent) + count happens id calls (after_agent_call call agent)
 
 -- how many transmissions the settings of the transaction allow
 abbrev pub transmissions_allowed : ℕ → Agent → ℕ
@@ -135,7 +135,7 @@ transmissions_allowed id agent =
 abbrev pub repetitions_until_end : ℕ → List AgentCall → Agent → ℕ
 repetitions_until_end id [] agent = 0
 repetitions_until_end id (call ∷ calls) agent =
-    count_if (repeats_request id call agent)
+    one_if (repeats_request id call agent)
     + (if is_outstanding id (after_agent_call call agent)
     then repetitions_until_end id calls (after_agent_call call agent) else 0)
 

@@ -5,7 +5,7 @@ use Rattle.std.specs.Fmt.{decimal}
 use Rattle.std.specs.Net.Text.{socket_text}
 use Rattle.std.specs.declared.net.socket_addr.SocketAddr.{SocketAddr}
 use Rattle.stun_base.specs.Data.{data_bytes}
-use Rattle.stun_base.specs.Transport.{name_of}
+use Rattle.stun_base.specs.Transport.{transport_name}
 use Rattle.stun_base.specs.declared.wire.data.Data.{Data}
 use Rattle.stun_base.specs.declared.wire.transport.TransportType.{TransportType}
 use Rattle.stun_agent.specs.declared.calls.transmit.Transmit.{Transmit}
@@ -29,6 +29,6 @@ datagram t = (data_bytes t.«data», t.transport, t.from, t.to)
 -- the text of so many bytes that a transport carries between two addresses
 abbrev pub text_of_datagram : TransportType → SocketAddr → SocketAddr → ℕ → List ℕ
 text_of_datagram transport from to count =
-    codes "Transmit(" ++ name_of transport ++ codes ": " ++ socket_text from ++ codes " -> "
+    codes "Transmit(" ++ transport_name transport ++ codes ": " ++ socket_text from ++ codes " -> "
     ++ socket_text to ++ codes " of "
     ++ decimal count ++ codes " bytes)"

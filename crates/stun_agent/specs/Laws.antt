@@ -11,7 +11,7 @@ use Rattle.stun_agent.specs.Agent.{Agent, takes_message, after_message, poll_ans
 use Rattle.stun_agent.specs.Agent.{ended_by_poll, sent_by_poll, request_refusal, after_send_request}
 use Rattle.stun_agent.specs.Statistics.{LeavesOutstanding, IsNotFull}
 use Rattle.stun_agent.specs.Calls.{AgentCall, after_agent_call, after_agent_calls}
-use Rattle.stun_agent.specs.Calls.{is_outstanding, begins, ends, count_if, count}
+use Rattle.stun_agent.specs.Calls.{is_outstanding, begins, ends, one_if, count}
 use Rattle.stun_agent.specs.Calls.{repetitions_until_end, most_transmissions_allowed}
 use Rattle.stun_agent.specs.Timing.{Settings, timeout, planned_end}
 use Rattle.stun_agent.specs.Transactions.{Transaction, at, an_hour}
@@ -64,7 +64,7 @@ abbrev pub EndsOnce : Type 0
 EndsOnce =
     (id : ℕ) (calls : List AgentCall) (start : Agent) → start.transactions ≡ []
     → count begins id calls start
-    ≡ count ends id calls start + count_if (is_outstanding id (after_agent_calls calls start))
+    ≡ count ends id calls start + one_if (is_outstanding id (after_agent_calls calls start))
 
 -- a request is transmitted at most as often as its settings ever allow, and over TCP once: from
 -- when it is sent, over any calls, until it ends

@@ -50,15 +50,15 @@ entries_more front list i algorithm at =
     (sym (flat_map_more spelled_entry front (take i list) algorithm))
 
 -- lists of the same length with the same algorithm at each index are equal
-pub same_list : (one other : List PasswordAlgorithmValue) → length one ≡ length other
+pub same_entries : (one other : List PasswordAlgorithmValue) → length one ≡ length other
     → ((k : ℕ) → k < length one → slice_get one k ≡ slice_get other k) → one ≡ other
-same_list [] [] lengths same = refl
-same_list [] (y ∷ other) lengths same = absurd (omega arith)
-same_list (x ∷ one) [] lengths same = absurd (omega arith)
-same_list (x ∷ one) (y ∷ other) lengths same =
+same_entries [] [] lengths same = refl
+same_entries [] (y ∷ other) lengths same = absurd (omega arith)
+same_entries (x ∷ one) [] lengths same = absurd (omega arith)
+same_entries (x ∷ one) (y ∷ other) lengths same =
     let first : Some x ≡ Some y = same 0 (omega arith) in
     let others : one ≡ other =
-    same_list one other (omega arith) (λ k below. same (suc k) (omega arith)) in
+    same_entries one other (omega arith) (λ k below. same (suc k) (omega arith)) in
     cc
 
 -- the parts of a list that was put together of a first algorithm and others

@@ -1,7 +1,7 @@
 //! The transports that carry messages.
 
 ghost use Rattle.std.specs.Prelude.{Some};
-ghost use Rattle.stun_base.specs.Transport.{name_of};
+ghost use Rattle.stun_base.specs.Transport.{transport_name};
 
 use std::fmt;
 
@@ -15,10 +15,10 @@ pub enum TransportType {
 }
 
 impl fmt::Display for TransportType {
-    ghost output = { λ transport. Some (name_of transport) };
+    ghost output = { λ transport. Some (transport_name transport) };
 
     // No option of the formatter changes it.
-    ghost styled_output = { λ transport _. Some (name_of transport) };
+    ghost styled_output = { λ transport _. Some (transport_name transport) };
 
     fn fmt<W: fmt::Write>(&self, f: &mut fmt::Formatter<W>) -> fmt::Result {
         match self {

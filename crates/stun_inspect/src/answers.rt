@@ -162,8 +162,8 @@ fn verify_each<W: Write, A: Allocator + Copy>(
     tell_input(alloc, &Verifying { user, credentials }, input, writer)
 }
 
-/// Prints whether the digest of each message of a file verifies. The password `-` is the first line
-/// of the other reader.
+/// Prints whether the digest of each message of a file verifies. The password `-` means the first
+/// line of `reader`.
 pub fn verify_file<R: CountedRead, F: CountedRead, W: Write, A: Allocator + Copy>(
     alloc: A,
     who: Who<'_>,
@@ -260,7 +260,8 @@ fn credentials_of<A: Allocator + Copy>(
     }
 }
 
-/// The input whose first line a password is, for the word `-`.
+/// If the word is `-`, the input whose first line is the password. Else no bytes, and nothing is
+/// read.
 fn password_input<R: CountedRead, A: Allocator + Copy>(
     alloc: A,
     word: &str,

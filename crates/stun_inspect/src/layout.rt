@@ -24,7 +24,8 @@ pub struct Spelled<A: Allocator> {
     pub bytes: Vec<u8, A>,
 }
 
-/// Whether bytes are taken as they are: the first two bits are zero, and the magic cookie follows.
+/// Whether bytes are taken as they are: the first two bits are zero, and byte 4 begins the magic
+/// cookie.
 pub fn is_raw(bytes: &[u8]) -> bool
     ensures { result ≡ is_raw bytes.now }
 {
@@ -33,10 +34,8 @@ pub fn is_raw(bytes: &[u8]) -> bool
         && BigEndian::read_u32(&bytes[4..]) == MAGIC_COOKIE
 }
 
-/// The bytes that may be a message: all of these if they begin as one. If they are a packet, what
-/// it carries over UDP.
-///
-/// Fails if that is more than 65552 bytes.
+/// The bytes that may be a message. If these do not begin as a message and are a packet, it is what
+/// the packet carries over UDP, and else all of them. Fails if it has more than 65552 bytes.
 pub fn message_of(bytes: &[u8]) -> Result<&[u8], Failure>
     ensures limit { IfOk result (λ message. length message.now ≤ LENGTH_LIMIT) }
     ensures raw { is_raw bytes.now ≡ true → IfOk result (λ message. message.now ≡ bytes.now) }
@@ -62,7 +61,7 @@ pub fn within_limit(bytes: &[u8]) -> Result<&[u8], Failure>
     Ok(bytes)
 }
 
-/// What a packet carries over UDP, if the bytes are one: of IPv4 or IPv6, or a frame of Ethernet.
+/// If the bytes are a packet of IPv4 or IPv6 or a frame of Ethernet, what that carries over UDP.
 /// Else the bytes themselves.
 fn payload(bytes: &[u8]) -> &[u8] {
     if let Some(Carried::Udp(datagram)) = carried(RAW, bytes) {

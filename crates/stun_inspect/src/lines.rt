@@ -16,7 +16,7 @@ fn is_whole(bytes: &[u8]) -> bool {
         && usize::from(BigEndian::read_u16(&message[2..])) == message.len() - HEADER_LENGTH
 }
 
-/// Whether a text spells a whole message. It fails where an allocation fails.
+/// Whether a text spells a whole message. Fails if an allocation fails.
 fn spells_whole<A: Allocator + Copy>(alloc: A, text: &str) -> Result<bool, Failure> {
     match read_digits(alloc, text) {
         Ok(bytes) => Ok(is_whole(bytes.as_slice())),
@@ -25,8 +25,8 @@ fn spells_whole<A: Allocator + Copy>(alloc: A, text: &str) -> Result<bool, Failu
     }
 }
 
-/// Whether each line is one of its own: one of several spells a whole message, and all of them
-/// together do not.
+/// Whether each line of a text is read by itself: one line spells a whole message, and the whole
+/// text does not. Fails if an allocation fails.
 pub fn has_lines<A: Allocator + Copy>(alloc: A, text: &str) -> Result<bool, Failure> {
     if spells_whole(alloc, text)? {
         return Ok(false);

@@ -11,8 +11,9 @@ ghost use Rattle.stun_inspect.specs.Verify.{PrintsVerdictAndNotes};
 
 use crate::command::{Command, User, Who};
 use crate::decode::describe;
+use crate::digits::bad_input;
 use crate::each::{Decoding, Verifying, tell_input};
-use crate::failure::{BadInput, Failure, INPUT_LIMIT, Wanted};
+use crate::failure::{Failure, INPUT_LIMIT, Wanted};
 use crate::layout::{is_raw, within_limit};
 use crate::notes::notes_on;
 use crate::usage::{HELP, VERSION};
@@ -295,11 +296,7 @@ fn password_of<'a>(word: &'a str, input: &'a [u8]) -> Result<(&'a str, &'a [u8])
     };
     match str::from_utf8(line) {
         Ok(password) => Ok((password, rest)),
-        Err(_) => Err(Failure::Input(BadInput {
-            line: 1,
-            column: 1,
-            wanted: Wanted::Password,
-        })),
+        Err(_) => Err(bad_input(1, 1, Wanted::Password)),
     }
 }
 

@@ -3,9 +3,9 @@ ghost use Rattle.std.specs.Prelude.{◌≡◌, ◌≤◌, IfOk, true, length};
 ghost use Rattle.stun_types.specs.Limits.{LENGTH_LIMIT};
 ghost use Rattle.stun_inspect.specs.Input.{is_raw};
 
-use crate::digits::read_plain;
+use crate::digits::{bad_input, read_plain};
 use crate::dump::{has_dump, read_dumps};
-use crate::failure::{BadInput, Failure, Wanted};
+use crate::failure::{Failure, Wanted};
 use crate::lines::{has_lines, read_lines};
 use base64::DecodeAllocError;
 use base64::engine::general_purpose::STANDARD;
@@ -52,11 +52,7 @@ pub fn within_limit(bytes: &[u8]) -> Result<&[u8], Failure>
     ensures same { IfOk result (λ same. same.now ≡ bytes.now) }
 {
     if bytes.len() > LENGTH_LIMIT {
-        return Err(Failure::Input(BadInput {
-            line: 1,
-            column: 1,
-            wanted: Wanted::EndOfMessage,
-        }));
+        return Err(bad_input(1, 1, Wanted::EndOfMessage));
     }
     Ok(bytes)
 }
@@ -132,11 +128,7 @@ fn bad_text(input: &[u8]) -> Failure {
             column = 1;
         }
     }
-    Failure::Input(BadInput {
-        line,
-        column,
-        wanted: Wanted::Text,
-    })
+    bad_input(line, column, Wanted::Text)
 }
 
 /// The bytes that base64 spells, with white space anywhere, where they begin as a message.

@@ -1,6 +1,7 @@
 //! Texts that have one message a line, as `tshark -T fields -e udp.payload` prints them.
 
-use crate::failure::{BadInput, Failure};
+use crate::digits::bad_input;
+use crate::failure::Failure;
 use crate::layout::{Spelled, is_raw, message_of, push_spelled, read_digits};
 use byteorder::{BigEndian, ByteOrder};
 use std::alloc::Allocator;
@@ -63,11 +64,7 @@ fn read_line<A: Allocator + Copy>(
     number: usize,
 ) -> Result<Vec<u8, A>, Failure> {
     match read_digits(alloc, line) {
-        Err(Failure::Input(bad)) => Err(Failure::Input(BadInput {
-            line: number,
-            column: bad.column,
-            wanted: bad.wanted,
-        })),
+        Err(Failure::Input(bad)) => Err(bad_input(number, bad.column, bad.wanted)),
         read => read,
     }
 }

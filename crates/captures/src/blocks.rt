@@ -13,7 +13,7 @@ pub const SECTION: u32 = 0x0A0D_0D0A;
 /// The mark after a section's type and length.
 const MARK: u32 = 0x1A2B_3C4D;
 
-/// The same in the other order.
+/// The mark in the other order of bytes.
 const TURNED_MARK: u32 = 0x4D3C_2B1A;
 
 /// The fewest bytes of a block.
@@ -40,7 +40,7 @@ pub struct Captured<'a> {
     pub ticks: Option<u64>,
     /// How many bytes the packet had on its way.
     pub whole: usize,
-    /// Those that were captured.
+    /// The bytes that were captured.
     pub bytes: &'a [u8],
 }
 
@@ -48,14 +48,14 @@ pub struct Captured<'a> {
 #[derive(Clone, Copy)]
 pub struct Block<'a> {
     pub kind: u32,
-    /// What it has after its type and its length.
+    /// What it has between its length and the length at its end.
     pub body: &'a [u8],
-    /// What follows it.
+    /// What follows the block.
     pub rest: &'a [u8],
 }
 
 /// The order of the bytes of the block at the front: its own if it begins a section, and else the
-/// section's. Fails if the mark of a section is none.
+/// section's. Fails if the mark of a section is cut, or tells no order.
 pub fn order_of(order: Order, bytes: &[u8]) -> Result<Order, Fault> {
     if number_32(order, bytes, 0) != Some(SECTION) {
         return Ok(order);
@@ -179,8 +179,8 @@ pub fn enhanced_of<'a>(order: Order, body: &'a [u8]) -> Option<Captured<'a>> {
     stamped_of(order, interface, body)
 }
 
-/// The packet of a packet block, which is obsolete. It has a count of dropped packets after its
-/// interface.
+/// The packet of a packet block, which is obsolete. Such a block has a count of dropped packets
+/// after its interface.
 pub fn obsolete_of<'a>(order: Order, body: &'a [u8]) -> Option<Captured<'a>> {
     let interface = usize::from(number_16(order, body, 0)?);
     stamped_of(order, interface, body)

@@ -22,7 +22,7 @@ pub struct Packet<'a> {
     pub link: u32,
     /// How many bytes it had on its way.
     pub whole: usize,
-    /// Those that were captured.
+    /// The bytes that were captured.
     pub bytes: &'a [u8],
 }
 
@@ -47,7 +47,7 @@ enum Format {
 pub struct Capture<'a, A: Allocator> {
     /// What is left of the file, from the next record on.
     rest: &'a [u8],
-    /// The bytes of the file.
+    /// How many bytes the file has.
     length: usize,
     /// How many packets were read.
     packets: usize,
@@ -80,7 +80,7 @@ impl<'a, A: Allocator> Capture<'a, A> {
     }
 
     /// Reads the next record. If there is one, at least twelve bytes fewer are left after it. Fails
-    /// if the record is damaged or an allocation fails; the same record then fails again.
+    /// if the record is damaged or an allocation fails. The next call then reads it again.
     pub fn step(&mut self) -> Result<Step<'a>, Failure>
         ensures end { length self.old.rest.now ≡ 0 → result ≡ Ok Step.End }
         ensures moves { length self.old.rest.now ≢ 0 → IfOk result (λ step.

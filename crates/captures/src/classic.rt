@@ -28,9 +28,9 @@ pub struct Record<'a> {
     pub ticks: u32,
     /// How many bytes the packet had on its way.
     pub whole: usize,
-    /// Those that were captured.
+    /// The bytes that were captured.
     pub bytes: &'a [u8],
-    /// What follows them.
+    /// What follows the record.
     pub rest: &'a [u8],
 }
 
@@ -45,8 +45,8 @@ pub fn magic_of(bytes: &[u8]) -> Option<(Order, u64)> {
     }
 }
 
-/// The header of a file, if it is whole. Of the link type, the upper half counts bytes at a
-/// packet's end.
+/// The header of a file, if it is whole. The upper half of its link type is left out, which counts
+/// bytes at a packet's end.
 pub fn header_of(bytes: &[u8]) -> Option<Header> {
     let magic = magic_of(bytes)?;
     let (order, in_second) = magic;

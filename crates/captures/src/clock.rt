@@ -17,7 +17,7 @@ const LAST: u64 = 253_402_300_800;
 
 impl Moment {
     /// The moment after `ticks`, of which a second has `in_second`. `None` if a second has none of
-    /// them, or too many.
+    /// them, or more than 1000000000.
     pub fn after(ticks: u64, in_second: u64) -> Option<Moment> {
         if in_second == 0 || in_second > SECOND {
             return None;

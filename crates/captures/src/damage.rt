@@ -12,7 +12,7 @@ pub enum Fault {
     RecordCut,
     /// A block's length is none that a block can have, or the one at its end is another.
     BlockLength(usize),
-    /// A section's mark of the order of its bytes is none.
+    /// A section's mark tells no order of bytes.
     Order,
     /// A packet is of an interface that its section does not describe.
     Interface(usize),

@@ -10,7 +10,7 @@ pub struct Datagram<'a> {
     pub to: SocketAddr,
     /// What it carries, as far as that was captured.
     pub payload: &'a [u8],
-    /// Whether there was more of it.
+    /// Whether it carried more than was captured.
     pub is_cut: bool,
 }
 

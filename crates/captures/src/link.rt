@@ -1,4 +1,4 @@
-//! What a packet carries below IP.
+//! What a packet carries, by the type of its link.
 
 use crate::internet::{Carried, internet, ipv4, ipv6};
 use crate::numbers::{Order, number_16};

@@ -1,5 +1,5 @@
 //! Numbers in the order of bytes that a capture has.
-ghost use Rattle.std.specs.Prelude.{◌≡◌, ◌≤◌, ◌+◌, ◌<◌, IfSome, IfNone, drop, length, take};
+ghost use Rattle.std.specs.Prelude.{◌≡◌, ◌+◌, ◌<◌, IfSome, IfNone, drop, length};
 ghost use Rattle.captures.specs.Numbers.{number_in};
 
 use byteorder::{BigEndian, ByteOrder, LittleEndian};

@@ -49,8 +49,8 @@ pub fn has_line_feed(text: &str) -> bool
     text.as_bytes().contains(&b'\n')
 }
 
-/// The text, or other words if it has a line feed. It keeps lines apart, whatever the texts in them
-/// are: none that the programs print has a line feed. Fails if an allocation fails.
+/// The text, or other words if it has a line feed. So lines stay apart, whatever their texts are.
+/// No text that the programs print has a line feed. Fails if an allocation fails.
 pub fn unbroken<A: Allocator>(alloc: A, text: String<A>) -> Result<String<A>, AllocError>
     ensures unbroken { IfOk result (λ unbroken. has_line_feed (string_bytes unbroken) ≡ false) }
     ensures same { has_line_feed (string_bytes text) ≡ false

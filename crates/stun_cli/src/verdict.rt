@@ -23,7 +23,7 @@ pub enum Verdict {
 }
 
 impl Verdict {
-    /// How the command ends that prints it.
+    /// How a command ends that prints this verdict.
     pub fn status(self) -> Status
         ensures value { result ≡ status_of self }
         ensures judged { (result ≢ Status.NotJudged) × (result ≢ Status.Failed) }

@@ -9,7 +9,7 @@ pub mod Fingerprint
 -- 14.13)
 pub mod Unknown
 -- messages in a stream of bytes, and in packets among those of other protocols (sections 6.2.2 and
--- 8)
+-- 7)
 pub mod Framing
 -- the types of attributes of STUN, ICE and TURN
 pub mod AttributeTypes

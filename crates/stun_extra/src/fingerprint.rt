@@ -1,5 +1,5 @@
 //! FINGERPRINT (RFC 8489, section 14.7): adds it to a message, and checks it.
-ghost use Rattle.std.specs.Prelude.{◌≡◌, ◌≤◌, ℕ, false, List, length, IfOk};
+ghost use Rattle.std.specs.Prelude.{◌≡◌, ◌≤◌, ℕ, List, length, IfOk};
 ghost use Rattle.std.specs.Prelude.{IsOk, IsOkUnless, MatchOption, None, Err};
 ghost use Rattle.stun_base.specs.Attributes.{FINGERPRINT};
 ghost use Rattle.stun_base.specs.declared.keys.algorithm.IntegrityAlgorithm.{IntegrityAlgorithm};
@@ -22,7 +22,7 @@ use stun_types::message::Message;
 use stun_types::prelude::*;
 
 /// The number with which the CRC-32 of a message is XORed (RFC 8489, section 14.7).
-const FINGERPRINT_XOR: u32 = 0x5354_554E;
+pub const FINGERPRINT_XOR: u32 = 0x5354_554E;
 
 /// The number of bytes of a FINGERPRINT with its type and its length.
 pub const FINGERPRINT_LENGTH: usize = 8;
@@ -59,8 +59,9 @@ fn first_fingerprint<'a>(message: &Message<'a>) -> Option<(usize, RawAttribute<'
         .find(|found| found.1.get_type() == AttributeType::FINGERPRINT)
 }
 
-/// What the FINGERPRINT at this place of a message is.
-fn fingerprint_at(message: &[u8], place: usize, attribute: &RawAttribute<'_>) -> Fingerprint
+/// What an attribute at this place of a message is as its FINGERPRINT: `Right`, `Wrong` or
+/// `Misplaced` (RFC 8489, section 14.7). Its type is not looked at. It does not allocate.
+pub fn fingerprint_at(message: &[u8], place: usize, attribute: &RawAttribute<'_>) -> Fingerprint
     ensures { result ≡ fingerprint_at message.now (place, attribute.now) }
 {
     let value = attribute.value();

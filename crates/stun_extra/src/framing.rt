@@ -89,7 +89,7 @@ fn frame_to(there: usize, whole: usize) -> Frame
     }
 }
 
-/// Whether a packet is for STUN, on a port that other protocols share (RFC 8489, section 8; RFC
+/// Whether a packet is for STUN, on a port that other protocols share (RFC 8489, section 7; RFC
 /// 7983, section 7). Its first byte is 0 to 3, and it begins with a header of STUN.
 pub fn is_stun(packet: &[u8]) -> bool
     ensures { IsTrue result ↔ IsStunPacket packet.now }

@@ -11,11 +11,13 @@ use Rattle.std.proofs.lemmas.Str.Parse.{digit_at}
 use Rattle.stun_base.specs.Attributes.{FINGERPRINT}
 use Rattle.stun_base.specs.AttributeText.{hex_byte, type_text}
 use Rattle.stun_cli.specs.Line.{has_line_feed, IsLine}
-use Rattle.stun_inspect.specs.declared.fingerprint.Fingerprint.{Fingerprint}
-use Rattle.stun_inspect.specs.declared.fingerprint.Fingerprint.TheVariants.{Right, Wrong, Misplaced}
+use Rattle.stun_extra.specs.declared.fingerprint.Fingerprint.{Fingerprint}
+use Rattle.stun_extra.specs.declared.fingerprint.Fingerprint.TheVariants.{Right, Wrong}
+use Rattle.stun_extra.specs.declared.fingerprint.Fingerprint.TheVariants.{Misplaced, Absent}
+use Rattle.stun_extra.specs.Fingerprint.{fingerprint_at}
 use Rattle.stun_inspect.specs.declared.telling.Told.{Told}
 use Rattle.stun_inspect.specs.Decode.{line_with}
-use Rattle.stun_inspect.specs.Fingerprint.{ending_of, fingerprint_of, fingerprint_text}
+use Rattle.stun_inspect.specs.Fingerprint.{ending_of, fingerprint_text}
 
 -- a text of two that have none
 no_feed-append : (front text : List ℕ) → has_line_feed front ≡ false → has_line_feed text ≡ false
@@ -64,12 +66,14 @@ no_feed-text : (fingerprint : Fingerprint) → has_line_feed (fingerprint_text f
 no_feed-text Right = refl
 no_feed-text Wrong = refl
 no_feed-text Misplaced = refl
+no_feed-text Absent = refl
 
 no_feed-ending : (message : List ℕ) (told : Told) → has_line_feed (ending_of message told) ≡ false
 no_feed-ending message told =
-    let text = fingerprint_text (fingerprint_of message told.place told.attribute.value) in
-    elim (told.attribute.kind == FINGERPRINT) as (λ is. has_line_feed (cond is text []) ≡ false) [
-      | true ↦ no_feed-text (fingerprint_of message told.place told.attribute.value)
+    let fingerprint = fingerprint_at message (told.place, told.attribute) in
+    elim (told.attribute.kind == FINGERPRINT)
+    as (λ is. has_line_feed (cond is (fingerprint_text fingerprint) []) ≡ false) [
+      | true ↦ no_feed-text fingerprint
       | false ↦ refl
     ]
 

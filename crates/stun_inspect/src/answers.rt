@@ -11,8 +11,9 @@ ghost use Rattle.stun_inspect.specs.Verify.{PrintsVerdictAndNotes};
 
 use crate::command::{Command, User, Who};
 use crate::decode::describe;
+use crate::digits::bad_input;
 use crate::each::{Decoding, Verifying, tell_input};
-use crate::failure::{BadInput, Failure, INPUT_LIMIT, Wanted};
+use crate::failure::{Failure, INPUT_LIMIT, Wanted};
 use crate::layout::{is_raw, within_limit};
 use crate::notes::notes_on;
 use crate::usage::{HELP, VERSION};
@@ -162,8 +163,8 @@ fn verify_each<W: Write, A: Allocator + Copy>(
     tell_input(alloc, &Verifying { user, credentials }, input, writer)
 }
 
-/// Prints whether the digest of each message of a file verifies. The password `-` is the first line
-/// of the other reader.
+/// Prints whether the digest of each message of a file verifies. The password `-` means the first
+/// line of `reader`.
 pub fn verify_file<R: CountedRead, F: CountedRead, W: Write, A: Allocator + Copy>(
     alloc: A,
     who: Who<'_>,
@@ -260,7 +261,8 @@ fn credentials_of<A: Allocator + Copy>(
     }
 }
 
-/// The input whose first line a password is, for the word `-`.
+/// If the word is `-`, the input whose first line is the password. Else no bytes, and nothing is
+/// read.
 fn password_input<R: CountedRead, A: Allocator + Copy>(
     alloc: A,
     word: &str,
@@ -294,11 +296,7 @@ fn password_of<'a>(word: &'a str, input: &'a [u8]) -> Result<(&'a str, &'a [u8])
     };
     match str::from_utf8(line) {
         Ok(password) => Ok((password, rest)),
-        Err(_) => Err(Failure::Input(BadInput {
-            line: 1,
-            column: 1,
-            wanted: Wanted::Password,
-        })),
+        Err(_) => Err(bad_input(1, 1, Wanted::Password)),
     }
 }
 

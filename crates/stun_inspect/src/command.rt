@@ -23,7 +23,7 @@ pub struct Asked<'a> {
     pub file: Option<&'a str>,
 }
 
-/// Whose credentials verify a message. The password `-` is the first line of standard input.
+/// Whose credentials verify a message. The password `-` means the first line of standard input.
 #[derive(Clone, Copy, PartialEq, Eq)]
 pub struct Who<'a> {
     /// The name and the realm of a user, where the credential is a long-term one (RFC 8489, section

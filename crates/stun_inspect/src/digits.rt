@@ -25,7 +25,7 @@ struct Run {
     high: Option<u8>,
     /// Whether that digit is a zero after which an `x` may come.
     may_be_prefix: bool,
-    /// Whether the last byte ended a word, so that a zero begins one.
+    /// Whether the next digit begins a word.
     is_at_word: bool,
 }
 
@@ -121,7 +121,7 @@ pub fn push<A: Allocator>(bytes: &mut Vec<u8, A>, byte: u8) -> Result<(), Failur
     }
 }
 
-/// The failure at a place.
+/// The failure for a place at which something else was looked for.
 pub fn bad_input(line: usize, column: usize, wanted: Wanted) -> Failure {
     Failure::Input(BadInput {
         line,

@@ -113,13 +113,13 @@ pub fn read_dumps<A: Allocator + Copy>(
 /// What was read of dumps.
 #[derive(Drop)]
 struct Dumps<A: Allocator> {
-    /// Those before the last one.
+    /// The dumps before the last one.
     dumps: Vec<Spelled<A>, A>,
-    /// The bytes of the last one.
+    /// The bytes of the last dump.
     bytes: Vec<u8, A>,
-    /// The line of its first row.
+    /// The line of the last dump's first row.
     first: usize,
-    /// The first line after its last row that is none of a dump.
+    /// The first line after the last dump's rows that belongs to no dump.
     stray: Option<usize>,
 }
 
@@ -141,8 +141,8 @@ impl<A: Allocator + Copy> Dumps<A> {
         }
     }
 
-    /// Takes a row of this offset. It fails where the offset is not the number of the bytes before
-    /// it, or another line is.
+    /// Takes a row of this offset, or skips it before the first dump. Fails if the offset is not
+    /// the number of the bytes before it, or if a line that belongs to no dump is before it.
     fn take_row(
         &mut self,
         line: &str,
@@ -201,8 +201,8 @@ fn is_end(line: &str, length: usize) -> bool {
 /// The place of the characters in a row of `hexdump -C`.
 const CHARACTERS: usize = 60;
 
-/// Appends the bytes of a row. In one of `hexdump -C` they lie between two blanks and a bar at a
-/// fixed place, in others up to two blanks.
+/// Appends the bytes of a row. In a row of `hexdump -C` they lie between two blanks and a bar at a
+/// fixed place. In other rows two blanks end them.
 fn read_row_of<A: Allocator>(
     bytes: &mut Vec<u8, A>,
     line: &str,
@@ -226,7 +226,7 @@ fn canonical_row(line: &str) -> Option<&str> {
     }
 }
 
-/// What two blanks are in a row.
+/// Where two blanks may stand in a row: among its bytes, or after them.
 #[derive(Clone, Copy)]
 enum Gap {
     InRow,
@@ -274,8 +274,7 @@ fn next_of(at: Column, byte: u8, gap: Gap) -> Step {
     }
 }
 
-/// Appends the bytes of a row, up to two blanks where these end it, after which its characters may
-/// follow.
+/// Appends the bytes of a row. Where two blanks end them, the row's characters may follow.
 fn read_row<A: Allocator>(
     bytes: &mut Vec<u8, A>,
     row: &str,

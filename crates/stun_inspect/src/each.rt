@@ -18,7 +18,7 @@ use stun_types::message::MessageIntegrityCredentials;
 
 /// What is done with each message.
 pub trait Teller {
-    /// Tells one message, and answers how that ended.
+    /// Tells one message, and returns how that ended.
     fn tell<W: Write, A: Allocator + Copy>(
         &self,
         alloc: A,
@@ -27,7 +27,7 @@ pub trait Teller {
     ) -> Result<Status, Failure>;
 }
 
-/// Its attributes are told.
+/// Prints the attributes of a message.
 #[derive(Clone, Copy)]
 pub struct Decoding;
 
@@ -42,7 +42,7 @@ impl Teller for Decoding {
     }
 }
 
-/// It is verified for a user, or for a password alone, under these credentials.
+/// Verifies a message for a user, or for a password alone, under these credentials.
 #[derive(Drop)]
 pub struct Verifying<'a, B: Allocator> {
     pub user: Option<User<'a>>,
@@ -121,7 +121,7 @@ fn tell_spelled<T: Teller, W: Write, A: Allocator + Copy>(
     Ok(tally.status())
 }
 
-/// Fails where a part spells more bytes than a message may have, before any is told.
+/// Fails if a part spells more bytes than a message may have, before any message is told.
 fn check_lengths<A: Allocator + Copy>(spelled: &[Spelled<A>]) -> Result<(), Failure> {
     for part in spelled {
         if message_of(part.bytes.as_slice()).is_err() {
@@ -139,8 +139,8 @@ fn line_heading<A: Allocator + Copy>(
     format!(in alloc; "message {number}, line {line}\n")
 }
 
-/// Tells the messages of a capture of this many bytes. If it cannot be read further at a place,
-/// those before it are told.
+/// Tells the messages of a capture of this many bytes. Fails if the capture cannot be read further
+/// at a place, after it has told the messages before that place.
 fn tell_capture<T: Teller, W: Write, A: Allocator + Copy>(
     alloc: A,
     teller: &T,

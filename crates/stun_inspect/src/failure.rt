@@ -16,7 +16,7 @@ pub enum Failure {
     Memory,
     /// The file cannot be opened.
     File,
-    /// The input has too many bytes, or too little of them comes in a read.
+    /// The input does not end within 67108864 bytes and 1048576 reads.
     NoEnd,
     /// The input is none that the command reads.
     Input(BadInput),
@@ -24,7 +24,7 @@ pub enum Failure {
     Capture(Damage),
 }
 
-/// Where an input is none that is read, and what was looked for there.
+/// Where an input cannot be read, and what was looked for there.
 #[derive(Clone, Copy, Debug, PartialEq, Eq)]
 pub struct BadInput {
     /// The line, counted from 1.

@@ -1,6 +1,6 @@
 //! The values of further attributes as text: of STUN (RFC 8489, section 14), of ICE (RFC 8445,
-//! section 16.1) and of TURN (RFC 8656, section 18). Each answers whether the value is one of its
-//! type.
+//! section 16.1) and of TURN (RFC 8656, section 18). Each function returns whether the value is one
+//! of its type.
 
 use crate::registry::attribute_name;
 use crate::value::{push_address, push_digits, push_quoted};

@@ -3,9 +3,9 @@ ghost use Rattle.std.specs.Prelude.{◌≡◌, ◌≤◌, IfOk, true, length};
 ghost use Rattle.stun_types.specs.Limits.{LENGTH_LIMIT};
 ghost use Rattle.stun_inspect.specs.Input.{is_raw};
 
-use crate::digits::read_plain;
+use crate::digits::{bad_input, read_plain};
 use crate::dump::{has_dump, read_dumps};
-use crate::failure::{BadInput, Failure, Wanted};
+use crate::failure::{Failure, Wanted};
 use crate::lines::{has_lines, read_lines};
 use base64::DecodeAllocError;
 use base64::engine::general_purpose::STANDARD;
@@ -24,7 +24,8 @@ pub struct Spelled<A: Allocator> {
     pub bytes: Vec<u8, A>,
 }
 
-/// Whether bytes are taken as they are: the first two bits are zero, and the magic cookie follows.
+/// Whether bytes are taken as they are: the first two bits are zero, and byte 4 begins the magic
+/// cookie.
 pub fn is_raw(bytes: &[u8]) -> bool
     ensures { result ≡ is_raw bytes.now }
 {
@@ -33,10 +34,8 @@ pub fn is_raw(bytes: &[u8]) -> bool
         && BigEndian::read_u32(&bytes[4..]) == MAGIC_COOKIE
 }
 
-/// The bytes that may be a message: all of these if they begin as one. If they are a packet, what
-/// it carries over UDP.
-///
-/// Fails if that is more than 65552 bytes.
+/// The bytes that may be a message. If these do not begin as a message and are a packet, it is what
+/// the packet carries over UDP, and else all of them. Fails if it has more than 65552 bytes.
 pub fn message_of(bytes: &[u8]) -> Result<&[u8], Failure>
     ensures limit { IfOk result (λ message. length message.now ≤ LENGTH_LIMIT) }
     ensures raw { is_raw bytes.now ≡ true → IfOk result (λ message. message.now ≡ bytes.now) }
@@ -53,16 +52,12 @@ pub fn within_limit(bytes: &[u8]) -> Result<&[u8], Failure>
     ensures same { IfOk result (λ same. same.now ≡ bytes.now) }
 {
     if bytes.len() > LENGTH_LIMIT {
-        return Err(Failure::Input(BadInput {
-            line: 1,
-            column: 1,
-            wanted: Wanted::EndOfMessage,
-        }));
+        return Err(bad_input(1, 1, Wanted::EndOfMessage));
     }
     Ok(bytes)
 }
 
-/// What a packet carries over UDP, if the bytes are one: of IPv4 or IPv6, or a frame of Ethernet.
+/// If the bytes are a packet of IPv4 or IPv6 or a frame of Ethernet, what that carries over UDP.
 /// Else the bytes themselves.
 fn payload(bytes: &[u8]) -> &[u8] {
     if let Some(Carried::Udp(datagram)) = carried(RAW, bytes) {
@@ -133,11 +128,7 @@ fn bad_text(input: &[u8]) -> Failure {
             column = 1;
         }
     }
-    Failure::Input(BadInput {
-        line,
-        column,
-        wanted: Wanted::Text,
-    })
+    bad_input(line, column, Wanted::Text)
 }
 
 /// The bytes that base64 spells, with white space anywhere, where they begin as a message.

@@ -1,6 +1,7 @@
 //! Texts that have one message a line, as `tshark -T fields -e udp.payload` prints them.
 
-use crate::failure::{BadInput, Failure};
+use crate::digits::bad_input;
+use crate::failure::Failure;
 use crate::layout::{Spelled, is_raw, message_of, push_spelled, read_digits};
 use byteorder::{BigEndian, ByteOrder};
 use std::alloc::Allocator;
@@ -16,7 +17,7 @@ fn is_whole(bytes: &[u8]) -> bool {
         && usize::from(BigEndian::read_u16(&message[2..])) == message.len() - HEADER_LENGTH
 }
 
-/// Whether a text spells a whole message. It fails where an allocation fails.
+/// Whether a text spells a whole message. Fails if an allocation fails.
 fn spells_whole<A: Allocator + Copy>(alloc: A, text: &str) -> Result<bool, Failure> {
     match read_digits(alloc, text) {
         Ok(bytes) => Ok(is_whole(bytes.as_slice())),
@@ -25,8 +26,8 @@ fn spells_whole<A: Allocator + Copy>(alloc: A, text: &str) -> Result<bool, Failu
     }
 }
 
-/// Whether each line is one of its own: one of several spells a whole message, and all of them
-/// together do not.
+/// Whether each line of a text is read by itself: one line spells a whole message, and the whole
+/// text does not. Fails if an allocation fails.
 pub fn has_lines<A: Allocator + Copy>(alloc: A, text: &str) -> Result<bool, Failure> {
     if spells_whole(alloc, text)? {
         return Ok(false);
@@ -63,11 +64,7 @@ fn read_line<A: Allocator + Copy>(
     number: usize,
 ) -> Result<Vec<u8, A>, Failure> {
     match read_digits(alloc, line) {
-        Err(Failure::Input(bad)) => Err(Failure::Input(BadInput {
-            line: number,
-            column: bad.column,
-            wanted: bad.wanted,
-        })),
+        Err(Failure::Input(bad)) => Err(bad_input(number, bad.column, bad.wanted)),
         read => read,
     }
 }

@@ -5,9 +5,11 @@ use std::alloc::{AllocError, Allocator};
 use stun_types::attribute::{Realm, Userhash, Username};
 use stun_types::message::Message;
 
-/// Notes where USERNAME or REALM differ from those of the user, and whether a USERHASH matches.
-/// There is a line for each that is visible. There is none for a password alone, and none if the
-/// bytes are no message. Fails if an allocation fails.
+/// A line for a visible USERNAME and one for a visible REALM, if it is not the user's. A line for a
+/// visible USERHASH tells whether it is the user's.
+///
+/// There is no line for a password alone, and none if the bytes are no message. Fails if an
+/// allocation fails.
 pub fn notes_on<A: Allocator>(
     alloc: A,
     bytes: &[u8],

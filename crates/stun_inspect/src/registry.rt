@@ -5,13 +5,13 @@
 pub enum Form {
     /// An address and a port (RFC 8489, section 14.1).
     Address,
-    /// The same, hidden by the magic cookie and the transaction id (section 14.2).
+    /// An address and a port, hidden by the magic cookie and the transaction id (section 14.2).
     XorAddress,
     /// A text in UTF-8.
     Text,
-    /// The same, of at most 763 bytes (section 14.14).
+    /// A text in UTF-8 of at most 763 bytes (section 14.14).
     Software,
-    /// The same, of at most 255 bytes (section 14.16).
+    /// A text in UTF-8 of at most 255 bytes (section 14.16).
     Domain,
     /// A nonce, which is a text that may carry security bits (sections 9.2 and 14.10).
     Nonce,

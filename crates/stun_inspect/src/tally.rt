@@ -18,7 +18,7 @@ pub enum Unread {
 #[derive(Clone, Copy)]
 struct Missed {
     count: usize,
-    /// The number of the first one, and the place of its record in the file.
+    /// The number of the first such packet, and the place of its record in the file.
     packet: usize,
     place: usize,
 }
@@ -38,7 +38,7 @@ impl Missed {
         self.count = self.count.saturating_add(1);
     }
 
-    /// Appends a line on them, where there are any.
+    /// Appends a line on these packets, if there are any.
     fn push<A: Allocator + Copy>(self, text: &mut String<A>, why: &str) -> Result<(), AllocError> {
         let Missed {
             count,
@@ -57,7 +57,7 @@ impl Missed {
 #[derive(Clone, Copy)]
 pub struct Tally {
     messages: usize,
-    /// Those that are refused or do not verify.
+    /// The messages that are refused or do not verify.
     bad: usize,
     /// Datagrams, or parts of a text, without a message.
     others: usize,
@@ -86,7 +86,7 @@ impl Tally {
         self.messages.saturating_add(1)
     }
 
-    /// Counts a message that ended so.
+    /// Counts a message for which the command ended so.
     pub fn count_message(&mut self, status: Status) {
         self.messages = self.messages.saturating_add(1);
         match status {
@@ -118,7 +118,7 @@ impl Tally {
         }
     }
 
-    /// How the command ends: good where there are messages, and all are.
+    /// How the command ends: `Good` if there are messages, and it ended so for each.
     pub fn status(&self) -> Status {
         if self.messages > 0 && self.bad == 0 {
             Status::Good

@@ -61,7 +61,7 @@ impl Passed {
         None
     }
 
-    /// What was passed once an attribute of this type is.
+    /// What was passed after an attribute of this type.
     fn and(self, kind: AttributeType) -> Passed
         ensures integrity { result.integrity ≡ (self.integrity || (kind.0 == MESSAGE_INTEGRITY)) }
         ensures integrity_sha256 { result.integrity_sha256

@@ -1,4 +1,4 @@
-//! What is printed of the words of a command line.
+//! What is printed for `--help`, for `--version` and for wrong words.
 
 /// What `--help` prints.
 pub const HELP: &str = "\

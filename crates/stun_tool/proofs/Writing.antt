@@ -1,5 +1,5 @@
 -- What has been written, whether or not a write failed.
-use Rattle.std.proofs.Common.{◌≡◌, ℕ, List, length, take, sym, subst}
+use Rattle.std.proofs.Common.{ℕ, List, length, sym, subst}
 use Rattle.std.proofs.Common.{arith, Option, Result, Ok, Err, OnOk, OnErr}
 use Rattle.std.proofs.Math.Seq.{take-length}
 use Rattle.std.specs.Io.KnownBytes.{Appends}

@@ -29,14 +29,14 @@ const REALM: &str = "realm";
 pub struct Side {
     /// The algorithm that is added first.
     first: IntegrityAlgorithm,
-    /// The one that is added then.
+    /// The algorithm that is added after it, if one is.
     second: Option<IntegrityAlgorithm>,
     /// Whether users are named by a hash.
     feature: Feature,
 }
 
-/// Prints how a new client and a new server of one user agree (RFC 8489, section 9.2). No call is
-/// made between theirs. Both requests are read at moment 0, and all random numbers are 0.
+/// Prints how a new client and a new server of one user agree (RFC 8489, section 9.2). No other
+/// call is made between theirs. Both requests are read at moment 0, and all random numbers are 0.
 ///
 /// The words are those of the client, and then the same of the server:
 ///
@@ -159,7 +159,7 @@ fn new_server<A: Allocator + Copy>(
     Ok(server)
 }
 
-/// A line for the outcome, and the status that goes with it.
+/// Prints a line for the outcome, and returns the status that goes with it.
 fn print_outcome<W: Write, A: Allocator>(
     alloc: A,
     outcome: Outcome,

@@ -49,7 +49,7 @@ pub struct Response {
 ///
 /// - the transport, `udp` or `tcp`;
 /// - the wait after the first transmission;
-/// - the longest wait between two, or `-` for none;
+/// - the longest wait between two, or `-` for no limit;
 /// - how many transmissions there are, at most 1000;
 /// - the wait after the last one.
 ///
@@ -145,7 +145,7 @@ fn response_of(at: &str, from: &str) -> Option<Response> {
     })
 }
 
-/// A line for each step of a request, and of the response if one comes.
+/// Prints a line for each step of a request, and for the response if one comes.
 fn print_schedule<W: Write, A: Allocator + Copy>(
     alloc: A,
     settings: Settings,
@@ -219,7 +219,7 @@ fn binding_message(alloc: Global, class: MessageClass) -> Result<Vec<u8>, Failur
     }
 }
 
-/// The word, and the moment in milliseconds.
+/// Prints a line of a word and a moment in milliseconds.
 fn print_line<W: Write, A: Allocator>(
     alloc: A,
     word: &str,

@@ -12,7 +12,7 @@ use stun_proto::replay::ServerCall;
 pub enum Script {
     /// The calls of its lines.
     Calls(Vec<ServerCall>),
-    /// The number of its first line that is none, from 1; empty lines count.
+    /// The number of its first line that is no call, counted from 1; empty lines count.
     WrongLine(usize),
 }
 

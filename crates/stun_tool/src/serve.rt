@@ -19,7 +19,7 @@ use stun_proto::replay::{ServerCall, ServerReply};
 /// section 9.2.4). The one word is the realm.
 ///
 /// If a line is no call, only `wrong line N` is printed, for the first such line. Nothing is run,
-/// and it returns `Refused`. Refusals by the server are good answers.
+/// and it returns `Bad`. Refusals by the server are good answers.
 ///
 /// Returns `NotJudged` for other words, and prints nothing. Returns `Failed` if a read, a write or
 /// an allocation fails, or if the end does not come within 1048576 reads. It then prints nothing

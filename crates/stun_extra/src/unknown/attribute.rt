@@ -1,6 +1,6 @@
 //! UNKNOWN-ATTRIBUTES (RFC 8489, section 14.13).
 ghost use Rattle.std.specs.Prelude.{◌≡◌, ◌≤◌, ◌<◌, ◌+◌, ◌*◌, ◌%◌, ◌^◌, ◌++◌, ◌↔◌};
-ghost use Rattle.std.specs.Prelude.{ℕ, [], IsTrue, min, length, slice_index};
+ghost use Rattle.std.specs.Prelude.{ℕ, [], IsTrue, length, slice_index};
 ghost use Rattle.std.specs.List.{slice_get};
 ghost use Rattle.stun_extra.specs.AttributeTypes.{UNKNOWN_ATTRIBUTES};
 ghost use Rattle.stun_extra.specs.Unknown.{AreTypes, spelled_types, types_in};
@@ -70,7 +70,7 @@ pub(super) fn unknown_count(message: &Message<'_>, known: &[AttributeType]) -> u
     ensures few { result < 2 ^ 14 }
     ensures fit { AreTypes (unknown_types known.now message.now) }
 {
-    // The types are in these bytes.
+    // For the proof alone: the types are in these bytes.
     let _bytes = message.as_bytes();
     bytes_fit(_bytes);
     unknown_types(message, known).count()

@@ -32,7 +32,7 @@ ghost use Rattle.stun_state.specs.Server.{with_expiry};
 ghost use Rattle.stun_state.specs.Server.{server_with_feature, without_client, without_named};
 
 use crate::address::Address;
-use crate::codes::{feature_numbered, server_refusal};
+use crate::codes::{algorithms_numbered, feature_numbered, server_refusal};
 use crate::handle::server::Server;
 use crate::signing::{SHORT, is_response, is_too_long, writer_of};
 use crate::text::copied;
@@ -76,14 +76,12 @@ pub fn set_algorithms(
     ensures state { server.new
         ≡ server_with_algorithms (algorithms_numbered algorithms) server.old }
 {
-    match algorithms {
-        1 => server.set_supported_integrity(IntegrityAlgorithm::Sha1),
-        2 => server.set_supported_integrity(IntegrityAlgorithm::Sha256),
-        3 => {
+    match algorithms_numbered(algorithms)? {
+        Some(one) => server.set_supported_integrity(one),
+        None => {
             server.set_supported_integrity(IntegrityAlgorithm::Sha256);
             server.add_supported_integrity(IntegrityAlgorithm::Sha1);
         }
-        _ => return Err(Refusal::BadArgument),
     }
     Ok(())
 }

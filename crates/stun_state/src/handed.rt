@@ -29,8 +29,9 @@ use crate::address::Address;
 use crate::codes::server_refusal;
 use crate::handle::server::Server;
 use crate::server::{check_room, measure, validated_algorithm};
-use crate::signing::{SHORT, writer_of};
+use crate::signing::SHORT;
 use crate::text::copied;
+use crate::users::{sign_long, sign_short};
 use std::alloc::Global;
 use std::net::SocketAddr;
 use stun_auth::auth::{LongTermServerAuth, LongTermServerUser, NamedUser, StoredKeys};
@@ -248,101 +249,5 @@ fn sign_with(
         sign_short(server, buffer, length, to, measured.is_long, user)
     } else {
         sign_long(server, buffer, length, to, measured.is_long, user)
-    }
-}
-
-/// Signs a message that has no more than `SHORT` bytes then.
-#[inline(never)]
-fn sign_short(
-    server: &mut LongTermServerAuth<Global>,
-    buffer: &mut [u8],
-    count: usize,
-    to: SocketAddr,
-    is_long: bool,
-    user: &mut LongTermServerUser<Global>,
-) -> Result<usize, Refusal>
-    requires measured { let message = take count buffer.old in
-        let response = is_response (class_in message) in
-        let more = server_growth (sight (with_users server.old user.old) to) response in
-        IsMeasured buffer.old count more is_long }
-    requires short { let message = take count buffer.old in
-        length message + server_growth (sight (with_users server.old user.old) to)
-        (is_response (class_in message)) ≤ 2048 }
-    ensures answer { result ≡ length_of (server_signs (with_users server.old user.old)
-        (take count buffer.old) (length buffer.old) to) }
-    ensures written { buffer.new ≡ buffer_after (server_signs (with_users server.old user.old)
-        (take count buffer.old) (length buffer.old) to) buffer.old }
-    ensures state { OnOk result (server.new ≡ with_users (after_signing
-        (with_users server.old user.old) to (is_response (class_in (take count buffer.old))))
-        server.old.registered) }
-    ensures refused { OnErr result (server.new ≡ server.old) }
-{
-    let mut memory = [0; SHORT];
-    let signed = sign_in(server, &buffer[..count], to, is_long, &mut memory, user)?;
-    put(buffer, signed);
-    Ok(signed.len())
-}
-
-/// Signs a message of any length.
-#[inline(never)]
-fn sign_long(
-    server: &mut LongTermServerAuth<Global>,
-    buffer: &mut [u8],
-    count: usize,
-    to: SocketAddr,
-    is_long: bool,
-    user: &mut LongTermServerUser<Global>,
-) -> Result<usize, Refusal>
-    requires measured { let message = take count buffer.old in
-        let response = is_response (class_in message) in
-        let more = server_growth (sight (with_users server.old user.old) to) response in
-        IsMeasured buffer.old count more is_long }
-    ensures answer { result ≡ length_of (server_signs (with_users server.old user.old)
-        (take count buffer.old) (length buffer.old) to) }
-    ensures written { buffer.new ≡ buffer_after (server_signs (with_users server.old user.old)
-        (take count buffer.old) (length buffer.old) to) buffer.old }
-    ensures state { OnOk result (server.new ≡ with_users (after_signing
-        (with_users server.old user.old) to (is_response (class_in (take count buffer.old))))
-        server.old.registered) }
-    ensures refused { OnErr result (server.new ≡ server.old) }
-{
-    let mut memory = [0; LENGTH_LIMIT];
-    let signed = sign_in(server, &buffer[..count], to, is_long, &mut memory, user)?;
-    put(buffer, signed);
-    Ok(signed.len())
-}
-
-/// The signed message, in memory that is enough.
-fn sign_in<'m>(
-    server: &mut LongTermServerAuth<Global>,
-    message: &[u8],
-    to: SocketAddr,
-    is_long: bool,
-    memory: &'m mut [u8],
-    user: &mut LongTermServerUser<Global>,
-) -> Result<&'m [u8], Refusal>
-    requires header { BeginsWithHeader message.now }
-    requires room { length message.now ≤ length memory.old }
-    requires limit { length memory.old ≤ length_limit }
-    requires enough { ¬ (WantsMemory (server_additions (sight (with_users server.old user.old) to)
-        (is_response (class_in message.now))) (page_of message.now)
-        (length memory.old - length message.now)) }
-    ensures ok { IfOk result (λ signed. message_of is_long (server_signed
-        (sight (with_users server.old user.old) to) (is_response (class_in message.now))
-        (page_of message.now)) ≡ Ok signed.now) }
-    ensures grows { IfOk result (λ signed. length signed.now ≡ length message.now
-        + server_growth (sight (with_users server.old user.old) to)
-        (is_response (class_in message.now))) }
-    ensures err { IfErr result (λ refusal. message_of is_long (server_signed
-        (sight (with_users server.old user.old) to) (is_response (class_in message.now))
-        (page_of message.now)) ≡ Err refusal) }
-    ensures state { OnOk result (server.new ≡ with_users (after_signing
-        (with_users server.old user.old) to (is_response (class_in message.now)))
-        server.old.registered) }
-    ensures refused { OnErr result (server.new ≡ server.old) }
-{
-    match server.sign_outgoing_message_of(writer_of(message, memory), to, user) {
-        Ok(signed) => Ok(signed.finish()),
-        Err(error) => Err(Refusal::of_write(error, is_long)),
     }
 }

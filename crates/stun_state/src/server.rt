@@ -34,8 +34,9 @@ ghost use Rattle.stun_state.specs.Server.{server_with_feature, without_client, w
 use crate::address::Address;
 use crate::codes::{algorithms_numbered, feature_numbered, server_refusal};
 use crate::handle::server::Server;
-use crate::signing::{SHORT, is_response, is_too_long, writer_of};
+use crate::signing::{SHORT, is_response, is_too_long};
 use crate::text::copied;
+use crate::users::{OwnUsers, sign_long, sign_short};
 use std::alloc::Global;
 use std::net::SocketAddr;
 use std::time::Duration;
@@ -259,9 +260,9 @@ pub fn sign(
     let message = base_message(buffer, length)?;
     let measured = measure(server, &message, buffer.len(), to)?;
     if measured.whole <= SHORT {
-        sign_short(server, buffer, length, to, measured.is_long)
+        sign_short(server, buffer, length, to, measured.is_long, &mut OwnUsers)
     } else {
-        sign_long(server, buffer, length, to, measured.is_long)
+        sign_long(server, buffer, length, to, measured.is_long, &mut OwnUsers)
     }
 }
 
@@ -307,93 +308,6 @@ pub fn measure(
         whole,
         is_long: is_too_long(message, more),
     })
-}
-
-/// Signs a message that has no more than `SHORT` bytes then.
-#[inline(never)]
-fn sign_short(
-    server: &mut LongTermServerAuth<Global>,
-    buffer: &mut [u8],
-    count: usize,
-    to: SocketAddr,
-    is_long: bool,
-) -> Result<usize, Refusal>
-    requires measured { let message = take count buffer.old in
-        let response = is_response (class_in message) in
-        let more = server_growth (sight server.old to) response in
-        IsMeasured buffer.old count more is_long }
-    requires short { let message = take count buffer.old in
-        length message + server_growth (sight server.old to) (is_response (class_in message))
-        ≤ 2048 }
-    ensures answer { result ≡ length_of
-        (server_signs server.old (take count buffer.old) (length buffer.old) to) }
-    ensures written { buffer.new ≡ buffer_after
-        (server_signs server.old (take count buffer.old) (length buffer.old) to) buffer.old }
-    ensures state { OnOk result (server.new ≡ after_signing server.old to
-        (is_response (class_in (take count buffer.old)))) }
-    ensures refused { OnErr result (server.new ≡ server.old) }
-{
-    let mut memory = [0; SHORT];
-    let signed = sign_in(server, &buffer[..count], to, is_long, &mut memory)?;
-    put(buffer, signed);
-    Ok(signed.len())
-}
-
-/// Signs a message of any length.
-#[inline(never)]
-fn sign_long(
-    server: &mut LongTermServerAuth<Global>,
-    buffer: &mut [u8],
-    count: usize,
-    to: SocketAddr,
-    is_long: bool,
-) -> Result<usize, Refusal>
-    requires measured { let message = take count buffer.old in
-        let response = is_response (class_in message) in
-        let more = server_growth (sight server.old to) response in
-        IsMeasured buffer.old count more is_long }
-    ensures answer { result ≡ length_of
-        (server_signs server.old (take count buffer.old) (length buffer.old) to) }
-    ensures written { buffer.new ≡ buffer_after
-        (server_signs server.old (take count buffer.old) (length buffer.old) to) buffer.old }
-    ensures state { OnOk result (server.new ≡ after_signing server.old to
-        (is_response (class_in (take count buffer.old)))) }
-    ensures refused { OnErr result (server.new ≡ server.old) }
-{
-    let mut memory = [0; LENGTH_LIMIT];
-    let signed = sign_in(server, &buffer[..count], to, is_long, &mut memory)?;
-    put(buffer, signed);
-    Ok(signed.len())
-}
-
-/// The signed message to an address, in memory that is enough.
-fn sign_in<'m>(
-    server: &mut LongTermServerAuth<Global>,
-    message: &[u8],
-    to: SocketAddr,
-    is_long: bool,
-    memory: &'m mut [u8],
-) -> Result<&'m [u8], Refusal>
-    requires header { BeginsWithHeader message.now }
-    requires room { length message.now ≤ length memory.old }
-    requires limit { length memory.old ≤ length_limit }
-    requires enough { ¬ (WantsMemory (server_additions (sight server.old to)
-        (is_response (class_in message.now))) (page_of message.now)
-        (length memory.old - length message.now)) }
-    ensures ok { IfOk result (λ signed. message_of is_long (server_signed (sight server.old to)
-        (is_response (class_in message.now)) (page_of message.now)) ≡ Ok signed.now) }
-    ensures grows { IfOk result (λ signed. length signed.now ≡ length message.now
-        + server_growth (sight server.old to) (is_response (class_in message.now))) }
-    ensures err { IfErr result (λ refusal. message_of is_long (server_signed (sight server.old to)
-        (is_response (class_in message.now)) (page_of message.now)) ≡ Err refusal) }
-    ensures state { OnOk result (server.new ≡ after_signing server.old to
-        (is_response (class_in message.now))) }
-    ensures refused { OnErr result (server.new ≡ server.old) }
-{
-    match server.sign_outgoing_message(writer_of(message, memory), to) {
-        Ok(signed) => Ok(signed.finish()),
-        Err(error) => Err(Refusal::of_write(error, is_long)),
-    }
 }
 
 /// Validates a message that came from an address, and returns the algorithm of its digest. A

@@ -1,17 +1,13 @@
 //! What the exports do with a server's authenticator and a user whom the caller hands in (RFC 8489,
 //! section 9.2.4).
 
-ghost use Rattle.std.specs.Prelude.{◌≡◌, ◌≤◌, ◌+◌, ◌-◌, ◌^◌, ◌<◌, ⊤, length, take};
+ghost use Rattle.std.specs.Prelude.{◌≡◌, ⊤, length, take};
 ghost use Rattle.std.specs.Prelude.{Some, None, Ok, Err, IfOk, IfErr, OnErr, OnOk};
-ghost use Rattle.stun_auth.specs.Additions.{WantsMemory, page_of};
 ghost use Rattle.stun_auth.specs.Handed.{with_users};
-ghost use Rattle.stun_auth.specs.ServerSigning.{after_signing, server_additions};
-ghost use Rattle.stun_auth.specs.ServerSigning.{server_growth, server_signed};
+ghost use Rattle.stun_auth.specs.ServerSigning.{after_signing};
 ghost use Rattle.stun_auth.specs.Reading.{reading_of};
 ghost use Rattle.stun_auth.specs.Validation.{after_validation, answer, sight};
-ghost use Rattle.stun_base.specs.Header.{BeginsWithHeader};
 ghost use Rattle.stun_base.specs.MessageType.{class_in, is_response};
-ghost use Rattle.stun_types.specs.Limits.{LENGTH_LIMIT as length_limit};
 ghost use Rattle.stun_numbers.specs.Buffers.{buffer_after, length_of};
 ghost use Rattle.stun_state.specs.Addresses.{socket_address};
 ghost use Rattle.stun_state.specs.Answers.{CallOrMemory, after_address, at_address};
@@ -21,9 +17,7 @@ ghost use Rattle.stun_state.specs.Handed.{named_in_bytes, naming_answer, naming_
 ghost use Rattle.stun_state.specs.Handed.{naming_written, signed_of, validated_of};
 ghost use Rattle.stun_state.specs.code.Given.{user_given};
 ghost use Rattle.stun_state.specs.Server.{server_validation_answer};
-ghost use Rattle.stun_state.specs.Signing.{message_of};
-ghost use Rattle.stun_state.specs.Signing.{server_signs, signed_by_server};
-ghost use Rattle.stun_state.specs.code.Measured.{IsMeasured};
+ghost use Rattle.stun_state.specs.Signing.{signed_by_server};
 
 use crate::address::Address;
 use crate::codes::server_refusal;
@@ -39,11 +33,10 @@ use stun_base::algorithm::IntegrityAlgorithm;
 use stun_base::credentials::LongTermCredentials;
 use stun_base::instant::Instant;
 use stun_base::words::WordSource;
-use stun_numbers::buffer::{fill, put};
+use stun_numbers::buffer::fill;
 use stun_numbers::message::base_message;
 use stun_numbers::refusal::Refusal;
 use stun_numbers::text::text;
-use stun_types::limits::LENGTH_LIMIT;
 use stun_types::message::Message;
 use stun_types::prelude::*;
 

@@ -1,16 +1,13 @@
 //! What the exports do with a server's authenticator (RFC 8489, section 9.2.4).
 
-ghost use Rattle.std.specs.Prelude.{◌≡◌, ◌≤◌, ◌<◌, ◌+◌, ◌-◌, ◌^◌, ⊤, nat_lt, true, false};
+ghost use Rattle.std.specs.Prelude.{◌≡◌, ◌≤◌, ◌<◌, ◌+◌, ◌^◌, ⊤, nat_lt, true, false};
 ghost use Rattle.std.specs.Prelude.{length, take, Some, None, Ok, Err, IfOk, IfErr, OnErr, OnOk};
 ghost use Rattle.stun_auth.specs.Forgetting.{after_forgetting, without_place};
 ghost use Rattle.stun_auth.specs.ForgettingSteps.{after_step, next_address};
 ghost use Rattle.stun_base.specs.MessageType.{class_in, is_response};
 ghost use Rattle.stun_auth.specs.Reading.{reading_of};
 ghost use Rattle.stun_auth.specs.Registered.{with_user};
-ghost use Rattle.stun_auth.specs.Additions.{WantsMemory, page_of};
-ghost use Rattle.stun_auth.specs.ServerSigning.{after_signing, server_additions};
-ghost use Rattle.stun_auth.specs.ServerSigning.{server_growth, server_signed};
-ghost use Rattle.stun_base.specs.Header.{BeginsWithHeader};
+ghost use Rattle.stun_auth.specs.ServerSigning.{after_signing, server_growth};
 ghost use Rattle.stun_types.specs.Limits.{LENGTH_LIMIT as length_limit};
 ghost use Rattle.stun_auth.specs.Validation.{ChangesNothing, after_validation};
 ghost use Rattle.stun_auth.specs.Validation.{answer, new_server, sight};
@@ -20,9 +17,7 @@ ghost use Rattle.stun_state.specs.Answers.{CallOrMemory, after_address, after_st
 ghost use Rattle.stun_state.specs.Answers.{at_start, done_if_given, text_refusal, texts_refusal};
 ghost use Rattle.stun_state.specs.Codes.{algorithms_numbered, feature_numbered};
 ghost use Rattle.stun_state.specs.Memory.{LeavesServer};
-ghost use Rattle.stun_state.specs.Signing.{is_too_long};
-ghost use Rattle.stun_state.specs.Signing.{message_of, server_signs, signed_by_server};
-ghost use Rattle.stun_state.specs.code.Measured.{IsMeasured};
+ghost use Rattle.stun_state.specs.Signing.{is_too_long, signed_by_server};
 ghost use Rattle.stun_state.specs.Server.{client_of_address, client_told, kept_after_validating};
 ghost use Rattle.stun_state.specs.Server.{name_length_of, name_written, nonce_at, nonce_told};
 ghost use Rattle.stun_state.specs.Server.{nonce_written, room_refusal, step_answer};
@@ -45,11 +40,9 @@ use stun_base::algorithm::IntegrityAlgorithm;
 use stun_base::credentials::LongTermCredentials;
 use stun_base::instant::Instant;
 use stun_base::words::WordSource;
-use stun_numbers::buffer::put;
 use stun_numbers::message::base_message;
 use stun_numbers::refusal::Refusal;
 use stun_numbers::text::text;
-use stun_types::limits::LENGTH_LIMIT;
 use stun_types::message::Message;
 use stun_types::prelude::*;
 

@@ -1,7 +1,8 @@
 //! The users with whom a server signs: its own, or one whom the caller hands in (RFC 8489, section
 //! 9.2.4).
 
-ghost use Rattle.std.specs.Prelude.{◌≡◌, ◌≤◌, ◌+◌, ◌-◌, length, take, Ok, Err, IfOk, IfErr, OnErr, OnOk};
+ghost use Rattle.std.specs.Prelude.{◌≡◌, ◌≤◌, ◌+◌, ◌-◌, length, take, Ok, Err};
+ghost use Rattle.std.specs.Prelude.{IfOk, IfErr, OnErr, OnOk};
 ghost use Rattle.stun_auth.specs.Additions.{UnlessMemory, WantsMemory, page_in, page_of};
 ghost use Rattle.stun_auth.specs.Additions.{written_page};
 ghost use Rattle.stun_auth.specs.Handed.{with_users};
@@ -26,7 +27,7 @@ use stun_types::limits::LENGTH_LIMIT;
 use stun_types::prelude::*;
 
 /// The users of a server while it signs.
-pub trait Users {
+pub(crate) trait Users {
     // The server that has them.
     ghost server_with: { Self → ServerSeen → ServerSeen };
 
@@ -59,7 +60,7 @@ pub trait Users {
 
 /// The users that a server has.
 #[derive(Clone, Copy)]
-pub struct OwnUsers;
+pub(crate) struct OwnUsers;
 
 impl Users for OwnUsers {
     ghost server_with = { λ users server. server };
@@ -93,7 +94,7 @@ impl Users for LongTermServerUser<Global> {
 
 /// Signs a message that has no more than `SHORT` bytes then.
 #[inline(never)]
-pub fn sign_short<U: Users>(
+pub(crate) fn sign_short<U: Users>(
     server: &mut LongTermServerAuth<Global>,
     buffer: &mut [u8],
     count: usize,
@@ -125,7 +126,7 @@ pub fn sign_short<U: Users>(
 
 /// Signs a message of any length.
 #[inline(never)]
-pub fn sign_long<U: Users>(
+pub(crate) fn sign_long<U: Users>(
     server: &mut LongTermServerAuth<Global>,
     buffer: &mut [u8],
     count: usize,

@@ -5,8 +5,6 @@ ghost use Rattle.std.specs.Prelude.{◌≡◌, ⊤, length, take};
 ghost use Rattle.std.specs.Prelude.{Some, None, Ok, Err, IfOk, IfErr, OnErr, OnOk};
 ghost use Rattle.stun_auth.specs.Handed.{with_users};
 ghost use Rattle.stun_auth.specs.ServerSigning.{after_signing};
-ghost use Rattle.stun_auth.specs.Reading.{reading_of};
-ghost use Rattle.stun_auth.specs.Validation.{after_validation, answer, sight};
 ghost use Rattle.stun_base.specs.MessageType.{class_in, is_response};
 ghost use Rattle.stun_numbers.specs.Buffers.{buffer_after, length_of};
 ghost use Rattle.stun_state.specs.Addresses.{socket_address};
@@ -16,29 +14,24 @@ ghost use Rattle.stun_state.specs.Handed.{kept_after_validating_of, keys_given};
 ghost use Rattle.stun_state.specs.Handed.{named_in_bytes, naming_answer, naming_length};
 ghost use Rattle.stun_state.specs.Handed.{naming_written, signed_of, validated_of};
 ghost use Rattle.stun_state.specs.code.Given.{user_given};
-ghost use Rattle.stun_state.specs.Server.{server_validation_answer};
 ghost use Rattle.stun_state.specs.Signing.{signed_by_server};
 
 use crate::address::Address;
-use crate::codes::server_refusal;
 use crate::handle::server::Server;
-use crate::server::{check_room, measure, validated_algorithm};
+use crate::server::{check_room, measure};
 use crate::signing::SHORT;
 use crate::text::copied;
-use crate::users::{sign_long, sign_short};
+use crate::users::{sign_long, sign_short, validate_message};
 use std::alloc::Global;
-use std::net::SocketAddr;
 use stun_auth::auth::{LongTermServerAuth, LongTermServerUser, NamedUser, StoredKeys};
 use stun_base::algorithm::IntegrityAlgorithm;
 use stun_base::credentials::LongTermCredentials;
 use stun_base::instant::Instant;
-use stun_base::words::WordSource;
 use stun_numbers::buffer::fill;
 use stun_numbers::message::base_message;
 use stun_numbers::refusal::Refusal;
 use stun_numbers::text::text;
 use stun_types::message::Message;
-use stun_types::prelude::*;
 
 /// What a caller gives of a user beside the name.
 #[derive(Clone, Copy)]
@@ -164,31 +157,6 @@ pub(crate) fn validate(
     let mut user = prepared(alloc, &kept.server, name, given)?;
     let moment = Instant::from_nanos(now);
     validate_message(&mut kept.server, &message, from, moment, *words, &mut user)
-}
-
-/// Validates a message. The server has just a user who is prepared.
-fn validate_message(
-    server: &mut LongTermServerAuth<Global>,
-    message: &Message<'_>,
-    from: SocketAddr,
-    now: Instant,
-    words: [u32; 16],
-    user: &mut LongTermServerUser<Global>,
-) -> Result<IntegrityAlgorithm, Refusal>
-    ensures answer { CallOrMemory result
-        (result ≡ server_validation_answer
-        (answer (sight (with_users server.old user.old) from) now words
-        (reading_of message.now))) ⊤ }
-    ensures state { CallOrMemory result
-        (server.new ≡ with_users (after_validation (with_users server.old user.old) from now words
-        (reading_of message.now)) server.old.registered)
-        (server.new ≡ server.old) }
-{
-    let mut source = WordSource::new(words);
-    match server.validate_incoming_message_of(message, from, now, &mut source, user) {
-        Ok(validation) => Ok(validated_algorithm(validation)),
-        Err(error) => Err(server_refusal(error.reason())),
-    }
 }
 
 /// Signs the message in the first `length` bytes of a buffer, which goes to an address. The server

@@ -5,12 +5,10 @@ ghost use Rattle.std.specs.Prelude.{length, take, Some, None, Ok, Err, IfOk, IfE
 ghost use Rattle.stun_auth.specs.Forgetting.{after_forgetting, without_place};
 ghost use Rattle.stun_auth.specs.ForgettingSteps.{after_step, next_address};
 ghost use Rattle.stun_base.specs.MessageType.{class_in, is_response};
-ghost use Rattle.stun_auth.specs.Reading.{reading_of};
 ghost use Rattle.stun_auth.specs.Registered.{with_user};
 ghost use Rattle.stun_auth.specs.ServerSigning.{after_signing, server_growth};
 ghost use Rattle.stun_types.specs.Limits.{LENGTH_LIMIT as length_limit};
-ghost use Rattle.stun_auth.specs.Validation.{ChangesNothing, after_validation};
-ghost use Rattle.stun_auth.specs.Validation.{answer, new_server, sight};
+ghost use Rattle.stun_auth.specs.Validation.{new_server, sight};
 ghost use Rattle.stun_numbers.specs.Buffers.{buffer_after, length_of};
 ghost use Rattle.stun_state.specs.Addresses.{socket_address, start_for, start_told};
 ghost use Rattle.stun_state.specs.Answers.{CallOrMemory, after_address, after_start, at_address};
@@ -21,17 +19,15 @@ ghost use Rattle.stun_state.specs.Signing.{is_too_long, signed_by_server};
 ghost use Rattle.stun_state.specs.Server.{client_of_address, client_told, kept_after_validating};
 ghost use Rattle.stun_state.specs.Server.{name_length_of, name_written, nonce_at, nonce_told};
 ghost use Rattle.stun_state.specs.Server.{nonce_written, room_refusal, step_answer};
-ghost use Rattle.stun_state.specs.Server.{server_validation};
-ghost use Rattle.stun_state.specs.Server.{server_validation_answer, server_with_algorithms};
-ghost use Rattle.stun_state.specs.Server.{with_expiry};
+ghost use Rattle.stun_state.specs.Server.{server_validation, server_with_algorithms, with_expiry};
 ghost use Rattle.stun_state.specs.Server.{server_with_feature, without_client, without_named};
 
 use crate::address::Address;
-use crate::codes::{algorithms_numbered, feature_numbered, server_refusal};
+use crate::codes::{algorithms_numbered, feature_numbered};
 use crate::handle::server::Server;
 use crate::signing::{SHORT, is_response, is_too_long};
 use crate::text::copied;
-use crate::users::{OwnUsers, sign_long, sign_short};
+use crate::users::{OwnUsers, sign_long, sign_short, validate_message};
 use std::alloc::Global;
 use std::net::SocketAddr;
 use std::time::Duration;
@@ -39,12 +35,10 @@ use stun_auth::auth::{LongTermServerAuth, LongTermServerValidation};
 use stun_base::algorithm::IntegrityAlgorithm;
 use stun_base::credentials::LongTermCredentials;
 use stun_base::instant::Instant;
-use stun_base::words::WordSource;
 use stun_numbers::message::base_message;
 use stun_numbers::refusal::Refusal;
 use stun_numbers::text::text;
 use stun_types::message::Message;
-use stun_types::prelude::*;
 
 /// The shortest time that a nonce lasts, in nanoseconds.
 const SHORTEST_EXPIRY: u64 = 30_000_000_000;
@@ -331,7 +325,14 @@ pub fn validate(
     let message = Message::from_bytes(message)?;
     check_room(&kept.server, kept.most_addresses, from)?;
     let moment = Instant::from_nanos(now);
-    validate_message(&mut kept.server, &message, from, moment, *words)
+    validate_message(
+        &mut kept.server,
+        &message,
+        from,
+        moment,
+        *words,
+        &mut OwnUsers,
+    )
 }
 
 /// Fails with `TooManyAddresses` for a new address if as many addresses are kept as may be.
@@ -347,31 +348,6 @@ pub fn check_room(
         return Ok(());
     }
     Err(Refusal::TooManyAddresses)
-}
-
-/// Validates a message.
-fn validate_message(
-    server: &mut LongTermServerAuth<Global>,
-    message: &Message<'_>,
-    from: SocketAddr,
-    now: Instant,
-    words: [u32; 16],
-) -> Result<IntegrityAlgorithm, Refusal>
-    ensures answer { CallOrMemory result
-        (result ≡ server_validation_answer (answer (sight server.old from) now words
-        (reading_of message.now))) ⊤ }
-    ensures state { CallOrMemory result
-        (server.new ≡ after_validation server.old from now words (reading_of message.now))
-        (server.new ≡ server.old) }
-    ensures unchanged { ChangesNothing (sight server.old from) now words (reading_of message.now) →
-        result ≡ server_validation_answer (answer (sight server.old from) now words
-        (reading_of message.now)) }
-{
-    let mut source = WordSource::new(words);
-    match server.validate_incoming_message(message, from, now, &mut source) {
-        Ok(validation) => Ok(validated_algorithm(validation)),
-        Err(error) => Err(server_refusal(error.reason())),
-    }
 }
 
 /// The algorithm with which a message is accepted.

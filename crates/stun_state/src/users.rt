@@ -1,32 +1,47 @@
-//! The users with whom a server signs: its own, or one whom the caller hands in (RFC 8489, section
-//! 9.2.4).
+//! The users with whom a server judges and signs: its own, or one whom the caller hands in (RFC
+//! 8489, section 9.2.4).
 
-ghost use Rattle.std.specs.Prelude.{◌≡◌, ◌≤◌, ◌+◌, ◌-◌, length, take, Ok, Err};
+ghost use Rattle.std.specs.Prelude.{◌≡◌, ◌≤◌, ◌+◌, ◌-◌, ⊤, length, take, Ok, Err};
 ghost use Rattle.std.specs.Prelude.{IfOk, IfErr, OnErr, OnOk};
 ghost use Rattle.stun_auth.specs.Additions.{UnlessMemory, WantsMemory, page_in, page_of};
 ghost use Rattle.stun_auth.specs.Additions.{written_page};
 ghost use Rattle.stun_auth.specs.Handed.{with_users};
 ghost use Rattle.stun_auth.specs.ServerSigning.{after_signing, server_additions};
 ghost use Rattle.stun_auth.specs.ServerSigning.{server_growth, server_signed};
-ghost use Rattle.stun_auth.specs.Validation.{ServerSeen, sight};
+ghost use Rattle.stun_auth.specs.Reading.{reading_of};
+ghost use Rattle.stun_auth.specs.Reasons.{ServerOrMemory};
+ghost use Rattle.stun_auth.specs.Validation.{ChangesNothing, ServerSeen, after_validation};
+ghost use Rattle.stun_auth.specs.Validation.{answer, sight};
+ghost use Rattle.stun_base.specs.Words.{next_words};
+ghost use Rattle.stun_base.specs.contracts.wire.words.WordSourceRng.TheImpl.{ghosts};
 ghost use Rattle.stun_base.specs.Header.{BeginsWithHeader};
 ghost use Rattle.stun_base.specs.MessageType.{class_in, is_response};
 ghost use Rattle.stun_types.specs.Limits.{LENGTH_LIMIT as length_limit};
 ghost use Rattle.stun_numbers.specs.Buffers.{buffer_after, length_of};
+ghost use Rattle.stun_state.specs.Answers.{CallOrMemory};
+ghost use Rattle.stun_state.specs.Server.{server_validation_answer};
 ghost use Rattle.stun_state.specs.Signing.{message_of, server_signs};
 ghost use Rattle.stun_state.specs.code.Measured.{IsMeasured};
 
+use crate::codes::server_refusal;
+use crate::server::validated_algorithm;
 use crate::signing::{SHORT, writer_of};
 use std::alloc::Global;
 use std::net::SocketAddr;
-use stun_auth::auth::{LongTermServerAuth, LongTermServerUser};
+use stun_auth::auth::{
+    LongTermServerAuth, LongTermServerAuthError, LongTermServerUser, LongTermServerValidation,
+};
+use stun_base::algorithm::IntegrityAlgorithm;
 use stun_base::error::StunWriteError;
+use stun_base::instant::Instant;
+use stun_base::words::WordSource;
 use stun_numbers::buffer::put;
 use stun_numbers::refusal::Refusal;
 use stun_types::limits::LENGTH_LIMIT;
+use stun_types::message::Message;
 use stun_types::prelude::*;
 
-/// The users of a server while it signs.
+/// The users of a server while it judges or signs.
 pub(crate) trait Users {
     // The server that has them.
     ghost server_with: { Self → ServerSeen → ServerSeen };
@@ -56,6 +71,28 @@ pub(crate) trait Users {
             (server_with self.old server.old) to (is_response (class_in (W.bytes writer))))
             server.old) }
         ensures refused { OnErr result (server.new ≡ server.old) };
+
+    /// Validates a message that came from an address.
+    fn validate(
+        &mut self,
+        server: &mut LongTermServerAuth<Global>,
+        message: &Message<'_>,
+        from: SocketAddr,
+        now: Instant,
+        source: &mut WordSource,
+    ) -> Result<LongTermServerValidation, LongTermServerAuthError>
+        ensures answer { let words = next_words 16 (ghosts.stream source.old) in
+            ServerOrMemory result (result ≡ answer (sight (server_with self.old server.old) from)
+            now words (reading_of message.now)) ⊤ }
+        ensures state { let words = next_words 16 (ghosts.stream source.old) in
+            ServerOrMemory result (server.new ≡ server_left (after_validation
+            (server_with self.old server.old) from now words (reading_of message.now)) server.old)
+            (server.new ≡ server.old) }
+        ensures unchanged { let words = next_words 16 (ghosts.stream source.old) in
+            ChangesNothing (sight (server_with self.old server.old) from) now words
+            (reading_of message.now) →
+            result ≡ answer (sight (server_with self.old server.old) from) now words
+            (reading_of message.now) };
 }
 
 /// The users that a server has.
@@ -75,6 +112,17 @@ impl Users for OwnUsers {
     ) -> Result<W, StunWriteError> {
         server.sign_outgoing_message(writer, to)
     }
+
+    fn validate(
+        &mut self,
+        server: &mut LongTermServerAuth<Global>,
+        message: &Message<'_>,
+        from: SocketAddr,
+        now: Instant,
+        source: &mut WordSource,
+    ) -> Result<LongTermServerValidation, LongTermServerAuthError> {
+        server.validate_incoming_message(message, from, now, source)
+    }
 }
 
 impl Users for LongTermServerUser<Global> {
@@ -89,6 +137,45 @@ impl Users for LongTermServerUser<Global> {
         to: SocketAddr,
     ) -> Result<W, StunWriteError> {
         server.sign_outgoing_message_of(writer, to, self)
+    }
+
+    fn validate(
+        &mut self,
+        server: &mut LongTermServerAuth<Global>,
+        message: &Message<'_>,
+        from: SocketAddr,
+        now: Instant,
+        source: &mut WordSource,
+    ) -> Result<LongTermServerValidation, LongTermServerAuthError> {
+        server.validate_incoming_message_of(message, from, now, source, self)
+    }
+}
+
+/// Validates a message that came from an address.
+pub(crate) fn validate_message<U: Users>(
+    server: &mut LongTermServerAuth<Global>,
+    message: &Message<'_>,
+    from: SocketAddr,
+    now: Instant,
+    words: [u32; 16],
+    users: &mut U,
+) -> Result<IntegrityAlgorithm, Refusal>
+    ensures answer { CallOrMemory result
+        (result ≡ server_validation_answer (answer (sight (U.server_with users.old server.old) from)
+        now words (reading_of message.now))) ⊤ }
+    ensures state { CallOrMemory result
+        (server.new ≡ U.server_left (after_validation (U.server_with users.old server.old) from
+        now words (reading_of message.now)) server.old)
+        (server.new ≡ server.old) }
+    ensures unchanged { ChangesNothing (sight (U.server_with users.old server.old) from) now words
+        (reading_of message.now) →
+        result ≡ server_validation_answer (answer (sight (U.server_with users.old server.old) from)
+        now words (reading_of message.now)) }
+{
+    let mut source = WordSource::new(words);
+    match users.validate(server, message, from, now, &mut source) {
+        Ok(validation) => Ok(validated_algorithm(validation)),
+        Err(error) => Err(server_refusal(error.reason())),
     }
 }
 

@@ -268,8 +268,8 @@ pub extern "C" fn stunp_agent_poll_transmit(
     answer
 }
 
-/// Tells what is to be done at `now`: 0 is to wait until `until`. 1 is for a request that timed out,
-/// and 2 for one that was cancelled: its id is then in the first 12 bytes of `id`. Fails with
+/// Tells what is to be done at `now`: 0 is to wait until `until`. 1 is for a request that timed
+/// out, and 2 for one that was cancelled: its id is then in the first 12 bytes of `id`. Fails with
 /// `BufferTooSmall` if `id` has fewer.
 #[unsafe(no_mangle)]
 pub extern "C" fn stunp_agent_poll(

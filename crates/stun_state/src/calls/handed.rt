@@ -2,8 +2,9 @@
 //! the answer with that user handed in.
 //!
 //! A call fails first with `EmptyHandle` where its handle is empty. An address and a message are
-//! refused as in `calls/server.rt`. A stored key for HMAC-SHA1 has 16 bytes, and one for HMAC-SHA256
-//! has 32. A key that is not stored has no bytes; another length is refused by `BadArgument`.
+//! refused as in `calls/server.rt`. A stored key for HMAC-SHA1 has 16 bytes, and one for
+//! HMAC-SHA256 has 32. A key that is not stored has no bytes; another length is refused by
+//! `BadArgument`.
 
 ghost use Rattle.std.specs.Prelude.{◌≡◌, length, Some, None, IfNone, IfSome};
 ghost use Rattle.stun_numbers.specs.Refusals.{refusal_number};

@@ -1,12 +1,6 @@
 -- The refusal for a reason, where that may be want of memory.
 use Rattle.std.proofs.Common.{◌≡◌, sym, subst}
-use Rattle.stun_auth.specs.ClientStep as client
 use Rattle.stun_auth.specs.Reasons.{ForServerReason}
-use Rattle.stun_auth.specs.declared.client.answer.LongTermClientAuthErrorReason.{
-  LongTermClientAuthErrorReason,
-}
-use Rattle.stun_auth.specs.declared.client.answer.LongTermClientAuthErrorReason.TheVariants
-    as AtClient
 use Rattle.stun_auth.specs.declared.server.reason.LongTermServerAuthErrorReason.{
   LongTermServerAuthErrorReason,
 }
@@ -20,7 +14,7 @@ use Rattle.stun_auth.specs.declared.server.reason.LongTermServerAuthErrorReason.
 }
 use Rattle.stun_numbers.specs.declared.refusal.Refusal.{Refusal}
 use Rattle.stun_state.specs.Answers.{ForRefusal}
-use Rattle.stun_state.specs.Codes.{refusal_of_client, refusal_of_server}
+use Rattle.stun_state.specs.Codes.{refusal_of_server}
 
 -- what follows from a fact about a reason, of its refusal
 server_cases : (reason : LongTermServerAuthErrorReason) {P Q P' Q' : Type 0} → (P → P') → (Q → Q')
@@ -39,18 +33,3 @@ pub server_refused : (reason : LongTermServerAuthErrorReason) (refusal : Refusal
     → ForServerReason reason P Q → ForRefusal refusal (P' refusal) (Q' refusal)
 server_refused reason refusal P' Q' is one other h =
     subst (λ r. ForRefusal r (P' r) (Q' r)) (sym is) (server_cases reason one other h)
-
-client_cases : (reason : LongTermClientAuthErrorReason) {P Q P' Q' : Type 0} → (P → P') → (Q → Q')
-    → client.ForClientReason reason P Q → ForRefusal (refusal_of_client reason) P' Q'
-client_cases AtClient.Unauthorized one other h = one h
-client_cases AtClient.IntegrityFailed one other h = one h
-client_cases AtClient.UnsupportedFeature one other h = one h
-client_cases AtClient.OutOfMemory one other h = other h
-
-pub client_refused : (reason : LongTermClientAuthErrorReason) (refusal : Refusal) {P Q : Type 0}
-    (P' Q' : Refusal → Type 0)
-    → refusal ≡ refusal_of_client reason → (P → P' (refusal_of_client reason))
-    → (Q → Q' (refusal_of_client reason))
-    → client.ForClientReason reason P Q → ForRefusal refusal (P' refusal) (Q' refusal)
-client_refused reason refusal P' Q' is one other h =
-    subst (λ r. ForRefusal r (P' r) (Q' r)) (sym is) (client_cases reason one other h)

@@ -21,7 +21,7 @@ ghost use Rattle.stun_state.specs.Memory.{AsksAgain};
 ghost use Rattle.stun_state.specs.Signing.{client_signs, is_too_long};
 ghost use Rattle.stun_state.specs.Signing.{message_of, signed_by_client};
 
-use crate::codes::{client_refusal, feature_numbered};
+use crate::codes::{algorithms_numbered, client_refusal, feature_numbered};
 use crate::signing::{SHORT, is_too_long, writer_of};
 use crate::text::copied;
 use std::alloc::Global;
@@ -74,14 +74,12 @@ pub fn set_algorithms(
     ensures state { client.new
         ≡ client_with_algorithms (algorithms_numbered algorithms) client.old }
 {
-    match algorithms {
-        1 => client.set_supported_integrity(IntegrityAlgorithm::Sha1),
-        2 => client.set_supported_integrity(IntegrityAlgorithm::Sha256),
-        3 => {
+    match algorithms_numbered(algorithms)? {
+        Some(one) => client.set_supported_integrity(one),
+        None => {
             client.set_supported_integrity(IntegrityAlgorithm::Sha256);
             client.add_supported_integrity(IntegrityAlgorithm::Sha1);
         }
-        _ => return Err(Refusal::BadArgument),
     }
     Ok(())
 }

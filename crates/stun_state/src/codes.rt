@@ -1,10 +1,15 @@
-//! The refusals for the reasons of authenticators, and the features by their numbers, as
-//! `include/stunp_state.h` has them.
+//! The refusals for the reasons of authenticators, and the algorithms and the features by their
+//! numbers, as `include/stunp_state.h` has them.
 
 ghost use Rattle.std.specs.Prelude.{◌≡◌, IfOk, IfErr, Some, None};
-ghost use Rattle.stun_state.specs.Codes.{feature_numbered, refusal_of_client, refusal_of_server};
+ghost use Rattle.std.specs.Option.{option_map_or};
+ghost use Rattle.stun_auth.specs.Algorithms.{only};
+ghost use Rattle.stun_auth.specs.declared.algorithm_set.AlgorithmSet.TheVariants.{Both};
+ghost use Rattle.stun_state.specs.Codes.{algorithms_numbered, feature_numbered};
+ghost use Rattle.stun_state.specs.Codes.{refusal_of_client, refusal_of_server};
 
 use stun_auth::auth::{Feature, LongTermClientAuthErrorReason, LongTermServerAuthErrorReason};
+use stun_base::algorithm::IntegrityAlgorithm;
 use stun_numbers::refusal::Refusal;
 
 /// The refusal for the reason of a server.
@@ -30,6 +35,21 @@ pub fn client_refusal(reason: LongTermClientAuthErrorReason) -> Refusal
         LongTermClientAuthErrorReason::IntegrityFailed => Refusal::IntegrityFailed,
         LongTermClientAuthErrorReason::UnsupportedFeature => Refusal::UnsupportedFeature,
         LongTermClientAuthErrorReason::OutOfMemory => Refusal::OutOfMemory,
+    }
+}
+
+/// The algorithm of a number, or none where the number means both, or `BadArgument`.
+pub fn algorithms_numbered(number: u32) -> Result<Option<IntegrityAlgorithm>, Refusal>
+    ensures ok { IfOk result (λ one. algorithms_numbered number
+        ≡ Some (option_map_or only one Both)) }
+    ensures err { IfErr result (λ refusal. (algorithms_numbered number ≡ None)
+        × (refusal ≡ Refusal.BadArgument)) }
+{
+    match number {
+        1 => Ok(Some(IntegrityAlgorithm::Sha1)),
+        2 => Ok(Some(IntegrityAlgorithm::Sha256)),
+        3 => Ok(None),
+        _ => Err(Refusal::BadArgument),
     }
 }
 

@@ -1,17 +1,11 @@
 //! What the exports do with a server's authenticator and a user whom the caller hands in (RFC 8489,
 //! section 9.2.4).
 
-ghost use Rattle.std.specs.Prelude.{◌≡◌, ◌≤◌, ◌+◌, ◌-◌, ◌^◌, ◌<◌, ⊤, length, take};
+ghost use Rattle.std.specs.Prelude.{◌≡◌, ⊤, length, take};
 ghost use Rattle.std.specs.Prelude.{Some, None, Ok, Err, IfOk, IfErr, OnErr, OnOk};
-ghost use Rattle.stun_auth.specs.Additions.{WantsMemory, page_of};
 ghost use Rattle.stun_auth.specs.Handed.{with_users};
-ghost use Rattle.stun_auth.specs.ServerSigning.{after_signing, server_additions};
-ghost use Rattle.stun_auth.specs.ServerSigning.{server_growth, server_signed};
-ghost use Rattle.stun_auth.specs.Reading.{reading_of};
-ghost use Rattle.stun_auth.specs.Validation.{after_validation, answer, sight};
-ghost use Rattle.stun_base.specs.Header.{BeginsWithHeader};
+ghost use Rattle.stun_auth.specs.ServerSigning.{after_signing};
 ghost use Rattle.stun_base.specs.MessageType.{class_in, is_response};
-ghost use Rattle.stun_types.specs.Limits.{LENGTH_LIMIT as length_limit};
 ghost use Rattle.stun_numbers.specs.Buffers.{buffer_after, length_of};
 ghost use Rattle.stun_state.specs.Addresses.{socket_address};
 ghost use Rattle.stun_state.specs.Answers.{CallOrMemory, after_address, at_address};
@@ -20,31 +14,24 @@ ghost use Rattle.stun_state.specs.Handed.{kept_after_validating_of, keys_given};
 ghost use Rattle.stun_state.specs.Handed.{named_in_bytes, naming_answer, naming_length};
 ghost use Rattle.stun_state.specs.Handed.{naming_written, signed_of, validated_of};
 ghost use Rattle.stun_state.specs.code.Given.{user_given};
-ghost use Rattle.stun_state.specs.Server.{server_validation_answer};
-ghost use Rattle.stun_state.specs.Signing.{message_of};
-ghost use Rattle.stun_state.specs.Signing.{server_signs, signed_by_server};
-ghost use Rattle.stun_state.specs.code.Measured.{IsMeasured};
+ghost use Rattle.stun_state.specs.Signing.{signed_by_server};
 
 use crate::address::Address;
-use crate::codes::server_refusal;
 use crate::handle::server::Server;
-use crate::server::{check_room, measure, validated_algorithm};
-use crate::signing::{SHORT, writer_of};
+use crate::server::{check_room, measure};
+use crate::signing::SHORT;
 use crate::text::copied;
+use crate::users::{sign_long, sign_short, validate_message};
 use std::alloc::Global;
-use std::net::SocketAddr;
 use stun_auth::auth::{LongTermServerAuth, LongTermServerUser, NamedUser, StoredKeys};
 use stun_base::algorithm::IntegrityAlgorithm;
 use stun_base::credentials::LongTermCredentials;
 use stun_base::instant::Instant;
-use stun_base::words::WordSource;
-use stun_numbers::buffer::{fill, put};
+use stun_numbers::buffer::fill;
 use stun_numbers::message::base_message;
 use stun_numbers::refusal::Refusal;
 use stun_numbers::text::text;
-use stun_types::limits::LENGTH_LIMIT;
 use stun_types::message::Message;
-use stun_types::prelude::*;
 
 /// What a caller gives of a user beside the name.
 #[derive(Clone, Copy)]
@@ -172,31 +159,6 @@ pub(crate) fn validate(
     validate_message(&mut kept.server, &message, from, moment, *words, &mut user)
 }
 
-/// Validates a message. The server has just a user who is prepared.
-fn validate_message(
-    server: &mut LongTermServerAuth<Global>,
-    message: &Message<'_>,
-    from: SocketAddr,
-    now: Instant,
-    words: [u32; 16],
-    user: &mut LongTermServerUser<Global>,
-) -> Result<IntegrityAlgorithm, Refusal>
-    ensures answer { CallOrMemory result
-        (result ≡ server_validation_answer
-        (answer (sight (with_users server.old user.old) from) now words
-        (reading_of message.now))) ⊤ }
-    ensures state { CallOrMemory result
-        (server.new ≡ with_users (after_validation (with_users server.old user.old) from now words
-        (reading_of message.now)) server.old.registered)
-        (server.new ≡ server.old) }
-{
-    let mut source = WordSource::new(words);
-    match server.validate_incoming_message_of(message, from, now, &mut source, user) {
-        Ok(validation) => Ok(validated_algorithm(validation)),
-        Err(error) => Err(server_refusal(error.reason())),
-    }
-}
-
 /// Signs the message in the first `length` bytes of a buffer, which goes to an address. The server
 /// has just the user of a name. A refusal leaves the buffer.
 pub(crate) fn sign(
@@ -248,101 +210,5 @@ fn sign_with(
         sign_short(server, buffer, length, to, measured.is_long, user)
     } else {
         sign_long(server, buffer, length, to, measured.is_long, user)
-    }
-}
-
-/// Signs a message that has no more than `SHORT` bytes then.
-#[inline(never)]
-fn sign_short(
-    server: &mut LongTermServerAuth<Global>,
-    buffer: &mut [u8],
-    count: usize,
-    to: SocketAddr,
-    is_long: bool,
-    user: &mut LongTermServerUser<Global>,
-) -> Result<usize, Refusal>
-    requires measured { let message = take count buffer.old in
-        let response = is_response (class_in message) in
-        let more = server_growth (sight (with_users server.old user.old) to) response in
-        IsMeasured buffer.old count more is_long }
-    requires short { let message = take count buffer.old in
-        length message + server_growth (sight (with_users server.old user.old) to)
-        (is_response (class_in message)) ≤ 2048 }
-    ensures answer { result ≡ length_of (server_signs (with_users server.old user.old)
-        (take count buffer.old) (length buffer.old) to) }
-    ensures written { buffer.new ≡ buffer_after (server_signs (with_users server.old user.old)
-        (take count buffer.old) (length buffer.old) to) buffer.old }
-    ensures state { OnOk result (server.new ≡ with_users (after_signing
-        (with_users server.old user.old) to (is_response (class_in (take count buffer.old))))
-        server.old.registered) }
-    ensures refused { OnErr result (server.new ≡ server.old) }
-{
-    let mut memory = [0; SHORT];
-    let signed = sign_in(server, &buffer[..count], to, is_long, &mut memory, user)?;
-    put(buffer, signed);
-    Ok(signed.len())
-}
-
-/// Signs a message of any length.
-#[inline(never)]
-fn sign_long(
-    server: &mut LongTermServerAuth<Global>,
-    buffer: &mut [u8],
-    count: usize,
-    to: SocketAddr,
-    is_long: bool,
-    user: &mut LongTermServerUser<Global>,
-) -> Result<usize, Refusal>
-    requires measured { let message = take count buffer.old in
-        let response = is_response (class_in message) in
-        let more = server_growth (sight (with_users server.old user.old) to) response in
-        IsMeasured buffer.old count more is_long }
-    ensures answer { result ≡ length_of (server_signs (with_users server.old user.old)
-        (take count buffer.old) (length buffer.old) to) }
-    ensures written { buffer.new ≡ buffer_after (server_signs (with_users server.old user.old)
-        (take count buffer.old) (length buffer.old) to) buffer.old }
-    ensures state { OnOk result (server.new ≡ with_users (after_signing
-        (with_users server.old user.old) to (is_response (class_in (take count buffer.old))))
-        server.old.registered) }
-    ensures refused { OnErr result (server.new ≡ server.old) }
-{
-    let mut memory = [0; LENGTH_LIMIT];
-    let signed = sign_in(server, &buffer[..count], to, is_long, &mut memory, user)?;
-    put(buffer, signed);
-    Ok(signed.len())
-}
-
-/// The signed message, in memory that is enough.
-fn sign_in<'m>(
-    server: &mut LongTermServerAuth<Global>,
-    message: &[u8],
-    to: SocketAddr,
-    is_long: bool,
-    memory: &'m mut [u8],
-    user: &mut LongTermServerUser<Global>,
-) -> Result<&'m [u8], Refusal>
-    requires header { BeginsWithHeader message.now }
-    requires room { length message.now ≤ length memory.old }
-    requires limit { length memory.old ≤ length_limit }
-    requires enough { ¬ (WantsMemory (server_additions (sight (with_users server.old user.old) to)
-        (is_response (class_in message.now))) (page_of message.now)
-        (length memory.old - length message.now)) }
-    ensures ok { IfOk result (λ signed. message_of is_long (server_signed
-        (sight (with_users server.old user.old) to) (is_response (class_in message.now))
-        (page_of message.now)) ≡ Ok signed.now) }
-    ensures grows { IfOk result (λ signed. length signed.now ≡ length message.now
-        + server_growth (sight (with_users server.old user.old) to)
-        (is_response (class_in message.now))) }
-    ensures err { IfErr result (λ refusal. message_of is_long (server_signed
-        (sight (with_users server.old user.old) to) (is_response (class_in message.now))
-        (page_of message.now)) ≡ Err refusal) }
-    ensures state { OnOk result (server.new ≡ with_users (after_signing
-        (with_users server.old user.old) to (is_response (class_in message.now)))
-        server.old.registered) }
-    ensures refused { OnErr result (server.new ≡ server.old) }
-{
-    match server.sign_outgoing_message_of(writer_of(message, memory), to, user) {
-        Ok(signed) => Ok(signed.finish()),
-        Err(error) => Err(Refusal::of_write(error, is_long)),
     }
 }

@@ -17,3 +17,4 @@ mod handle;
 mod server;
 mod signing;
 mod text;
+mod users;

@@ -1,41 +1,33 @@
 //! What the exports do with a server's authenticator (RFC 8489, section 9.2.4).
 
-ghost use Rattle.std.specs.Prelude.{◌≡◌, ◌≤◌, ◌<◌, ◌+◌, ◌-◌, ◌^◌, ⊤, nat_lt, true, false};
+ghost use Rattle.std.specs.Prelude.{◌≡◌, ◌≤◌, ◌<◌, ◌+◌, ◌^◌, ⊤, nat_lt, true, false};
 ghost use Rattle.std.specs.Prelude.{length, take, Some, None, Ok, Err, IfOk, IfErr, OnErr, OnOk};
 ghost use Rattle.stun_auth.specs.Forgetting.{after_forgetting, without_place};
 ghost use Rattle.stun_auth.specs.ForgettingSteps.{after_step, next_address};
 ghost use Rattle.stun_base.specs.MessageType.{class_in, is_response};
-ghost use Rattle.stun_auth.specs.Reading.{reading_of};
 ghost use Rattle.stun_auth.specs.Registered.{with_user};
-ghost use Rattle.stun_auth.specs.Additions.{WantsMemory, page_of};
-ghost use Rattle.stun_auth.specs.ServerSigning.{after_signing, server_additions};
-ghost use Rattle.stun_auth.specs.ServerSigning.{server_growth, server_signed};
-ghost use Rattle.stun_base.specs.Header.{BeginsWithHeader};
+ghost use Rattle.stun_auth.specs.ServerSigning.{after_signing, server_growth};
 ghost use Rattle.stun_types.specs.Limits.{LENGTH_LIMIT as length_limit};
-ghost use Rattle.stun_auth.specs.Validation.{ChangesNothing, after_validation};
-ghost use Rattle.stun_auth.specs.Validation.{answer, new_server, sight};
+ghost use Rattle.stun_auth.specs.Validation.{new_server, sight};
 ghost use Rattle.stun_numbers.specs.Buffers.{buffer_after, length_of};
 ghost use Rattle.stun_state.specs.Addresses.{socket_address, start_for, start_told};
 ghost use Rattle.stun_state.specs.Answers.{CallOrMemory, after_address, after_start, at_address};
 ghost use Rattle.stun_state.specs.Answers.{at_start, done_if_given, text_refusal, texts_refusal};
 ghost use Rattle.stun_state.specs.Codes.{algorithms_numbered, feature_numbered};
 ghost use Rattle.stun_state.specs.Memory.{LeavesServer};
-ghost use Rattle.stun_state.specs.Signing.{is_too_long};
-ghost use Rattle.stun_state.specs.Signing.{message_of, server_signs, signed_by_server};
-ghost use Rattle.stun_state.specs.code.Measured.{IsMeasured};
+ghost use Rattle.stun_state.specs.Signing.{is_too_long, signed_by_server};
 ghost use Rattle.stun_state.specs.Server.{client_of_address, client_told, kept_after_validating};
 ghost use Rattle.stun_state.specs.Server.{name_length_of, name_written, nonce_at, nonce_told};
 ghost use Rattle.stun_state.specs.Server.{nonce_written, room_refusal, step_answer};
-ghost use Rattle.stun_state.specs.Server.{server_validation};
-ghost use Rattle.stun_state.specs.Server.{server_validation_answer, server_with_algorithms};
-ghost use Rattle.stun_state.specs.Server.{with_expiry};
+ghost use Rattle.stun_state.specs.Server.{server_validation, server_with_algorithms, with_expiry};
 ghost use Rattle.stun_state.specs.Server.{server_with_feature, without_client, without_named};
 
 use crate::address::Address;
-use crate::codes::{feature_numbered, server_refusal};
+use crate::codes::{algorithms_numbered, feature_numbered};
 use crate::handle::server::Server;
-use crate::signing::{SHORT, is_response, is_too_long, writer_of};
+use crate::signing::{SHORT, is_response, is_too_long};
 use crate::text::copied;
+use crate::users::{OwnUsers, sign_long, sign_short, validate_message};
 use std::alloc::Global;
 use std::net::SocketAddr;
 use std::time::Duration;
@@ -43,14 +35,10 @@ use stun_auth::auth::{LongTermServerAuth, LongTermServerValidation};
 use stun_base::algorithm::IntegrityAlgorithm;
 use stun_base::credentials::LongTermCredentials;
 use stun_base::instant::Instant;
-use stun_base::words::WordSource;
-use stun_numbers::buffer::put;
 use stun_numbers::message::base_message;
 use stun_numbers::refusal::Refusal;
 use stun_numbers::text::text;
-use stun_types::limits::LENGTH_LIMIT;
 use stun_types::message::Message;
-use stun_types::prelude::*;
 
 /// The shortest time that a nonce lasts, in nanoseconds.
 const SHORTEST_EXPIRY: u64 = 30_000_000_000;
@@ -76,14 +64,12 @@ pub fn set_algorithms(
     ensures state { server.new
         ≡ server_with_algorithms (algorithms_numbered algorithms) server.old }
 {
-    match algorithms {
-        1 => server.set_supported_integrity(IntegrityAlgorithm::Sha1),
-        2 => server.set_supported_integrity(IntegrityAlgorithm::Sha256),
-        3 => {
+    match algorithms_numbered(algorithms)? {
+        Some(one) => server.set_supported_integrity(one),
+        None => {
             server.set_supported_integrity(IntegrityAlgorithm::Sha256);
             server.add_supported_integrity(IntegrityAlgorithm::Sha1);
         }
-        _ => return Err(Refusal::BadArgument),
     }
     Ok(())
 }
@@ -261,9 +247,9 @@ pub fn sign(
     let message = base_message(buffer, length)?;
     let measured = measure(server, &message, buffer.len(), to)?;
     if measured.whole <= SHORT {
-        sign_short(server, buffer, length, to, measured.is_long)
+        sign_short(server, buffer, length, to, measured.is_long, &mut OwnUsers)
     } else {
-        sign_long(server, buffer, length, to, measured.is_long)
+        sign_long(server, buffer, length, to, measured.is_long, &mut OwnUsers)
     }
 }
 
@@ -311,93 +297,6 @@ pub fn measure(
     })
 }
 
-/// Signs a message that has no more than `SHORT` bytes then.
-#[inline(never)]
-fn sign_short(
-    server: &mut LongTermServerAuth<Global>,
-    buffer: &mut [u8],
-    count: usize,
-    to: SocketAddr,
-    is_long: bool,
-) -> Result<usize, Refusal>
-    requires measured { let message = take count buffer.old in
-        let response = is_response (class_in message) in
-        let more = server_growth (sight server.old to) response in
-        IsMeasured buffer.old count more is_long }
-    requires short { let message = take count buffer.old in
-        length message + server_growth (sight server.old to) (is_response (class_in message))
-        ≤ 2048 }
-    ensures answer { result ≡ length_of
-        (server_signs server.old (take count buffer.old) (length buffer.old) to) }
-    ensures written { buffer.new ≡ buffer_after
-        (server_signs server.old (take count buffer.old) (length buffer.old) to) buffer.old }
-    ensures state { OnOk result (server.new ≡ after_signing server.old to
-        (is_response (class_in (take count buffer.old)))) }
-    ensures refused { OnErr result (server.new ≡ server.old) }
-{
-    let mut memory = [0; SHORT];
-    let signed = sign_in(server, &buffer[..count], to, is_long, &mut memory)?;
-    put(buffer, signed);
-    Ok(signed.len())
-}
-
-/// Signs a message of any length.
-#[inline(never)]
-fn sign_long(
-    server: &mut LongTermServerAuth<Global>,
-    buffer: &mut [u8],
-    count: usize,
-    to: SocketAddr,
-    is_long: bool,
-) -> Result<usize, Refusal>
-    requires measured { let message = take count buffer.old in
-        let response = is_response (class_in message) in
-        let more = server_growth (sight server.old to) response in
-        IsMeasured buffer.old count more is_long }
-    ensures answer { result ≡ length_of
-        (server_signs server.old (take count buffer.old) (length buffer.old) to) }
-    ensures written { buffer.new ≡ buffer_after
-        (server_signs server.old (take count buffer.old) (length buffer.old) to) buffer.old }
-    ensures state { OnOk result (server.new ≡ after_signing server.old to
-        (is_response (class_in (take count buffer.old)))) }
-    ensures refused { OnErr result (server.new ≡ server.old) }
-{
-    let mut memory = [0; LENGTH_LIMIT];
-    let signed = sign_in(server, &buffer[..count], to, is_long, &mut memory)?;
-    put(buffer, signed);
-    Ok(signed.len())
-}
-
-/// The signed message to an address, in memory that is enough.
-fn sign_in<'m>(
-    server: &mut LongTermServerAuth<Global>,
-    message: &[u8],
-    to: SocketAddr,
-    is_long: bool,
-    memory: &'m mut [u8],
-) -> Result<&'m [u8], Refusal>
-    requires header { BeginsWithHeader message.now }
-    requires room { length message.now ≤ length memory.old }
-    requires limit { length memory.old ≤ length_limit }
-    requires enough { ¬ (WantsMemory (server_additions (sight server.old to)
-        (is_response (class_in message.now))) (page_of message.now)
-        (length memory.old - length message.now)) }
-    ensures ok { IfOk result (λ signed. message_of is_long (server_signed (sight server.old to)
-        (is_response (class_in message.now)) (page_of message.now)) ≡ Ok signed.now) }
-    ensures grows { IfOk result (λ signed. length signed.now ≡ length message.now
-        + server_growth (sight server.old to) (is_response (class_in message.now))) }
-    ensures err { IfErr result (λ refusal. message_of is_long (server_signed (sight server.old to)
-        (is_response (class_in message.now)) (page_of message.now)) ≡ Err refusal) }
-    ensures state { OnOk result (server.new ≡ after_signing server.old to
-        (is_response (class_in message.now))) }
-    ensures refused { OnErr result (server.new ≡ server.old) }
-{
-    match server.sign_outgoing_message(writer_of(message, memory), to) {
-        Ok(signed) => Ok(signed.finish()),
-        Err(error) => Err(Refusal::of_write(error, is_long)),
-    }
-}
-
 /// Validates a message that came from an address, and returns the algorithm of its digest. A
 /// refusal may make a nonce for the address.
 pub fn validate(
@@ -426,7 +325,14 @@ pub fn validate(
     let message = Message::from_bytes(message)?;
     check_room(&kept.server, kept.most_addresses, from)?;
     let moment = Instant::from_nanos(now);
-    validate_message(&mut kept.server, &message, from, moment, *words)
+    validate_message(
+        &mut kept.server,
+        &message,
+        from,
+        moment,
+        *words,
+        &mut OwnUsers,
+    )
 }
 
 /// Fails with `TooManyAddresses` for a new address if as many addresses are kept as may be.
@@ -442,31 +348,6 @@ pub fn check_room(
         return Ok(());
     }
     Err(Refusal::TooManyAddresses)
-}
-
-/// Validates a message.
-fn validate_message(
-    server: &mut LongTermServerAuth<Global>,
-    message: &Message<'_>,
-    from: SocketAddr,
-    now: Instant,
-    words: [u32; 16],
-) -> Result<IntegrityAlgorithm, Refusal>
-    ensures answer { CallOrMemory result
-        (result ≡ server_validation_answer (answer (sight server.old from) now words
-        (reading_of message.now))) ⊤ }
-    ensures state { CallOrMemory result
-        (server.new ≡ after_validation server.old from now words (reading_of message.now))
-        (server.new ≡ server.old) }
-    ensures unchanged { ChangesNothing (sight server.old from) now words (reading_of message.now) →
-        result ≡ server_validation_answer (answer (sight server.old from) now words
-        (reading_of message.now)) }
-{
-    let mut source = WordSource::new(words);
-    match server.validate_incoming_message(message, from, now, &mut source) {
-        Ok(validation) => Ok(validated_algorithm(validation)),
-        Err(error) => Err(server_refusal(error.reason())),
-    }
 }
 
 /// The algorithm with which a message is accepted.

@@ -1,4 +1,9 @@
 //! The calls on an agent: requests and their time (RFC 8489, section 6.2).
+//!
+//! A call fails first with `EmptyHandle` where its handle is empty; `stunp_agent_new` and
+//! `stunp_agent_new_with` fail with `FullHandle` where it is full. Bytes that are no message are
+//! refused by `Truncated`, `NotStun` or `TooLarge`. An address whose length is neither 4 nor 16 is
+//! refused by `BadArgument`, and so is an id that has not 12 bytes. Times are in nanoseconds.
 
 ghost use Rattle.std.specs.Prelude.{◌≡◌, ◌⊎◌, length, pos, MatchResult};
 ghost use Rattle.std.specs.Prelude.{Some, None, Ok, IfNone, IfSome, IsTrue};
@@ -29,7 +34,8 @@ use crate::{agent, answers};
 use std::alloc::Global;
 use stun_numbers::refusal::Refusal;
 
-/// Fills a handle with an agent of a transport at a local address.
+/// Fills a handle with an agent of a transport, 0 for UDP and 1 for TCP, at a local address. Fails
+/// with `FullHandle`, then `BadArgument` for the transport or the address, then `OutOfMemory`.
 #[unsafe(no_mangle)]
 pub extern "C" fn stunp_agent_new(
     alloc: Global,
@@ -63,7 +69,10 @@ pub extern "C" fn stunp_agent_new(
 }
 
 /// The same with time-outs of the caller's, and with a remote address, to which alone the agent
-/// then sends.
+/// then sends. A remote address of length 0 is none.
+///
+/// Fails as `stunp_agent_new` does. `BadArgument` is also for the remote address and for the size
+/// of the time-outs, and `NoWait` for time-outs without a wait.
 #[unsafe(no_mangle)]
 pub extern "C" fn stunp_agent_new_with(
     alloc: Global,
@@ -99,7 +108,8 @@ pub extern "C" fn stunp_agent_new_with(
     }
 }
 
-/// What the agent counted.
+/// Tells what the agent counted. Fails with `BadArgument` where the caller's struct has another
+/// size.
 #[unsafe(no_mangle)]
 pub extern "C" fn stunp_agent_statistics(
     alloc: Global,
@@ -131,7 +141,10 @@ pub extern "C" fn stunp_agent_clear(alloc: Global, handle: &mut AgentHandle)
     let _agent = handle.take(alloc);
 }
 
-/// Stores a request and counts it.
+/// Keeps a request to an address and counts it. Fails with the refusal of the address, then with
+/// that of the message. `ProtocolViolation` is for what is no request, or goes to another address
+/// than the agent's remote one. `AlreadyInProgress` is for an id that is outstanding. The last is
+/// `OutOfMemory`.
 #[unsafe(no_mangle)]
 pub extern "C" fn stunp_agent_send_request(
     alloc: Global,
@@ -162,7 +175,9 @@ pub extern "C" fn stunp_agent_send_request(
     answer
 }
 
-/// Counts a response or an indication that is sent to an address.
+/// Counts a response or an indication that is sent to an address. Fails with the refusal of the
+/// address, then with that of the message. `ProtocolViolation` is for a request, and for another
+/// address than the agent's remote one.
 #[unsafe(no_mangle)]
 pub extern "C" fn stunp_agent_send(
     alloc: Global,
@@ -186,7 +201,9 @@ pub extern "C" fn stunp_agent_send(
     answer
 }
 
-/// Takes a message that came from an address.
+/// Takes a message that came from an address: returns 1 if it is taken, and 0 if it is a response
+/// to no outstanding request. Fails with the refusal of the address, then with that of the message,
+/// then with `OutOfMemory`.
 #[unsafe(no_mangle)]
 pub extern "C" fn stunp_agent_handle(
     alloc: Global,
@@ -218,7 +235,8 @@ pub extern "C" fn stunp_agent_handle(
     answer
 }
 
-/// The request that is to be sent again now, and where to.
+/// Writes the request that is to be sent again at `now`, and where to. Returns its length in bytes,
+/// or 0 if none is due. Fails with `BufferTooSmall`.
 #[unsafe(no_mangle)]
 pub extern "C" fn stunp_agent_poll_transmit(
     alloc: Global,
@@ -250,7 +268,9 @@ pub extern "C" fn stunp_agent_poll_transmit(
     answer
 }
 
-/// What is to be done now.
+/// Tells what is to be done at `now`: 0 is to wait until `until`. 1 is for a request that timed
+/// out, and 2 for one that was cancelled: its id is then in the first 12 bytes of `id`. Fails with
+/// `BufferTooSmall` if `id` has fewer.
 #[unsafe(no_mangle)]
 pub extern "C" fn stunp_agent_poll(
     alloc: Global,
@@ -280,7 +300,7 @@ pub extern "C" fn stunp_agent_poll(
     answer
 }
 
-/// Whether a request of an id is outstanding, and the address that it went to.
+/// Whether a request of an id is outstanding, 1 or 0, and the address that it went to.
 #[unsafe(no_mangle)]
 pub extern "C" fn stunp_agent_is_outstanding(
     alloc: Global,
@@ -305,7 +325,7 @@ pub extern "C" fn stunp_agent_is_outstanding(
     answer
 }
 
-/// Cancels the request of an id.
+/// Cancels the request of an id. Returns 1, or 0 if none is outstanding.
 #[unsafe(no_mangle)]
 pub extern "C" fn stunp_agent_cancel(alloc: Global, handle: &mut AgentHandle, id: &[u8]) -> i64
     ensures empty { IfNone handle.old.agent ((result ≡ refusal_number Refusal.EmptyHandle)
@@ -324,7 +344,7 @@ pub extern "C" fn stunp_agent_cancel(alloc: Global, handle: &mut AgentHandle, id
     answer
 }
 
-/// Ends the retransmissions of the request of an id.
+/// Ends the retransmissions of the request of an id. Returns 1, or 0 if none is outstanding.
 #[unsafe(no_mangle)]
 pub extern "C" fn stunp_agent_cancel_retransmissions(
     alloc: Global,
@@ -347,7 +367,9 @@ pub extern "C" fn stunp_agent_cancel_retransmissions(
     answer
 }
 
-/// Sets the time-outs of the request of an id.
+/// Sets the time-outs of the request of an id. Returns 1, or 0 if none is outstanding. Fails with
+/// `BadArgument` for the id or the size of the time-outs, then with `NoWait` for time-outs without
+/// a wait.
 #[unsafe(no_mangle)]
 pub extern "C" fn stunp_agent_configure(
     alloc: Global,
@@ -371,7 +393,8 @@ pub extern "C" fn stunp_agent_configure(
     answer
 }
 
-/// Marks an address as a validated peer.
+/// Marks an address as a validated peer. Fails with `BadArgument` for the address, then with
+/// `OutOfMemory`.
 #[unsafe(no_mangle)]
 pub extern "C" fn stunp_agent_validated_peer(
     alloc: Global,
@@ -399,7 +422,8 @@ pub extern "C" fn stunp_agent_validated_peer(
     answer
 }
 
-/// Whether an address is a validated peer: a message from it was taken, or it was marked as one.
+/// Whether an address is a validated peer, 1 or 0: a message from it was taken, or it was marked as
+/// one. Fails with `BadArgument` for the address.
 #[unsafe(no_mangle)]
 pub extern "C" fn stunp_agent_is_validated_peer(
     alloc: Global,
@@ -420,7 +444,7 @@ pub extern "C" fn stunp_agent_is_validated_peer(
     answer
 }
 
-/// How many validated peers are kept.
+/// Returns how many validated peers are kept.
 #[unsafe(no_mangle)]
 pub extern "C" fn stunp_agent_peer_count(alloc: Global, handle: &mut AgentHandle) -> i64
     ensures empty { IfNone handle.old.agent ((result ≡ refusal_number Refusal.EmptyHandle)
@@ -437,7 +461,7 @@ pub extern "C" fn stunp_agent_peer_count(alloc: Global, handle: &mut AgentHandle
     answer
 }
 
-/// Forgets a validated peer.
+/// Forgets a validated peer, if the address is one. Fails with `BadArgument` for the address.
 #[unsafe(no_mangle)]
 pub extern "C" fn stunp_agent_forget_peer(
     alloc: Global,

@@ -1,4 +1,8 @@
 //! The calls on the long-term authenticator of a client (RFC 8489, sections 9.2.3 and 9.2.5).
+//!
+//! A call fails first with `EmptyHandle` where its handle is empty; `stunp_client_new` fails with
+//! `FullHandle` where it is full. Bytes that are no message are refused by `Truncated`, `NotStun`
+//! or `TooLarge`.
 
 ghost use Rattle.std.specs.Prelude.{◌≡◌, ◌⊎◌, length, pos, MatchOption};
 ghost use Rattle.std.specs.Prelude.{Some, None, Ok, IfNone, IfSome};
@@ -22,7 +26,7 @@ use crate::{answers, client};
 use std::alloc::Global;
 use stun_numbers::refusal::Refusal;
 
-/// Fills a handle with a client without credentials.
+/// Fills a handle with a client without credentials. Fails with `FullHandle`, then `OutOfMemory`.
 #[unsafe(no_mangle)]
 pub extern "C" fn stunp_client_new(alloc: Global, handle: &mut ClientHandle) -> i64
     ensures full { IfSome handle.old.client (λ kept. (result ≡ refusal_number Refusal.FullHandle)
@@ -44,7 +48,7 @@ pub extern "C" fn stunp_client_new(alloc: Global, handle: &mut ClientHandle) -> 
     }
 }
 
-/// Sets the user name and the password.
+/// Sets the user name and the password. Fails with `NotText`, then `OutOfMemory`.
 #[unsafe(no_mangle)]
 pub extern "C" fn stunp_client_set_credentials(
     alloc: Global,
@@ -68,7 +72,8 @@ pub extern "C" fn stunp_client_set_credentials(
     answer
 }
 
-/// Sets the algorithms that the client supports.
+/// Sets the algorithms that the client supports: 1 is HMAC-SHA1, 2 HMAC-SHA256, 3 both. Another
+/// number is `BadArgument`.
 #[unsafe(no_mangle)]
 pub extern "C" fn stunp_client_set_algorithms(
     alloc: Global,
@@ -91,7 +96,8 @@ pub extern "C" fn stunp_client_set_algorithms(
     answer
 }
 
-/// Sets whether the user's name is sent as its hash.
+/// Sets whether the user's name is sent as its hash: 0 if the server can read that, 1 always, 2
+/// never. Another number is `BadArgument`.
 #[unsafe(no_mangle)]
 pub extern "C" fn stunp_client_set_anonymous_username(
     alloc: Global,
@@ -122,7 +128,11 @@ pub extern "C" fn stunp_client_clear(alloc: Global, handle: &mut ClientHandle)
     let _client = handle.take(alloc);
 }
 
-/// Signs the message at the front of a buffer.
+/// Signs the message in the first `length` bytes of a buffer, and returns its new length in bytes.
+///
+/// Fails with `BadArgument` for a length above the buffer's, then with the refusal of the message,
+/// then with `Closed`. Then come the refusals of what is added, attribute by attribute, and last
+/// `BufferTooSmall`. A refusal leaves the buffer.
 #[unsafe(no_mangle)]
 pub extern "C" fn stunp_client_sign(
     alloc: Global,
@@ -147,7 +157,7 @@ pub extern "C" fn stunp_client_sign(
     answer
 }
 
-/// By which algorithm a message would be signed now.
+/// By which algorithm a message would be signed now: 1 is HMAC-SHA1, 2 HMAC-SHA256, 0 none.
 #[unsafe(no_mangle)]
 pub extern "C" fn stunp_client_signing_algorithm(alloc: Global, handle: &mut ClientHandle) -> i64
     ensures empty { IfNone handle.old.client ((result ≡ refusal_number Refusal.EmptyHandle)
@@ -164,7 +174,11 @@ pub extern "C" fn stunp_client_signing_algorithm(alloc: Global, handle: &mut Cli
     answer
 }
 
-/// Reads a response: whether it is accepted, or asks for another request.
+/// Reads a response. It is accepted by HMAC-SHA1, 1, or by HMAC-SHA256, 2. Or it asks for another
+/// request: 3, and 4 or 5 where its own digest verifies by the one or the other.
+///
+/// Fails with the refusal of the message, then with the reasons of the authenticator, and with
+/// `OutOfMemory` only where another request is asked for.
 #[unsafe(no_mangle)]
 pub extern "C" fn stunp_client_validate(
     alloc: Global,

@@ -1,5 +1,10 @@
 //! The calls of a server whose users are looked up elsewhere: who asks, and then the verdict and
 //! the answer with that user handed in.
+//!
+//! A call fails first with `EmptyHandle` where its handle is empty. An address and a message are
+//! refused as in `calls/server.rt`. A stored key for HMAC-SHA1 has 16 bytes, and one for
+//! HMAC-SHA256 has 32. A key that is not stored has no bytes; another length is refused by
+//! `BadArgument`.
 
 ghost use Rattle.std.specs.Prelude.{◌≡◌, length, Some, None, IfNone, IfSome};
 ghost use Rattle.stun_numbers.specs.Refusals.{refusal_number};
@@ -20,7 +25,12 @@ use crate::{answers, handed};
 use std::alloc::Global;
 use stun_numbers::refusal::Refusal;
 
-/// By whose key a message that came from an address is judged.
+/// By whose key a message that came from an address is judged: 1 by a name, 2 by its hash, or 0
+/// where nobody is meant. The name, or the hash of 32 bytes, goes to the front of `name`, and its
+/// bytes are counted in `name_length`.
+///
+/// Fails with the refusal of the address, then with that of the message, then with
+/// `BufferTooSmall`.
 #[unsafe(no_mangle)]
 pub extern "C" fn stunp_server_named_user(
     alloc: Global,
@@ -56,7 +66,8 @@ pub extern "C" fn stunp_server_named_user(
 }
 
 /// Validates a message that came from an address. The server has just the user of a name and a
-/// password.
+/// password. Returns and fails as `stunp_server_validate` does, and with `NotText` for name or
+/// password right after `TooManyAddresses`. Then `OutOfMemory` may come at any time.
 #[unsafe(no_mangle)]
 pub extern "C" fn stunp_server_validate_of(
     alloc: Global,
@@ -90,7 +101,8 @@ pub extern "C" fn stunp_server_validate_of(
 }
 
 /// Signs the message at the front of a buffer, which goes to an address. The server has just the
-/// user of a name and a password.
+/// user of a name and a password. Returns and fails as `stunp_server_sign` does, and with `NotText`
+/// for name or password before all of that. After it `OutOfMemory` may come at any time.
 #[unsafe(no_mangle)]
 pub extern "C" fn stunp_server_sign_of(
     alloc: Global,
@@ -127,7 +139,8 @@ pub extern "C" fn stunp_server_sign_of(
 }
 
 /// Validates a message that came from an address. The server has just the user of a name and stored
-/// keys.
+/// keys. Returns and fails as `stunp_server_validate_of` does, and with `BadArgument` for the
+/// length of a key right after `NotText`, which is for the name alone.
 #[unsafe(no_mangle)]
 pub extern "C" fn stunp_server_validate_of_keys(
     alloc: Global,
@@ -162,7 +175,8 @@ pub extern "C" fn stunp_server_validate_of_keys(
 }
 
 /// Signs the message at the front of a buffer, which goes to an address. The server has just the
-/// user of a name and stored keys.
+/// user of a name and stored keys. Returns and fails as `stunp_server_sign_of` does, and with
+/// `BadArgument` for the length of a key right after `NotText`, which is for the name alone.
 #[unsafe(no_mangle)]
 pub extern "C" fn stunp_server_sign_of_keys(
     alloc: Global,

@@ -24,7 +24,7 @@ pub extern "C" fn stunp_state_release_0_2() -> i64
     VERSION
 }
 
-/// Whether an answer of `stunp_client_validate` asks for another request.
+/// Whether an answer of `stunp_client_validate` asks for another request: whether it is 3, 4 or 5.
 #[unsafe(no_mangle)]
 pub extern "C" fn stunp_is_resend(answer: i64) -> bool
     ensures { result ≡ is_resend_answer answer }

@@ -1,4 +1,8 @@
 //! The calls on the long-term authenticator of a server (RFC 8489, section 9.2.4).
+//!
+//! A call fails first with `EmptyHandle` where its handle is empty; `stunp_server_new` fails with
+//! `FullHandle` where it is full. Bytes that are no message are refused by `Truncated`, `NotStun`
+//! or `TooLarge`, and an address whose length is neither 4 nor 16 by `BadArgument`.
 
 ghost use Rattle.std.specs.FinMap as map;
 ghost use Rattle.std.specs.Prelude.{◌≡◌, length, pos, MatchOption, Some, None, Ok, IfNone, IfSome};
@@ -30,7 +34,8 @@ use crate::{answers, server};
 use std::alloc::Global;
 use stun_numbers::refusal::Refusal;
 
-/// Fills a handle with a server of a realm.
+/// Fills a handle with a server of a realm, without users and without a bound of addresses. Fails
+/// with `FullHandle`, then `NotText`, then `OutOfMemory`.
 #[unsafe(no_mangle)]
 pub extern "C" fn stunp_server_new(alloc: Global, handle: &mut ServerHandle, realm: &[u8]) -> i64
     ensures full { IfSome handle.old.server (λ kept. (result ≡ refusal_number Refusal.FullHandle)
@@ -61,7 +66,8 @@ pub extern "C" fn stunp_server_new(alloc: Global, handle: &mut ServerHandle, rea
     }
 }
 
-/// Sets the algorithms that the server supports.
+/// Sets the algorithms that the server supports: 1 is HMAC-SHA1, 2 HMAC-SHA256, 3 both. Another
+/// number is `BadArgument`.
 #[unsafe(no_mangle)]
 pub extern "C" fn stunp_server_set_algorithms(
     alloc: Global,
@@ -84,7 +90,8 @@ pub extern "C" fn stunp_server_set_algorithms(
     answer
 }
 
-/// Sets whether users may be named by a hash.
+/// Sets whether users may be named by a hash: 0 and 1 if the client wants it, 2 never. Another
+/// number is `BadArgument`.
 #[unsafe(no_mangle)]
 pub extern "C" fn stunp_server_set_anonymous_username(
     alloc: Global,
@@ -107,7 +114,7 @@ pub extern "C" fn stunp_server_set_anonymous_username(
     answer
 }
 
-/// Sets how long a nonce lasts.
+/// Sets how long a nonce lasts, in nanoseconds; less than 30 seconds counts as 30 seconds.
 #[unsafe(no_mangle)]
 pub extern "C" fn stunp_server_set_nonce_expiry(
     alloc: Global,
@@ -129,7 +136,7 @@ pub extern "C" fn stunp_server_set_nonce_expiry(
     0
 }
 
-/// Of how many addresses something may be kept.
+/// Sets of how many addresses something may be kept. No address is forgotten.
 #[unsafe(no_mangle)]
 pub extern "C" fn stunp_server_set_most_addresses(
     alloc: Global,
@@ -159,7 +166,8 @@ pub extern "C" fn stunp_server_clear(alloc: Global, handle: &mut ServerHandle)
     let _server = handle.take(alloc);
 }
 
-/// Registers a user.
+/// Registers a user, in the place of one of the same name. Fails with `NotText`, then
+/// `OutOfMemory`.
 #[unsafe(no_mangle)]
 pub extern "C" fn stunp_server_add_user(
     alloc: Global,
@@ -188,7 +196,7 @@ pub extern "C" fn stunp_server_add_user(
     answer
 }
 
-/// Removes a user.
+/// Removes a user, if there is one of this name. Fails with `NotText`.
 #[unsafe(no_mangle)]
 pub extern "C" fn stunp_server_remove_user(
     alloc: Global,
@@ -211,7 +219,11 @@ pub extern "C" fn stunp_server_remove_user(
     answer
 }
 
-/// Validates a message that came from an address, and returns the algorithm of its digest.
+/// Validates a message that came from an address, and returns the algorithm of its digest: 1 is
+/// HMAC-SHA1, 2 HMAC-SHA256. `now` is in nanoseconds, and `words` are random numbers for a nonce.
+///
+/// Fails with the refusal of the address, then with that of the message, then with
+/// `TooManyAddresses`. Then come the reasons of the authenticator, `OutOfMemory` among them.
 #[unsafe(no_mangle)]
 pub extern "C" fn stunp_server_validate(
     alloc: Global,
@@ -246,7 +258,9 @@ pub extern "C" fn stunp_server_validate(
     answer
 }
 
-/// Who was validated last at an address.
+/// Returns the algorithm of who was validated last at an address, or 0 of nobody. The user's name
+/// goes to the front of `name`, and its bytes are counted in `name_length`. Fails with
+/// `BadArgument` for the address, then with `BufferTooSmall`.
 #[unsafe(no_mangle)]
 pub extern "C" fn stunp_server_client(
     alloc: Global,
@@ -278,7 +292,12 @@ pub extern "C" fn stunp_server_client(
     answer
 }
 
-/// Signs the message at the front of a buffer, which goes to an address.
+/// Signs the message in the first `length` bytes of a buffer, which goes to an address, and returns
+/// its new length in bytes.
+///
+/// Fails with the refusal of the address, then with `BadArgument` for a length above the buffer's.
+/// Then come the refusal of the message, `Closed`, `BufferTooSmall`, and the refusals of what is
+/// added, attribute by attribute. A refusal leaves the buffer and the server.
 #[unsafe(no_mangle)]
 pub extern "C" fn stunp_server_sign(
     alloc: Global,
@@ -307,7 +326,7 @@ pub extern "C" fn stunp_server_sign(
     answer
 }
 
-/// Of how many addresses something is kept.
+/// Returns of how many addresses something is kept.
 #[unsafe(no_mangle)]
 pub extern "C" fn stunp_server_address_count(alloc: Global, handle: &mut ServerHandle) -> i64
     ensures empty { IfNone handle.old.server ((result ≡ refusal_number Refusal.EmptyHandle)
@@ -324,7 +343,8 @@ pub extern "C" fn stunp_server_address_count(alloc: Global, handle: &mut ServerH
     answer
 }
 
-/// The last nonce that was made for an address.
+/// Writes the last nonce that was made for an address to the front of `nonce`. Returns its length
+/// in bytes, or 0 of none. Fails with `BadArgument` for the address, then with `BufferTooSmall`.
 #[unsafe(no_mangle)]
 pub extern "C" fn stunp_server_nonce(
     alloc: Global,
@@ -350,7 +370,7 @@ pub extern "C" fn stunp_server_nonce(
     answer
 }
 
-/// Forgets who was validated at an address.
+/// Forgets who was validated at an address. Fails with `BadArgument` for the address.
 #[unsafe(no_mangle)]
 pub extern "C" fn stunp_server_remove_client(
     alloc: Global,
@@ -374,7 +394,7 @@ pub extern "C" fn stunp_server_remove_client(
     answer
 }
 
-/// Forgets all that is kept of an address.
+/// Forgets all that is kept of an address. Fails with `BadArgument` for the address.
 #[unsafe(no_mangle)]
 pub extern "C" fn stunp_server_forget(alloc: Global, handle: &mut ServerHandle, at: &Address) -> i64
     ensures empty { IfNone handle.old.server ((result ≡ refusal_number Refusal.EmptyHandle)
@@ -394,7 +414,7 @@ pub extern "C" fn stunp_server_forget(alloc: Global, handle: &mut ServerHandle, 
     answer
 }
 
-/// Forgets each address without a client whose nonce expired before a time.
+/// Forgets each address without a client whose nonce expired before `now`, in nanoseconds.
 #[unsafe(no_mangle)]
 pub extern "C" fn stunp_server_forget_expired(
     alloc: Global,
@@ -416,7 +436,9 @@ pub extern "C" fn stunp_server_forget_expired(
     0
 }
 
-/// Forgets so at no more than a number of addresses, from one on.
+/// Does what `stunp_server_forget_expired` does, at no more than `most` addresses, from one on. A
+/// `from` of length 0 is the first of all. Returns 1 if another call is to go on, and `from` is
+/// where; or 0 at the end, and its length is 0. Fails with `BadArgument` for `from`.
 #[unsafe(no_mangle)]
 pub extern "C" fn stunp_server_forget_expired_within(
     alloc: Global,

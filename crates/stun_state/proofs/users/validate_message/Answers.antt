@@ -2,68 +2,73 @@
 -- refusal.
 use Rattle.std.proofs.Common.{◌≡◌, ℕ, List, ◌∙◌, ap, subst, sym, Ok, Err}
 use Rattle.stun_auth.specs.Reading.{reading_of}
-use Rattle.stun_auth.specs.Validation.{Answer, ChangesNothing, after_validation, answer, sight}
+use Rattle.stun_auth.specs.Validation.{Answer, ChangesNothing, ServerSeen, after_validation}
+use Rattle.stun_auth.specs.Validation.{answer, sight}
 use Rattle.stun_base.proofs.DrawnWords.{next_words-source}
 use Rattle.stun_state.specs.Codes.{refusal_of_server}
 use Rattle.stun_state.specs.Server.{server_validation_answer}
 use Rattle.stun_state.proofs.Reasons.{server_refused}
-use Rattle.stun_state.proofs.server.validate_message.Goals as goal
+use Rattle.stun_state.proofs.users.validate_message.Goals as goal
 
 pub returns-in-Ok-clause-answer : goal.returns-in-Ok-clause-answer
-returns-in-Ok-clause-answer c =
+returns-in-Ok-clause-answer g c =
     let drawn = next_words-source 16 c.new-source.result c.new-source.ensures.count
     ∙ c.new-source.ensures.words in
+    let server = g.U.Users.server_with c.args.users.now c.args.server.now in
     ap server_validation_answer (ap Ok c.validated_algorithm.ensures ∙ c.in-Ok.ensures.answer
-    ∙ ap (λ ws. answer (sight c.args.server.now c.args.from) c.args.now ws
-    (reading_of c.args.message.now)) drawn)
+    ∙ ap (λ ws. answer (sight server c.args.from) c.args.now ws (reading_of c.args.message.now))
+    drawn)
 
 pub returns-in-Ok-clause-state : goal.returns-in-Ok-clause-state
-returns-in-Ok-clause-state c =
+returns-in-Ok-clause-state g c =
     let drawn = next_words-source 16 c.new-source.result c.new-source.ensures.count
     ∙ c.new-source.ensures.words in
-    c.in-Ok.ensures.state
-    ∙ ap (λ ws. after_validation c.args.server.now c.args.from c.args.now ws
-    (reading_of c.args.message.now)) drawn
+    let server = g.U.Users.server_with c.args.users.now c.args.server.now in
+    let left : List ℕ
+    → ServerSeen =
+    λ ws. g.U.Users.server_left
+    (after_validation server c.args.from c.args.now ws (reading_of c.args.message.now))
+    c.args.server.now in c.in-Ok.ensures.state ∙ ap left drawn
 
 pub returns-in-Err-clause-answer : goal.returns-in-Err-clause-answer
-returns-in-Err-clause-answer c =
+returns-in-Err-clause-answer g c =
     let drawn = next_words-source 16 c.new-source.result c.new-source.ensures.count
     ∙ c.new-source.ensures.words in
+    let server = g.U.Users.server_with c.args.users.now c.args.server.now in
     let right : List ℕ
     → Answer =
-    λ ws. answer (sight c.args.server.now c.args.from) c.args.now ws
-    (reading_of c.args.message.now) in
+    λ ws. answer (sight server c.args.from) c.args.now ws (reading_of c.args.message.now) in
     server_refused c.in-Err.error c.server_refusal.result
     (λ r. Err r ≡ server_validation_answer (right c.args.words)) (λ r. Unit {0})
     (c.server_refusal.ensures ∙ ap refusal_of_server c.reason.ensures)
     (λ is. ap server_validation_answer (is ∙ ap right drawn)) (λ none. none) c.in-Err.ensures.answer
 
 pub returns-in-Err-clause-state : goal.returns-in-Err-clause-state
-returns-in-Err-clause-state c =
+returns-in-Err-clause-state g c =
     let drawn = next_words-source 16 c.new-source.result c.new-source.ensures.count
     ∙ c.new-source.ensures.words in
-    server_refused c.in-Err.error c.server_refusal.result
-    (λ r. c.validate_incoming_message.new.self
-    ≡ after_validation c.args.server.now c.args.from c.args.now c.args.words
-    (reading_of c.args.message.now))
-    (λ r. c.validate_incoming_message.new.self ≡ c.args.server.now)
+    let server = g.U.Users.server_with c.args.users.now c.args.server.now in
+    let left : List ℕ
+    → ServerSeen =
+    λ ws. g.U.Users.server_left
+    (after_validation server c.args.from c.args.now ws (reading_of c.args.message.now))
+    c.args.server.now in server_refused c.in-Err.error c.server_refusal.result
+    (λ r. c.validate.new.server ≡ left c.args.words)
+    (λ r. c.validate.new.server ≡ c.args.server.now)
     (c.server_refusal.ensures ∙ ap refusal_of_server c.reason.ensures)
-    (λ is. is
-    ∙ ap (λ ws. after_validation c.args.server.now c.args.from c.args.now ws
-    (reading_of c.args.message.now)) drawn)
-    (λ same. same) c.in-Err.ensures.state
+    (λ is. is ∙ ap left drawn) (λ same. same) c.in-Err.ensures.state
 
 pub returns-in-Err-clause-unchanged : goal.returns-in-Err-clause-unchanged
-returns-in-Err-clause-unchanged c nothing =
+returns-in-Err-clause-unchanged g c nothing =
     let drawn = next_words-source 16 c.new-source.result c.new-source.ensures.count
     ∙ c.new-source.ensures.words in
+    let server = g.U.Users.server_with c.args.users.now c.args.server.now in
     let right : List ℕ
     → Answer =
-    λ ws. answer (sight c.args.server.now c.args.from) c.args.now ws
-    (reading_of c.args.message.now) in
+    λ ws. answer (sight server c.args.from) c.args.now ws (reading_of c.args.message.now) in
     let Nothing : List ℕ
     → Type 0 =
-    λ ws. ChangesNothing (sight c.args.server.now c.args.from) c.args.now ws
+    λ ws. ChangesNothing (sight server c.args.from) c.args.now ws
     (reading_of c.args.message.now) in
     ap Err (c.server_refusal.ensures ∙ ap refusal_of_server c.reason.ensures)
     ∙ ap server_validation_answer

@@ -4,10 +4,10 @@ use Rattle.stun_base.specs.MessageType.{class_in, is_response}
 use Rattle.stun_auth.specs.ServerSigning.{server_additions}
 use Rattle.stun_auth.specs.Validation.{sight}
 use Rattle.stun_state.proofs.Enough.{any_length}
-use Rattle.stun_state.proofs.server.sign_long.Goals as goal
+use Rattle.stun_state.proofs.users.sign_long.Goals as goal
 
 pub sign_in-requires-clause-enough : goal.sign_in-requires-clause-enough
-sign_in-requires-clause-enough c =
+sign_in-requires-clause-enough g c =
     let message = take c.args.count c.args.buffer.now in
-    any_length
-    (server_additions (sight c.args.server.now c.args.to) (is_response (class_in message))) message
+    let server = g.U.Users.server_with c.args.users.now c.args.server.now in
+    any_length (server_additions (sight server c.args.to) (is_response (class_in message))) message

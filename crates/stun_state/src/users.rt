@@ -1,0 +1,277 @@
+//! The users with whom a server judges and signs: its own, or one whom the caller hands in (RFC
+//! 8489, section 9.2.4).
+
+ghost use Rattle.std.specs.Prelude.{◌≡◌, ◌≤◌, ◌+◌, ◌-◌, ⊤, length, take, Ok, Err};
+ghost use Rattle.std.specs.Prelude.{IfOk, IfErr, OnErr, OnOk};
+ghost use Rattle.stun_auth.specs.Additions.{UnlessMemory, WantsMemory, page_in, page_of};
+ghost use Rattle.stun_auth.specs.Additions.{written_page};
+ghost use Rattle.stun_auth.specs.Handed.{with_users};
+ghost use Rattle.stun_auth.specs.ServerSigning.{after_signing, server_additions};
+ghost use Rattle.stun_auth.specs.ServerSigning.{server_growth, server_signed};
+ghost use Rattle.stun_auth.specs.Reading.{reading_of};
+ghost use Rattle.stun_auth.specs.Reasons.{ServerOrMemory};
+ghost use Rattle.stun_auth.specs.Validation.{ChangesNothing, ServerSeen, after_validation};
+ghost use Rattle.stun_auth.specs.Validation.{answer, sight};
+ghost use Rattle.stun_base.specs.Words.{next_words};
+ghost use Rattle.stun_base.specs.contracts.wire.words.WordSourceRng.TheImpl.{ghosts};
+ghost use Rattle.stun_base.specs.Header.{BeginsWithHeader};
+ghost use Rattle.stun_base.specs.MessageType.{class_in, is_response};
+ghost use Rattle.stun_types.specs.Limits.{LENGTH_LIMIT as length_limit};
+ghost use Rattle.stun_numbers.specs.Buffers.{buffer_after, length_of};
+ghost use Rattle.stun_state.specs.Answers.{CallOrMemory};
+ghost use Rattle.stun_state.specs.Server.{server_validation_answer};
+ghost use Rattle.stun_state.specs.Signing.{message_of, server_signs};
+ghost use Rattle.stun_state.specs.code.Measured.{IsMeasured};
+
+use crate::codes::server_refusal;
+use crate::server::validated_algorithm;
+use crate::signing::{SHORT, writer_of};
+use std::alloc::Global;
+use std::net::SocketAddr;
+use stun_auth::auth::{
+    LongTermServerAuth, LongTermServerAuthError, LongTermServerUser, LongTermServerValidation,
+};
+use stun_base::algorithm::IntegrityAlgorithm;
+use stun_base::error::StunWriteError;
+use stun_base::instant::Instant;
+use stun_base::words::WordSource;
+use stun_numbers::buffer::put;
+use stun_numbers::refusal::Refusal;
+use stun_types::limits::LENGTH_LIMIT;
+use stun_types::message::Message;
+use stun_types::prelude::*;
+
+/// The users of a server while it judges or signs.
+pub(crate) trait Users {
+    // The server that has them.
+    ghost server_with: { Self → ServerSeen → ServerSeen };
+
+    // What a server that had them leaves, of what was there before.
+    ghost server_left: { ServerSeen → ServerSeen → ServerSeen };
+
+    /// Signs a message to an address.
+    fn sign<W: MessageWrite>(
+        &mut self,
+        server: &mut LongTermServerAuth<Global>,
+        writer: W,
+        to: SocketAddr,
+    ) -> Result<W, StunWriteError>
+        requires { BeginsWithHeader (W.bytes writer) }
+        ensures answer { let seen = sight (server_with self.old server.old) to in
+            let response = is_response (class_in (W.bytes writer)) in
+            UnlessMemory result (written_page W.bytes W.room result
+            ≡ server_signed seen response (page_in W.bytes W.room writer))
+            (WantsMemory (server_additions seen response)
+            (page_in W.bytes W.room writer) (W.reserved writer)) }
+        ensures grows { IfOk result (λ signed. length (W.bytes signed)
+            ≡ length (W.bytes writer) + server_growth
+            (sight (server_with self.old server.old) to)
+            (is_response (class_in (W.bytes writer)))) }
+        ensures signed { OnOk result (server.new ≡ server_left (after_signing
+            (server_with self.old server.old) to (is_response (class_in (W.bytes writer))))
+            server.old) }
+        ensures refused { OnErr result (server.new ≡ server.old) };
+
+    /// Validates a message that came from an address.
+    fn validate(
+        &mut self,
+        server: &mut LongTermServerAuth<Global>,
+        message: &Message<'_>,
+        from: SocketAddr,
+        now: Instant,
+        source: &mut WordSource,
+    ) -> Result<LongTermServerValidation, LongTermServerAuthError>
+        ensures answer { let words = next_words 16 (ghosts.stream source.old) in
+            ServerOrMemory result (result ≡ answer (sight (server_with self.old server.old) from)
+            now words (reading_of message.now)) ⊤ }
+        ensures state { let words = next_words 16 (ghosts.stream source.old) in
+            ServerOrMemory result (server.new ≡ server_left (after_validation
+            (server_with self.old server.old) from now words (reading_of message.now)) server.old)
+            (server.new ≡ server.old) }
+        ensures unchanged { let words = next_words 16 (ghosts.stream source.old) in
+            ChangesNothing (sight (server_with self.old server.old) from) now words
+            (reading_of message.now) →
+            result ≡ answer (sight (server_with self.old server.old) from) now words
+            (reading_of message.now) };
+}
+
+/// The users that a server has.
+#[derive(Clone, Copy)]
+pub(crate) struct OwnUsers;
+
+impl Users for OwnUsers {
+    ghost server_with = { λ users server. server };
+
+    ghost server_left = { λ after before. after };
+
+    fn sign<W: MessageWrite>(
+        &mut self,
+        server: &mut LongTermServerAuth<Global>,
+        writer: W,
+        to: SocketAddr,
+    ) -> Result<W, StunWriteError> {
+        server.sign_outgoing_message(writer, to)
+    }
+
+    fn validate(
+        &mut self,
+        server: &mut LongTermServerAuth<Global>,
+        message: &Message<'_>,
+        from: SocketAddr,
+        now: Instant,
+        source: &mut WordSource,
+    ) -> Result<LongTermServerValidation, LongTermServerAuthError> {
+        server.validate_incoming_message(message, from, now, source)
+    }
+}
+
+impl Users for LongTermServerUser<Global> {
+    ghost server_with = { λ user server. with_users server user };
+
+    ghost server_left = { λ after before. with_users after before.registered };
+
+    fn sign<W: MessageWrite>(
+        &mut self,
+        server: &mut LongTermServerAuth<Global>,
+        writer: W,
+        to: SocketAddr,
+    ) -> Result<W, StunWriteError> {
+        server.sign_outgoing_message_of(writer, to, self)
+    }
+
+    fn validate(
+        &mut self,
+        server: &mut LongTermServerAuth<Global>,
+        message: &Message<'_>,
+        from: SocketAddr,
+        now: Instant,
+        source: &mut WordSource,
+    ) -> Result<LongTermServerValidation, LongTermServerAuthError> {
+        server.validate_incoming_message_of(message, from, now, source, self)
+    }
+}
+
+/// Validates a message that came from an address.
+pub(crate) fn validate_message<U: Users>(
+    server: &mut LongTermServerAuth<Global>,
+    message: &Message<'_>,
+    from: SocketAddr,
+    now: Instant,
+    words: [u32; 16],
+    users: &mut U,
+) -> Result<IntegrityAlgorithm, Refusal>
+    ensures answer { CallOrMemory result
+        (result ≡ server_validation_answer (answer (sight (U.server_with users.old server.old) from)
+        now words (reading_of message.now))) ⊤ }
+    ensures state { CallOrMemory result
+        (server.new ≡ U.server_left (after_validation (U.server_with users.old server.old) from
+        now words (reading_of message.now)) server.old)
+        (server.new ≡ server.old) }
+    ensures unchanged { ChangesNothing (sight (U.server_with users.old server.old) from) now words
+        (reading_of message.now) →
+        result ≡ server_validation_answer (answer (sight (U.server_with users.old server.old) from)
+        now words (reading_of message.now)) }
+{
+    let mut source = WordSource::new(words);
+    match users.validate(server, message, from, now, &mut source) {
+        Ok(validation) => Ok(validated_algorithm(validation)),
+        Err(error) => Err(server_refusal(error.reason())),
+    }
+}
+
+/// Signs a message that has no more than `SHORT` bytes then.
+#[inline(never)]
+pub(crate) fn sign_short<U: Users>(
+    server: &mut LongTermServerAuth<Global>,
+    buffer: &mut [u8],
+    count: usize,
+    to: SocketAddr,
+    is_long: bool,
+    users: &mut U,
+) -> Result<usize, Refusal>
+    requires measured { let message = take count buffer.old in
+        let response = is_response (class_in message) in
+        let more = server_growth (sight (U.server_with users.old server.old) to) response in
+        IsMeasured buffer.old count more is_long }
+    requires short { let message = take count buffer.old in
+        length message + server_growth (sight (U.server_with users.old server.old) to)
+        (is_response (class_in message)) ≤ 2048 }
+    ensures answer { result ≡ length_of (server_signs (U.server_with users.old server.old)
+        (take count buffer.old) (length buffer.old) to) }
+    ensures written { buffer.new ≡ buffer_after (server_signs (U.server_with users.old server.old)
+        (take count buffer.old) (length buffer.old) to) buffer.old }
+    ensures state { OnOk result (server.new ≡ U.server_left (after_signing
+        (U.server_with users.old server.old) to (is_response (class_in (take count buffer.old))))
+        server.old) }
+    ensures refused { OnErr result (server.new ≡ server.old) }
+{
+    let mut memory = [0; SHORT];
+    let signed = sign_in(server, &buffer[..count], to, is_long, &mut memory, users)?;
+    put(buffer, signed);
+    Ok(signed.len())
+}
+
+/// Signs a message of any length.
+#[inline(never)]
+pub(crate) fn sign_long<U: Users>(
+    server: &mut LongTermServerAuth<Global>,
+    buffer: &mut [u8],
+    count: usize,
+    to: SocketAddr,
+    is_long: bool,
+    users: &mut U,
+) -> Result<usize, Refusal>
+    requires measured { let message = take count buffer.old in
+        let response = is_response (class_in message) in
+        let more = server_growth (sight (U.server_with users.old server.old) to) response in
+        IsMeasured buffer.old count more is_long }
+    ensures answer { result ≡ length_of (server_signs (U.server_with users.old server.old)
+        (take count buffer.old) (length buffer.old) to) }
+    ensures written { buffer.new ≡ buffer_after (server_signs (U.server_with users.old server.old)
+        (take count buffer.old) (length buffer.old) to) buffer.old }
+    ensures state { OnOk result (server.new ≡ U.server_left (after_signing
+        (U.server_with users.old server.old) to (is_response (class_in (take count buffer.old))))
+        server.old) }
+    ensures refused { OnErr result (server.new ≡ server.old) }
+{
+    let mut memory = [0; LENGTH_LIMIT];
+    let signed = sign_in(server, &buffer[..count], to, is_long, &mut memory, users)?;
+    put(buffer, signed);
+    Ok(signed.len())
+}
+
+/// The signed message, in memory that is enough.
+fn sign_in<'m, U: Users>(
+    server: &mut LongTermServerAuth<Global>,
+    message: &[u8],
+    to: SocketAddr,
+    is_long: bool,
+    memory: &'m mut [u8],
+    users: &mut U,
+) -> Result<&'m [u8], Refusal>
+    requires header { BeginsWithHeader message.now }
+    requires room { length message.now ≤ length memory.old }
+    requires limit { length memory.old ≤ length_limit }
+    requires enough { ¬ (WantsMemory (server_additions
+        (sight (U.server_with users.old server.old) to)
+        (is_response (class_in message.now))) (page_of message.now)
+        (length memory.old - length message.now)) }
+    ensures ok { IfOk result (λ signed. message_of is_long (server_signed
+        (sight (U.server_with users.old server.old) to) (is_response (class_in message.now))
+        (page_of message.now)) ≡ Ok signed.now) }
+    ensures grows { IfOk result (λ signed. length signed.now ≡ length message.now
+        + server_growth (sight (U.server_with users.old server.old) to)
+        (is_response (class_in message.now))) }
+    ensures err { IfErr result (λ refusal. message_of is_long (server_signed
+        (sight (U.server_with users.old server.old) to) (is_response (class_in message.now))
+        (page_of message.now)) ≡ Err refusal) }
+    ensures state { OnOk result (server.new ≡ U.server_left (after_signing
+        (U.server_with users.old server.old) to (is_response (class_in message.now)))
+        server.old) }
+    ensures refused { OnErr result (server.new ≡ server.old) }
+{
+    match users.sign(server, writer_of(message, memory), to) {
+        Ok(signed) => Ok(signed.finish()),
+        Err(error) => Err(Refusal::of_write(error, is_long)),
+    }
+}

@@ -187,8 +187,8 @@ impl<A: Allocator + Copy> Places<A> {
         self.by_address.retain(|_, place| !place.is_forgotten(now));
     }
 
-    /// Forgets as `forget_expired` does, but looks at no more than `most` addresses: from one on, or
-    /// from the first. Returns the address to go on at.
+    /// Forgets as `forget_expired` does, but looks at no more than `most` addresses: from one on,
+    /// or from the first. Returns the address to go on at.
     pub(crate) fn forget_expired_within(
         &mut self,
         now: Instant,

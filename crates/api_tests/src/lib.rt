@@ -1,6 +1,6 @@
-//! What only Rattle can ask of the library. That is public paths, texts of errors, `Debug`, which
-//! heap gives how many bytes, and types of a test's own. It is calls whose conditions are proved at
-//! the call, and the loops that the documents show too. All else is a transcript
+//! What only Rattle can ask of the library: public paths, texts of errors, `Debug`, which heap
+//! gives how many bytes, and types of a test's own. Also calls whose conditions are proved at the
+//! call, and the loops of the documents. All else is a transcript
 //! (docs/maintainers/TRANSCRIPTS.md).
 #![tactic(auto)]
 

@@ -2,16 +2,15 @@
 //! answered to a text.
 
 use crate::kept::message;
-use crate::names::{OUT_OF_MEMORY, algorithm_name, feature_name, write_error_name};
-use crate::signing::{Signed, in_slice, on_heap, push_bytes, push_length, push_signed};
+use crate::names::{OUT_OF_MEMORY, algorithm_name, feature_name};
+use crate::signing::{Side, sign, sign_in_slice, sign_length};
 use crate::stage::Stage;
 use crate::trouble::Trouble;
 use crate::words::{algorithm, feature, text};
 use stun_auth::auth::{
     LongTermClientAuth, LongTermClientAuthErrorReason, LongTermClientValidation,
 };
-use stun_types::message::{IntegrityAlgorithm, LongTermCredentials, Message, MessageHeader};
-use stun_types::prelude::*;
+use stun_types::message::{IntegrityAlgorithm, LongTermCredentials, Message};
 
 /// What has words, or may have some.
 pub fn call(
@@ -26,9 +25,9 @@ pub fn call(
         "support-only" => set_algorithm(stage, words),
         "hashes" => hashes(stage, words, answer),
         "hears" => hear(stage, words, answer),
-        "signs" => sign(stage, words, answer),
-        "signs-length" => sign_length(stage, words, answer),
-        "signs-in" => sign_in_slice(stage, words, answer),
+        "signs" => sign(stage, Side::Client, words, answer),
+        "signs-length" => sign_length(stage, Side::Client, words, answer),
+        "signs-in" => sign_in_slice(stage, Side::Client, words, answer),
         name => tell(stage, name, words, answer),
     }
 }
@@ -185,50 +184,5 @@ fn answer_name(stage: &mut Stage<'_>, message: &Message<'_>) -> &'static str {
         Ok(LongTermClientValidation::ResendRequest(digest)) => resend_name(digest),
         Ok(LongTermClientValidation::Validated(algorithm)) => algorithm_name(algorithm),
         Err(error) => reason_name(error.reason()),
-    }
-}
-
-/// A message to the server on the heap, signed.
-fn signed<'a>(stage: &mut Stage<'a>, words: &[&str]) -> Result<Signed<'a>, Trouble> {
-    let bytes = message(stage, words)?;
-    let writer = on_heap(stage.heap, bytes.as_slice())?;
-    if MessageHeader::from_bytes(writer.data()).is_err() {
-        return Err(Trouble::Words);
-    }
-    stage.begin();
-    let signed = stage.client.sign_outgoing_message(writer);
-    Ok(signed.map(|writer| writer.finish()))
-}
-
-/// `client signs MESSAGE`: the bytes of a message to the server, once it is signed.
-fn sign(stage: &mut Stage<'_>, words: &[&str], answer: &mut String) -> Result<(), Trouble> {
-    let signed = signed(stage, words)?;
-    push_signed(stage.source.alloc, signed, answer)
-}
-
-/// `client signs-length MESSAGE`: how many bytes it has then.
-fn sign_length(stage: &mut Stage<'_>, words: &[&str], answer: &mut String) -> Result<(), Trouble> {
-    push_length(signed(stage, words)?, answer)
-}
-
-/// `client signs-in ROOM MESSAGE`: the same as `signs`, in a slice of ROOM bytes, up to 256.
-fn sign_in_slice(
-    stage: &mut Stage<'_>,
-    words: &[&str],
-    answer: &mut String,
-) -> Result<(), Trouble> {
-    let [length, words @ ..] = words else {
-        return Err(Trouble::Words);
-    };
-    let bytes = message(stage, words)?;
-    let mut room = [0xff; 256];
-    let writer = in_slice(&mut room, length, bytes.as_slice())?;
-    if MessageHeader::from_bytes(writer.data()).is_err() {
-        return Err(Trouble::Words);
-    }
-    stage.begin();
-    match stage.client.sign_outgoing_message(writer) {
-        Ok(signed) => push_bytes(stage.source.alloc, signed.data(), answer),
-        Err(error) => Ok(answer.push_str(write_error_name(error))?),
     }
 }

@@ -3,9 +3,7 @@
 
 use crate::kept::message;
 use crate::names::{OUT_OF_MEMORY, algorithm_name, feature_name, server_reason_name};
-use crate::signing::{
-    Signed, in_slice, on_heap, push_bytes, push_length, push_reason, push_signed,
-};
+use crate::signing::{Side, sign, sign_in_slice, sign_length};
 use crate::stage::Stage;
 use crate::trouble::Trouble;
 use crate::words::{address, algorithm, feature, nanos, size, text};
@@ -14,8 +12,7 @@ use stun_auth::auth::{
     LongTermServerAuth, LongTermServerValidation, minimum_nonce_expiry_duration,
 };
 use stun_base::words::WordSource;
-use stun_types::message::{LongTermCredentials, Message, MessageHeader};
-use stun_types::prelude::*;
+use stun_types::message::{LongTermCredentials, Message};
 
 /// What changes the server.
 pub fn call(
@@ -35,9 +32,9 @@ pub fn call(
         "forget" => forget(stage, words),
         "forget-some" => forget_some(stage, words, answer),
         "hears" => hear(stage, words, answer),
-        "signs" => sign(stage, words, answer),
-        "signs-length" => sign_length(stage, words, answer),
-        "signs-in" => sign_in_slice(stage, words, answer),
+        "signs" => sign(stage, Side::Server, words, answer),
+        "signs-length" => sign_length(stage, Side::Server, words, answer),
+        "signs-in" => sign_in_slice(stage, Side::Server, words, answer),
         name => tell(stage, name, words, answer),
     }
 }
@@ -225,51 +222,6 @@ fn answer_name(stage: &mut Stage<'_>, message: &Message<'_>) -> &'static str {
     {
         Ok(LongTermServerValidation::Validated(algorithm)) => algorithm_name(algorithm),
         Err(error) => server_reason_name(error.reason()),
-    }
-}
-
-/// A message to the client on the heap, signed.
-fn signed<'a>(stage: &mut Stage<'a>, words: &[&str]) -> Result<Signed<'a>, Trouble> {
-    let bytes = message(stage, words)?;
-    let writer = on_heap(stage.heap, bytes.as_slice())?;
-    if MessageHeader::from_bytes(writer.data()).is_err() {
-        return Err(Trouble::Words);
-    }
-    stage.begin();
-    let signed = stage.server.sign_outgoing_message(writer, stage.from);
-    Ok(signed.map(|writer| writer.finish()))
-}
-
-/// `server signs MESSAGE`: the bytes of a message to the client, once it is signed.
-fn sign(stage: &mut Stage<'_>, words: &[&str], answer: &mut String) -> Result<(), Trouble> {
-    let signed = signed(stage, words)?;
-    push_signed(stage.source.alloc, signed, answer)
-}
-
-/// `server signs-length MESSAGE`: how many bytes it has then.
-fn sign_length(stage: &mut Stage<'_>, words: &[&str], answer: &mut String) -> Result<(), Trouble> {
-    push_length(signed(stage, words)?, answer)
-}
-
-/// `server signs-in ROOM MESSAGE`: the same as `signs`, in a slice of ROOM bytes, up to 256.
-fn sign_in_slice(
-    stage: &mut Stage<'_>,
-    words: &[&str],
-    answer: &mut String,
-) -> Result<(), Trouble> {
-    let [length, words @ ..] = words else {
-        return Err(Trouble::Words);
-    };
-    let bytes = message(stage, words)?;
-    let mut room = [0xff; 256];
-    let writer = in_slice(&mut room, length, bytes.as_slice())?;
-    if MessageHeader::from_bytes(writer.data()).is_err() {
-        return Err(Trouble::Words);
-    }
-    stage.begin();
-    match stage.server.sign_outgoing_message(writer, stage.from) {
-        Ok(signed) => push_bytes(stage.source.alloc, signed.data(), answer),
-        Err(error) => push_reason(error, answer),
     }
 }
 

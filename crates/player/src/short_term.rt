@@ -2,15 +2,14 @@
 //! what is answered to a text.
 
 use crate::kept::message;
-use crate::names::{OUT_OF_MEMORY, algorithm_name, write_error_name};
+use crate::names::{OUT_OF_MEMORY, algorithm_name};
 use crate::phrases::{phrase, push_refusal};
-use crate::signing::{in_slice, on_heap, push_bytes, push_signed};
+use crate::signing::{Side, push_bytes, sign, sign_in_slice};
 use crate::stage::Stage;
 use crate::trouble::Trouble;
 use crate::words::algorithm;
 use stun_auth::auth::ShortTermAuth;
 use stun_types::message::{IntegrityAlgorithm, Message, ShortTermCredentials, ValidateError};
-use stun_types::prelude::*;
 
 /// `short-term NAME WORDS`
 pub fn call(
@@ -22,8 +21,8 @@ pub fn call(
     match name {
         "password" => set_password(stage, words, answer),
         "hears" => hear(stage, words, answer),
-        "signs" => sign(stage, words, answer),
-        "signs-in" => sign_in_slice(stage, words, answer),
+        "signs" => sign(stage, Side::ShortTerm, words, answer),
+        "signs-in" => sign_in_slice(stage, Side::ShortTerm, words, answer),
         name => tell(stage, name, words, answer),
     }
 }
@@ -122,42 +121,4 @@ fn verdict(
 ) -> Result<Option<IntegrityAlgorithm>, ValidateError> {
     stage.begin();
     stage.short_term.validate_incoming_message(message)
-}
-
-/// `short-term signs MESSAGE`: its bytes, once it is signed.
-fn sign(stage: &mut Stage<'_>, words: &[&str], answer: &mut String) -> Result<(), Trouble> {
-    let bytes = message(stage, words)?;
-    let writer = on_heap(stage.heap, bytes.as_slice())?;
-    if writer.data().len() < 20 {
-        return Err(Trouble::Words);
-    }
-    stage.begin();
-    let signed = stage.short_term.sign_outgoing_message(writer);
-    push_signed(
-        stage.source.alloc,
-        signed.map(|writer| writer.finish()),
-        answer,
-    )
-}
-
-/// `short-term signs-in ROOM MESSAGE`: the same in a slice of ROOM bytes, up to 256.
-fn sign_in_slice(
-    stage: &mut Stage<'_>,
-    words: &[&str],
-    answer: &mut String,
-) -> Result<(), Trouble> {
-    let [length, words @ ..] = words else {
-        return Err(Trouble::Words);
-    };
-    let bytes = message(stage, words)?;
-    let mut room = [0xff; 256];
-    let writer = in_slice(&mut room, length, bytes.as_slice())?;
-    if writer.data().len() < 20 {
-        return Err(Trouble::Words);
-    }
-    stage.begin();
-    match stage.short_term.sign_outgoing_message(writer) {
-        Ok(signed) => push_bytes(stage.source.alloc, signed.data(), answer),
-        Err(error) => Ok(answer.push_str(write_error_name(error))?),
-    }
 }

@@ -1,8 +1,10 @@
-//! Messages that one side signs: in a writer on the heap or in a slice.
+//! Messages that one side signs, on the heap or in a slice: the calls that a server, a client and
+//! short-term credentials share.
 ghost use Rattle.std.specs.Prelude.{◌≡◌, []};
 
+use crate::kept::message;
 use crate::names::write_error_name;
-use crate::stage::Heap;
+use crate::stage::{Heap, Stage};
 use crate::trouble::Trouble;
 use crate::words::size;
 use std::alloc::Global;
@@ -25,29 +27,96 @@ pub fn copied<W: MessageWrite>(message: &[u8], writer: W) -> Result<W, StunWrite
     Ok(writer)
 }
 
-/// A message in an empty writer on the heap.
-pub fn on_heap<'a>(heap: &'a Heap, message: &[u8]) -> Result<MessageWriteVec<&'a Heap>, Trouble> {
-    let writer = copied(message, MessageWriteVec::new(heap))?;
+/// Who signs.
+#[derive(Clone, Copy)]
+pub enum Side {
+    Server,
+    Client,
+    ShortTerm,
+}
+
+/// A message that one side signs, in an empty writer.
+fn signed_in<W: MessageWrite>(
+    stage: &mut Stage<'_>,
+    side: Side,
+    message: &[u8],
+    writer: W,
+) -> Result<Result<W, StunWriteError>, Trouble>
+    requires { W.bytes writer ≡ [] }
+{
+    let writer = copied(message, writer)?;
     if MessageHeader::from_bytes(writer.data()).is_err() {
         return Err(Trouble::Words);
     }
-    Ok(writer)
+    stage.begin();
+    Ok(match side {
+        Side::Server => stage.server.sign_outgoing_message(writer, stage.from),
+        Side::Client => stage.client.sign_outgoing_message(writer),
+        Side::ShortTerm => stage.short_term.sign_outgoing_message(writer),
+    })
 }
 
-/// A message in an empty writer over the first `length` bytes of an array.
-pub fn in_slice<'a>(
-    room: &'a mut Room,
-    length: &str,
-    message: &[u8],
-) -> Result<MessageWriteMutSlice<'a>, Trouble> {
+/// The bytes of a message that one side signs on the heap.
+fn signed_on_heap<'a>(
+    stage: &mut Stage<'a>,
+    side: Side,
+    words: &[&str],
+) -> Result<Signed<'a>, Trouble> {
+    let bytes = message(stage, words)?;
+    let writer = MessageWriteVec::new(stage.heap);
+    let signed = signed_in(stage, side, bytes.as_slice(), writer)?;
+    Ok(signed.map(|writer| writer.finish()))
+}
+
+/// `.. signs MESSAGE`: the bytes of a message to the other side, once it is signed.
+pub fn sign(
+    stage: &mut Stage<'_>,
+    side: Side,
+    words: &[&str],
+    answer: &mut String,
+) -> Result<(), Trouble> {
+    match signed_on_heap(stage, side, words)? {
+        Ok(bytes) => push_bytes(stage.source.alloc, bytes.as_slice(), answer),
+        Err(error) => push_reason(error, answer),
+    }
+}
+
+/// `.. signs-length MESSAGE`: how many bytes it has then.
+pub fn sign_length(
+    stage: &mut Stage<'_>,
+    side: Side,
+    words: &[&str],
+    answer: &mut String,
+) -> Result<(), Trouble> {
+    match signed_on_heap(stage, side, words)? {
+        Ok(bytes) => {
+            let length = bytes.len();
+            Ok(write!(answer, "{length}")?)
+        }
+        Err(error) => push_reason(error, answer),
+    }
+}
+
+/// `.. signs-in ROOM MESSAGE`: the same as `signs`, in a slice of ROOM bytes, up to 256.
+pub fn sign_in_slice(
+    stage: &mut Stage<'_>,
+    side: Side,
+    words: &[&str],
+    answer: &mut String,
+) -> Result<(), Trouble> {
+    let [length, words @ ..] = words else {
+        return Err(Trouble::Words);
+    };
+    let bytes = message(stage, words)?;
+    let mut room: Room = [0xff; 256];
     let Some(room) = room.get_mut(..size(length)?) else {
         return Err(Trouble::Words);
     };
-    let writer = copied(message, MessageWriteMutSlice::new(room))?;
-    if MessageHeader::from_bytes(writer.data()).is_err() {
-        return Err(Trouble::Words);
+    let writer = MessageWriteMutSlice::new(room);
+    match signed_in(stage, side, bytes.as_slice(), writer)? {
+        Ok(signed) => push_bytes(stage.source.alloc, signed.data(), answer),
+        Err(error) => push_reason(error, answer),
     }
-    Ok(writer)
 }
 
 /// Adds the digits of bytes to an answer.
@@ -63,24 +132,5 @@ pub fn push_reason(reason: StunWriteError, answer: &mut String) -> Result<(), Tr
     match reason {
         StunWriteError::AttributeExists(kind) => Ok(write!(answer, "AttributeExists {kind}")?),
         reason => Ok(answer.push_str(write_error_name(reason))?),
-    }
-}
-
-/// Adds the bytes of a signed message, or why there is none.
-pub fn push_signed(alloc: Global, signed: Signed<'_>, answer: &mut String) -> Result<(), Trouble> {
-    match signed {
-        Ok(bytes) => push_bytes(alloc, bytes.as_slice(), answer),
-        Err(error) => push_reason(error, answer),
-    }
-}
-
-/// Adds how many bytes a signed message has, or why there is none.
-pub fn push_length(signed: Signed<'_>, answer: &mut String) -> Result<(), Trouble> {
-    match signed {
-        Ok(bytes) => {
-            let length = bytes.len();
-            Ok(write!(answer, "{length}")?)
-        }
-        Err(error) => push_reason(error, answer),
     }
 }

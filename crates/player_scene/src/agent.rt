@@ -1,7 +1,7 @@
 //! The calls of an agent: `agent NAME WORDS`. Each takes its words, and adds what is answered to a
 //! text.
 
-mod answers;
+pub mod answers;
 mod asked;
 mod building;
 mod messages;

@@ -18,7 +18,7 @@ impl<'a> Scene<'a> {
         Scene {
             stage: Stage::new(source, heap),
             agent: Agent::new(heap),
-            writing: Writing::new(heap),
+            writing: Writing::new(),
         }
     }
 }

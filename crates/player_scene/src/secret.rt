@@ -7,8 +7,7 @@ use player::phrases::phrase;
 use player::signing::push_bytes;
 use player::stage::Heap;
 use player::trouble::Trouble;
-use player::words::{algorithm, bytes, text};
-use std::alloc::Global;
+use player::words::{algorithm, bytes};
 use stun_types::data::{Data, OwnedBytes};
 use stun_types::message::{
     IntegrityKey, LongTermCredentials, LongTermKeyCredentials, ShortTermCredentials, long_term_key,

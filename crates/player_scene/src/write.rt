@@ -23,7 +23,8 @@ pub struct Writing<'a> {
 }
 
 impl<'a> Writing<'a> {
-    pub fn new(_heap: &'a Heap) -> Writing<'a> {
+    /// No message is begun.
+    pub fn new() -> Writing<'a> {
         Writing {
             writer: Writer::None,
             secrets: Secrets::new(),

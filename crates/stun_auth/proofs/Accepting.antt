@@ -12,9 +12,6 @@ use Rattle.stun_auth.specs.declared.algorithm_set.AlgorithmSet.{AlgorithmSet}
 use Rattle.stun_auth.specs.declared.feature.Feature.{Feature}
 use Rattle.stun_auth.specs.declared.server.reason.VerdictRefusal.{VerdictRefusal}
 use Rattle.stun_auth.specs.declared.server.reason.VerdictRefusal.TheVariants as Refused
-use Rattle.stun_auth.specs.declared.server.reason.LongTermServerAuthErrorReason.TheVariants.{
-  BadRequest,
-}
 use Rattle.stun_auth.specs.declared.server.reason.LongTermServerValidation.TheVariants.{Validated}
 use Rattle.stun_auth.specs.Algorithms.{contains}
 use Rattle.stun_base.specs.MessageType.{is_response}
@@ -26,7 +23,7 @@ use Rattle.stun_auth.specs.Server.{Sight, IsAccepted, agreement, nonce_refusal, 
 use Rattle.stun_auth.specs.Server.{verdict}
 use Rattle.stun_auth.specs.Validation.{AcceptedWith, ValidatesAccepted, answer}
 use Rattle.stun_auth.specs.Validation.{answer_to, client_verified, is_complete}
-use Rattle.stun_auth.specs.Validation.{is_malformed, validated_or_failed, verdict_at}
+use Rattle.stun_auth.specs.Validation.{validated_or_failed, verdict_at}
 use Rattle.stun_auth.specs.code.Judging.{name_by, name_in}
 use Rattle.stun_auth.proofs.VerdictSteps.{by_attributes, by_choice, by_digest, by_name}
 use Rattle.stun_auth.proofs.VerdictLemmas.{by_steps-verdict, user_of}
@@ -247,24 +244,6 @@ pub unresponded : (s : Sight) (now : ℕ) (words : List ℕ) (r : Reading) → i
 unresponded s now words r h =
     ap (λ b. cond b (validated_or_failed (client_verified s.registered r s.place))
     (answer_to (verdict_at s (current_place s now words) r))) h
-
--- what is malformed is refused, whatever nonce is current
-incomplete : (protected complete : Bool) (rest : Result ClientSeen VerdictRefusal)
-    → (protected && not complete) ≡ true
-    → cond (not protected) (Err Refused.Unauthorized)
-    (cond (not complete) (Err Refused.BadRequest) rest) ≡ Err Refused.BadRequest
-incomplete true true rest h = cc
-incomplete true false rest h = refl
-incomplete false complete rest h = cc
-
-pub malformed-answer : (s : Sight) (now : ℕ) (words : List ℕ) (r : Reading)
-    → is_response r.class ≡ false → is_malformed r ≡ true → answer s now words r ≡ Err BadRequest
-malformed-answer s now words r plain malformed =
-    let p = current_place s now words in
-    unresponded s now words r plain
-    ∙ ap answer_to
-    (sym (by_steps-verdict s.registered s.feature p.nonce p.offered r)
-    ∙ incomplete (is_some r.integrity) (is_complete r) _ malformed)
 
 pub answer-accepted : (s : Sight) (now : ℕ) (words : List ℕ) (r : Reading)
     → ValidatesAccepted s now words r (answer s now words r)

@@ -5,7 +5,6 @@ use mathlib.Core.List.{reverse-cons}
 use Rattle.std.specs.Prelude.{cond, reverse, ◌==◌, ◌||◌}
 use Rattle.std.specs.List.{find}
 use Rattle.std.specs.Option.{is_some, option_and_then, option_map, option_or}
-use Rattle.std.proofs.Math.Bool.{or-false}
 use Rattle.std.proofs.lemmas.List.Folds.{find-append}
 use Rattle.stun_base.specs.Attributes.{ERROR_CODE, MESSAGE_INTEGRITY}
 use Rattle.stun_base.specs.Attributes.{MESSAGE_INTEGRITY_SHA256, NONCE, PASSWORD_ALGORITHM}
@@ -15,7 +14,7 @@ use Rattle.stun_types.specs.Integrity.{first_of, is_integrity}
 use Rattle.stun_types.specs.Walk.{Member}
 use Rattle.stun_auth.specs.Reading.{last_of}
 use Rattle.stun_auth.specs.declared.message.reading.LastAttributes.{LastAttributes}
-use Rattle.stun_auth.specs.code.LastAttributes.{last_attributes, with_member}
+use Rattle.stun_auth.specs.code.LastAttributes.{with_member}
 
 -- the last of a type with one member more in front
 pub last_of-cons : (kind : ℕ) (m : Member) (members : List Member) → last_of kind (m ∷ members)
@@ -98,40 +97,6 @@ noted-passed last m members = λ i. record {
       (first_of MESSAGE_INTEGRITY_SHA256 members) last.integrity_sha256 i;
   has_integrity =
       found-passed (is_integrity m.1) m (find (λ x. is_integrity x.1) members) last.has_integrity i;
-}
-
-or_none : {X : Type 0} (o : Option X) → option_or o None ≡ o
-or_none None = refl
-or_none (Some x) = refl
-
-abbrev pub nothing_noted : LastAttributes
-nothing_noted = record {
-  error_code = None;
-  realm = None;
-  nonce = None;
-  username = None;
-  userhash = None;
-  password_algorithms = None;
-  password_algorithm = None;
-  integrity = None;
-  integrity_sha256 = None;
-  has_integrity = false;
-}
-
--- before the first member nothing is noted
-pub noted-first : (members : List Member)
-    → noted_from nothing_noted members ≡ last_attributes members
-noted-first members = λ i. record {
-  error_code = or_none (option_map (λ m. m.1) (last_of ERROR_CODE members)) i;
-  realm = or_none (option_map (λ m. m.1) (last_of REALM members)) i;
-  nonce = or_none (option_map (λ m. m.1) (last_of NONCE members)) i;
-  username = or_none (option_map (λ m. m.1) (last_of USERNAME members)) i;
-  userhash = or_none (option_map (λ m. m.1) (last_of USERHASH members)) i;
-  password_algorithms = or_none (option_map (λ m. m.1) (last_of PASSWORD_ALGORITHMS members)) i;
-  password_algorithm = or_none (option_map (λ m. m.1) (last_of PASSWORD_ALGORITHM members)) i;
-  integrity = first_of MESSAGE_INTEGRITY members;
-  integrity_sha256 = first_of MESSAGE_INTEGRITY_SHA256 members;
-  has_integrity = or-false (is_some (find (λ m. is_integrity m.1) members)) i;
 }
 
 -- reading the attribute of a member

@@ -181,7 +181,7 @@ with_realm_and_nonce (authenticating c) realm nonce =
 with_realm_and_nonce (authenticated c) realm nonce =
     authenticated (record c { realm = realm; nonce = nonce })
 
--- a stale nonce, with which the next one comes
+-- after an error 438: its realm and nonce are taken; where one lacks, its digest alone decides
 abbrev pub after_stale : ClientState → Option IntegrityAlgorithm → Option (List ℕ) → Option (List ℕ)
     → ClientStep
 after_stale state digest (Some realm) (Some nonce) =

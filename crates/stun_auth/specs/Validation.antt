@@ -57,6 +57,10 @@ sight s a =
       place = map.get s.places a;
     }
 
+-- the client that a server knows at an address
+abbrev pub client_at : ServerSeen → SocketAddr → Option ClientSeen
+client_at s a = option_and_then (λ (p : PlaceSeen). p.client) (map.get s.places a)
+
 -- what a message is answered
 abbrev pub Answer : Type 0
 Answer = Result LongTermServerValidation LongTermServerAuthErrorReason

@@ -133,7 +133,7 @@ impl<A: Allocator> fmt::Debug for LongTermClientAuth<A> {
         ensures writes { WritesOnOk W.write_str_gives f.old result
             (codes "LongTermClientAuth { .. }") f.new }
 
-        // So it is whatever width, precision or other option is asked.
+        // It writes the same with every width, precision and other option.
         ensures styled { WritesStyledOnOk W.write_str_gives f.old result
             (codes "LongTermClientAuth { .. }") f.new }
     {

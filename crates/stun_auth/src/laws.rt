@@ -109,8 +109,8 @@ pub fn accepted_messages_are_validated()
 {}
 
 /// A response changes nothing, nor does a message that has integrity and lacks realm, nonce or
-/// name. Where a nonce is current, nor does a message that is refused, or one of the client who is
-/// kept already.
+/// name. Where a nonce is current, a refused message changes nothing either, nor does an accepted
+/// one of the client who is kept already.
 pub fn messages_that_change_nothing()
     ensures needless { (s : Sight) (now : ℕ) (words : List ℕ) (r : Reading) → needs_nonce r ≡ false
         → ChangesNothing s now words r }
@@ -125,7 +125,7 @@ pub fn messages_that_change_nothing()
 
 /// A message is judged by the one user whom it means. A server that has just that user gives it the
 /// same answer as the server that has all users, from the same random numbers. It keeps the same
-/// for the address. So does a server without users, where that user is not registered.
+/// for the address. The same holds of a server without users, where that user is not registered.
 pub fn the_named_user_is_enough()
     ensures answer { (s : ServerSeen) (from : SocketAddr) (now : ℕ) (words : List ℕ) (r : Reading)
         → answer (sight (with_users s (just s.registered (meant_user s from r))) from) now words r

@@ -14,7 +14,7 @@
 ghost use Rattle.std.specs.Prelude.{◌≡◌, ◌≤◌, Option, None, Some, OnOk, OnErr, Ok, codes};
 ghost use Rattle.std.specs.Duration.{as_nanos};
 ghost use Rattle.std.specs.Fmt.{WritesOnOk, WritesStyledOnOk};
-ghost use Rattle.std.specs.Option.{option_and_then, option_copied, option_map};
+ghost use Rattle.std.specs.Option.{option_copied, option_map};
 ghost use Rattle.std.specs.FinMap as map;
 ghost use Rattle.std.specs.String.{string_bytes};
 ghost use Rattle.stun_auth.specs.Algorithms.{algorithms_of, only, with_algorithm};
@@ -24,7 +24,7 @@ ghost use Rattle.stun_auth.specs.Nonces.{MINIMUM_EXPIRY};
 ghost use Rattle.stun_auth.specs.Seen.{PlaceSeen};
 ghost use Rattle.stun_auth.specs.Places.{with_change, with_client};
 ghost use Rattle.stun_auth.specs.Registered.{with_user, without_user};
-ghost use Rattle.stun_auth.specs.Validation.{new_server};
+ghost use Rattle.stun_auth.specs.Validation.{client_at, new_server};
 
 use crate::algorithm_set::AlgorithmSet;
 use crate::feature::Feature;
@@ -113,7 +113,7 @@ impl<A: Allocator> fmt::Debug for LongTermServerAuth<A> {
         ensures writes { WritesOnOk W.write_str_gives f.old result
             (codes "LongTermServerAuth { .. }") f.new }
 
-        // So it is whatever width, precision or other option is asked.
+        // It writes the same with every width, precision and other option.
         ensures styled { WritesStyledOnOk W.write_str_gives f.old result
             (codes "LongTermServerAuth { .. }") f.new }
     {
@@ -193,7 +193,7 @@ impl<A: Allocator + Copy> LongTermServerAuth<A> {
     /// `None` where nobody was validated at the address, and after `remove_client`.
     pub fn client(&self, address: SocketAddr) -> Option<(&str, IntegrityAlgorithm)>
         ensures { option_map (λ pair. record { name = pair.0.now; algorithm = pair.1 }) result
-            ≡ option_and_then (λ (p : PlaceSeen). p.client) (map.get self.now.places address) }
+            ≡ client_at self.now address }
     {
         match self.places.get(address) {
             Some(place) => match &place.client {

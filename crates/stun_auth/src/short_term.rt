@@ -8,6 +8,7 @@ ghost use Rattle.stun_auth.specs.ShortTerm.{IsSignableShortTerm, short_term_answ
 ghost use Rattle.stun_auth.specs.ShortTerm.{short_term_growth};
 ghost use Rattle.stun_auth.specs.ShortTerm.{short_term_refusal, short_term_signed};
 
+use crate::message::addition::integrity_bytes;
 use std::alloc::{AllocError, Allocator, Global};
 use std::fmt;
 use std::marker::Model;
@@ -54,7 +55,7 @@ impl<A: Allocator> fmt::Debug for ShortTermAuth<A> {
         ensures writes { WritesOnOk W.write_str_gives f.old result
             (codes "ShortTermAuth { .. }") f.new }
 
-        // So it is whatever width, precision or other option is asked.
+        // It writes the same with every width, precision and other option.
         ensures styled { WritesStyledOnOk W.write_str_gives f.old result
             (codes "ShortTermAuth { .. }") f.new }
     {
@@ -95,10 +96,7 @@ impl<A: Allocator> ShortTermAuth<A> {
     {
         match &self.kept {
             None => 0,
-            Some(kept) => match kept.algorithm {
-                IntegrityAlgorithm::Sha1 => 24,
-                IntegrityAlgorithm::Sha256 => 36,
-            },
+            Some(kept) => integrity_bytes(kept.algorithm),
         }
     }
 

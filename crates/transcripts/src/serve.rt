@@ -14,7 +14,6 @@ use crate::serve::reply::text_of;
 use player::names::OUT_OF_MEMORY;
 use player::trouble::Trouble;
 use player::words::text;
-pub use reply::parse_error_name;
 pub use server_call::server_call;
 use std::alloc::{Allocator, Global};
 use stun_auth::auth::LongTermServerAuth;

@@ -1,12 +1,12 @@
 //! How moments, spans, ids and errors of an agent are answered.
 
-use player::names::{OUT_OF_MEMORY, write_error_name};
+use player::names::{OUT_OF_MEMORY, parse_error_name, write_error_name};
 use player::trouble::Trouble;
 use std::alloc::AllocError;
 use std::time::Duration;
 use stun_agent::agent::StunError;
 use stun_base::instant::Instant;
-use stun_types::message::{StunParseError, TransactionId};
+use stun_types::message::TransactionId;
 
 /// Adds a number of nanoseconds: `Nms` where it is whole milliseconds, else `Nns`.
 fn push_nanos(nanos: u128, answer: &mut String) -> Result<(), Trouble> {
@@ -56,16 +56,7 @@ pub fn push_flag_if_any(
     }
 }
 
-fn parse_error_name(error: StunParseError) -> &'static str {
-    match error {
-        StunParseError::Truncated => "Truncated",
-        StunParseError::NotStun => "NotStun",
-        StunParseError::TooLarge => "TooLarge",
-        StunParseError::MissingAttribute(_) => "MissingAttribute",
-        StunParseError::InvalidAttributeData => "InvalidAttributeData",
-    }
-}
-
+/// Why an agent refuses a call.
 pub fn error_name(error: StunError) -> &'static str {
     match error {
         StunError::AlreadyInProgress => "AlreadyInProgress",

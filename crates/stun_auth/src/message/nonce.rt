@@ -145,7 +145,7 @@ pub(crate) fn asks_for_algorithms(nonce: &str) -> bool
 fn begins_with_cookie(text: &[u8]) -> bool
     ensures { result ≡ begins_with_cookie text.now }
 {
-    text.starts_with(b"obMatJos2")
+    text.starts_with(LONG_TERM_RFC8489_NONCE_COOKIE.as_bytes())
 }
 
 /// The letter of a random word: A to Z, a to z, 0 to 9.

@@ -187,8 +187,8 @@ impl<A: Allocator + Copy> Places<A> {
         self.by_address.retain(|_, place| !place.is_forgotten(now));
     }
 
-    /// Does the same for at most `most` addresses, from one on or from the first. Returns the
-    /// address to go on at.
+    /// Forgets as `forget_expired` does, but looks at no more than `most` addresses: from one on,
+    /// or from the first. Returns the address to go on at.
     pub(crate) fn forget_expired_within(
         &mut self,
         now: Instant,
@@ -204,8 +204,7 @@ impl<A: Allocator + Copy> Places<A> {
             self.forget_if_expired(address, now);
             start = Bound::Excluded(address);
         }
-        let next = self.first_from(start);
-        next
+        self.first_from(start)
     }
 
     /// The first address that has a place, from a start on.

@@ -53,7 +53,7 @@ impl fmt::Debug for StoredKeys {
         ensures writes { WritesOnOk W.write_str_gives f.old result
             (codes "StoredKeys { .. }") f.new }
 
-        // So it is whatever width, precision or other option is asked.
+        // It writes the same with every width, precision and other option.
         ensures styled { WritesStyledOnOk W.write_str_gives f.old result
             (codes "StoredKeys { .. }") f.new }
     {

@@ -37,7 +37,7 @@ impl<A: Allocator> fmt::Debug for LongTermServerUser<A> {
         ensures writes { WritesOnOk W.write_str_gives f.old result
             (codes "LongTermServerUser { .. }") f.new }
 
-        // So it is whatever width, precision or other option is asked.
+        // It writes the same with every width, precision and other option.
         ensures styled { WritesStyledOnOk W.write_str_gives f.old result
             (codes "LongTermServerUser { .. }") f.new }
     {

@@ -1,30 +1,14 @@
 //! What an agent did, told in words.
 
 use crate::drive::usual_peer;
-use crate::serve::parse_error_name;
-use player::names::{OUT_OF_MEMORY, write_error_name};
 use player::signing::push_bytes;
 use player::trouble::Trouble;
+use player_scene::agent::answers::error_name;
 use std::alloc::{Allocator, Global};
 use std::net::SocketAddr;
-use stun_agent::agent::StunError;
 use stun_base::instant::Instant;
 use stun_base::transaction_id::TransactionId;
 use stun_proto::replay::AgentStep;
-
-/// Why an agent refuses a call.
-pub fn error_name(error: StunError) -> &'static str {
-    match error {
-        StunError::AlreadyInProgress => "AlreadyInProgress",
-        StunError::ResourceNotFound => "ResourceNotFound",
-        StunError::TimedOut => "TimedOut",
-        StunError::ProtocolViolation => "ProtocolViolation",
-        StunError::Aborted => "Aborted",
-        StunError::ParseError(error) => parse_error_name(error),
-        StunError::WriteError(error) => write_error_name(error),
-        StunError::OutOfMemory => OUT_OF_MEMORY,
-    }
-}
 
 /// Adds a moment: in milliseconds if they are whole, and else in nanoseconds.
 pub fn push_moment(moment: Instant, answer: &mut String) -> Result<(), Trouble> {

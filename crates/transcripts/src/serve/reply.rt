@@ -1,22 +1,10 @@
 //! What a server replied, told as `server` tells the answers to the same calls.
 
-use player::names::{algorithm_name, server_reason_name, write_error_name};
+use player::names::{algorithm_name, parse_error_name, server_reason_name, write_error_name};
 use player::signing::push_bytes;
 use player::trouble::Trouble;
 use std::alloc::{Allocator, Global};
-use stun_base::error::StunParseError;
 use stun_proto::replay::ServerReply;
-
-/// Why bytes are no message.
-pub fn parse_error_name(error: StunParseError) -> &'static str {
-    match error {
-        StunParseError::Truncated => "Truncated",
-        StunParseError::NotStun => "NotStun",
-        StunParseError::TooLarge => "TooLarge",
-        StunParseError::MissingAttribute(_) => "MissingAttribute",
-        StunParseError::InvalidAttributeData => "InvalidAttributeData",
-    }
-}
 
 /// The text of a reply.
 pub fn text_of<A: Allocator>(alloc: Global, reply: &ServerReply<A>) -> Result<String, Trouble> {

@@ -46,9 +46,9 @@ pub returns-clause-next : goal.returns-clause-next
 returns-clause-next g c =
     next_last (start_of c.args.from) c.loop-looked.start c.args.now c.args.self.now
     c.loop-looked.self _ _ c.args.most c.loop-looked._looked (search rules)
-    c.loop-looked.invariant.left c.first_from-next.ensures c.loop-looked.invariant.next
+    c.loop-looked.invariant.left c.first_from-2.ensures c.loop-looked.invariant.next
 
 pub returns-clause-state : goal.returns-clause-state
 returns-clause-state g c =
     left_last c.args.from c.loop-looked.start c.args.now c.args.self.now c.loop-looked.self _
-    c.loop-looked.invariant.left c.first_from-next.ensures
+    c.loop-looked.invariant.left c.first_from-2.ensures

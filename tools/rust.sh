@@ -2,9 +2,8 @@
 # Exports the library as plain Rust to target/export, and tries what comes out: warnings, pages,
 # tests, transcripts. It needs cargo, the Rust of rust/Cargo.toml and Python 3.9. Where the crates
 # of Debian are installed, or can be by root, it needs no network beside. Without clippy its
-# warnings are left out. So are the programs, their tests and the transcripts under a Rust that is
-# older than rust/checks/Cargo.toml wants. With --can it tells by its status whether the crates of
-# Debian and the newer Rust are there.
+# warnings are left out. With --can it tells by its status whether all that it needs is there, with
+# the crates of Debian.
 set -eu
 cd "$(dirname "$0")/.."
 out=target/export
@@ -15,17 +14,13 @@ has_packages() {
     command -v dpkg > /dev/null && dpkg -s $packages > /dev/null 2>&1
 }
 
-# wanted FOLDER: the Rust that its package wants, as 1.85.
-wanted() { sed -n 's/^rust-version = "\(.*\)"/\1/p' "$1/Cargo.toml"; }
-
 # has_rust VERSION: whether this Rust is as new, and cargo is there.
 has_rust() {
     minor=$("${RUSTC:-rustc}" --version 2> /dev/null | sed -n 's/^rustc 1\.\([0-9]*\).*/\1/p')
     [ "${minor:-0}" -ge "${1#1.}" ] && cargo --version > /dev/null 2>&1
 }
 
-least=$(wanted rust) newer=$(wanted rust/checks) missing=''
-[ "${1:-}" != --can ] || least=$newer
+least=$(sed -n 's/^rust-version = "\(.*\)"/\1/p' rust/Cargo.toml) missing=''
 has_rust "$least" || missing="cargo and rustc $least"
 python3 -c 'import sys; sys.exit(sys.version_info < (3, 9))' 2> /dev/null ||
     missing="$missing${missing:+, }Python 3.9"
@@ -43,8 +38,6 @@ if [ "${1:-}" = --can ]; then
     echo "The crates of Debian are not there: $packages." >&2
     exit 1
 fi
-without=''
-has_rust "$newer" || without='--exclude seatcrane-checks'
 python3 tools/export_test.py
 python3 tools/export.py "$out"
 mkdir -p "$out/.cargo"
@@ -59,17 +52,13 @@ fi
 cd "$out"
 export RUSTFLAGS="-D warnings" RUSTDOCFLAGS="-D warnings"
 if cargo clippy --version > /dev/null 2>&1; then
-    cargo clippy --quiet --workspace $without --all-targets --all-features
+    cargo clippy --quiet --workspace --all-targets --all-features
     cargo clippy --quiet --no-default-features
 else
     echo "No clippy is there: its warnings are left out." >&2
 fi
 cargo doc --quiet --no-deps
 # With the memory of the program the calls for C are linked by a program alone (rust_c.sh).
-cargo test --quiet --workspace --exclude seatcrane-stun-c $without --all-features
-if [ -n "$without" ]; then
-    echo "The programs, their tests and the transcripts are left out: they want Rust $newer." >&2
-    exit
-fi
+cargo test --quiet --workspace --exclude seatcrane-stun-c --all-features
 cargo build --quiet --package seatcrane-checks
 target/debug/transcripts ../../crates/transcripts/data/*.txt

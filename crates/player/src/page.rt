@@ -38,11 +38,9 @@ pub fn is_played(text: &str) -> bool {
 /// The words that a line `@NAME WORD ..` gives to a name that begins with `@`, or none.
 pub fn meaning<'a>(transcript: &'a str, name: &str) -> &'a str {
     for line in transcript.split('\n') {
-        if line.starts_with('@')
-            && let Some((first, words)) = line.split_once(' ')
-            && first == name
-        {
-            return words;
+        match line.split_once(' ') {
+            Some((first, words)) if first == name && first.starts_with('@') => return words,
+            _ => {}
         }
     }
     ""

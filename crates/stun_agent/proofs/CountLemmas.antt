@@ -33,7 +33,7 @@ use Rattle.stun_agent.proofs.AnswerLemmas.{answered_there}
 use Rattle.stun_agent.proofs.LookupLemmas.{length-with, length-without, length-with_change_at}
 use Rattle.stun_agent.proofs.LookupLemmas.{found_there}
 use Rattle.stun_agent.proofs.OnceLemmas.{not_refused_is_new}
-use Rattle.stun_agent.proofs.StatisticsLemmas.{leaves_outstanding-statistics_after}
+use Rattle.stun_agent.proofs.StatisticsLemmas.{LeavesOutstanding-statistics_after}
 
 -- so many are outstanding by the statistics, if there are any
 abbrev Tells : Option Statistics → ℕ → Type 0
@@ -49,7 +49,7 @@ tallied_tells : (tally : Tally) (stats : Option Statistics) (before after : ℕ)
     → Tells stats before → StillTells (option_map (statistics_after tally) stats) after
 tallied_tells tally None before after moved h = tt
 tallied_tells tally (Some s) before after moved h =
-    λ free. leaves_outstanding-statistics_after tally s before after h free moved
+    λ free. LeavesOutstanding-statistics_after tally s before after h free moved
 
 untouched_tells : (stats : Option Statistics) (before after : ℕ) → after ≡ before
     → Tells stats before → StillTells stats after

@@ -45,12 +45,12 @@ pub counted_in_turn-new : (tallies : List Tally)
     → counted_in_turn tallies new_statistics ≡ statistics_after (total tallies) new_statistics
 counted_in_turn-new tallies = counted_in_turn-statistics_after no_tally new_statistics tallies
 
-pub leaves_outstanding-statistics_after : (tally : Tally) (s : Statistics) (before after : ℕ)
+pub LeavesOutstanding-statistics_after : (tally : Tally) (s : Statistics) (before after : ℕ)
     → LeavesOutstanding s before → IsNotFull (statistics_after tally s)
     → before + tally.requests_sent
     ≡ after + (tally.responses_received + tally.timed_out + tally.cancelled)
     → LeavesOutstanding (statistics_after tally s) after
-leaves_outstanding-statistics_after tally s before after held room same =
+LeavesOutstanding-statistics_after tally s before after held room same =
     let a = room.requests_sent in
     let b = room.responses_received in
     let c = room.transactions_timed_out in

@@ -26,7 +26,7 @@ use Rattle.stun_auth.specs.Validation.{answer_to, client_verified, is_complete}
 use Rattle.stun_auth.specs.Validation.{validated_or_failed, verdict_at}
 use Rattle.stun_auth.specs.code.Judging.{name_by, name_in}
 use Rattle.stun_auth.proofs.VerdictSteps.{by_attributes, by_choice, by_digest, by_name}
-use Rattle.stun_auth.proofs.VerdictLemmas.{by_steps-verdict, user_of}
+use Rattle.stun_auth.proofs.VerdictLemmas.{by_steps-verdict, named_by-two_steps}
 
 -- ---- from the verdict
 
@@ -115,7 +115,7 @@ module _ (users : Registered) (feature : Feature) (ours : List ℕ) (offered : O
         realm = realm;
         nonce = nonce ∙ ap Some same;
         algorithm = sym (ap (λ n. agreement r n offered) same) ∙ choice ∙ ap Some algorithms;
-        named = user_of users feature r.userhash r.username
+        named = named_by-two_steps users feature r.userhash r.username
             ∙ ap (option_and_then (user_named users)) (user ∙ ap Some names)
             ∙ ap (option_map
             (λ (secret : UserSecret). record { username = client.name; secret = secret }))
@@ -204,7 +204,7 @@ verdict_from_accepted users feature ours offered r client h =
     let user : RegisteredUser = record { username = client.name; secret = h.secret } in
     let name : name_in users feature r ≡ Some client.name =
     looked_up users user (name_in users feature r)
-    (sym (user_of users feature r.userhash r.username) ∙ h.named) in
+    (sym (named_by-two_steps users feature r.userhash r.username) ∙ h.named) in
     let key : key_at users client.name client.algorithm ≡ Some h.key =
     ap (λ o.
     option_and_then (λ (u : RegisteredUser). key_of users u client.algorithm)

@@ -38,10 +38,11 @@ same_chosen now None false false h = refl
 same_chosen now (Some place) b c h =
     ap (λ t. cond t (place_kept now (Some place)) (Some place)) (h refl)
 
-pub kept_where-same : (chosen others : SocketAddr → Bool) (now : ℕ) (places : PlacesSeen)
+pub places_kept_where-same : (chosen others : SocketAddr → Bool) (now : ℕ) (places : PlacesSeen)
     → ((q : SocketAddr) → IsSome (fin.get places q) → chosen q ≡ others q)
     → places_kept_where chosen now places ≡ places_kept_where others now places
-kept_where-same chosen others now places same = fin.same_map address_total address_exact _ _ (λ q.
+places_kept_where-same chosen others now places same =
+    fin.same_map address_total address_exact _ _ (λ q.
     get-kept_where chosen now places q
     ∙ same_chosen now (fin.get places q) (chosen q) (others q) (same q)
     ∙ sym (get-kept_where others now places q))
@@ -65,10 +66,11 @@ twice now o true false = refl
 twice now o false true = refl
 twice now o false false = refl
 
-pub kept_where-twice : (chosen others : SocketAddr → Bool) (now : ℕ) (places : PlacesSeen)
+pub places_kept_where-twice : (chosen others : SocketAddr → Bool) (now : ℕ) (places : PlacesSeen)
     → places_kept_where others now (places_kept_where chosen now places)
     ≡ places_kept_where (λ a. chosen a || others a) now places
-kept_where-twice chosen others now places = fin.same_map address_total address_exact _ _ (λ q.
+places_kept_where-twice chosen others now places =
+    fin.same_map address_total address_exact _ _ (λ q.
     get-kept_where others now (places_kept_where chosen now places) q
     ∙ ap (λ o. cond (others q) (place_kept now o) o) (get-kept_where chosen now places q)
     ∙ twice now (fin.get places q) (chosen q) (others q)
@@ -119,12 +121,12 @@ kept_if_current a now places current = fin.same_map address_total address_exact 
     ∙ sym (get-kept_where (same_address a) now places q))
 
 -- where nothing is chosen all stay, and where all are chosen it is forgetting at once
-pub kept_where-none : (now : ℕ) (places : PlacesSeen)
+pub places_kept_where-none : (now : ℕ) (places : PlacesSeen)
     → places_kept_where (λ a. false) now places ≡ places
-kept_where-none now places =
+places_kept_where-none now places =
     fin.same_map address_total address_exact _ _ (λ q. get-kept_where (λ a. false) now places q)
 
-pub kept_where-all : (now : ℕ) (places : PlacesSeen)
+pub places_kept_where-all : (now : ℕ) (places : PlacesSeen)
     → places_kept_where (λ a. true) now places ≡ places_kept now places
-kept_where-all now places = fin.same_map address_total address_exact _ _ (λ q.
+places_kept_where-all now places = fin.same_map address_total address_exact _ _ (λ q.
     get-kept_where (λ a. true) now places q ∙ sym (get-places_kept now places q))

@@ -139,9 +139,9 @@ rows users ours offered r user =
     )
     ∷ []
 
-abbrev verdict_of : Registered → List ℕ → Option AlgorithmSet → Reading → Option RegisteredUser
+abbrev verdict_on_user : Registered → List ℕ → Option AlgorithmSet → Reading → Option RegisteredUser
     → Result ClientSeen VerdictRefusal
-verdict_of users ours offered r user =
+verdict_on_user users ours offered r user =
     or_refused
     (option_map_or (λ (row : Bool × VerdictRefusal). Some row.1)
     (find (λ (row : Bool × VerdictRefusal). row.0) (rows users ours offered r user)) None)
@@ -156,7 +156,7 @@ verdict-named_user : (users : Registered) (user : Option RegisteredUser) (featur
     → named_user (just users user) feature r ≡ named_user users feature r
     → verdict (just users user) feature ours offered r ≡ verdict users feature ours offered r
 verdict-named_user users user feature ours offered r same =
-    ap (verdict_of users ours offered r) same
+    ap (verdict_on_user users ours offered r) same
 
 -- of a response: the client of its address
 client-alone : (users : Registered) (r : Reading) (place : Option PlaceSeen)

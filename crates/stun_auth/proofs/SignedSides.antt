@@ -112,18 +112,19 @@ for_client response users nonce (Some c) page a is =
           (there (added_under_key response users nonce c.algorithm key) a is))
     ] is
 
-at_place : (response : Bool) (users : Registered) (place : Option PlaceSeen) (page : Page)
+page_of_place : (response : Bool) (users : Registered) (place : Option PlaceSeen) (page : Page)
     (a : Added) → added_at response users place ≡ Some a
     → signed_at response users place page ≡ added_all (additions_of a) page
-at_place response users None page a is =
+page_of_place response users None page a is =
     ap (λ (b : Added). added_all (additions_of b) page) (there nothing a is)
-at_place response users (Some p) page a is = for_client response users p.nonce p.client page a is
+page_of_place response users (Some p) page a is =
+    for_client response users p.nonce p.client page a is
 
 -- a server's additions
 pub server_same : (s : Sight) (response : Bool) (page : Page) (a : Added)
     → added_by_server s response ≡ Some a
     → server_signed s response page ≡ added_all (additions_of a) page
-server_same s response page a is = at_place response s.registered s.place page a is
+server_same s response page a is = page_of_place response s.registered s.place page a is
 
 refused_last : {X : Type 0} (algorithm : IntegrityAlgorithm) (r : Result Page StunWriteError)
     → IsOk (after r (signed_under_key algorithm None)) → X

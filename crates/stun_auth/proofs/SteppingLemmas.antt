@@ -29,8 +29,9 @@ use Rattle.stun_auth.specs.Validation.{ServerSeen}
 use Rattle.stun_auth.specs.code.Places.{IsFirstFrom, place_seen, places_seen}
 use Rattle.stun_auth.specs.declared.server.places.Place.{Place}
 use Rattle.stun_base.proofs.Addresses.{address_total, address_exact}
-use Rattle.stun_auth.proofs.KeptPlaces.{get-kept_where, kept_where-all, kept_where-none}
-use Rattle.stun_auth.proofs.KeptPlaces.{kept_where-same, kept_where-twice}
+use Rattle.stun_auth.proofs.KeptPlaces.{get-kept_where, places_kept_where-all}
+use Rattle.stun_auth.proofs.KeptPlaces.{places_kept_where-none, places_kept_where-same}
+use Rattle.stun_auth.proofs.KeptPlaces.{places_kept_where-twice}
 use Rattle.stun_auth.proofs.LeastNames.{find-least, find-none}
 use Rattle.stun_auth.proofs.ListSteps.{find-passes}
 use Rattle.stun_auth.proofs.Maps.{get-seen}
@@ -165,8 +166,9 @@ nothing_passed false = refl
 pub passed-none : (start : Bound SocketAddr) (now : ℕ) (places : PlacesSeen)
     → places_kept_where (is_passed start start) now places ≡ places
 passed-none start now places =
-    kept_where-same (is_passed start start) (λ a. false) now places
-    (λ q there. nothing_passed (is_from_start address_cmp start q)) ∙ kept_where-none now places
+    places_kept_where-same (is_passed start start) (λ a. false) now places
+    (λ q there. nothing_passed (is_from_start address_cmp start q))
+    ∙ places_kept_where-none now places
 
 -- what is not passed is as it was
 pub get-passed : (start next : Bound SocketAddr) (now : ℕ) (places : PlacesSeen) (q : SocketAddr)
@@ -215,8 +217,8 @@ pub passed-more : (start next : Bound SocketAddr) (now : ℕ) (places : PlacesSe
     → places_kept_where (same_address a) now (places_kept_where (is_passed start next) now places)
     ≡ places_kept_where (is_passed start (Excluded a)) now places
 passed-more start next now places a first within =
-    kept_where-twice (is_passed start next) (same_address a) now places
-    ∙ kept_where-same (λ q. is_passed start next q || same_address a q)
+    places_kept_where-twice (is_passed start next) (same_address a) now places
+    ∙ places_kept_where-same (λ q. is_passed start next q || same_address a q)
     (is_passed start (Excluded a)) now places (λ q present.
     one_more (is_from_start address_cmp start q) (is_from_start address_cmp next q)
     (same_address a q) (is_from_start address_cmp (Excluded a) q)
@@ -253,7 +255,7 @@ pub passed-end : (from : Option SocketAddr) (next : Bound SocketAddr) (now : ℕ
     → places_kept_where (is_passed (start_of from) next) now places
     ≡ places_kept_where (is_looked_at from o) now places
 passed-end from next now places None none =
-    kept_where-same (is_passed (start_of from) next) (is_looked_at from None) now places
+    places_kept_where-same (is_passed (start_of from) next) (is_looked_at from None) now places
     (λ q present.
     ap (λ b. is_from_start address_cmp (start_of from) q && not b)
     (by q present (is_from_start address_cmp next q) refl))
@@ -263,7 +265,8 @@ passed-end from next now places None none =
     by q present true within = sym present ∙ ap is_some (none q within)
     by q present false within = refl
 passed-end from next now places (Some end) first =
-    kept_where-same (is_passed (start_of from) next) (is_looked_at from (Some end)) now places
+    places_kept_where-same (is_passed (start_of from) next) (is_looked_at from (Some end))
+    now places
     (λ q present.
     ap (λ b. is_from_start address_cmp (start_of from) q && b)
     (ap not (by q present (is_from_start address_cmp next q) refl) ∙ sym (before-turned q end)))
@@ -392,11 +395,11 @@ joined true false h = refl
 joined false true h = sym (h refl)
 joined false false h = refl
 
-looked_at-joined : (from : Option SocketAddr) (b q : SocketAddr)
+is_looked_at-joined : (from : Option SocketAddr) (b q : SocketAddr)
     → is_from_start address_cmp (start_of from) b ≡ true
     → (is_looked_at from (Some b) q || is_from_start address_cmp (Included b) q)
     ≡ is_from_start address_cmp (start_of from) q
-looked_at-joined from b q within =
+is_looked_at-joined from b q within =
     ap (λ t. (is_from_start address_cmp (start_of from) q && t)
     || is_from_start address_cmp (Included b) q) (before-turned q b)
     ∙ joined (is_from_start address_cmp (start_of from) q)
@@ -428,7 +431,8 @@ all_steps s now from (most ∷ sizes) left is =
           (λ (o : Option SocketAddr).
           record s { places = places_kept_where (is_looked_at from o) now s.places }) none
           ∙ ap (λ (m : PlacesSeen). record s { places = m })
-          (kept_where-same (is_looked_at from None) (is_from_start address_cmp (start_of from)) now
+          (places_kept_where-same (is_looked_at from None)
+          (is_from_start address_cmp (start_of from)) now
           s.places (λ q there. and-true (is_from_start address_cmp (start_of from) q)))
       | Some b ↦ λ next is.
           all_steps (after_step s now from most) now (Some b) sizes left is
@@ -436,12 +440,14 @@ all_steps s now from (most ∷ sizes) left is =
           (ap (λ (o : Option SocketAddr).
           places_kept_where (is_from_start address_cmp (Included b)) now
           (places_kept_where (is_looked_at from o) now s.places)) next
-          ∙ kept_where-twice (is_looked_at from (Some b)) (is_from_start address_cmp (Included b))
+          ∙ places_kept_where-twice (is_looked_at from (Some b))
+          (is_from_start address_cmp (Included b))
           now s.places
-          ∙ kept_where-same
+          ∙ places_kept_where-same
           (λ q. is_looked_at from (Some b) q || is_from_start address_cmp (Included b) q)
           (is_from_start address_cmp (start_of from)) now s.places
-          (λ q there. looked_at-joined from b q (next-within s.places (start_of from) most b next)))
+          (λ q there. is_looked_at-joined from b q
+          (next-within s.places (start_of from) most b next)))
     ] refl is
 
 -- so after all steps the server is the one that forgetting at once leaves
@@ -449,4 +455,4 @@ pub steps_forget_all : (s : ServerSeen) (now : ℕ) (sizes : List ℕ) (left : S
     → after_steps s now None sizes ≡ Some left → left ≡ after_forgetting s now
 steps_forget_all s now sizes left is =
     all_steps s now None sizes left is
-    ∙ ap (λ (m : PlacesSeen). record s { places = m }) (kept_where-all now s.places)
+    ∙ ap (λ (m : PlacesSeen). record s { places = m }) (places_kept_where-all now s.places)

@@ -12,7 +12,7 @@ use Rattle.stun_base.specs.Address.{address_cmp}
 use Rattle.stun_auth.specs.Seen.{ClientSeen, PlaceSeen, renewed_place}
 use Rattle.stun_auth.specs.Places.{at_place}
 use Rattle.stun_auth.specs.Reading.{Reading}
-use Rattle.stun_auth.specs.Reasons.{ServerOrMemory, ServerRefusal}
+use Rattle.stun_auth.specs.Reasons.{ServerUnlessMemory, ServerRefusal}
 use Rattle.stun_base.specs.Moments.{moment_after}
 use Rattle.stun_auth.specs.Server.{Sight, current_place, current_place_of, has_current_nonce}
 use Rattle.stun_auth.specs.Validation.{ChangesNothing, ServerSeen, sight, with_accepted}
@@ -58,7 +58,7 @@ at_place-same places a change same =
 
 -- what holds while no allocation fails, holds or an allocation fails
 pub or_memory : {V P Q : Type 0} (r : Result V LongTermServerAuthErrorReason) → P → Q
-    → ServerOrMemory r P Q
+    → ServerUnlessMemory r P Q
 or_memory (Ok v) p q = p
 or_memory (Err Unauthorized) p q = p
 or_memory (Err IntegrityFailed) p q = p
@@ -68,7 +68,7 @@ or_memory (Err StaleNonce) p q = p
 or_memory (Err OutOfMemory) p q = q
 
 pub or_memory_map : {V P P' : Type 0} (Q : Type 0) (r : Result V LongTermServerAuthErrorReason)
-    → (P → P') → ServerOrMemory r P Q → ServerOrMemory r P' Q
+    → (P → P') → ServerUnlessMemory r P Q → ServerUnlessMemory r P' Q
 or_memory_map Q (Ok v) f h = f h
 or_memory_map Q (Err Unauthorized) f h = f h
 or_memory_map Q (Err IntegrityFailed) f h = f h

@@ -129,11 +129,11 @@ verdict-rows users feature ours offered r =
 
 -- ---- the steps
 
-pub user_of : (users : Registered) (feature : Feature) (hash username : Option (List ℕ))
+pub named_by-two_steps : (users : Registered) (feature : Feature) (hash username : Option (List ℕ))
     → named_by hash username users feature
     ≡ option_and_then (user_named users) (name_by hash username users feature)
-user_of users feature None username = refl
-user_of users feature (Some hash) username = by (is_possible feature)
+named_by-two_steps users feature None username = refl
+named_by-two_steps users feature (Some hash) username = by (is_possible feature)
   where
     by : (b : Bool) → cond b (user_with_hash users hash) None
         ≡ option_and_then (user_named users) (cond b (name_with_hash users hash) None)
@@ -218,7 +218,7 @@ by_choice-rows users feature ours offered r theirs (Some a) = by (bytes_eq their
         ∙ ap (λ (user : Option RegisteredUser).
         unless (is_none (option_and_then (verified_for users r a) user))
         (record { name = name_or user; algorithm = a }))
-        (sym (user_of users feature r.userhash r.username))
+        (sym (named_by-two_steps users feature r.userhash r.username))
         ∙ unless-cond
         (is_none (option_and_then (verified_for users r a) (named_user users feature r)))
         (record { name = name_or (named_user users feature r); algorithm = a })

@@ -226,7 +226,8 @@ ForClientReason UnsupportedFeature P Q = P
 ForClientReason OutOfMemory P Q = Q
 
 -- the first fact holds, or the second where the answer is that an allocation failed
-abbrev pub ClientOrMemory : {V : Type 0} → Result V LongTermClientAuthErrorReason → Type 0 → Type 0
+abbrev pub ClientUnlessMemory : {V : Type 0} → Result V LongTermClientAuthErrorReason
+    → Type 0 → Type 0
     → Type 0
-ClientOrMemory (Ok value) P Q = P
-ClientOrMemory (Err reason) P Q = ForClientReason reason P Q
+ClientUnlessMemory (Ok value) P Q = P
+ClientUnlessMemory (Err reason) P Q = ForClientReason reason P Q

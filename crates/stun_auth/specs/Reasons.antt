@@ -36,7 +36,8 @@ ForServerReason StaleNonce P Q = P
 ForServerReason OutOfMemory P Q = Q
 
 -- the first fact holds, or the second where an allocation failed
-abbrev pub ServerOrMemory : {V : Type 0} → Result V LongTermServerAuthErrorReason → Type 0 → Type 0
+abbrev pub ServerUnlessMemory : {V : Type 0} → Result V LongTermServerAuthErrorReason
+    → Type 0 → Type 0
     → Type 0
-ServerOrMemory (Ok v) P Q = P
-ServerOrMemory (Err reason) P Q = ForServerReason reason P Q
+ServerUnlessMemory (Ok v) P Q = P
+ServerUnlessMemory (Err reason) P Q = ForServerReason reason P Q

@@ -10,7 +10,7 @@ ghost use Rattle.std.specs.Prelude.{◌≡◌, ◌∷◌, [], Some, OnErr, codes
 ghost use Rattle.std.specs.Fmt.{WritesOnOk, WritesStyledOnOk};
 ghost use Rattle.stun_auth.specs.Reading.{reading_of};
 ghost use Rattle.stun_auth.specs.Client.{new_client};
-ghost use Rattle.stun_auth.specs.ClientStep.{IsResend, ClientOrMemory, after_challenge};
+ghost use Rattle.stun_auth.specs.ClientStep.{IsResend, ClientUnlessMemory, after_challenge};
 ghost use Rattle.stun_auth.specs.ClientStep.{after_digest};
 ghost use Rattle.stun_auth.specs.ClientStep.{after_stale, client_step, is_authenticated, is_code};
 ghost use Rattle.stun_auth.specs.ClientStep.{is_repeated, client_reason, verified_under_kept};
@@ -363,8 +363,8 @@ impl<A: Allocator + Copy> LongTermClientAuth<A> {
     ) -> Result<LongTermClientValidation, LongTermClientAuthError>
         ensures answer { let step = client_step self.old.settings self.old.state
             (reading_of message.now) in
-            ClientOrMemory result (result ≡ step.answer) (IsResend step.answer) }
-        ensures state { ClientOrMemory result
+            ClientUnlessMemory result (result ≡ step.answer) (IsResend step.answer) }
+        ensures state { ClientUnlessMemory result
             (self.new ≡ record self.old {
               state =
                   (client_step self.old.settings self.old.state (reading_of message.now)).state;
@@ -393,12 +393,12 @@ impl<A: Allocator + Copy> LongTermClientAuth<A> {
             let step = after_challenge self.old.state digest
             (taken_up self.old.settings self.old.state self.old.settings.credentials r.realm
             r.nonce r.algorithms) in
-            ClientOrMemory result (result ≡ step.answer) (IsResend step.answer) }
+            ClientUnlessMemory result (result ≡ step.answer) (IsResend step.answer) }
         ensures state { let r = reading_seen reading.entry in
             let step = after_challenge self.old.state digest
             (taken_up self.old.settings self.old.state self.old.settings.credentials r.realm
             r.nonce r.algorithms) in
-            ClientOrMemory result (self.new ≡ record self.old { state = step.state })
+            ClientUnlessMemory result (self.new ≡ record self.old { state = step.state })
             (self.new ≡ self.old) }
         ensures refused { OnErr result (self.new ≡ self.old) }
     {
@@ -423,10 +423,10 @@ impl<A: Allocator + Copy> LongTermClientAuth<A> {
     ) -> Result<LongTermClientValidation, LongTermClientAuthError>
         ensures answer { let step = after_stale self.old.state digest
             (reading_seen reading.now).realm (reading_seen reading.now).nonce in
-            ClientOrMemory result (result ≡ step.answer) (IsResend step.answer) }
+            ClientUnlessMemory result (result ≡ step.answer) (IsResend step.answer) }
         ensures state { let step = after_stale self.old.state digest
             (reading_seen reading.now).realm (reading_seen reading.now).nonce in
-            ClientOrMemory result (self.new ≡ record self.old { state = step.state })
+            ClientUnlessMemory result (self.new ≡ record self.old { state = step.state })
             (self.new ≡ self.old) }
         ensures refused { OnErr result (self.new ≡ self.old) }
     {

@@ -59,13 +59,13 @@ fingerprinted_message buffer count =
 -- ---- types that are not known (sections 6.3.1 and 14.13)
 
 -- the most types that a caller may name as known
-abbrev pub ALL_KNOWN : ℕ
-ALL_KNOWN = 256
+abbrev pub MOST_KNOWN : ℕ
+MOST_KNOWN = 256
 
 -- why no types are told, if none are: too many are known, and then the message
 abbrev pub known_refusal : List ℕ → List ℕ → Option Refusal
 known_refusal bytes known =
-    if nat_lt ALL_KNOWN (length known) then Some BadArgument
+    if nat_lt MOST_KNOWN (length known) then Some BadArgument
     else message_refusal (refusal bytes)
 
 -- a message's types that must be understood and are not known, in their order, each once

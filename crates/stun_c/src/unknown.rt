@@ -27,7 +27,7 @@ use stun_types::message::{Message, MessageWriteMutSlice};
 use stun_types::prelude::*;
 
 /// The most types that a caller may name as known.
-const ALL_KNOWN: usize = 256;
+const MOST_KNOWN: usize = 256;
 
 /// Makes types of numbers.
 fn copy_types(types: &mut [AttributeType], numbers: &[u16])
@@ -45,10 +45,10 @@ fn known_types<'a>(
     numbers: &[u16],
     place: &'a mut [AttributeType],
 ) -> Result<&'a [AttributeType], Refusal>
-    requires { length place.old ≡ ALL_KNOWN }
+    requires { length place.old ≡ MOST_KNOWN }
     ensures ok { IfOk result (λ known. known.now ≡ types_of numbers.now) }
-    ensures few { OnOk result (length numbers.now ≤ ALL_KNOWN) }
-    ensures err { IfErr result (λ refusal. (ALL_KNOWN < length numbers.now)
+    ensures few { OnOk result (length numbers.now ≤ MOST_KNOWN) }
+    ensures err { IfErr result (λ refusal. (MOST_KNOWN < length numbers.now)
         × (refusal ≡ Refusal.BadArgument)) }
 {
     let Some(known) = place.get_mut(..numbers.len()) else {
@@ -90,7 +90,7 @@ fn readable<'a, 'b>(
     known: &[u16],
     place: &'b mut [AttributeType],
 ) -> Result<(Message<'a>, &'b [AttributeType]), Refusal>
-    requires { length place.old ≡ ALL_KNOWN }
+    requires { length place.old ≡ MOST_KNOWN }
     ensures ok { IfOk result (λ both. (known_refusal bytes.now known.now ≡ None)
         × (both.0 ≡ bytes.now) × (both.1.now ≡ types_of known.now)) }
     ensures err { IfErr result (λ refusal. known_refusal bytes.now known.now ≡ Some refusal) }
@@ -108,7 +108,7 @@ pub fn types(message: &[u8], known: &[u16], types: &mut [u16]) -> i64
     ensures types { types.new ≡ types_after (known_refusal message.now known.now)
         (unknown_of message.now known.now) types.old }
 {
-    let mut place = [AttributeType::new(0); ALL_KNOWN];
+    let mut place = [AttributeType::new(0); MOST_KNOWN];
     match readable(message, known, &mut place) {
         Ok((message, known)) => tell(&message, known, types) as i64,
         Err(refusal) => refusal.code(),
@@ -270,7 +270,7 @@ pub fn refuse(request: &[u8], known: &[u16], out: &mut [u8]) -> i64
     ensures written { out.new ≡ buffer_after (within_room (unknown_made request.now known.now)
         (length out.old)) out.old }
 {
-    let mut place = [AttributeType::new(0); ALL_KNOWN];
+    let mut place = [AttributeType::new(0); MOST_KNOWN];
     match readable(request, known, &mut place) {
         Ok((message, known)) => answer(&message, known, out),
         Err(refusal) => refusal.code(),

@@ -11,22 +11,22 @@ use Rattle.stun_types.specs.Visible.{visible}
 use Rattle.stun_types.specs.Walk.{Member}
 use Rattle.stun_extra.specs.Crc32.{crc32}
 use Rattle.stun_extra.specs.Fingerprint.{FINGERPRINT_XOR, fingerprint_at, fingerprint_if}
-use Rattle.stun_extra.specs.Fingerprint.{fingerprint_in, fingerprint_crc, is_in_place}
+use Rattle.stun_extra.specs.Fingerprint.{fingerprint_in, fingerprint_word, is_in_place}
 use Rattle.stun_extra.specs.declared.fingerprint.Fingerprint.TheVariants.{Right, Wrong, Misplaced}
 use Rattle.stun_extra.proofs.Crc32Lemmas.{crc32-apart, equal}
 
 -- a right FINGERPRINT has the number of what is before it
 right_at : (bytes : List ℕ) (m : Member) → fingerprint_at bytes m ≡ Right
-    → big_number 4 m.1.value ≡ fingerprint_crc (take m.0 bytes)
+    → big_number 4 m.1.value ≡ fingerprint_word (take m.0 bytes)
 right_at bytes m right =
-    by (is_in_place bytes m) (big_number 4 m.1.value == fingerprint_crc (take m.0 bytes))
+    by (is_in_place bytes m) (big_number 4 m.1.value == fingerprint_word (take m.0 bytes))
     refl right
   where
     by : (placed same : Bool)
-        → (big_number 4 m.1.value == fingerprint_crc (take m.0 bytes)) ≡ same
+        → (big_number 4 m.1.value == fingerprint_word (take m.0 bytes)) ≡ same
         → cond placed (cond same Right Wrong) Misplaced ≡ Right
-        → big_number 4 m.1.value ≡ fingerprint_crc (take m.0 bytes)
-    by true true is answer = equal (big_number 4 m.1.value) (fingerprint_crc (take m.0 bytes)) is
+        → big_number 4 m.1.value ≡ fingerprint_word (take m.0 bytes)
+    by true true is answer = equal (big_number 4 m.1.value) (fingerprint_word (take m.0 bytes)) is
     by true false is answer = absurd (cc)
     by false same is answer = absurd (cc)
 

@@ -30,7 +30,7 @@ use Rattle.stun_types.proofs.TailLemmas.{verified_by-tail}
 use Rattle.stun_extra.specs.Crc32.{crc32}
 use Rattle.stun_extra.specs.Fingerprint.{FINGERPRINT_XOR, fingerprint_at}
 use Rattle.stun_extra.specs.Fingerprint.{fingerprint_attribute, fingerprint_if}
-use Rattle.stun_extra.specs.Fingerprint.{fingerprint_in, fingerprint_crc, with_fingerprint}
+use Rattle.stun_extra.specs.Fingerprint.{fingerprint_in, fingerprint_word, with_fingerprint}
 use Rattle.stun_extra.specs.declared.fingerprint.Fingerprint.TheVariants.{Right, Wrong, Misplaced}
 use Rattle.stun_extra.proofs.Crc32Lemmas.{crc32-below}
 use lib.Bits.{xor_lt}
@@ -214,19 +214,19 @@ fingerprint_at-added : (message : List ℕ) → IsFree message
     → fingerprint_at (with_fingerprint message) (fingerprint_member message) ≡ Right
 fingerprint_at-added message free =
     let covered = with_length message (length_with message 4) in
-    let small : fingerprint_crc covered < 2 ^ 32 =
+    let small : fingerprint_word covered < 2 ^ 32 =
     xor_lt 32 (crc32 covered) FINGERPRINT_XOR (crc32-below covered) (omega arith) in
     let ends : (length message + 8 == length (with_fingerprint message)) ≡ true =
     alike (length message + 8) (length (with_fingerprint message))
     (length-fingerprint message free) in
     let front = front-fingerprint message free.is_message.header.is_whole in
-    let same : big_number 4 (big_bytes 4 (fingerprint_crc covered))
-    ≡ fingerprint_crc (take (length message) (with_fingerprint message)) =
-    number-again (fingerprint_crc covered) small ∙ ap fingerprint_crc (sym front) in
-    let right : (big_number 4 (big_bytes 4 (fingerprint_crc covered))
-    == fingerprint_crc (take (length message) (with_fingerprint message))) ≡ true =
-    alike (big_number 4 (big_bytes 4 (fingerprint_crc covered)))
-    (fingerprint_crc (take (length message) (with_fingerprint message))) same in
+    let same : big_number 4 (big_bytes 4 (fingerprint_word covered))
+    ≡ fingerprint_word (take (length message) (with_fingerprint message)) =
+    number-again (fingerprint_word covered) small ∙ ap fingerprint_word (sym front) in
+    let right : (big_number 4 (big_bytes 4 (fingerprint_word covered))
+    == fingerprint_word (take (length message) (with_fingerprint message))) ≡ true =
+    alike (big_number 4 (big_bytes 4 (fingerprint_word covered)))
+    (fingerprint_word (take (length message) (with_fingerprint message))) same in
     λ i. cond (ends i) (cond (right i) Right Wrong) Misplaced
 
 pub fingerprint_in-added : (message : List ℕ) → IsFree message

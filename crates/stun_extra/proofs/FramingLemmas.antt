@@ -265,7 +265,7 @@ cut_of-fed_up_to (suc most) bytes more (has_message n framed) enough =
     ∙ (ap (with_first (take n bytes)) others
     ∙ ap (λ c. cut_with_more c more) (sym (cut_of-framed most n bytes framed))))
 
-pub cut_of-cut_with_more : (bytes more : List ℕ)
+pub cut_of-append : (bytes more : List ℕ)
     → cut_of (bytes ++ more) ≡ cut_with_more (cut_of bytes) more
-cut_of-cut_with_more bytes more =
+cut_of-append bytes more =
     cut_of-fed_up_to (length bytes) bytes more (front bytes) (omega arith)

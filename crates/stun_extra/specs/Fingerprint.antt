@@ -22,14 +22,14 @@ abbrev pub FINGERPRINT_XOR : ℕ
 FINGERPRINT_XOR = 0x5354554E
 
 -- the number in a FINGERPRINT after these bytes of a message
-abbrev pub fingerprint_crc : List ℕ → ℕ
-fingerprint_crc bytes = bit_xor (crc32 bytes) FINGERPRINT_XOR
+abbrev pub fingerprint_word : List ℕ → ℕ
+fingerprint_word bytes = bit_xor (crc32 bytes) FINGERPRINT_XOR
 
 -- the FINGERPRINT at the end of a message, whose length field counts its 4 bytes of value
 abbrev pub fingerprint_attribute : List ℕ → TypedValue
 fingerprint_attribute message = record {
   kind = FINGERPRINT;
-  value = big_bytes 4 (fingerprint_crc (with_length message (length_with message 4)));
+  value = big_bytes 4 (fingerprint_word (with_length message (length_with message 4)));
 }
 
 -- the message with its length raised, then its FINGERPRINT
@@ -50,7 +50,7 @@ is_in_place message m = (length m.1.value == 4) && (m.0 + 8 == length message)
 abbrev pub fingerprint_at : List ℕ → Member → Fingerprint
 fingerprint_at message m =
     if is_in_place message m
-    then if big_number 4 m.1.value == fingerprint_crc (take m.0 message) then Right else Wrong
+    then if big_number 4 m.1.value == fingerprint_word (take m.0 message) then Right else Wrong
     else Misplaced
 
 -- the same, or `Absent` if there is none

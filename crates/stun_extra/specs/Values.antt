@@ -51,9 +51,9 @@ pub number_of_8-written : (kind number : ℕ) → number < 2 ^ 64
     → number_of kind 8 (record { kind = kind; value = big_bytes 8 number }) ≡ Some number
 number_of_8-written kind number fits = let read = number-written 8 number fits in search rules
 
-pub value_of-written : (kind count : ℕ) (value : List ℕ) → length value ≡ count
+pub value_of_length-written : (kind count : ℕ) (value : List ℕ) → length value ≡ count
     → value_of_length kind count (record { kind = kind; value = value }) ≡ Some value
-value_of-written kind count value whole = search rules
+value_of_length-written kind count value whole = search rules
 
 pub flag_of-written : (kind : ℕ) (flag : Unit {0}) → Unit {0}
     → flag_of kind (record { kind = kind; value = [] }) ≡ Some flag

@@ -8,7 +8,7 @@ ghost use Rattle.stun_types.specs.Message.{IsMessage};
 ghost use Rattle.stun_types.specs.Visible.{visible};
 ghost use Rattle.stun_types.specs.Writing.{HasOneMore};
 ghost use Rattle.stun_extra.specs.Fingerprint.{fingerprint_at, fingerprint_attribute};
-ghost use Rattle.stun_extra.specs.Fingerprint.{fingerprint_in, fingerprint_crc};
+ghost use Rattle.stun_extra.specs.Fingerprint.{fingerprint_in, fingerprint_word};
 ghost use Rattle.stun_extra.specs.Fingerprint.{fingerprint_refusal, with_fingerprint};
 
 use crate::crc32::crc32;
@@ -80,7 +80,7 @@ pub fn fingerprint_at(message: &[u8], place: usize, attribute: &RawAttribute<'_>
 
 /// The number in a FINGERPRINT after these bytes of a message.
 fn fingerprint_number(bytes: &[u8]) -> u32
-    ensures { result ≡ fingerprint_crc bytes.now }
+    ensures { result ≡ fingerprint_word bytes.now }
 {
     crc32(bytes) ^ FINGERPRINT_XOR
 }

@@ -20,20 +20,21 @@ use Rattle.stun_inspect.specs.Decode.{line_with}
 use Rattle.stun_inspect.specs.Fingerprint.{ending_of, fingerprint_text}
 
 -- a text of two that have none
-no_feed-append : (front text : List ℕ) → has_line_feed front ≡ false → has_line_feed text ≡ false
+has_line_feed-append : (front text : List ℕ) → has_line_feed front ≡ false
+    → has_line_feed text ≡ false
     → has_line_feed (front ++ text) ≡ false
-no_feed-append front text none none_behind =
+has_line_feed-append front text none none_behind =
     list_any-append (λ byte. byte == 10) front text
     ∙ (ap (λ any. any || has_line_feed text) none ∙ none_behind)
 
 -- a byte that is none, and a text that has none
-no_feed-cons : (byte : ℕ) (text : List ℕ) → (byte == 10) ≡ false → has_line_feed text ≡ false
+has_line_feed-cons : (byte : ℕ) (text : List ℕ) → (byte == 10) ≡ false → has_line_feed text ≡ false
     → has_line_feed (byte ∷ text) ≡ false
-no_feed-cons byte text other none = ap (λ is. is || has_line_feed text) other ∙ none
+has_line_feed-cons byte text other none = ap (λ is. is || has_line_feed text) other ∙ none
 
 -- the digits of a number
-no_feed-decimal : (n : ℕ) → n < 2 ^ 64 → has_line_feed (decimal n) ≡ false
-no_feed-decimal n fits =
+has_line_feed-decimal : (n : ℕ) → n < 2 ^ 64 → has_line_feed (decimal n) ≡ false
+has_line_feed-decimal n fits =
     let digits = (decimal_is_IsNumeral n fits).0.1 in
     list_any_none (λ byte. byte == 10) (decimal n)
     (All-from_get_or (λ byte. (byte == 10) ≡ false) (decimal n) 0
@@ -48,32 +49,35 @@ digit-other digit =
       | false ↦ ne_eqb (87 + digit) 10 (λ same. omega (arith, same))
     ]
 
-no_feed-byte : (byte : ℕ) → has_line_feed (hex_byte byte) ≡ false
-no_feed-byte byte =
-    no_feed-cons (digit_glyph false (byte / 16)) (digit_glyph false (byte % 16) ∷ [])
+has_line_feed-byte : (byte : ℕ) → has_line_feed (hex_byte byte) ≡ false
+has_line_feed-byte byte =
+    has_line_feed-cons (digit_glyph false (byte / 16)) (digit_glyph false (byte % 16) ∷ [])
     (digit-other (byte / 16))
-    (no_feed-cons (digit_glyph false (byte % 16)) [] (digit-other (byte % 16)) refl)
+    (has_line_feed-cons (digit_glyph false (byte % 16)) [] (digit-other (byte % 16)) refl)
 
 -- the text of a type
-no_feed-type : (kind : ℕ) → has_line_feed (type_text kind) ≡ false
-no_feed-type kind =
-    no_feed-append (codes "0x" ++ hex_byte (kind / 256)) (hex_byte (kind % 256))
-    (no_feed-append (codes "0x") (hex_byte (kind / 256)) refl (no_feed-byte (kind / 256)))
-    (no_feed-byte (kind % 256))
+has_line_feed-type : (kind : ℕ) → has_line_feed (type_text kind) ≡ false
+has_line_feed-type kind =
+    has_line_feed-append (codes "0x" ++ hex_byte (kind / 256)) (hex_byte (kind % 256))
+    (has_line_feed-append (codes "0x") (hex_byte (kind / 256)) refl
+    (has_line_feed-byte (kind / 256)))
+    (has_line_feed-byte (kind % 256))
 
 -- the words on a FINGERPRINT
-no_feed-text : (fingerprint : Fingerprint) → has_line_feed (fingerprint_text fingerprint) ≡ false
-no_feed-text Right = refl
-no_feed-text Wrong = refl
-no_feed-text Misplaced = refl
-no_feed-text Absent = refl
+has_line_feed-text : (fingerprint : Fingerprint) → has_line_feed (fingerprint_text fingerprint)
+    ≡ false
+has_line_feed-text Right = refl
+has_line_feed-text Wrong = refl
+has_line_feed-text Misplaced = refl
+has_line_feed-text Absent = refl
 
-no_feed-ending : (message : List ℕ) (told : Told) → has_line_feed (ending_of message told) ≡ false
-no_feed-ending message told =
+has_line_feed-ending : (message : List ℕ) (told : Told) → has_line_feed (ending_of message told)
+    ≡ false
+has_line_feed-ending message told =
     let fingerprint = fingerprint_at message (told.place, told.attribute) in
     elim (told.attribute.kind == FINGERPRINT)
     as (λ is. has_line_feed (cond is (fingerprint_text fingerprint) []) ≡ false) [
-      | true ↦ no_feed-text fingerprint
+      | true ↦ has_line_feed-text fingerprint
       | false ↦ refl
     ]
 
@@ -82,7 +86,7 @@ line-after : (front line : List ℕ) → has_line_feed front ≡ false → IsLin
     → IsLine (front ++ line)
 line-after front line none is = (
   front ++ is.0,
-  no_feed-append front is.0 none is.1,
+  has_line_feed-append front is.0 none is.1,
   ap (λ rest. front ++ rest) is.2 ∙ sym (append_assoc front is.0 (10 ∷ [])),
 )
 
@@ -95,12 +99,12 @@ line_with-is_line message told name rest line fits none_name none_rest is =
     let feed : IsLine (10 ∷ []) = ([], refl, refl) in
     let ending : IsLine (rest ++ (ending_of message told ++ 10 ∷ [])) =
     line-after rest _ none_rest
-    (line-after (ending_of message told) (10 ∷ []) (no_feed-ending message told) feed) in
+    (line-after (ending_of message told) (10 ∷ []) (has_line_feed-ending message told) feed) in
     let place : IsLine
     (decimal told.place ++ (codes " " ++ (rest ++ (ending_of message told ++ 10 ∷ [])))) =
-    line-after (decimal told.place) _ (no_feed-decimal told.place fits)
+    line-after (decimal told.place) _ (has_line_feed-decimal told.place fits)
     (line-after (codes " ") _ refl ending) in
     subst IsLine (sym is)
     (line-after name _ none_name (line-after (codes " ") _ refl
-    (line-after (type_text told.attribute.kind) _ (no_feed-type told.attribute.kind)
+    (line-after (type_text told.attribute.kind) _ (has_line_feed-type told.attribute.kind)
     (line-after (codes " at ") _ refl place))))

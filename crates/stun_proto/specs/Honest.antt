@@ -1,6 +1,6 @@
 -- What a ready client and its server come to, where no signing is refused (RFC 8489, section 9.2).
 use Rattle.std.specs.Prelude.{◌≡◌, ℕ, ◌≤◌, List, length, true, Option, Some, None, IsOk}
-use Rattle.std.specs.Option.{is_some, option_and_then}
+use Rattle.std.specs.Option.{is_some}
 use Rattle.std.specs.declared.result.Result.TheVariants.{Ok}
 use Rattle.std.specs.FinMap as map
 use Rattle.std.specs.declared.net.socket_addr.SocketAddr.{SocketAddr}
@@ -15,8 +15,8 @@ use Rattle.stun_auth.specs.declared.client.answer.LongTermClientAuthErrorReason.
 use Rattle.stun_auth.specs.Algorithms.{algorithms_of}
 use Rattle.stun_auth.specs.Client.{Challenge, authenticated, initial}
 use Rattle.stun_auth.specs.Registered.{Registered}
-use Rattle.stun_auth.specs.Seen.{ClientSeen, PlaceSeen}
-use Rattle.stun_auth.specs.Validation.{ServerSeen, sight}
+use Rattle.stun_auth.specs.Seen.{PlaceSeen}
+use Rattle.stun_auth.specs.Validation.{ServerSeen, client_at, sight}
 use Rattle.stun_proto.specs.Best.{best}
 use Rattle.stun_proto.specs.Matching.{AreJoined, AreOfOthers, AreTexts, IsRegistered}
 use Rattle.stun_proto.specs.Negotiation.{Meeting, Met, whole_negotiation}
@@ -47,10 +47,6 @@ pub record IsReady (m : Meeting) (who : NameAndPassword) (server : ServerSeen) :
 pub record IsHonest (m : Meeting) (who : NameAndPassword) (server : ServerSeen) : Type 0 where
   pub ready : IsReady m who server
   pub signed : IsOk (whole_negotiation m initial server).ending
-
--- the client that a server knows at an address
-abbrev pub client_at : ServerSeen → SocketAddr → Option ClientSeen
-client_at server a = option_and_then (λ (p : PlaceSeen). p.client) (map.get server.places a)
 
 -- both sides have come to an algorithm
 pub record AgreesOn (from : SocketAddr) (who : NameAndPassword) (a : IntegrityAlgorithm)

@@ -24,8 +24,8 @@ abbrev pub lists : List (Bor (List ServerCall)) → List (List ServerCall)
 lists between = map (λ (calls : Bor (List ServerCall)). calls.now) between
 
 -- the request at an index
-abbrev pub turn_at : ℕ → List ℕ → List ℕ → List (List ℕ) → List (List ServerCall) → Round
-turn_at i ids moments words between = record {
+abbrev pub round_at : ℕ → List ℕ → List ℕ → List (List ℕ) → List (List ServerCall) → Round
+round_at i ids moments words between = record {
   id = slice_index ids i;
   now = slice_index moments i;
   words = slice_index_or words i [];
@@ -38,8 +38,8 @@ abbrev pub meeting : ClientSettings → SocketAddr → List ℕ → List ℕ →
 meeting settings from ids moments words between = record {
   settings = settings;
   from = from;
-  first = turn_at 0 ids moments words between;
-  second = turn_at 1 ids moments words between;
+  first = round_at 0 ids moments words between;
+  second = round_at 1 ids moments words between;
 }
 
 -- how a run has ended and what it has left, where no allocation failed

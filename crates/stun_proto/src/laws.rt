@@ -15,7 +15,7 @@ ghost use Rattle.stun_agent.specs.Transactions.{IsAscending};
 ghost use Rattle.stun_auth.specs.Additions.{UnlessMemory, written_page};
 ghost use Rattle.stun_auth.specs.Client.{initial};
 ghost use Rattle.stun_auth.specs.Reading.{Reading};
-ghost use Rattle.stun_auth.specs.Reasons.{ServerOrMemory};
+ghost use Rattle.stun_auth.specs.Reasons.{ServerUnlessMemory};
 ghost use Rattle.stun_auth.specs.Server.{Sight};
 ghost use Rattle.stun_auth.specs.Validation.{answer};
 ghost use Rattle.stun_proto.specs.AgentLoop.{LateLoopsAreBounded, LoopsAreDriven, LoopsExist};
@@ -171,7 +171,7 @@ pub fn a_validation_is_made<A: Allocator + Copy, R: Rng>(
     now: Instant,
     rng: &mut R,
 ) -> Result<LongTermServerValidation, LongTermServerAuthError>
-    ensures { ServerOrMemory result
+    ensures { ServerUnlessMemory result
         ((bytes : TheVec ℕ) → bytes.items ≡ message.now → IsMade server.old
         (ServerCall.Validate from now bytes (next_words 16 (R.stream rng.old)))
         (reply_with (reply_of_answer result) server.new))

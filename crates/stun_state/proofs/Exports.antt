@@ -4,7 +4,7 @@ use Rattle.std.proofs.Common.{if◌then◌else◌, Option, Some, IfSome, Result,
 use Rattle.std.proofs.Common.{Err, OnOk, OnErr, refl, sym, subst, ap, inl, inr}
 use Rattle.std.specs.Prelude.{⊤}
 use lib.Dec.{leb-suc-zero}
-use Rattle.stun_state.specs.Answers.{ForRefusal, CallOrMemory}
+use Rattle.stun_state.specs.Answers.{ForRefusal, CallUnlessMemory}
 use Rattle.stun_numbers.specs.Refusals.{refusal_number}
 use Rattle.stun_state.specs.Numbers.{OrOutOfMemory, left_by, length_answer}
 use Rattle.stun_numbers.specs.Buffers.{buffer_after, length_of}
@@ -94,7 +94,8 @@ unless_memory Q number TooManyAddresses expected told before now after memory is
 pub or_memory : {V S : Type 0} (Q : Type 0) (number : Result V Refusal → ℤ)
     (answer expected : Result V Refusal) (told : ℤ) (before now after : S)
     → number (Err OutOfMemory) ≡ refusal_number OutOfMemory → told ≡ number answer
-    → CallOrMemory answer (answer ≡ expected) Q → CallOrMemory answer (now ≡ after) (now ≡ before)
+    → CallUnlessMemory answer (answer ≡ expected) Q
+    → CallUnlessMemory answer (now ≡ after) (now ≡ before)
     → OrOutOfMemory told before now (number expected) after
 or_memory Q number (Ok value) expected told before now after memory is p q =
     inl (is ∙ ap number p, q)
@@ -213,8 +214,8 @@ unwritten_by TooManyAddresses signed before after is written =
 -- what is in the buffer after a call that signs, where an allocation may fail
 pub left_buffer : (answer : Result ℕ Refusal) (signed : Result (List ℕ) Refusal) (told : ℤ)
     (before after : List ℕ)
-    → told ≡ length_answer answer → CallOrMemory answer (answer ≡ length_of signed) ⊤
-    → CallOrMemory answer (after ≡ buffer_after signed before) (after ≡ before)
+    → told ≡ length_answer answer → CallUnlessMemory answer (answer ≡ length_of signed) ⊤
+    → CallUnlessMemory answer (after ≡ buffer_after signed before) (after ≡ before)
     → after ≡ left_by told before (buffer_after signed before)
 left_buffer (Ok n) signed told before after told_is is written =
     written ∙ sym (ap (λ z. left_by z before (buffer_after signed before)) told_is

@@ -51,9 +51,9 @@ ForRefusal NoWait P Q = P
 ForRefusal TooManyAddresses P Q = P
 
 -- the first fact holds, or the second where an allocation failed
-abbrev pub CallOrMemory : {V : Type 0} → Result V Refusal → Type 0 → Type 0 → Type 0
-CallOrMemory (Ok value) P Q = P
-CallOrMemory (Err refusal) P Q = ForRefusal refusal P Q
+abbrev pub CallUnlessMemory : {V : Type 0} → Result V Refusal → Type 0 → Type 0 → Type 0
+CallUnlessMemory (Ok value) P Q = P
+CallUnlessMemory (Err refusal) P Q = ForRefusal refusal P Q
 
 -- what is left, unless something refused
 abbrev pub kept_if_refused : {V : Type 0} → Option Refusal → V → V → V

@@ -123,18 +123,18 @@ left_with (Err refusal) before after = before
 
 -- what is returned for bytes from an address. They are refused first where they are no message,
 -- then where they come from one address too many, and then where the user is refused
-abbrev pub validated_of : Kept → List ℕ → ℕ → List ℕ → Result RegisteredUser Refusal → SocketAddr
-    → Result IntegrityAlgorithm Refusal
-validated_of k bytes now words user from =
+abbrev pub handed_validation : Kept → List ℕ → ℕ → List ℕ → Result RegisteredUser Refusal
+    → SocketAddr → Result IntegrityAlgorithm Refusal
+handed_validation k bytes now words user from =
     refusal_or (message_refusal (refusal bytes))
     (refusal_or (room_refusal k.server k.most_addresses from)
     (with_given (just_given k.server.registered user) (λ users. server_validation_answer
     (answer (sight (with_users k.server users) from) now words (reading_of bytes)))))
 
 -- the server that they leave, with its own users
-abbrev pub after_validating_of : Kept → List ℕ → ℕ → List ℕ → Result RegisteredUser Refusal
+abbrev pub after_handed_validation : Kept → List ℕ → ℕ → List ℕ → Result RegisteredUser Refusal
     → SocketAddr → ServerSeen
-after_validating_of k bytes now words user from =
+after_handed_validation k bytes now words user from =
     kept_if_refused (message_refusal (refusal bytes)) k.server
     (kept_if_refused (room_refusal k.server k.most_addresses from) k.server
     (left_with (just_given k.server.registered user) k.server (λ users. with_users
@@ -142,29 +142,29 @@ after_validating_of k bytes now words user from =
     k.server.registered)))
 
 -- the number that a caller gets, and the server that is kept then
-abbrev pub validation_number_of : Kept → List ℕ → Address → ℕ → List ℕ
+abbrev pub handed_validation_number : Kept → List ℕ → Address → ℕ → List ℕ
     → Result RegisteredUser Refusal → ℤ
-validation_number_of k bytes from now words user =
-    algorithm_answer (at_address (socket_address from) (validated_of k bytes now words user))
+handed_validation_number k bytes from now words user =
+    algorithm_answer (at_address (socket_address from) (handed_validation k bytes now words user))
 
-abbrev pub kept_after_validating_of : Kept → List ℕ → Address → ℕ → List ℕ
+abbrev pub kept_after_handed_validation : Kept → List ℕ → Address → ℕ → List ℕ
     → Result RegisteredUser Refusal → ServerSeen
-kept_after_validating_of k bytes from now words user =
-    after_address (socket_address from) k.server (after_validating_of k bytes now words user)
+kept_after_handed_validation k bytes from now words user =
+    after_address (socket_address from) k.server (after_handed_validation k bytes now words user)
 
 -- ---- signing with a user
 
 -- a message in the first bytes of a buffer, signed by the server that has just this user: where the
 -- user is refused, that comes first
-abbrev pub signed_of : ServerSeen → List ℕ → ℕ → Address → Result RegisteredUser Refusal
+abbrev pub handed_signing : ServerSeen → List ℕ → ℕ → Address → Result RegisteredUser Refusal
     → Result (List ℕ) Refusal
-signed_of s buffer count to user =
+handed_signing s buffer count to user =
     with_given (just_given s.registered user)
     (λ users. signed_for (with_users s users) buffer count to)
 
 -- the server that is kept then, with its own users
-abbrev pub kept_after_signing_of : ServerSeen → List ℕ → ℕ → Address
+abbrev pub kept_after_handed_signing : ServerSeen → List ℕ → ℕ → Address
     → Result RegisteredUser Refusal → ServerSeen
-kept_after_signing_of s buffer count to user =
+kept_after_handed_signing s buffer count to user =
     left_with (just_given s.registered user) s
     (λ users. with_users (kept_after_signing (with_users s users) buffer count to) s.registered)

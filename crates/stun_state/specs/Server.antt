@@ -1,7 +1,7 @@
 -- What the calls on a server return and leave, by the definitions of its authenticator (RFC 8489,
 -- section 9.2.4).
 use Rattle.std.specs.Prelude.{ℕ, ℤ, List, ◌++◌, length, drop, max, nat_lt, ◌||◌, if◌then◌else◌}
-use Rattle.std.specs.Prelude.{is_some, Option, Some, None, Result, Ok, Err, option_and_then}
+use Rattle.std.specs.Prelude.{is_some, Option, Some, None, Result, Ok, Err}
 use Rattle.std.specs.FinMap as map
 use Rattle.std.specs.Option.{option_map}
 use Rattle.std.specs.declared.net.socket_addr.SocketAddr.{SocketAddr}
@@ -16,7 +16,8 @@ use Rattle.stun_auth.specs.Places.{with_change, with_client}
 use Rattle.stun_auth.specs.Reading.{reading_of}
 use Rattle.stun_auth.specs.Registered.{without_user}
 use Rattle.stun_auth.specs.Seen.{ClientSeen, PlaceSeen}
-use Rattle.stun_auth.specs.Validation.{Answer, ServerSeen, after_validation, answer, sight}
+use Rattle.stun_auth.specs.Validation.{Answer, ServerSeen, after_validation, answer, client_at}
+use Rattle.stun_auth.specs.Validation.{sight}
 use Rattle.stun_numbers.specs.Refusals.{message_refusal, refusal_or}
 use Rattle.stun_numbers.specs.declared.refusal.Refusal.{Refusal}
 use Rattle.stun_numbers.specs.declared.refusal.Refusal.TheVariants.{BufferTooSmall}
@@ -102,10 +103,6 @@ kept_after_validating k bytes from now words =
 
 -- ---- who was validated
 
-abbrev pub client_of_address : ServerSeen → SocketAddr → Option ClientSeen
-client_of_address s address =
-    option_and_then (λ (p : PlaceSeen). p.client) (map.get s.places address)
-
 -- who is told, where a buffer of so many bytes has room for the name
 abbrev pub client_told : ℕ → Option ClientSeen → Result (Option IntegrityAlgorithm) Refusal
 client_told room None = Ok None
@@ -130,7 +127,7 @@ name_written buffer (Some c) = with_text buffer c.name
 -- the same at an address as a caller gives it
 abbrev pub client_found : ServerSeen → Address → ℕ → Result (Option IntegrityAlgorithm) Refusal
 client_found s address room =
-    at_address (socket_address address) (λ a. client_told room (client_of_address s a))
+    at_address (socket_address address) (λ a. client_told room (client_at s a))
 
 -- ---- nonces
 

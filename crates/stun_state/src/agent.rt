@@ -20,7 +20,7 @@ ghost use Rattle.stun_state.specs.Agent.{sent_to};
 ghost use Rattle.stun_state.specs.Agent.{statistics_answer, timeouts_refusal, caller_statistics};
 ghost use Rattle.stun_state.specs.Agent.{caller_statistics_after};
 ghost use Rattle.stun_state.specs.Agent.{transport_numbered, unless_untimed, with_changed};
-ghost use Rattle.stun_state.specs.Answers.{CallOrMemory, at_address, done_if_given};
+ghost use Rattle.stun_state.specs.Answers.{CallUnlessMemory, at_address, done_if_given};
 ghost use Rattle.stun_state.specs.Memory.{IsRequestTaken, message_adds_none, naming_adds_none};
 
 use crate::address::Address;
@@ -186,7 +186,7 @@ pub fn send_request(
     to: &Address,
     now: u64,
 ) -> Result<(), Refusal>
-    ensures answer { CallOrMemory result
+    ensures answer { CallUnlessMemory result
         (result ≡ at_address (socket_address to.now) (request_answer agent.old message.now))
         (IsRequestTaken agent.old message.now (socket_address to.now)) }
     ensures ok { OnOk result (IfSome (socket_address to.now)
@@ -293,7 +293,7 @@ pub fn handle(
     from: &Address,
     now: u64,
 ) -> Result<u32, Refusal>
-    ensures answer { CallOrMemory result
+    ensures answer { CallUnlessMemory result
         (result ≡ at_address (socket_address from.now) (receiving_answer agent.old message.now)) ⊤ }
     ensures ok { OnOk result (IfSome (socket_address from.now)
         (λ from. agent.new ≡ after_message (Some now) message.now from agent.old)) }
@@ -312,7 +312,7 @@ pub fn handle(
 
 /// Marks an address as a validated peer.
 pub fn validated_peer(agent: &mut StunAgent<Global>, peer: &Address) -> Result<(), Refusal>
-    ensures answer { CallOrMemory result (result ≡ done_if_given (socket_address peer.now)) ⊤ }
+    ensures answer { CallUnlessMemory result (result ≡ done_if_given (socket_address peer.now)) ⊤ }
     ensures ok { OnOk result (agent.new ≡ kept_after_naming agent.old peer.now) }
     ensures err { OnErr result (agent.new ≡ agent.old) }
 

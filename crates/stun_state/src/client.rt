@@ -11,7 +11,7 @@ ghost use Rattle.stun_base.specs.MessageType.{class_in, is_request};
 ghost use Rattle.stun_types.specs.Limits.{LENGTH_LIMIT as length_limit};
 ghost use Rattle.stun_types.specs.Message.{IsMessage};
 ghost use Rattle.stun_numbers.specs.Buffers.{buffer_after, within_room, length_of};
-ghost use Rattle.stun_state.specs.Answers.{CallOrMemory, done_if_given, texts_refusal};
+ghost use Rattle.stun_state.specs.Answers.{CallUnlessMemory, done_if_given, texts_refusal};
 ghost use Rattle.stun_state.specs.Client.{client_after_validation, step, client_validation};
 ghost use Rattle.stun_state.specs.Client.{client_validation_answer};
 ghost use Rattle.stun_state.specs.Client.{client_with_algorithms, with_credentials};
@@ -53,7 +53,7 @@ pub fn set_credentials(
 ) -> Result<(), Refusal>
     ensures ok { OnOk result (client.new ≡ with_credentials name.now password.now client.old) }
     ensures accepted { OnOk result (texts_refusal name.now password.now ≡ None) }
-    ensures err { IfErr result (λ refusal. CallOrMemory result
+    ensures err { IfErr result (λ refusal. CallUnlessMemory result
         (texts_refusal name.now password.now ≡ Some refusal)
         (texts_refusal name.now password.now ≡ None)) }
     ensures refused { OnErr result (client.new ≡ client.old) }
@@ -210,9 +210,9 @@ pub fn validate(
     client: &mut LongTermClientAuth<Global>,
     message: &[u8],
 ) -> Result<LongTermClientValidation, Refusal>
-    ensures answer { CallOrMemory result (result ≡ client_validation client.old message.now)
+    ensures answer { CallUnlessMemory result (result ≡ client_validation client.old message.now)
         (AsksAgain client.old message.now) }
-    ensures state { CallOrMemory result
+    ensures state { CallUnlessMemory result
         (client.new ≡ client_after_validation client.old message.now)
         (client.new ≡ client.old) }
     ensures refused { OnErr result (client.new ≡ client.old) }
@@ -226,10 +226,10 @@ fn validate_message(
     client: &mut LongTermClientAuth<Global>,
     message: &Message<'_>,
 ) -> Result<LongTermClientValidation, Refusal>
-    ensures answer { CallOrMemory result (result ≡ client_validation_answer
+    ensures answer { CallUnlessMemory result (result ≡ client_validation_answer
         (step client.old message.now).answer)
         (IsResend (step client.old message.now).answer) }
-    ensures state { CallOrMemory result (client.new
+    ensures state { CallUnlessMemory result (client.new
         ≡ record client.old { state = (step client.old message.now).state })
         (client.new ≡ client.old) }
     ensures refused { OnErr result (client.new ≡ client.old) }

@@ -8,11 +8,11 @@ ghost use Rattle.stun_auth.specs.ServerSigning.{after_signing};
 ghost use Rattle.stun_base.specs.MessageType.{class_in, is_response};
 ghost use Rattle.stun_numbers.specs.Buffers.{buffer_after, length_of};
 ghost use Rattle.stun_state.specs.Addresses.{socket_address};
-ghost use Rattle.stun_state.specs.Answers.{CallOrMemory, after_address, at_address};
-ghost use Rattle.stun_state.specs.Handed.{just_given, key_given, kept_after_signing_of};
-ghost use Rattle.stun_state.specs.Handed.{kept_after_validating_of, keys_given};
+ghost use Rattle.stun_state.specs.Answers.{CallUnlessMemory, after_address, at_address};
+ghost use Rattle.stun_state.specs.Handed.{just_given, key_given, kept_after_handed_signing};
+ghost use Rattle.stun_state.specs.Handed.{kept_after_handed_validation, keys_given};
 ghost use Rattle.stun_state.specs.Handed.{named_in_bytes, naming_answer, naming_length};
-ghost use Rattle.stun_state.specs.Handed.{naming_written, signed_of, validated_of};
+ghost use Rattle.stun_state.specs.Handed.{naming_written, handed_signing, handed_validation};
 ghost use Rattle.stun_state.specs.code.Given.{user_given};
 ghost use Rattle.stun_state.specs.Signing.{signed_by_server};
 
@@ -112,7 +112,7 @@ fn prepared(
     ensures ok { IfOk result (λ user. just_given server.now.registered
         (user_given name.now given.entry)
         ≡ Ok user) }
-    ensures err { IfErr result (λ refusal. CallOrMemory result
+    ensures err { IfErr result (λ refusal. CallUnlessMemory result
         (just_given server.now.registered (user_given name.now given.entry) ≡ Err refusal) ⊤) }
 {
     let name = text(name)?;
@@ -141,12 +141,13 @@ pub(crate) fn validate(
     name: &[u8],
     given: Given<'_>,
 ) -> Result<IntegrityAlgorithm, Refusal>
-    ensures answer { CallOrMemory result
+    ensures answer { CallUnlessMemory result
         (result ≡ at_address (socket_address from.now)
-        (validated_of kept.old message.now now words.now (user_given name.now given.entry))) ⊤ }
-    ensures state { CallOrMemory result
+        (handed_validation kept.old message.now now words.now
+        (user_given name.now given.entry))) ⊤ }
+    ensures state { CallUnlessMemory result
         (kept.new ≡ record kept.old {
-          server = kept_after_validating_of kept.old message.now from.now now words.now
+          server = kept_after_handed_validation kept.old message.now from.now now words.now
               (user_given name.now given.entry);
         })
         (kept.new ≡ kept.old) }
@@ -170,13 +171,13 @@ pub(crate) fn sign(
     name: &[u8],
     given: Given<'_>,
 ) -> Result<usize, Refusal>
-    ensures answer { CallOrMemory result (result ≡ length_of
-        (signed_of server.old buffer.old length to.now (user_given name.now given.entry))) ⊤ }
-    ensures written { CallOrMemory result (buffer.new ≡ buffer_after
-        (signed_of server.old buffer.old length to.now (user_given name.now given.entry))
+    ensures answer { CallUnlessMemory result (result ≡ length_of
+        (handed_signing server.old buffer.old length to.now (user_given name.now given.entry))) ⊤ }
+    ensures written { CallUnlessMemory result (buffer.new ≡ buffer_after
+        (handed_signing server.old buffer.old length to.now (user_given name.now given.entry))
         buffer.old)
         (buffer.new ≡ buffer.old) }
-    ensures state { OnOk result (server.new ≡ kept_after_signing_of server.old buffer.old length
+    ensures state { OnOk result (server.new ≡ kept_after_handed_signing server.old buffer.old length
         to.now (user_given name.now given.entry)) }
     ensures refused { OnErr result (server.new ≡ server.old) }
 {

@@ -8,15 +8,16 @@ ghost use Rattle.stun_base.specs.MessageType.{class_in, is_response};
 ghost use Rattle.stun_auth.specs.Registered.{with_user};
 ghost use Rattle.stun_auth.specs.ServerSigning.{after_signing, server_growth};
 ghost use Rattle.stun_types.specs.Limits.{LENGTH_LIMIT as length_limit};
-ghost use Rattle.stun_auth.specs.Validation.{new_server, sight};
+ghost use Rattle.stun_auth.specs.Validation.{client_at, new_server, sight};
 ghost use Rattle.stun_numbers.specs.Buffers.{buffer_after, length_of};
 ghost use Rattle.stun_state.specs.Addresses.{socket_address, start_for, start_told};
-ghost use Rattle.stun_state.specs.Answers.{CallOrMemory, after_address, after_start, at_address};
-ghost use Rattle.stun_state.specs.Answers.{at_start, done_if_given, text_refusal, texts_refusal};
+ghost use Rattle.stun_state.specs.Answers.{CallUnlessMemory, after_address, after_start};
+ghost use Rattle.stun_state.specs.Answers.{at_address, at_start, done_if_given};
+ghost use Rattle.stun_state.specs.Answers.{text_refusal, texts_refusal};
 ghost use Rattle.stun_state.specs.Codes.{algorithms_numbered, feature_numbered};
 ghost use Rattle.stun_state.specs.Memory.{LeavesServer};
 ghost use Rattle.stun_state.specs.Signing.{is_too_long, signed_by_server};
-ghost use Rattle.stun_state.specs.Server.{client_of_address, client_told, kept_after_validating};
+ghost use Rattle.stun_state.specs.Server.{client_told, kept_after_validating};
 ghost use Rattle.stun_state.specs.Server.{name_length_of, name_written, nonce_at, nonce_told};
 ghost use Rattle.stun_state.specs.Server.{nonce_written, room_refusal, step_answer};
 ghost use Rattle.stun_state.specs.Server.{server_validation, server_with_algorithms, with_expiry};
@@ -48,7 +49,7 @@ pub fn new(alloc: Global, realm: &[u8]) -> Result<LongTermServerAuth<Global>, Re
     ensures ok { IfOk result (λ server. server ≡ new_server realm.now) }
     ensures accepted { OnOk result (text_refusal realm.now ≡ None) }
     ensures err { IfErr result
-        (λ refusal. CallOrMemory result (text_refusal realm.now ≡ Some refusal)
+        (λ refusal. CallUnlessMemory result (text_refusal realm.now ≡ Some refusal)
         (text_refusal realm.now ≡ None)) }
 {
     let realm = copied(alloc, text(realm)?)?;
@@ -107,7 +108,7 @@ pub fn add_user(
           (record { username = name.now; password = password.now });
     }) }
     ensures accepted { OnOk result (texts_refusal name.now password.now ≡ None) }
-    ensures err { IfErr result (λ refusal. CallOrMemory result
+    ensures err { IfErr result (λ refusal. CallUnlessMemory result
         (texts_refusal name.now password.now ≡ Some refusal)
         (texts_refusal name.now password.now ≡ None)) }
     ensures refused { OnErr result (server.new ≡ server.old) }
@@ -185,11 +186,11 @@ pub fn client(
     name_length: &mut usize,
 ) -> Result<Option<IntegrityAlgorithm>, Refusal>
     ensures answer { result ≡ at_address (socket_address at.now)
-        (λ a. client_told (length name.old) (client_of_address server.now a)) }
+        (λ a. client_told (length name.old) (client_at server.now a)) }
     ensures written { name.new ≡ after_address (socket_address at.now) name.old
-        (λ a. name_written name.old (client_of_address server.now a)) }
+        (λ a. name_written name.old (client_at server.now a)) }
     ensures length { name_length.new ≡ after_address (socket_address at.now) name_length.old
-        (λ a. name_length_of (client_of_address server.now a) name_length.old) }
+        (λ a. name_length_of (client_at server.now a) name_length.old) }
 {
     let address = at.socket()?;
     let Some((client, algorithm)) = server.client(address) else {
@@ -306,10 +307,10 @@ pub fn validate(
     now: u64,
     words: &[u32; 16],
 ) -> Result<IntegrityAlgorithm, Refusal>
-    ensures answer { CallOrMemory result
+    ensures answer { CallUnlessMemory result
         (result ≡ at_address (socket_address from.now)
         (server_validation kept.old message.now now words.now)) ⊤ }
-    ensures state { CallOrMemory result
+    ensures state { CallUnlessMemory result
         (kept.new ≡ record kept.old {
           server = kept_after_validating kept.old message.now from.now now words.now;
         })

@@ -9,7 +9,7 @@ ghost use Rattle.stun_auth.specs.Handed.{with_users};
 ghost use Rattle.stun_auth.specs.ServerSigning.{after_signing, server_additions};
 ghost use Rattle.stun_auth.specs.ServerSigning.{server_growth, server_signed};
 ghost use Rattle.stun_auth.specs.Reading.{reading_of};
-ghost use Rattle.stun_auth.specs.Reasons.{ServerOrMemory};
+ghost use Rattle.stun_auth.specs.Reasons.{ServerUnlessMemory};
 ghost use Rattle.stun_auth.specs.Validation.{ChangesNothing, ServerSeen, after_validation};
 ghost use Rattle.stun_auth.specs.Validation.{answer, sight};
 ghost use Rattle.stun_base.specs.Words.{next_words};
@@ -18,7 +18,7 @@ ghost use Rattle.stun_base.specs.Header.{BeginsWithHeader};
 ghost use Rattle.stun_base.specs.MessageType.{class_in, is_response};
 ghost use Rattle.stun_types.specs.Limits.{LENGTH_LIMIT as length_limit};
 ghost use Rattle.stun_numbers.specs.Buffers.{buffer_after, length_of};
-ghost use Rattle.stun_state.specs.Answers.{CallOrMemory};
+ghost use Rattle.stun_state.specs.Answers.{CallUnlessMemory};
 ghost use Rattle.stun_state.specs.Server.{server_validation_answer};
 ghost use Rattle.stun_state.specs.Signing.{message_of, server_signs};
 ghost use Rattle.stun_state.specs.code.Measured.{IsMeasured};
@@ -82,10 +82,10 @@ pub(crate) trait Users {
         source: &mut WordSource,
     ) -> Result<LongTermServerValidation, LongTermServerAuthError>
         ensures answer { let words = next_words 16 (ghosts.stream source.old) in
-            ServerOrMemory result (result ≡ answer (sight (server_with self.old server.old) from)
-            now words (reading_of message.now)) ⊤ }
+            ServerUnlessMemory result (result ≡ answer
+            (sight (server_with self.old server.old) from) now words (reading_of message.now)) ⊤ }
         ensures state { let words = next_words 16 (ghosts.stream source.old) in
-            ServerOrMemory result (server.new ≡ server_left (after_validation
+            ServerUnlessMemory result (server.new ≡ server_left (after_validation
             (server_with self.old server.old) from now words (reading_of message.now)) server.old)
             (server.new ≡ server.old) }
         ensures unchanged { let words = next_words 16 (ghosts.stream source.old) in
@@ -160,10 +160,10 @@ pub(crate) fn validate_message<U: Users>(
     words: [u32; 16],
     users: &mut U,
 ) -> Result<IntegrityAlgorithm, Refusal>
-    ensures answer { CallOrMemory result
+    ensures answer { CallUnlessMemory result
         (result ≡ server_validation_answer (answer (sight (U.server_with users.old server.old) from)
         now words (reading_of message.now))) ⊤ }
-    ensures state { CallOrMemory result
+    ensures state { CallUnlessMemory result
         (server.new ≡ U.server_left (after_validation (U.server_with users.old server.old) from
         now words (reading_of message.now)) server.old)
         (server.new ≡ server.old) }

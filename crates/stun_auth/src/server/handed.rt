@@ -18,7 +18,7 @@ ghost use Rattle.stun_base.specs.Words.{next_words, after_words};
 ghost use Rattle.stun_auth.specs.Additions.{UnlessMemory, WantsMemory, page_in, written_page};
 ghost use Rattle.stun_auth.specs.Handed.{judged_by, just, named_in, named_seen, with_users};
 ghost use Rattle.stun_auth.specs.Reading.{reading_of};
-ghost use Rattle.stun_auth.specs.Reasons.{ServerOrMemory};
+ghost use Rattle.stun_auth.specs.Reasons.{ServerUnlessMemory};
 ghost use Rattle.stun_auth.specs.Registered.{user_by_keys, user_by_password};
 ghost use Rattle.stun_auth.specs.ServerSigning.{after_signing, server_additions};
 ghost use Rattle.stun_auth.specs.ServerSigning.{server_growth, server_signed};
@@ -160,18 +160,18 @@ impl<A: Allocator + Copy> LongTermServerAuth<A> {
         rng: &mut R,
         user: &mut LongTermServerUser<A>,
     ) -> Result<LongTermServerValidation, LongTermServerAuthError>
-        ensures answer { ServerOrMemory result
+        ensures answer { ServerUnlessMemory result
             (result ≡ answer (sight (with_users self.old user.old) from) now
             (next_words 16 (R.stream rng.old)) (reading_of message.now)) ⊤ }
-        ensures accepted { ServerOrMemory result
+        ensures accepted { ServerUnlessMemory result
             (ValidatesAccepted (sight (with_users self.old user.old) from) now
             (next_words 16 (R.stream rng.old)) (reading_of message.now) result) ⊤ }
-        ensures state { ServerOrMemory result
+        ensures state { ServerUnlessMemory result
             (self.new ≡ with_users (after_validation (with_users self.old user.old) from now
             (next_words 16 (R.stream rng.old)) (reading_of message.now)) self.old.registered)
             (self.new ≡ self.old) }
         ensures user { user.new ≡ user.old }
-        ensures source { ServerOrMemory result
+        ensures source { ServerUnlessMemory result
             (R.stream rng.new ≡ (if draws (sight (with_users self.old user.old) from) now
             (reading_of message.now) then after_words 16
             (R.stream rng.old) else R.stream rng.old)) ⊤ }

@@ -9,7 +9,7 @@ ghost use Rattle.stun_auth.specs.Reading.{reading_of, verified_under};
 ghost use Rattle.stun_auth.specs.Registered.{key_at};
 ghost use Rattle.stun_auth.specs.Seen.{PlaceSeen};
 ghost use Rattle.stun_auth.specs.code.Places.{client_seen, place_seen};
-ghost use Rattle.stun_auth.specs.Reasons.{ServerOrMemory};
+ghost use Rattle.stun_auth.specs.Reasons.{ServerUnlessMemory};
 ghost use Rattle.stun_auth.specs.Server.{has_current_nonce};
 ghost use Rattle.stun_auth.specs.Validation.{ChangesNothing, ValidatesAccepted};
 ghost use Rattle.stun_auth.specs.Validation.{after_validation, answer, client_verified};
@@ -191,17 +191,17 @@ impl<A: Allocator + Copy> LongTermServerAuth<A> {
         now: Instant,
         rng: &mut R,
     ) -> Result<LongTermServerValidation, LongTermServerAuthError>
-        ensures answer { ServerOrMemory result
+        ensures answer { ServerUnlessMemory result
             (result ≡ answer (sight self.old from) now (next_words 16 (R.stream rng.old))
             (reading_of message.now)) ⊤ }
-        ensures accepted { ServerOrMemory result
+        ensures accepted { ServerUnlessMemory result
             (ValidatesAccepted (sight self.old from) now (next_words 16 (R.stream rng.old))
             (reading_of message.now) result) ⊤ }
-        ensures state { ServerOrMemory result
+        ensures state { ServerUnlessMemory result
             (self.new ≡ after_validation self.old from now (next_words 16 (R.stream rng.old))
             (reading_of message.now))
             (self.new ≡ self.old) }
-        ensures source { ServerOrMemory result
+        ensures source { ServerUnlessMemory result
             (R.stream rng.new ≡ (if draws (sight self.old from) now
             (reading_of message.now) then after_words 16
             (R.stream rng.old) else R.stream rng.old)) ⊤ }
@@ -225,14 +225,14 @@ impl<A: Allocator + Copy> LongTermServerAuth<A> {
         now: Instant,
         rng: &mut R,
     ) -> Result<LongTermServerValidation, LongTermServerAuthErrorReason>
-        ensures answer { ServerOrMemory result
+        ensures answer { ServerUnlessMemory result
             (result ≡ answer (sight self.old from) now (next_words 16 (R.stream rng.old))
             (reading_of message.now)) ⊤ }
-        ensures state { ServerOrMemory result
+        ensures state { ServerUnlessMemory result
             (self.new ≡ after_validation self.old from now (next_words 16 (R.stream rng.old))
             (reading_of message.now))
             (self.new ≡ self.old) }
-        ensures source { ServerOrMemory result
+        ensures source { ServerUnlessMemory result
             (R.stream rng.new ≡ (if draws (sight self.old from) now
             (reading_of message.now) then after_words 16
             (R.stream rng.old) else R.stream rng.old)) ⊤ }
@@ -350,8 +350,8 @@ impl<A: Allocator + Copy> LongTermServerAuth<A> {
         renewal: Option<Renewal<A>>,
         judged: Judgement<A>,
     ) -> Result<LongTermServerValidation, LongTermServerAuthErrorReason>
-        ensures answer { ServerOrMemory result (result ≡ judgement_answer judged) ⊤ }
-        ensures state { ServerOrMemory result
+        ensures answer { ServerUnlessMemory result (result ≡ judgement_answer judged) ⊤ }
+        ensures state { ServerUnlessMemory result
             (self.new ≡ record self.old {
               places = places_left self.old.places from
                   (option_map renewal_seen renewal) judged;

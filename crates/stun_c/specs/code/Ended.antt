@@ -5,11 +5,11 @@ use Rattle.stun_base.specs.Attributes.{FINGERPRINT}
 use Rattle.stun_types.specs.Grammar.{spelled_attribute}
 use Rattle.stun_types.specs.Message.{with_length}
 use Rattle.stun_types.specs.Writing.{length_with}
-use Rattle.stun_extra.specs.Fingerprint.{fingerprint_crc}
+use Rattle.stun_extra.specs.Fingerprint.{fingerprint_word}
 
 -- the four bytes of the FINGERPRINT after these bytes of a message
 unfoldable pub fingerprint_value : List ℕ → List ℕ
-fingerprint_value bytes = big_bytes 4 (fingerprint_crc bytes)
+fingerprint_value bytes = big_bytes 4 (fingerprint_word bytes)
 
 -- the attribute
 abbrev pub fingerprint_after : List ℕ → List ℕ

@@ -1,7 +1,7 @@
 //! RESERVATION-TOKEN (RFC 8656, section 18.10).
 ghost use Rattle.std.specs.Prelude.{◌≡◌, length};
 ghost use Rattle.stun_extra.specs.AttributeTypes.{RESERVATION_TOKEN};
-ghost use Rattle.stun_extra.specs.Values.{value_of_length, value_of-written};
+ghost use Rattle.stun_extra.specs.Values.{value_of_length, value_of_length-written};
 
 use std::marker::Model;
 use stun_base::error::StunParseError;
@@ -79,7 +79,7 @@ impl Attribute for ReservationToken {
 impl<'a> AttributeFromRaw<'a> for ReservationToken {
     ghost reading = { value_of_length RESERVATION_TOKEN 8 };
 
-    ghost reads_back = { value_of-written RESERVATION_TOKEN 8 };
+    ghost reads_back = { value_of_length-written RESERVATION_TOKEN 8 };
 
     fn from_raw(raw: RawAttribute<'a>) -> Result<Self, StunParseError> {
         if raw.get_type() != Self::TYPE || raw.length() != LENGTH {

@@ -16,9 +16,9 @@ use Rattle.stun_auth.specs.declared.client.answer.LongTermClientAuthErrorReason.
 use Rattle.stun_auth.specs.Algorithms.{algorithms_of}
 use Rattle.stun_auth.specs.Client.{ClientState, initial}
 use Rattle.stun_auth.specs.Seen.{ClientSeen, PlaceSeen}
-use Rattle.stun_auth.specs.Validation.{ServerSeen}
+use Rattle.stun_auth.specs.Validation.{ServerSeen, client_at}
 use Rattle.stun_proto.specs.Headline.{EndsAtStrongest, EndsWith, KnowEachOther}
-use Rattle.stun_proto.specs.Honest.{AgreesOn, ComesTo, client_at, strongest}
+use Rattle.stun_proto.specs.Honest.{AgreesOn, ComesTo, strongest}
 use Rattle.stun_proto.specs.Negotiating.{met_by}
 use Rattle.stun_proto.specs.Negotiation.{Meeting, Met, ending_with}
 use Rattle.stun_proto.specs.declared.replay.negotiation.NegotiateError.{NegotiateError}

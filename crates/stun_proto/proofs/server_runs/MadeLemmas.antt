@@ -23,7 +23,7 @@ use Rattle.stun_auth.specs.declared.server.reason.LongTermServerAuthErrorReason.
     as Server
 use Rattle.stun_auth.specs.Additions.{Page, UnlessMemory, page_of, written_page}
 use Rattle.stun_auth.specs.Reading.{reading_of}
-use Rattle.stun_auth.specs.Reasons.{ServerOrMemory}
+use Rattle.stun_auth.specs.Reasons.{ServerUnlessMemory}
 use Rattle.stun_auth.specs.ServerSigning.{after_signing, server_signed}
 use Rattle.stun_auth.specs.Validation.{Answer, ServerSeen, after_validation, answer, sight}
 use Rattle.stun_proto.specs.ServerLoop.{IfMessage, IsMade, Told, signed_or_refused, reply_with}
@@ -34,7 +34,8 @@ use Rattle.stun_proto.specs.declared.replay.call.ServerCall.TheVariants as Call
 -- two facts about an answer, where no allocation failed and where one did
 both_told : {V : Type 0} (result : Result V LongTermServerAuthErrorReason) (P Q P' Q' R : Type 0)
     → (P → P' → R)
-    → ServerOrMemory result P Q → ServerOrMemory result P' Q' → ServerOrMemory result R Q'
+    → ServerUnlessMemory result P Q → ServerUnlessMemory result P' Q'
+    → ServerUnlessMemory result R Q'
 both_told (Ok v) P Q P' Q' R one a b = one a b
 both_told (Err Server.Unauthorized) P Q P' Q' R one a b = one a b
 both_told (Err Server.IntegrityFailed) P Q P' Q' R one a b = one a b
@@ -63,9 +64,10 @@ made_validate s from now message words bytes given same is_message answered =
 pub is_validated : (s t : ServerSeen) (from : SocketAddr) (now : ℕ) (words bytes : List ℕ)
     (given : Answer)
     → IsMessage bytes
-    → ServerOrMemory given (given ≡ answer (sight s from) now words (reading_of bytes)) (Unit {0})
-    → ServerOrMemory given (t ≡ after_validation s from now words (reading_of bytes)) (t ≡ s)
-    → ServerOrMemory given
+    → ServerUnlessMemory given (given ≡ answer (sight s from) now words (reading_of bytes))
+    (Unit {0})
+    → ServerUnlessMemory given (t ≡ after_validation s from now words (reading_of bytes)) (t ≡ s)
+    → ServerUnlessMemory given
     ((message : Vec ℕ) → message.items ≡ bytes
     → IsMade s (Call.Validate from now message words) (reply_with (reply_of_answer given) t))
     (t ≡ s)

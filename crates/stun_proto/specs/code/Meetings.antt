@@ -4,8 +4,8 @@ use Rattle.stun_proto.specs.Negotiation.{Meeting, Round}
 use Rattle.stun_proto.specs.declared.replay.negotiation.meeting.Meeting as code
 use Rattle.stun_proto.specs.declared.replay.negotiation.meeting.Asking as code_turn
 
-abbrev pub turn_of : code_turn.Asking → Round
-turn_of t = record { id = t.id; now = t.moment; words = t.words; before = t.before.now }
+abbrev pub round_of : code_turn.Asking → Round
+round_of t = record { id = t.id; now = t.moment; words = t.words; before = t.before.now }
 
 -- of a client that is set so
 abbrev pub meeting_of : ClientSettings → code.Meeting → Meeting
@@ -13,6 +13,6 @@ meeting_of settings m =
     record {
       settings = settings;
       from = m.from;
-      first = turn_of m.first;
-      second = turn_of m.second;
+      first = round_of m.first;
+      second = round_of m.second;
     }

@@ -5,8 +5,8 @@ ghost use Rattle.stun_base.specs.Credentials.{NameAndPassword};
 ghost use Rattle.stun_auth.specs.Client.{initial};
 ghost use Rattle.stun_proto.specs.Headline.{EndsAtStrongest, IsReadyClient};
 ghost use Rattle.stun_proto.specs.Honest.{ComesTo, IsHonest, strongest};
-ghost use Rattle.stun_proto.specs.code.Meetings.{turn_of};
-ghost use Rattle.stun_proto.specs.Negotiating.{lists, meeting, met_by, turn_at};
+ghost use Rattle.stun_proto.specs.code.Meetings.{round_of};
+ghost use Rattle.stun_proto.specs.Negotiating.{lists, meeting, met_by, round_at};
 ghost use Rattle.stun_proto.specs.Negotiation.{whole_negotiation};
 ghost use Rattle.stun_proto.specs.Sides.{Passes, sides};
 
@@ -161,8 +161,8 @@ pub fn negotiate<A: Allocator + Copy>(
     laws::short_names_are_signed();
     realm_is_text(server);
     name_is_text(client);
-    let first = turn_at(0, ids, moments, words, between);
-    let second = turn_at(1, ids, moments, words, between);
+    let first = round_at(0, ids, moments, words, between);
+    let second = round_at(1, ids, moments, words, between);
     let meeting = Meeting {
         from,
         first,
@@ -172,7 +172,7 @@ pub fn negotiate<A: Allocator + Copy>(
 }
 
 /// The request at an index.
-fn turn_at<'a>(
+fn round_at<'a>(
     index: usize,
     ids: [TransactionId; 2],
     moments: [Instant; 2],
@@ -180,7 +180,7 @@ fn turn_at<'a>(
     between: [&'a [ServerCall]; 2],
 ) -> Asking<'a>
     requires { index < 2 }
-    ensures turn { turn_of result ≡ turn_at index ids moments words (lists between.entry) }
+    ensures turn { round_of result ≡ round_at index ids moments words (lists between.entry) }
     ensures count { length result.words ≡ 16 }
 {
     let words = words[index];

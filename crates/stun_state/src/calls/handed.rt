@@ -11,10 +11,10 @@ ghost use Rattle.stun_numbers.specs.Refusals.{refusal_number};
 ghost use Rattle.stun_numbers.specs.Buffers.{buffer_after, length_of};
 ghost use Rattle.stun_state.specs.Addresses.{socket_address};
 ghost use Rattle.stun_state.specs.Answers.{after_address, at_address};
-ghost use Rattle.stun_state.specs.Handed.{kept_after_signing_of, kept_after_validating_of};
+ghost use Rattle.stun_state.specs.Handed.{kept_after_handed_signing, kept_after_handed_validation};
 ghost use Rattle.stun_state.specs.Handed.{named_in_bytes, naming_answer, naming_length};
-ghost use Rattle.stun_state.specs.Handed.{naming_written, signed_of, user_of_keys};
-ghost use Rattle.stun_state.specs.Handed.{user_of_password, validation_number_of};
+ghost use Rattle.stun_state.specs.Handed.{naming_written, handed_signing, user_of_keys};
+ghost use Rattle.stun_state.specs.Handed.{user_of_password, handed_validation_number};
 ghost use Rattle.stun_state.specs.Numbers.{IsOrOutOfMemory, OrOutOfMemory};
 ghost use Rattle.stun_state.specs.Numbers.{left_by, length_answer, number_answer};
 
@@ -83,10 +83,10 @@ pub extern "C" fn stunp_server_validate_of(
         × (handle.new.server ≡ None)) }
     ensures answer { IfSome handle.old.server (λ kept. OrOutOfMemory result
         handle.old.server handle.new.server
-        (validation_number_of kept message.now from.now now words.now
+        (handed_validation_number kept message.now from.now now words.now
         (user_of_password name.now password.now))
         (Some (record kept {
-          server = kept_after_validating_of kept message.now from.now now words.now
+          server = kept_after_handed_validation kept message.now from.now now words.now
               (user_of_password name.now password.now);
         }))) }
 {
@@ -117,14 +117,14 @@ pub extern "C" fn stunp_server_sign_of(
         × (handle.new.server ≡ None)
         × (buffer.new ≡ buffer.old)) }
     ensures answer { IfSome handle.old.server (λ kept. IsOrOutOfMemory result (length_answer
-        (length_of (signed_of kept.server buffer.old length to.now
+        (length_of (handed_signing kept.server buffer.old length to.now
         (user_of_password name.now password.now))))) }
     ensures written { IfSome handle.old.server (λ kept. buffer.new ≡ left_by result buffer.old
-        (buffer_after (signed_of kept.server buffer.old length to.now
+        (buffer_after (handed_signing kept.server buffer.old length to.now
         (user_of_password name.now password.now)) buffer.old)) }
     ensures state { IfSome handle.old.server (λ kept. handle.new.server ≡ Some (record kept {
       server = left_by result kept.server
-          (kept_after_signing_of kept.server buffer.old length to.now
+          (kept_after_handed_signing kept.server buffer.old length to.now
           (user_of_password name.now password.now));
     })) }
 {
@@ -157,10 +157,10 @@ pub extern "C" fn stunp_server_validate_of_keys(
         × (handle.new.server ≡ None)) }
     ensures answer { IfSome handle.old.server (λ kept. OrOutOfMemory result
         handle.old.server handle.new.server
-        (validation_number_of kept message.now from.now now words.now
+        (handed_validation_number kept message.now from.now now words.now
         (user_of_keys name.now sha1.now sha256.now))
         (Some (record kept {
-          server = kept_after_validating_of kept message.now from.now now words.now
+          server = kept_after_handed_validation kept message.now from.now now words.now
               (user_of_keys name.now sha1.now sha256.now);
         }))) }
 {
@@ -192,14 +192,14 @@ pub extern "C" fn stunp_server_sign_of_keys(
         × (handle.new.server ≡ None)
         × (buffer.new ≡ buffer.old)) }
     ensures answer { IfSome handle.old.server (λ kept. IsOrOutOfMemory result (length_answer
-        (length_of (signed_of kept.server buffer.old length to.now
+        (length_of (handed_signing kept.server buffer.old length to.now
         (user_of_keys name.now sha1.now sha256.now))))) }
     ensures written { IfSome handle.old.server (λ kept. buffer.new ≡ left_by result buffer.old
-        (buffer_after (signed_of kept.server buffer.old length to.now
+        (buffer_after (handed_signing kept.server buffer.old length to.now
         (user_of_keys name.now sha1.now sha256.now)) buffer.old)) }
     ensures state { IfSome handle.old.server (λ kept. handle.new.server ≡ Some (record kept {
       server = left_by result kept.server
-          (kept_after_signing_of kept.server buffer.old length to.now
+          (kept_after_handed_signing kept.server buffer.old length to.now
           (user_of_keys name.now sha1.now sha256.now));
     })) }
 {

@@ -9,7 +9,7 @@ ghost use Rattle.std.specs.Prelude.{◌≡◌, length, pos, MatchOption, Some, N
 ghost use Rattle.stun_auth.specs.Forgetting.{after_forgetting, without_place};
 ghost use Rattle.stun_auth.specs.ForgettingSteps.{after_step, next_address};
 ghost use Rattle.stun_auth.specs.Registered.{with_user};
-ghost use Rattle.stun_auth.specs.Validation.{new_server};
+ghost use Rattle.stun_auth.specs.Validation.{client_at, new_server};
 ghost use Rattle.stun_numbers.specs.Refusals.{refusal_or, refusal_number};
 ghost use Rattle.stun_numbers.specs.Buffers.{buffer_after, length_of};
 ghost use Rattle.stun_state.specs.Addresses.{socket_address, start_for, start_told};
@@ -21,7 +21,7 @@ ghost use Rattle.stun_state.specs.Memory.{LeavesServer};
 ghost use Rattle.stun_state.specs.Numbers.{OrOutOfMemory, done_answer};
 ghost use Rattle.stun_state.specs.Numbers.{found_answer, left_by, length_answer, number_answer};
 ghost use Rattle.stun_state.specs.Server as on_server;
-ghost use Rattle.stun_state.specs.Server.{UNBOUNDED, client_of_address, client_found};
+ghost use Rattle.stun_state.specs.Server.{UNBOUNDED, client_found};
 ghost use Rattle.stun_state.specs.Server.{kept_after_validating, name_length_of};
 ghost use Rattle.stun_state.specs.Server.{name_written, nonce_at, nonce_found};
 ghost use Rattle.stun_state.specs.Server.{nonce_written, step_answer, validation_number};
@@ -276,12 +276,12 @@ pub extern "C" fn stunp_server_client(
         (client_found kept.server at.now (length name.old))) }
     ensures name { IfSome handle.old.server (λ kept. name.new
         ≡ after_address (socket_address at.now) name.old
-        (λ at. name_written name.old (client_of_address kept.server at))) }
+        (λ at. name_written name.old (client_at kept.server at))) }
 
     // Also where the buffer has no room for the name.
     ensures name_length { IfSome handle.old.server (λ kept. name_length.new
         ≡ after_address (socket_address at.now) name_length.old
-        (λ at. name_length_of (client_of_address kept.server at) name_length.old)) }
+        (λ at. name_length_of (client_at kept.server at) name_length.old)) }
     ensures same { handle.new.server ≡ handle.old.server }
 {
     let Some(mut kept) = handle.take(alloc) else {

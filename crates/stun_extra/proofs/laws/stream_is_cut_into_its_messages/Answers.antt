@@ -1,5 +1,5 @@
 -- The length in each header says where its message ends, so cutting goes on at the next.
-use Rattle.stun_extra.proofs.FramingLemmas.{cut_of-cut_with_more, cut_of-messages, frame-message}
+use Rattle.stun_extra.proofs.FramingLemmas.{cut_of-append, cut_of-messages, frame-message}
 use Rattle.stun_extra.proofs.FramingLemmas.{frame-part}
 use Rattle.stun_extra.proofs.laws.stream_is_cut_into_its_messages.Goals as goal
 
@@ -13,4 +13,4 @@ pub returns-clause-cut : goal.returns-clause-cut
 returns-clause-cut c = cut_of-messages
 
 pub returns-clause-fed : goal.returns-clause-fed
-returns-clause-fed c = cut_of-cut_with_more
+returns-clause-fed c = cut_of-append

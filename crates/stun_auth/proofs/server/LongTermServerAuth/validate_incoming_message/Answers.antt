@@ -3,7 +3,7 @@ use Rattle.std.proofs.Common.{sym, subst}
 use Rattle.std.specs.Prelude.{⊤}
 use Rattle.stun_base.specs.Words.{next_words}
 use Rattle.stun_auth.specs.Reading.{reading_of}
-use Rattle.stun_auth.specs.Reasons.{ServerOrMemory}
+use Rattle.stun_auth.specs.Reasons.{ServerUnlessMemory}
 use Rattle.stun_auth.specs.Validation.{Answer, ValidatesAccepted, sight}
 use Rattle.stun_auth.proofs.Accepting.{answer-accepted}
 use Rattle.stun_auth.proofs.Unchanged.{or_memory_map}
@@ -14,7 +14,7 @@ returns-clause-accepted g c =
     let words = next_words 16 (g.R.Rng.stream c.args.rng.now) in
     let r = reading_of c.args.message.now in
     let s = sight c.args.self.now c.args.from in
-    subst (λ (given : Answer). ServerOrMemory given
+    subst (λ (given : Answer). ServerUnlessMemory given
     (ValidatesAccepted s c.args.now words r given) ⊤)
     (sym c.refused.ensures)
     (or_memory_map ⊤ c.judge_incoming.result

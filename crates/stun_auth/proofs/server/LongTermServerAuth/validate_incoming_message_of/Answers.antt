@@ -3,7 +3,7 @@ use Rattle.std.proofs.Common.{subst}
 use Rattle.std.specs.Prelude.{⊤}
 use Rattle.stun_base.specs.Words.{next_words}
 use Rattle.stun_auth.specs.Reading.{reading_of}
-use Rattle.stun_auth.specs.Reasons.{ServerOrMemory}
+use Rattle.stun_auth.specs.Reasons.{ServerUnlessMemory}
 use Rattle.stun_auth.specs.Validation.{ServerSeen, ValidatesAccepted, sight}
 use Rattle.stun_auth.proofs.server.LongTermServerAuth.validate_incoming_message_of.Goals as goal
 
@@ -13,6 +13,6 @@ returns-clause-accepted g c =
     let r = reading_of c.args.message.now in
     let given = c.validate_incoming_message-answer.result in
     subst
-    (λ (s : ServerSeen). ServerOrMemory given
+    (λ (s : ServerSeen). ServerUnlessMemory given
     (ValidatesAccepted (sight s c.args.from) c.args.now words r given) ⊤)
     c.exchange_users.ensures.server c.validate_incoming_message-answer.ensures.accepted

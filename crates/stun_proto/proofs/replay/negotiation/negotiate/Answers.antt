@@ -32,15 +32,15 @@ whole g c =
     (λ i. record {
       settings = k.settings;
       from = c.args.from;
-      first = c.turn_at-first.ensures.turn i;
-      second = c.turn_at-second.ensures.turn i;
+      first = c.round_at-first.ensures.turn i;
+      second = c.round_at-second.ensures.turn i;
     }) c.meet.ensures.run
 
-pub turn_at-first-requires : goal.turn_at-first-requires
-turn_at-first-requires g c = omega arith
+pub round_at-first-requires : goal.round_at-first-requires
+round_at-first-requires g c = omega arith
 
-pub turn_at-second-requires : goal.turn_at-second-requires
-turn_at-second-requires g c = omega arith
+pub round_at-second-requires : goal.round_at-second-requires
+round_at-second-requires g c = omega arith
 
 pub returns-clause-settings : goal.returns-clause-settings
 returns-clause-settings g c = c.meet.ensures.settings
@@ -78,8 +78,8 @@ returns-clause-headline g c = λ who client.
     let texts : AreTexts s.registered.realm who.username =
     record { realm = c.realm_is_text.ensures; username = name } in
     let drawn : length m.first.words ≡ 16 =
-    subst (λ (t : Round). length t.words ≡ 16) c.turn_at-first.ensures.turn
-    c.turn_at-first.ensures.count in
+    subst (λ (t : Round). length t.words ≡ 16) c.round_at-first.ensures.turn
+    c.round_at-first.ensures.count in
     let words : length m.first.words ≤ 16 = omega (arith, drawn) in
     let short : AreShort s.registered.realm who.username m.first.words =
     record { realm = client.realm_fits; username = client.name_fits; words = words } in

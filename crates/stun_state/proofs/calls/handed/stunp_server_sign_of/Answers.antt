@@ -1,6 +1,6 @@
 -- A refusal leaves the buffer, and a length tells that the message was signed.
 use Rattle.std.proofs.Common.{rules, ◌≡◌, Some, to_z, of_z, w64}
-use Rattle.stun_state.specs.Handed.{signed_of, user_of_password}
+use Rattle.stun_state.specs.Handed.{handed_signing, user_of_password}
 use Rattle.stun_state.specs.Numbers.{length_answer}
 use Rattle.stun_state.proofs.Exports.{left_buffer, some_is}
 use Rattle.stun_state.proofs.calls.handed.stunp_server_sign_of.Goals as goal
@@ -14,5 +14,6 @@ returns-clause-written c =
     let user = user_of_password c.args.name.now c.args.password.now in
     some_is _ before _ kept
     (left_buffer c.sign-signed.result
-    (signed_of before.server c.args.buffer.now c.args.length c.args.to.now user) _ c.args.buffer.now
+    (handed_signing before.server c.args.buffer.now c.args.length c.args.to.now user)
+    _ c.args.buffer.now
     c.sign-signed.new.buffer told c.sign-signed.ensures.answer c.sign-signed.ensures.written)

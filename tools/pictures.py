@@ -184,7 +184,7 @@ def ways():
                  bold=True)
     picture.box(20, 110, 150, 70, ["crates/", "sources, each", "function proved"])
     rows = (
-        (75, "rt lib", "archives for C", "libstunp.a, libstunp_state.a",
+        (75, "rt lib", "archives for C", "libstun_c.a, libstun_state.a",
          "toolchain, clang, the C library; what a program",
          "passes; its three functions that give memory", INK),
         (145, "rt run", "programs", "stun_tool, stun_inspect",

@@ -1,6 +1,6 @@
 #!/bin/sh
-# Builds the calls for C of the exported crate (target/export, by tools/rust.sh), and runs the tests
-# of tests/c and the transcripts over them. It needs cargo, a C compiler and the binutils. What it
+# Builds the calls for C of the exported crate (target/export, by tools/rust.sh), and runs tests of
+# tests/c and the transcripts over them. It needs cargo, a C compiler and the binutils. What it
 # leaves in target/c: libstunp.a and libstunp.so with malloc, and libstunp-program.a, whose memory
 # comes from the program.
 set -eu

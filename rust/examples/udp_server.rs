@@ -38,7 +38,7 @@ use std::mem::take;
 use std::net::{SocketAddr, UdpSocket};
 use std::process::ExitCode;
 use std::sync::Arc;
-use std::sync::mpsc::{Receiver, SyncSender, sync_channel};
+use std::sync::mpsc::{Receiver, SyncSender, TrySendError, sync_channel};
 use std::thread;
 use std::time::Duration;
 
@@ -288,7 +288,8 @@ fn printer() -> SyncSender<String> {
     print
 }
 
-/// Deals what comes to the workers, by the address that it comes from.
+/// Deals what comes to the workers, by the address that it comes from, until one of them ends: a
+/// server that has no random numbers is not to go on in silence.
 fn run(settings: &Settings) -> io::Result<()> {
     let any = |port| UdpSocket::bind(("::", port)).or_else(|_| UdpSocket::bind(("0.0.0.0", port)));
     let socket = Arc::new(any(settings.port)?);
@@ -309,7 +310,10 @@ fn run(settings: &Settings) -> io::Result<()> {
             continue;
         };
         let worker = &workers[keyed.hash_one(peer) as usize % workers.len()];
-        let _ = worker.try_send((bytes[..length].to_vec(), peer));
+        let dealt = worker.try_send((bytes[..length].to_vec(), peer));
+        if let Err(TrySendError::Disconnected(_)) = dealt {
+            return Err(io::Error::other("a worker has ended"));
+        }
     }
 }
 

@@ -9,13 +9,14 @@
 //! worker is a thread with a server of its own, and an address is always dealt to the same one. So
 //! they answer what one server would. Each keeps a nonce for so many addresses, 131072 unless said.
 //!
-//! It has no `unsafe` and calls the system by the standard library alone, so four things are
-//! missing that examples/c/udp_server.c has. IPv4 comes over the socket of IPv6, and so not at all
-//! where the system keeps them apart (`net.ipv6.bindv6only`, and Windows). The socket's own buffer
-//! is as large as the machine makes it (`net.core.rmem_default`). A datagram waits in it until it
-//! is dealt to a worker, and then in 4 MiB of this program's. A terminal that goes (SIGHUP) ends
-//! it, unless it was started by `nohup` or as a service. On a machine of several addresses an
-//! answer may leave by another than was asked.
+//! It has no `unsafe` and calls the system by the standard library alone, so it lacks some of what
+//! examples/c/udp_server.c has. IPv4 comes over the socket of IPv6, and so not at all where the
+//! system keeps them apart (`net.ipv6.bindv6only`, and Windows). The socket's own buffer is as
+//! large as the machine makes it (`net.core.rmem_default`). A datagram waits in it until it is
+//! dealt to a worker, and then in 4 MiB of this program's. A terminal that goes (SIGHUP) ends it,
+//! unless it was started by `nohup` or as a service. On a machine of several addresses an answer
+//! may leave by another than was asked. A password among its words stays in the list of processes:
+//! name a file. And it forgets only when datagrams come.
 
 mod clock;
 mod places;

@@ -191,7 +191,15 @@ impl MessageWrite for MessageWriteVec {
         self.0.reserve(additional)
     }
 
+    /// Appends bytes, whether they were reserved or not.
+    ///
+    /// # Panics
+    ///
+    /// Where bytes that were not reserved do not fit, or get no memory.
     fn append(&mut self, tail: &[u8]) {
+        self.0
+            .reserve(tail.len())
+            .expect("room for what is appended");
         self.0.append(tail);
     }
 

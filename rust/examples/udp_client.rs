@@ -1,6 +1,6 @@
 //! Asks a STUN server over UDP (RFC 8489) at which address it sees this client, and prints it.
 //!
-//!     udp_client HOST PORT [NAME PASSWORD] [--user FILE] [--sha256] [--within SECONDS] [-- ..]
+//!     udp_client HOST PORT [NAME PASSWORD] [--user FILE] [--sha256] [--within SECONDS]
 //!
 //! Without a name it takes an answer that nobody signed; with one, only an answer that the server
 //! signed. A file, or standard input where it is `-`, has a line `NAME PASSWORD`. What follows `--`

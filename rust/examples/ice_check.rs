@@ -14,7 +14,8 @@ use seatcrane_stun::types::prelude::*;
 use std::error::Error;
 use std::net::SocketAddr;
 
-/// What each side told the other over its signalling: a name and a password.
+/// What each side told the other over its signalling: a name and a password. In an agent both are
+/// random, of 24 bits at least and of 128 (RFC 8445, section 5.3), and so are the role's 64 bits.
 struct Side {
     ufrag: &'static str,
     password: &'static str,
@@ -74,7 +75,7 @@ fn answer(
 fn main() -> Result<(), Box<dyn Error>> {
     let controlling = Side {
         ufrag: "evtj",
-        password: "a password of 22 signs",
+        password: "asd88fgpdd777uzjYhagZg",
     };
     let controlled = Side {
         ufrag: "h6vY",

@@ -3,9 +3,9 @@
 //!     udp_client HOST PORT [NAME PASSWORD] [--user FILE] [--sha256] [--within SECONDS]
 //!
 //! Without a name it takes an answer that nobody signed; with one, only an answer that the server
-//! signed. A file, or standard input where it is `-`, has a line `NAME PASSWORD`. Status 0; or 1,
-//! and why on standard error: `no answer`, `refused ..`, `unsupported ..` or `failed ..`; or 2 for
-//! wrong words.
+//! signed. A file, or standard input where it is `-`, has a line `NAME PASSWORD`. What follows `--`
+//! is no option, as a password that begins with `-`. Status 0; or 1, and why on standard error: `no
+//! answer`, `refused ..`, `unsupported ..` or `failed ..`; or 2 for wrong words.
 
 mod reading;
 mod users;
@@ -223,6 +223,8 @@ fn words(mut words: impl Iterator<Item = String>) -> Option<Words> {
             "--sha256" => has_sha256 = true,
             "--user" => file = Some(words.next()?),
             "--within" => within = words.next()?.parse().ok()?,
+            "--" => left.extend(words.by_ref()),
+            _ if word.starts_with('-') => return None,
             _ => left.push(word),
         }
     }
@@ -239,7 +241,12 @@ fn words(mut words: impl Iterator<Item = String>) -> Option<Words> {
 /// The name and the password to ask with, if any.
 fn credentials(words: &Words) -> Result<Option<LongTermClientAuth>, Box<dyn Error>> {
     let user = match (&words.file, words.left.get(2..4)) {
-        (Some(file), _) => users::read(file)?.into_iter().next_back(),
+        // Who names a file of nobody does not want an answer that nobody signed.
+        (Some(file), _) => Some(
+            users::read(file)?
+                .pop()
+                .ok_or("failed: nobody in the file")?,
+        ),
         (None, Some(words)) => Some((words[0].clone(), words[1].clone())),
         (None, None) => None,
     };

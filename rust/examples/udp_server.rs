@@ -9,12 +9,14 @@
 //! worker is a thread with a server of its own, and an address is always dealt to the same one. So
 //! they answer what one server would. Each keeps a nonce for so many addresses, 131072 unless said.
 //!
-//! It has no `unsafe` and calls the system by the standard library alone, so three things are
-//! missing that examples/c/udp_server.c has. The socket's own buffer is as large as the machine
-//! makes it (`net.core.rmem_default`). A datagram waits in it until it is dealt to a worker, and
-//! then in 4 MiB of this program's. A terminal that goes (SIGHUP) ends it, unless it was started by
-//! `nohup` or as a service. On a machine of several addresses an answer may leave by another than
-//! was asked.
+//! It has no `unsafe` and calls the system by the standard library alone, so it lacks some of what
+//! examples/c/udp_server.c has. IPv4 comes over the socket of IPv6, and so not at all where the
+//! system keeps them apart (`net.ipv6.bindv6only`, and Windows). The socket's own buffer is as
+//! large as the machine makes it (`net.core.rmem_default`). A datagram waits in it until it is
+//! dealt to a worker, and then in 4 MiB of this program's. A terminal that goes (SIGHUP) ends it,
+//! unless it was started by `nohup` or as a service. On a machine of several addresses an answer
+//! may leave by another than was asked. A password among its words stays in the list of processes:
+//! name a file. And it forgets only when datagrams come.
 
 mod clock;
 mod places;
@@ -31,13 +33,13 @@ use seatcrane_stun::extra::{answer_unknown, finish_with_fingerprint};
 use seatcrane_stun::types::message::*;
 use seatcrane_stun::types::prelude::*;
 use std::error::Error;
-use std::hash::{DefaultHasher, Hash, Hasher};
+use std::hash::{BuildHasher, RandomState};
 use std::io::{self, Write};
 use std::mem::take;
 use std::net::{SocketAddr, UdpSocket};
 use std::process::ExitCode;
 use std::sync::Arc;
-use std::sync::mpsc::{Receiver, SyncSender, sync_channel};
+use std::sync::mpsc::{Receiver, SyncSender, TrySendError, sync_channel};
 use std::thread;
 use std::time::Duration;
 
@@ -206,8 +208,9 @@ impl Server {
                 let algorithm = format!("{algorithm:?}").to_uppercase();
                 told = format!("{code} {algorithm} {name}");
             }
-            answer = auth.sign_outgoing_message(answer, from)?;
+            let signed = auth.sign_outgoing_message(answer, from);
             auth.remove_client(from);
+            answer = signed?;
         }
         let answer = match read.has_fingerprint {
             true => finish_with_fingerprint(answer)?,
@@ -286,7 +289,8 @@ fn printer() -> SyncSender<String> {
     print
 }
 
-/// Deals what comes to the workers, by the address that it comes from.
+/// Deals what comes to the workers, by the address that it comes from, until one of them ends: a
+/// server that has no random numbers is not to go on in silence.
 fn run(settings: &Settings) -> io::Result<()> {
     let any = |port| UdpSocket::bind(("::", port)).or_else(|_| UdpSocket::bind(("0.0.0.0", port)));
     let socket = Arc::new(any(settings.port)?);
@@ -300,15 +304,17 @@ fn run(settings: &Settings) -> io::Result<()> {
         workers.push(deal);
     }
     let mut bytes = [0; MOST_LENGTH + 1]; // a longer datagram is cut, and is seen to be too long
+    let keyed = RandomState::new(); // so nobody can tell which addresses share a worker
     loop {
         let Ok((length, peer)) = socket.recv_from(&mut bytes) else {
             thread::sleep(Duration::from_millis(10)); // the next call may fail at once too
             continue;
         };
-        let mut hasher = DefaultHasher::new();
-        peer.hash(&mut hasher);
-        let worker = &workers[hasher.finish() as usize % workers.len()];
-        let _ = worker.try_send((bytes[..length].to_vec(), peer));
+        let worker = &workers[keyed.hash_one(peer) as usize % workers.len()];
+        let dealt = worker.try_send((bytes[..length].to_vec(), peer));
+        if let Err(TrySendError::Disconnected(_)) = dealt {
+            return Err(io::Error::other("a worker has ended"));
+        }
     }
 }
 

@@ -44,7 +44,8 @@ impl StunAgentBuilder {
 
     /// Sets the wait after the first transmission, the longest wait, how many transmissions there
     /// are over UDP, and the wait after the last. Each wait is twice the one before it, up to the
-    /// longest. Without this call they are 500 ms, no bound, 7 and 8 s.
+    /// longest. Without this call they are 500 ms, no bound, 7 and 8 s. No transmission counts as
+    /// one. Where the first wait or the longest is zero, all transmissions are due at one moment.
     pub fn request_retransmits(
         self,
         initial: Duration,
@@ -198,8 +199,8 @@ impl StunAgent {
     /// to be dropped. A request or an indication is taken.
     ///
     /// Ask the authenticator before, since the agent checks no digest. Whoever can send from the
-    /// address that was asked else ends a request by a forged response. No call forgets an address
-    /// that was noted: bound from how many you hand in messages.
+    /// address that was asked else ends a request by a forged response. The address is noted until
+    /// `forget_validated_peer`: bound from how many you hand in messages, or forget some.
     #[must_use = "a message that is not taken is to be dropped"]
     pub fn handle_stun_message_with_time(
         &mut self,
@@ -326,13 +327,15 @@ impl StunRequestMut<'_> {
         self.change(|request| request.cancel_retransmissions());
     }
 
-    /// Sends the request no more, and ends it at the next `poll` that reaches it.
+    /// Sends the request no more, and ends it at the next `poll` that reaches it. A response that
+    /// comes before is still taken.
     pub fn cancel(&mut self) {
         self.change(|request| request.cancel());
     }
 
     /// Replaces the timeouts of the request: the wait after the first transmission, how many
-    /// transmissions there are over UDP, and the wait after the last one.
+    /// transmissions there are over UDP, and the wait after the last one. The longest wait between
+    /// two is then without a bound, whatever the builder said.
     pub fn configure_timeout(
         &mut self,
         initial: Duration,
@@ -342,7 +345,8 @@ impl StunRequestMut<'_> {
         self.change(|request| request.configure_timeout(initial, retransmits, last_retransmit));
     }
 
-    /// As `configure_timeout`, with the longest wait between two transmissions.
+    /// As `configure_timeout`, with the longest wait between two transmissions. Zero waits are as
+    /// `StunAgentBuilder::request_retransmits` says.
     pub fn configure_timeout_with_max(
         &mut self,
         initial: Duration,

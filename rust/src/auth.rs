@@ -12,6 +12,7 @@ use crate::exported::stun_types::prelude::MessageWrite;
 use crate::kit::alloc::Global;
 use crate::message::Message;
 use crate::replay::WordSource;
+use crate::write::with_header;
 use alloc::string::String;
 use core::fmt;
 use core::net::SocketAddr;
@@ -99,12 +100,13 @@ impl ShortTermAuth {
     ///
     /// # Errors
     ///
-    /// The first of `MessageIntegrityExists`, `TooLarge` and `TooSmall`. It drops the writer.
+    /// `NotAllowed` where the writer holds no message that a builder began. Else the first of
+    /// `MessageIntegrityExists`, `TooLarge` and `TooSmall`. It drops the writer.
     pub fn sign_outgoing_message<W: MessageWrite>(
         &mut self,
         message: W,
     ) -> Result<W, StunWriteError> {
-        self.proved.sign_outgoing_message(message)
+        self.proved.sign_outgoing_message(with_header(message)?)
     }
 
     /// The same of a message that can be signed.
@@ -214,12 +216,13 @@ impl LongTermClientAuth {
     ///
     /// # Errors
     ///
-    /// The first refusal in the order of the attributes. It drops the writer and leaves the client.
+    /// `NotAllowed` where the writer holds no message that a builder began. Else the first refusal
+    /// in the order of the attributes. It drops the writer and leaves the client.
     pub fn sign_outgoing_message<W: MessageWrite>(
         &mut self,
         message: W,
     ) -> Result<W, StunWriteError> {
-        self.proved.sign_outgoing_message(message)
+        self.proved.sign_outgoing_message(with_header(message)?)
     }
 
     /// The same of a message that can be signed.
@@ -254,7 +257,8 @@ impl LongTermClientAuth {
 ///
 /// Each request or indication from a new address makes a place, unless it has integrity and lacks
 /// REALM, NONCE or a name. So whoever can send from many addresses makes the server grow. A place
-/// stays until `forget_expired` is called after its nonce's end while it has no client.
+/// stays until `forget`, or until `forget_expired` is called after its nonce's end while it has no
+/// client.
 pub struct LongTermServerAuth {
     proved: proved::LongTermServerAuth,
 }
@@ -376,14 +380,15 @@ impl LongTermServerAuth {
     ///
     /// # Errors
     ///
-    /// The first refusal in the order of the attributes; `IntegrityFailed` where the client's user
-    /// or key is gone. It drops the writer and leaves the server.
+    /// `NotAllowed` where the writer holds no message that a builder began. Else the first refusal
+    /// in the order of the attributes; `IntegrityFailed` where the client's user or key is gone. It
+    /// drops the writer and leaves the server.
     pub fn sign_outgoing_message<W: MessageWrite>(
         &mut self,
         message: W,
         to: SocketAddr,
     ) -> Result<W, StunWriteError> {
-        self.proved.sign_outgoing_message(message, to)
+        self.proved.sign_outgoing_message(with_header(message)?, to)
     }
 
     /// The same of a message that can be signed.
@@ -406,7 +411,8 @@ impl LongTermServerAuth {
     ///
     /// `IntegrityFailed` for a response. Else the first that holds: `Unauthorized` without
     /// integrity; `BadRequest` without realm, nonce, name or agreement on the algorithm;
-    /// `StaleNonce` for another nonce than the address's current one; `Unauthorized` for the rest.
+    /// `StaleNonce` for another nonce than the address's current one, or `Unauthorized` where its
+    /// security bits are others; `Unauthorized` for the rest.
     ///
     /// # Panics
     ///
@@ -561,7 +567,7 @@ impl LongTermServerAuth {
         user: &mut LongTermServerUser,
     ) -> Result<W, StunWriteError> {
         self.proved
-            .sign_outgoing_message_of(message, to, &mut user.proved)
+            .sign_outgoing_message_of(with_header(message)?, to, &mut user.proved)
     }
 }
 

@@ -6,6 +6,7 @@ use crate::exported::stun_types::attribute::AttributeType;
 use crate::exported::stun_types::message::StunWriteError;
 use crate::exported::stun_types::prelude::MessageWrite;
 use crate::message::Message;
+use crate::write::with_header;
 
 pub use crate::exported::stun_extra::crc32::crc32;
 pub use crate::exported::stun_extra::fingerprint::{FINGERPRINT_LENGTH, Fingerprint};
@@ -76,12 +77,13 @@ pub fn check_fingerprint(message: &Message<'_>) -> Fingerprint {
 ///
 /// The first that holds:
 ///
+/// - `NotAllowed`: the writer holds no message that a builder began.
 /// - `AttributeExists`: the message has a FINGERPRINT.
 /// - `TooLarge`: it would be longer than 65532 bytes after its header.
 /// - `TooSmall`: the writer has no room for 8 bytes.
 /// - `OutOfMemory`: an allocation fails.
 pub fn finish_with_fingerprint<W: MessageWrite>(writer: W) -> Result<W::Output, StunWriteError> {
-    fingerprint::finish_with_fingerprint(writer)
+    fingerprint::finish_with_fingerprint(with_header(writer)?)
 }
 
 /// The types of a message's visible attributes that must be understood, below 0x8000, and that are
@@ -102,8 +104,8 @@ pub fn has_unknown(message: &Message<'_>, known: &[AttributeType]) -> bool {
 ///
 /// # Errors
 ///
-/// `TooSmall` where the writer has no room for the answer, else `OutOfMemory` where an allocation
-/// fails.
+/// `NotAllowed` where the writer has bytes already. Else `TooSmall` where it has no room for the
+/// answer, and `OutOfMemory` where an allocation fails.
 ///
 /// ```
 /// use seatcrane_stun::extra::answer_unknown;
@@ -122,6 +124,9 @@ pub fn answer_unknown<W: MessageWrite>(
     known: &[AttributeType],
     writer: W,
 ) -> Result<Option<W>, StunWriteError> {
+    if !writer.data().is_empty() {
+        return Err(StunWriteError::NotAllowed);
+    }
     unknown::answer_unknown(&request.0, known, writer)
 }
 

@@ -224,8 +224,8 @@ impl<'a> Message<'a> {
     ///
     /// # Panics
     ///
-    /// Where the writer has bytes already, or is a slice without room for 20. `try_builder`
-    /// answers.
+    /// Where the writer has bytes already, is a slice without room for 20, or gets no memory.
+    /// `try_builder` answers.
     pub fn builder<W: MessageWrite>(message_type: MessageType, id: TransactionId, writer: W) -> W {
         Message::try_builder(message_type, id, writer)
             .expect("an empty writer with room for 20 bytes")
@@ -235,7 +235,8 @@ impl<'a> Message<'a> {
     ///
     /// # Errors
     ///
-    /// `NotAllowed` where the writer has bytes already, `TooSmall` where it has no room for 20.
+    /// `NotAllowed` where the writer has bytes already, `TooSmall` where it has no room for 20,
+    /// `OutOfMemory` where an allocation fails.
     pub fn try_builder<W: MessageWrite>(
         message_type: MessageType,
         id: TransactionId,

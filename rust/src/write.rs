@@ -1,5 +1,6 @@
 //! Writers, and what can be written to each of them.
 
+use crate::copies::granted;
 use crate::credentials::MessageIntegrityCredentials;
 use crate::exported::stun_types::attribute::{Attribute, AttributeType, ErrorCode};
 use crate::exported::stun_types::message::{
@@ -8,7 +9,7 @@ use crate::exported::stun_types::message::{
 };
 use crate::exported::stun_types::prelude::MessageWrite;
 use crate::exported::stun_types::prelude::MessageWriteExt as Proved;
-use crate::kit::alloc::Global;
+use crate::kit::alloc::{AllocError, Global};
 use crate::message::MessageHeader;
 use crate::transaction::TransactionId;
 use crate::types::attribute::XorMappedAddress;
@@ -21,7 +22,8 @@ use core::ops::Deref;
 /// refusal leaves the message as it was.
 ///
 /// The writer holds a message without FINGERPRINT, as the builders of `Message` leave it and each
-/// of these calls keeps it. On an empty one they panic.
+/// of these calls keeps it. On an empty one they panic, or refuse by `TooLarge` where overflow is
+/// not checked.
 pub trait MessageWriteExt: MessageWrite + Sized {
     /// The type of the message.
     fn get_type(&self) -> MessageType {
@@ -124,6 +126,14 @@ pub trait MessageWriteExt: MessageWrite + Sized {
 
 impl<W: MessageWrite> MessageWriteExt for W {}
 
+/// The writer, where its bytes begin with a header, or `NotAllowed`.
+pub(crate) fn with_header<W: MessageWrite>(writer: W) -> Result<W, StunWriteError> {
+    match MessageHeader::from_bytes(writer.data()) {
+        Ok(_) => Ok(writer),
+        Err(_) => Err(StunWriteError::NotAllowed),
+    }
+}
+
 /// Writes a message to a `Vec`, which grows.
 pub struct MessageWriteVec(proved::MessageWriteVec<Global>);
 
@@ -144,9 +154,7 @@ impl Default for MessageWriteVec {
 impl Clone for MessageWriteVec {
     fn clone(&self) -> Self {
         let mut copy = MessageWriteVec::new();
-        copy.0
-            .reserve(self.len())
-            .expect("a message fits as it did");
+        granted(copy.0.reserve(self.len()).map_err(|_| AllocError));
         copy.0.append(self);
         copy
     }
@@ -183,7 +191,15 @@ impl MessageWrite for MessageWriteVec {
         self.0.reserve(additional)
     }
 
+    /// Appends bytes, whether they were reserved or not.
+    ///
+    /// # Panics
+    ///
+    /// Where bytes that were not reserved do not fit, or get no memory.
     fn append(&mut self, tail: &[u8]) {
+        self.0
+            .reserve(tail.len())
+            .expect("room for what is appended");
         self.0.append(tail);
     }
 

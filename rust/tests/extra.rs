@@ -309,6 +309,14 @@ fn reads_addresses_and_texts() {
 }
 
 #[test]
+fn nothing_is_fingerprinted_before_it_is_begun() {
+    assert_eq!(
+        finish_with_fingerprint(MessageWriteVec::new()),
+        Err(StunWriteError::NotAllowed)
+    );
+}
+
+#[test]
 fn answers_a_request_by_420() {
     let sample = bytes(REQUEST);
     let request = Message::from_bytes(&sample).unwrap();
@@ -344,6 +352,13 @@ fn answers_a_request_by_420() {
     let mut enough = [0; 56];
     let writer = MessageWriteMutSlice::new(&mut enough);
     assert!(answer_unknown(&request, &known, writer).unwrap().is_some());
+
+    // A writer that has bytes is not written on.
+    let begun = Message::builder_error(&request, MessageWriteVec::new());
+    assert_eq!(
+        answer_unknown(&request, &known, begun),
+        Err(StunWriteError::NotAllowed)
+    );
 
     // What is no request is not answered, and a response that is not understood has failed.
     assert!(

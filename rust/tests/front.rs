@@ -178,6 +178,29 @@ fn a_slice_without_room_panics() {
 }
 
 #[test]
+fn a_writer_without_a_message_is_not_signed() {
+    let refused = Err(StunWriteError::NotAllowed);
+    let (mut short, mut client) = (ShortTermAuth::new(), LongTermClientAuth::new());
+    let mut server = LongTermServerAuth::new("realm".to_string());
+    let user = LongTermCredentials::new("name".to_string(), "secret".to_string());
+    let mut user = server.prepare_user(user);
+    let to = "192.0.2.1:1".parse().unwrap();
+    let empty = MessageWriteVec::new;
+    assert_eq!(short.sign_outgoing_message(empty()), refused);
+    short.set_credentials(
+        ShortTermCredentials::new("secret".to_string()),
+        IntegrityAlgorithm::Sha1,
+    );
+    assert_eq!(short.sign_outgoing_message(empty()), refused);
+    assert_eq!(client.sign_outgoing_message(empty()), refused);
+    assert_eq!(server.sign_outgoing_message(empty(), to), refused);
+    assert_eq!(
+        server.sign_outgoing_message_of(empty(), to, &mut user),
+        refused
+    );
+}
+
+#[test]
 fn runs_are_replayed() {
     use replay::proved::{Global, Instant, String, auth::LongTermServerAuth};
     let realm = String::from_str(Global, "realm").unwrap();

@@ -30,6 +30,28 @@ fn a_message_is_written_again() {
 }
 
 #[test]
+fn bytes_are_appended_that_were_not_reserved() {
+    let attribute = Software::new("longer").unwrap();
+    let mut part = MessageWriteVec::new();
+    attribute.write_into(&mut part);
+    assert_eq!(part[..], b"\x80\x22\0\x06longer\0\0"[..]);
+    assert_eq!((part.len(), part.room()), (12, 65552 - 12));
+
+    // Some were reserved, and more are appended.
+    part.reserve(2).unwrap();
+    part.append(b"three");
+    assert_eq!(part.reserve(65552 - 17), Ok(()));
+    assert_eq!(part.reserve(65552 - 16), Err(StunWriteError::TooSmall));
+    assert_eq!(part.finish()[12..], b"three"[..]);
+}
+
+#[test]
+#[should_panic(expected = "room for what is appended")]
+fn no_more_is_appended_than_a_message_holds() {
+    MessageWriteVec::new().append(&[0; 65553]);
+}
+
+#[test]
 fn a_slice_is_written_to() {
     let asked = request(1);
     let asked = Message::from_bytes(&asked).unwrap();

@@ -167,6 +167,10 @@ static int64_t begin(struct asker *asker, const stunp_address *own, int count, c
         answer = stunp_client_set_algorithms(&asker->client, STUNP_SHA1 | STUNP_SHA256);
     if (answer >= 0) answer = take_words(words, count, take, asker);
     if (answer >= 0 && file != NULL) answer = take_file(file, take, asker);
+    if (answer >= 0 && file != NULL && !asker->has_credentials) {
+        fprintf(stderr, "no user in %s\n", file); // else it would ask without credentials
+        return STUNP_BAD_ARGUMENT;
+    }
     return answer;
 }
 

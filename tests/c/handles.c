@@ -10,6 +10,7 @@ static void empty_servers(void) {
     stunp_server server = {0};
     stunp_address from = nowhere;
     uint8_t byte = 0xff;
+    const uint8_t other = 0xff; // what is read, where `byte` is written
     size_t length = 7;
     want("set_algorithms", stunp_server_set_algorithms(&server, 9), STUNP_EMPTY_HANDLE);
     want("set_anonymous_username", stunp_server_set_anonymous_username(&server, STUNP_AUTO),
@@ -29,16 +30,16 @@ static void empty_servers(void) {
     want("validate", stunp_server_validate(&server, &byte, 1, &nowhere, 0, some_words),
          STUNP_EMPTY_HANDLE);
     want("sign", stunp_server_sign(&server, &byte, 1, 2, &nowhere), STUNP_EMPTY_HANDLE);
-    want("named_user", stunp_server_named_user(&server, &byte, 1, &nowhere, &byte, 1, &length),
+    want("named_user", stunp_server_named_user(&server, &other, 1, &nowhere, &byte, 1, &length),
          STUNP_EMPTY_HANDLE);
     want("validate_of", stunp_server_validate_of(&server, &byte, 1, &nowhere, 0, some_words,
          &byte, 1, "", 0), STUNP_EMPTY_HANDLE);
-    want("sign_of", stunp_server_sign_of(&server, &byte, 1, 2, &nowhere, &byte, 1, "", 0),
+    want("sign_of", stunp_server_sign_of(&server, &byte, 1, 2, &nowhere, &other, 1, "", 0),
          STUNP_EMPTY_HANDLE);
     want("validate_of_keys", stunp_server_validate_of_keys(&server, &byte, 1, &nowhere, 0,
          some_words, &byte, 1, &byte, 1, &byte, 1), STUNP_EMPTY_HANDLE);
-    want("sign_of_keys", stunp_server_sign_of_keys(&server, &byte, 1, 2, &nowhere, &byte, 1, &byte,
-         1, &byte, 1), STUNP_EMPTY_HANDLE);
+    want("sign_of_keys", stunp_server_sign_of_keys(&server, &byte, 1, 2, &nowhere, &other, 1,
+         &other, 1, &other, 1), STUNP_EMPTY_HANDLE);
     stunp_server_free(&server);
     want("outputs", byte == 0xff && length == 7, 1);
     want_same("an address", &from, &nowhere, sizeof from);

@@ -32,6 +32,7 @@ enum end {
     ASKED_TOO_OFTEN,
     UNSUPPORTED,
     NOT_UNDERSTOOD,
+    NOBODY, /* in the file: no unsigned answer is wanted then */
     FAILED
 };
 
@@ -167,10 +168,6 @@ static int64_t begin(struct asker *asker, const stunp_address *own, int count, c
         answer = stunp_client_set_algorithms(&asker->client, STUNP_SHA1 | STUNP_SHA256);
     if (answer >= 0) answer = take_words(words, count, take, asker);
     if (answer >= 0 && file != NULL) answer = take_file(file, take, asker);
-    if (answer >= 0 && file != NULL && !asker->has_credentials) {
-        fprintf(stderr, "no user in %s\n", file); // else it would ask without credentials
-        return STUNP_BAD_ARGUMENT;
-    }
     return answer;
 }
 
@@ -185,6 +182,7 @@ static void report(const struct asker *asker, enum end end) {
     case NOT_UNDERSTOOD:
         fprintf(stderr, "failed: the response has an attribute that is not understood\n");
         break;
+    case NOBODY: fprintf(stderr, "failed: nobody in the file\n"); break;
     case FAILED: fprintf(stderr, "failed: %s\n", stunp_strerror(asker->number)); break;
     default:
         if (asker->unreachable != 0)
@@ -215,7 +213,8 @@ int main(int count, char **words) {
     asker.socket = open_client(words[0], words[1], &asker.server, &own);
     if (asker.socket < 0) return 1;
     int64_t answer = begin(&asker, &own, count - 2, words + 2, file, has_sha256);
-    enum end end = answer < 0 ? fails(&asker, answer) : ask(&asker);
+    bool is_nobody = file != NULL && !asker.has_credentials;
+    enum end end = answer < 0 ? fails(&asker, answer) : is_nobody ? NOBODY : ask(&asker);
     while (end == ASKING) end = wait_and_receive(&asker);
     report(&asker, end);
     stunp_agent_free(&asker.agent);

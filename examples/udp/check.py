@@ -60,7 +60,7 @@ def of_server(server, first):
 
 def of_client(client):
     for what in (pairs.nobody_there, pairs.discards, pairs.not_understood, pairs.no_code,
-                 pairs.closed_port):
+                 pairs.closed_port, pairs.nobody_in_the_file):
         yield named(label(client), what, client)
     yield named(label(client), alone.wrong_words, client, *WRONG_CLIENT_WORDS)
 

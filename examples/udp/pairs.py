@@ -289,6 +289,11 @@ def closed_port(client):
     assert time.monotonic() - begun < 5, "the client waited on"
 
 
+def nobody_in_the_file(client):
+    """A file without a user is no leave to take an unsigned answer."""
+    fails(ask(client, "127.0.0.1", 9, "--user", "/dev/null"), "failed: nobody in the file")
+
+
 def drained(client):
     """While many requests are due, what comes is read between a few that are sent (drained.c)."""
     program = pathlib.Path(client).parent / "drained"

@@ -25,7 +25,7 @@ import tempfile
 import time
 
 HERE = pathlib.Path(__file__).resolve().parent
-sys.path.insert(0, str(HERE.parent / "examples/udp"))
+sys.path.insert(0, str(HERE.parent / "tests/udp"))
 import alone
 import check
 import interop

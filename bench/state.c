@@ -134,8 +134,10 @@ static struct message signed_request;
 static void challenge(uint32_t number, struct message *error) {
     stunp_address from = address_of(number);
     struct message unsigned_request = message_of(STUNP_REQUEST, 1);
-    stunp_server_validate(&server, unsigned_request.bytes, unsigned_request.length, &from, 0,
-                          words);
+    if (stunp_server_validate(&server, unsigned_request.bytes, unsigned_request.length, &from, 0,
+                              words)
+        != STUNP_UNAUTHORIZED)
+        fail("no 401");
     *error = message_of(STUNP_ERROR, 1);
     stunp_writer writer = stunp_write_on(STUNP_HEADER_LENGTH, error->bytes, sizeof error->bytes);
     stunp_write_error(&writer, 401, "Unauthorized");
@@ -230,8 +232,8 @@ static double longest_pause(uint64_t now, size_t at_once) {
     int64_t more = 1;
     while (more == 1) {
         double begun = microseconds();
-        more = at_once == 0 ? stunp_server_forget_expired(&server, now)
-            : stunp_server_forget_expired_within(&server, now, &next, at_once);
+        more = at_once == 0 ? stunp_server_forget_expired(&server, now, 0)
+            : stunp_server_forget_expired_within(&server, now, 0, &next, at_once);
         double took = microseconds() - begun;
         if (took > longest) longest = took;
     }

@@ -118,7 +118,7 @@ def archives(is_built):
 def build(room, chosen):
     """The program over the archives."""
     if chosen.exported:
-        over = [os.path.join(TOP, "target", "c", "libstunp-program.a"), "-lpthread", "-ldl", "-lm"]
+        over = [os.path.join(TOP, "target", "c", "libstunp.a"), "-lpthread", "-ldl", "-lm"]
     else:
         over = list(archives(chosen.built))
     source = os.path.join(HERE, "state.c")

@@ -1,52 +1,90 @@
-/* STUN (RFC 8489) for programs in C, C++ and Rust: messages read, checked, written and signed,
- * the keys of users, and streams.
+/* stunp.h: STUN messages (RFC 8489), for C, C++ and Rust
  *
- * Link libstunp.a, which is crates/stun_c/out/libstun_c.a where `rt lib` in crates/stun_c proves
- * and builds it. This archive and that of stunp_state.h hold ELF objects for Linux on x86-64-v2
- * processors. Elsewhere, or without `rt`, `make rust rust-c` builds target/c/libstunp.a, with
- * the calls of both headers, which is tested and not proved. All are position independent, so
- * they may be linked into a shared library, which then shows their calls too, unless it is
- * linked with -Wl,--exclude-libs,ALL.
+ * The calls of this header read, check, write and sign single messages, make the keys of users,
+ * and find the messages in a stream. They remember nothing from one call to the next.
+ * stunp_state.h adds what must be remembered: retransmissions, challenges and nonces.
  *
- * The calls, in the order of this file:
+ * The functions at the end of this comment show how to begin: `answer` is a server that needs no
+ * credentials, `write_check` and `is_check` are for an ICE agent. Sections without an RFC are
+ * those of RFC 8489.
+ *
+ *
+ * Linking
+ *
+ * Link libstunp.a. There are two archives of this name:
+ *
+ * - The proved one is crates/stun_c/out/libstun_c.a, which `rt lib` in crates/stun_c proves and
+ *   builds. It holds ELF objects for Linux on x86-64-v2 processors, as does the proved archive of
+ *   stunp_state.h.
+ * - The tested one is target/c/libstunp.a, which `make rust rust-c` builds on other 64-bit systems,
+ *   or without `rt`. It has the calls of both headers and is not proved.
+ *
+ * All are position independent, so you may link them into a shared library. The library then
+ * exports their calls too, unless you link it with -Wl,--exclude-libs,ALL.
+ *
+ *
+ * The calls, in the order of this file
  *
  *   messages: stunp_parse, stunp_read_header, stunp_class, stunp_method, stunp_id
- *   attributes: stunp_find, stunp_walk, stunp_next
- *   attributes by place: stunp_read_text, stunp_read_number, stunp_read_address,
+ *   attributes, to find: stunp_find, stunp_walk, stunp_next
+ *   attributes, to read at an offset: stunp_read_text, stunp_read_number, stunp_read_address,
  *    stunp_read_xor_address, stunp_read_types
- *   attributes by type: stunp_find_text, stunp_find_number, stunp_find_address,
+ *   attributes, to read by type: stunp_find_text, stunp_find_number, stunp_find_address,
  *    stunp_find_xor_address, stunp_find_types, stunp_error_code, stunp_xor_mapped_address
- *   checks: stunp_verify, stunp_check_fingerprint, stunp_unknown_types
+ *   checks: stunp_verify, stunp_is_signed, stunp_check_fingerprint, stunp_has_right_fingerprint,
+ *    stunp_unknown_types
  *   writing: stunp_begin, stunp_add, stunp_add_number, stunp_add_address, stunp_add_xor_address,
  *    stunp_add_xor_mapped_address, stunp_add_error, stunp_sign, stunp_add_fingerprint
- *   writing by a writer: stunp_write, stunp_write_on, stunp_write_bytes, stunp_write_text,
- *    stunp_write_number, stunp_write_address, stunp_write_xor_address, stunp_write_error,
- *    stunp_write_integrity, stunp_write_fingerprint, stunp_written
+ *   writing with a writer: stunp_writer_took, stunp_write_on, stunp_write, stunp_write_bytes,
+ *    stunp_write_text, stunp_write_number, stunp_write_address, stunp_write_xor_address,
+ *    stunp_write_error, stunp_write_integrity, stunp_write_fingerprint, stunp_written
  *   whole messages: stunp_build_signed, stunp_refuse_unknown
  *   keys: stunp_long_term_key, stunp_userhash
  *   packets and streams: stunp_is_stun, stunp_next_frame, stunp_next_packet_frame,
  *    stunp_next_turn_frame
  *   errors and versions: stunp_error_text, stunp_strerror, stunp_version, stunp_release_0_2
  *
- * Memory. A call does not allocate, keeps nothing that is passed, and writes nowhere but to its
- * output. Lengths are in bytes, where nothing else is said. What is passed is read from its first
- * byte up to its length, and no byte outside is read. A pointer whose length is 0 may be null,
- * and no other may. No length is above PTRDIFF_MAX, and what a call writes to overlaps nothing
- * else that is passed. Numbers are in the processor's own order. Texts are UTF-8 and taken as
- * they are: to prepare them by OpaqueString (RFC 8265) is the caller's part.
  *
- * Threads. The proved archives have no writable data and no thread-locals; those of target/c have
- * some, of Rust's libraries. Each call may run in many threads at once, each with its own output. A
- * buffer, a cursor or a writer may move from one thread to another that waits for it (a mutex, a
- * join). No call is made in constant time.
+ * Memory
  *
- * Errors. A call that fails returns one of the numbers below zero of stunp_refusal, and leaves
- * its output as it was. The number is of the first reason in the order that the call's comment
- * gives. stunp_strerror says it in English. A call that writes leaves what comes after the bytes
- * that it wrote.
+ * No call allocates, and none keeps a pointer that you pass; only a stunp_writer points to your
+ * buffer. A call reads its inputs from the first byte up to their length, writes its outputs, and
+ * touches no other memory.
  *
- * A server tells each client its address, and refuses what it does not understand. It reads and
- * writes like this, with `from` of 4 or 16 bytes and a port in the processor's own order:
+ * A pointer may be null only if its length is 0. Lengths are at most PTRDIFF_MAX, and are in bytes
+ * unless a comment says otherwise. An output must not overlap any other argument. Numbers are in
+ * the processor's byte order. Texts are UTF-8 and are used as they are: RFC 8489 asks you to
+ * prepare them with OpaqueString (RFC 8265), which is left to you.
+ *
+ *
+ * Threads
+ *
+ * Each call may run in many threads at the same time, if each has an output of its own. You may
+ * pass a buffer, a cursor or a writer from one thread to another if you synchronize the two, for
+ * example with a mutex or a join. The proved archives contain no writable data and no thread-local
+ * data; those of target/c contain some, from the Rust library.
+ *
+ * No call is written to run in constant time.
+ *
+ *
+ * Errors
+ *
+ * A call that fails returns a negative stunp_refusal and leaves its outputs unchanged. Its comment
+ * lists the errors in the order of testing: if several apply, the call returns the first one.
+ * stunp_strerror has a text for each. A call that succeeds changes only the bytes that it writes,
+ * and leaves the rest of the buffer as it was.
+ *
+ * Test a result with `< 0` or `> 0`, or compare it with the value that you want. An error is not 0,
+ * so `if (stunp_verify(..))` would accept every forgery. For yes or no, call stunp_is_signed and
+ * stunp_has_right_fingerprint.
+ *
+ *
+ * A server
+ *
+ * `answer` tells each client the address that its request came from, and answers 420 to a request
+ * that has an attribute which must be understood and is not known. It returns the length of the
+ * response in `out`, or 0 if there is nothing to send. `from` has 4 bytes (IPv4) or 16 (IPv6), and
+ * the port is in the processor's byte order.
  *
  *     #include "stunp.h"
  *     #include <stdio.h>
@@ -64,7 +102,7 @@
  *         int64_t refused = stunp_refuse_unknown(request, length, known,
  *                                                sizeof known / sizeof *known, out, room);
  *         stunp_writer writer = stunp_write_on(refused, out, room);
- *         if (refused == 0) { // each type that must be known is known
+ *         if (refused == 0) { // every attribute that must be understood is known
  *             writer = stunp_write(STUNP_SUCCESS, STUNP_BINDING, header.id, out, room);
  *             stunp_write_xor_address(&writer, STUNP_XOR_MAPPED_ADDRESS, from, from_length, port);
  *         }
@@ -74,11 +112,16 @@
  *         return written < 0 ? 0 : writer.length;
  *     }
  *
- * An agent of ICE writes a check. It tells whether a request knows its password, and which
- * priority it has (RFC 8445, sections 7.2.2 and 7.3). `name` is "their fragment:ours", and the
- * first `password` is theirs, the second ours. That USERNAME is the one expected is for the
- * caller to see; examples/c/ice.c has answers and roles too. 0x6e0001ff is the priority of a
- * peer reflexive candidate (section 5.1.2):
+ *
+ * An ICE agent
+ *
+ * `write_check` writes a connectivity check (RFC 8445, section 7.2.2). `name` is USERNAME, "their
+ * fragment:ours", and `password` is theirs. 0x6e0001ff is the priority of a peer-reflexive
+ * candidate (RFC 8445, section 5.1.2).
+ *
+ * `is_check` tells whether a request that arrived was signed with `password`, which is ours here,
+ * and reads its priority (RFC 8445, section 7.3). It does not look at USERNAME, so compare that
+ * with the one that you expect. examples/c/ice.c also has responses and roles.
  *
  *     size_t write_check(const char *name, const char *password, uint64_t controlling,
  *                        const uint8_t id[12], uint8_t *out, size_t room) {
@@ -91,14 +134,15 @@
  *         return stunp_written(&check) < 0 ? 0 : check.length;
  *     }
  *     int is_check(const uint8_t *bytes, size_t length, const char *password, uint64_t *priority) {
- *         return stunp_check_fingerprint(bytes, length) == STUNP_RIGHT_FINGERPRINT
- *             && stunp_verify(bytes, length, password, strlen(password)) > 0
+ *         return stunp_has_right_fingerprint(bytes, length)
+ *             && stunp_is_signed(bytes, length, password, strlen(password))
  *             && stunp_find_number(bytes, length, STUNP_PRIORITY, priority) == 4;
  *     }
  */
 #ifndef STUNP_H
 #define STUNP_H
 
+#include <stdbool.h>
 #include <stddef.h>
 #include <stdint.h>
 #include <string.h>
@@ -107,19 +151,53 @@
 extern "C" {
 #endif
 
-/* The version of this header: 10000 times its first number, 100 times its second, and its third. */
+/* What a declaration says to compilers that understand it, as GCC and clang do; elsewhere these are
+ * empty. The numbers are those of parameters.
+ *
+ *   STUNP_USE_RESULT     a caller must not ignore the result
+ *   STUNP_NOT_NULL(..)   these pointers are not null
+ *   STUNP_READS(p, n)    the call reads at most n elements at p, which may be null if n is 0
+ *   STUNP_WRITES(p, n)   the call writes at most n elements at p
+ *   STUNP_CHANGES(p, n)  the call reads and writes at most n elements at p */
+#if defined __has_attribute
+#if __has_attribute(warn_unused_result)
+#define STUNP_USE_RESULT __attribute__((warn_unused_result))
+#endif
+#if __has_attribute(nonnull)
+#define STUNP_NOT_NULL(...) __attribute__((nonnull(__VA_ARGS__)))
+#endif
+#if __has_attribute(access)
+#define STUNP_READS(p, n) __attribute__((access(read_only, p, n)))
+#define STUNP_WRITES(p, n) __attribute__((access(write_only, p, n)))
+#define STUNP_CHANGES(p, n) __attribute__((access(read_write, p, n)))
+#endif
+#endif
+#ifndef STUNP_USE_RESULT
+#define STUNP_USE_RESULT
+#endif
+#ifndef STUNP_NOT_NULL
+#define STUNP_NOT_NULL(...)
+#endif
+#ifndef STUNP_READS
+#define STUNP_READS(p, n)
+#define STUNP_WRITES(p, n)
+#define STUNP_CHANGES(p, n)
+#endif
+
+/* The version of this header: 10000 times its first number, plus 100 times its second, plus its
+ * third. stunp_version returns that of the archive. */
 #define STUNP_VERSION 200
 
 /* The classes of messages (section 5). */
 typedef enum stunp_message_class {
-    STUNP_REQUEST = 0,
-    STUNP_INDICATION = 1,
-    STUNP_SUCCESS = 2, /* a response */
-    STUNP_ERROR = 3    /* a response */
+    STUNP_REQUEST = 0,    /* is answered with a response */
+    STUNP_INDICATION = 1, /* is not answered */
+    STUNP_SUCCESS = 2,    /* a response */
+    STUNP_ERROR = 3       /* a response */
 } stunp_message_class;
 
-/* The method of section 18.2, and those of TURN (RFC 8656, section 17). A method is any number
- * below 4096, so a call takes a uint32_t. */
+/* Methods: that of STUN (section 18.2), and those of TURN (RFC 8656, section 17). A method may be
+ * any number below 4096, so calls take it as a uint32_t. */
 typedef enum stunp_message_method {
     STUNP_BINDING = 1,
     STUNP_ALLOCATE = 3,
@@ -130,10 +208,11 @@ typedef enum stunp_message_method {
     STUNP_CHANNEL_BIND = 9
 } stunp_message_method;
 
-/* Types of attributes. A type is any number below 65536, so a call takes a uint32_t; one below
- * 32768 must be understood. */
+/* Types of attributes. A type may be any number below 65536, so calls take it as a uint32_t. The
+ * receiver of a message must understand every attribute whose type is below 32768
+ * (stunp_unknown_types). */
 typedef enum stunp_attribute_type {
-    /* Sections 14 and 18.3. */
+    /* STUN (sections 14 and 18.3) */
     STUNP_MAPPED_ADDRESS = 0x0001,
     STUNP_USERNAME = 0x0006,
     STUNP_MESSAGE_INTEGRITY = 0x0008,
@@ -150,7 +229,7 @@ typedef enum stunp_attribute_type {
     STUNP_SOFTWARE = 0x8022,
     STUNP_ALTERNATE_SERVER = 0x8023,
     STUNP_FINGERPRINT = 0x8028,
-    /* TURN (RFC 8656, section 18). */
+    /* TURN (RFC 8656, section 18) */
     STUNP_CHANNEL_NUMBER = 0x000c,
     STUNP_LIFETIME = 0x000d,
     STUNP_XOR_PEER_ADDRESS = 0x0012,
@@ -162,217 +241,313 @@ typedef enum stunp_attribute_type {
     STUNP_DONT_FRAGMENT = 0x001a,
     STUNP_RESERVATION_TOKEN = 0x0022,
     STUNP_ADDITIONAL_ADDRESS_FAMILY = 0x8000,
-    /* ICE (RFC 8445, section 16.1). */
+    /* ICE (RFC 8445, section 16.1) */
     STUNP_PRIORITY = 0x0024,
     STUNP_USE_CANDIDATE = 0x0025,
     STUNP_ICE_CONTROLLED = 0x8029,
     STUNP_ICE_CONTROLLING = 0x802a
 } stunp_attribute_type;
 
-/* The algorithms of message integrity. A set of them is a uint32_t, both of them by `|`. */
+/* The algorithms of message integrity. A set of algorithms is a uint32_t; STUNP_SHA1 | STUNP_SHA256
+ * is both. */
 typedef enum stunp_algorithm {
-    STUNP_SHA1 = 1,  /* HMAC-SHA1 in MESSAGE-INTEGRITY (section 14.5) */
-    STUNP_SHA256 = 2 /* HMAC-SHA256 in MESSAGE-INTEGRITY-SHA256 (section 14.6) */
+    STUNP_SHA1 = 1,  /* HMAC-SHA1, in MESSAGE-INTEGRITY (section 14.5) */
+    STUNP_SHA256 = 2 /* HMAC-SHA256, in MESSAGE-INTEGRITY-SHA256 (section 14.6) */
 } stunp_algorithm;
 
-/* What the FINGERPRINT of a message is (section 14.7). */
+/* The result of stunp_check_fingerprint (section 14.7). */
 typedef enum stunp_fingerprint {
-    STUNP_NO_FINGERPRINT = 0,       /* there is none */
-    STUNP_RIGHT_FINGERPRINT = 1,    /* that of the message before it */
-    STUNP_WRONG_FINGERPRINT = 2,    /* another number: it is damaged, or is no message of STUN */
-    STUNP_MISPLACED_FINGERPRINT = 3 /* not the last attribute, or not of four bytes */
+    STUNP_NO_FINGERPRINT = 0,       /* the message has no FINGERPRINT */
+    STUNP_RIGHT_FINGERPRINT = 1,    /* it matches the message before it */
+    STUNP_WRONG_FINGERPRINT = 2,    /* it does not match: the message was damaged, or the bytes
+                                     * are not a STUN message */
+    STUNP_MISPLACED_FINGERPRINT = 3 /* it is not the last attribute, or does not have 4 bytes */
 } stunp_fingerprint;
 
-/* Why a call fails. */
+/* Errors, which calls return. Each call lists the ones that it can return, with their causes. */
 typedef enum stunp_refusal {
     STUNP_TRUNCATED = -1,     /* bytes are missing at the end of a header, message or attribute */
-    STUNP_NOT_STUN = -2,      /* no header: its top two bits, its cookie, or a length that is no
-                               * multiple of 4 */
-    STUNP_TOO_LARGE = -3,     /* bytes come after the end of the message */
+    STUNP_NOT_STUN = -2,      /* the bytes are not a STUN header: the two top bits are not 0, the
+                               * magic cookie is wrong, or the length is not a multiple of 4 */
+    STUNP_TOO_LARGE = -3,     /* there are more bytes after the end of the message */
     STUNP_NO_INTEGRITY = -4,  /* no integrity attribute is visible */
     STUNP_MALFORMED_INTEGRITY = -5, /* the integrity attribute that decides has a length that its
                                      * type cannot have */
-    STUNP_INTEGRITY_FAILED = -6,    /* its value is not the whole digest of what it covers under the
-                                     * key */
+    STUNP_INTEGRITY_FAILED = -6,    /* the signature is not valid for this message and key: the
+                                     * integrity attribute does not hold the whole HMAC; or a
+                                     * server has no key any more to sign with */
     STUNP_BAD_ARGUMENT = -7,  /* an argument is out of range */
     STUNP_NOT_TEXT = -8,      /* a text is not UTF-8 */
-    STUNP_TEXT_TOO_LONG = -9, /* a text is too long: a user name over 513 bytes, a reason, realm or
-                               * nonce over 763 */
-    STUNP_BUFFER_TOO_SMALL = -10,    /* the output has fewer bytes than would be written */
-    STUNP_NOT_ALLOWED = -11,         /* attributes of this type are written by a call of their own,
-                                      * or by none */
-    STUNP_CLOSED = -12,              /* the message has an integrity attribute or FINGERPRINT, so
-                                      * nothing may follow */
-    STUNP_ATTRIBUTE_EXISTS = -13,    /* the message has an attribute of this type */
+    STUNP_TEXT_TOO_LONG = -9, /* a text is too long: a user name over 513 bytes, or a reason, realm
+                               * or nonce over 763 */
+    STUNP_BUFFER_TOO_SMALL = -10,    /* the output does not have room for what would be written */
+    STUNP_NOT_ALLOWED = -11,         /* this call cannot write attributes of this type: they have a
+                                      * call of their own */
+    STUNP_CLOSED = -12,              /* the message has an integrity attribute or FINGERPRINT, and
+                                      * nothing may follow it */
+    STUNP_ATTRIBUTE_EXISTS = -13,    /* the message has an attribute of this type already */
     STUNP_MESSAGE_TOO_LONG = -14,    /* the message would have more than 65532 bytes after its
                                       * header */
-    STUNP_MISSING_ATTRIBUTE = -15,   /* no attribute of the type that is read is visible */
-    STUNP_MALFORMED_ATTRIBUTE = -16, /* the attribute that is read is malformed */
+    STUNP_MISSING_ATTRIBUTE = -15,   /* no attribute of this type is visible */
+    STUNP_MALFORMED_ATTRIBUTE = -16, /* the value of the attribute is malformed */
 
-    /* Of the calls with state alone (stunp_state.h). */
+    /* Only the calls of stunp_state.h return these. */
     STUNP_OUT_OF_MEMORY = -17,       /* an allocation failed */
     STUNP_EMPTY_HANDLE = -18,        /* the handle is empty */
     STUNP_FULL_HANDLE = -19,         /* the handle is full already */
-    STUNP_ALREADY_IN_PROGRESS = -20, /* a request of this id is outstanding */
-    STUNP_PROTOCOL_VIOLATION = -21,  /* this call does not take the message or its address */
-    STUNP_UNAUTHORIZED = -22,        /* server: not sufficiently authenticated (401); client: a 401
-                                      * that cannot be taken up */
-    STUNP_BAD_REQUEST = -23,         /* the request is not well-formed (400) */
-    STUNP_STALE_NONCE = -24,         /* the nonce is not the current one (438) */
-    STUNP_UNSUPPORTED_FEATURE = -25, /* the server lacks an algorithm or a feature that must be */
-    STUNP_NO_WAIT = -26,             /* the time-outs would send a request again without a wait */
-    STUNP_TOO_MANY_ADDRESSES = -27   /* as many addresses are kept as may be */
+    STUNP_ALREADY_IN_PROGRESS = -20, /* a request with this transaction id is outstanding */
+    STUNP_PROTOCOL_VIOLATION = -21,  /* the call does not accept this message or this address */
+    STUNP_UNAUTHORIZED = -22,        /* server: the message is not sufficiently authenticated;
+                                      * answer 401. Client: it cannot answer this 401; give up */
+    STUNP_BAD_REQUEST = -23,         /* server: the request is not well-formed; answer 400, or
+                                      * 438 in one case (stunp_state.h) */
+    STUNP_STALE_NONCE = -24,         /* server: the nonce is not the current one; answer 438 */
+    STUNP_UNSUPPORTED_FEATURE = -25, /* client: the server lacks an algorithm or a feature that is
+                                      * required; give up */
+    STUNP_NO_WAIT = -26,             /* the timeouts would make several transmissions of a request
+                                      * due at the same time */
+    STUNP_TOO_MANY_ADDRESSES = -27   /* server: the limit on the number of addresses is reached */
 } stunp_refusal;
 
-/* Numbers of bytes. */
+/* Lengths in bytes. */
 enum {
-    STUNP_ID_LENGTH = 12,              /* of a transaction id */
-    STUNP_HEADER_LENGTH = 20,          /* of a message without attributes */
-    STUNP_ATTRIBUTE_HEADER_LENGTH = 4, /* of an attribute before its value */
-    STUNP_LONGEST_MESSAGE = 65552,     /* of the longest message */
-    STUNP_LONGEST_SIGNED = 576,        /* no request of stunp_build_signed has more */
-    STUNP_SHA1_KEY_LENGTH = 16,        /* of a long-term key for STUNP_SHA1 */
-    STUNP_SHA256_KEY_LENGTH = 32,      /* of a long-term key for STUNP_SHA256 */
-    STUNP_USERHASH_LENGTH = 32,        /* of a USERHASH */
-    STUNP_FINGERPRINT_LENGTH = 8,      /* of a FINGERPRINT with its type and its length */
-    STUNP_LONGEST_ERROR_TEXT = 64      /* no text of stunp_error_text has more */
+    STUNP_ID_LENGTH = 12,              /* a transaction id */
+    STUNP_HEADER_LENGTH = 20,          /* a header, and so a message without attributes */
+    STUNP_ATTRIBUTE_HEADER_LENGTH = 4, /* the type and length of an attribute, before its value */
+    STUNP_LONGEST_MESSAGE = 65552,     /* the longest message */
+    STUNP_LONGEST_SIGNED = 576,        /* the longest request that stunp_build_signed writes */
+    STUNP_SHA1_KEY_LENGTH = 16,        /* a long-term key for STUNP_SHA1 */
+    STUNP_SHA256_KEY_LENGTH = 32,      /* a long-term key for STUNP_SHA256 */
+    STUNP_USERHASH_LENGTH = 32,        /* the value of a USERHASH */
+    STUNP_FINGERPRINT_LENGTH = 8,      /* a FINGERPRINT, with its type and its length */
+    STUNP_LONGEST_ERROR_TEXT = 64      /* an upper bound for a text of stunp_error_text */
 };
 
-/* As many types a call takes that its caller knows. */
+/* The largest number of types in `known`, for stunp_unknown_types and stunp_refuse_unknown. */
 enum { STUNP_MOST_KNOWN = 256 };
 
-/* What a header says (section 5). */
+/* The fields of a message header (section 5), written by stunp_read_header. */
 typedef struct {
     stunp_message_class message_class;
     uint32_t method; /* below 4096 */
-    size_t length;   /* of the whole message, its header included */
+    size_t length;   /* of the whole message, including the header */
     uint8_t id[12];  /* the transaction id */
 } stunp_header;
 
-/* How far a walk has come in a message. The caller begins it as zeros, and stunp_walk alone
- * changes it. */
+/* A position in the list of attributes of a message, for stunp_walk. Initialize it with zeros;
+ * after that only stunp_walk may change it. */
 typedef struct {
-    size_t place;    /* where the next attribute begins; 0 before the first */
-    uint32_t hidden; /* how much the attributes hide that were passed */
+    size_t place;    /* the offset of the next attribute, or 0 before the first call */
+    uint32_t hidden; /* which attributes are no longer visible from here */
 } stunp_cursor;
 
-/* A message that is being written. stunp_write and stunp_write_on fill it, and the calls of a
- * writer alone change it. */
+/* A message that is being written, for the calls stunp_write_*. Get one from stunp_write or
+ * stunp_write_on. You may read the fields; only the calls that take a writer may change them. */
 typedef struct {
-    uint8_t *bytes;  /* the caller's buffer */
-    size_t room;     /* its length */
-    size_t length;   /* that of the message at its front */
-    int64_t refusal; /* 0, or the first reason why a call of this writer failed */
+    uint8_t *bytes;  /* your buffer, which starts with the message */
+    size_t room;     /* the length of the buffer */
+    size_t length;   /* the length of the message */
+    int64_t refusal; /* the first error of a call with this writer, or 0 */
 } stunp_writer;
 
-/* ---- Messages. */
+/* ---- Messages */
 
-/* Whether the bytes are one whole message (section 5).
+/* Checks that the bytes are one whole message (section 5): a header, and attributes that fill
+ * exactly the length that the header states.
  *
- * Returns 0. Fails: fewer than 20 bytes STUNP_TRUNCATED, a wrong header STUNP_NOT_STUN, fewer
- * bytes than it states STUNP_TRUNCATED, more STUNP_TOO_LARGE, an attribute that does not fit
- * STUNP_TRUNCATED. */
+ * The values of the attributes, the signature and FINGERPRINT are not checked.
+ *
+ * Returns 0. Errors:
+ *   STUNP_TRUNCATED  there are fewer than 20 bytes
+ *   STUNP_NOT_STUN   the first 20 bytes are not a STUN header
+ *   STUNP_TRUNCATED  there are fewer bytes than the header states
+ *   STUNP_TOO_LARGE  there are more bytes than the header states
+ *   STUNP_TRUNCATED  an attribute extends past the end of the message */
+STUNP_USE_RESULT STUNP_READS(1, 2)
 int64_t stunp_parse(const uint8_t *message, size_t length);
 
-/* Reads the header that bytes begin with, all its fields by one call. What follows the first 20
- * bytes is neither looked at nor needed. So a stream tells by its first 20 bytes how many to
- * wait for. Whether the whole message is well-formed, stunp_parse or stunp_walk tells.
+/* Reads the header at the front of some bytes: class, method, length and transaction id.
  *
- * Returns 0 and writes the header. Fails: fewer than 20 bytes STUNP_TRUNCATED, a wrong header
- * STUNP_NOT_STUN. */
+ * Only the first 20 bytes are needed and looked at. So in a stream you learn from them how many
+ * bytes to wait for. Whether the whole message is well-formed, you learn from stunp_parse or
+ * stunp_walk.
+ *
+ * Returns 0 and writes `*header`. Errors:
+ *   STUNP_TRUNCATED  there are fewer than 20 bytes
+ *   STUNP_NOT_STUN   the first 20 bytes are not a STUN header */
+STUNP_READS(1, 2) STUNP_NOT_NULL(3)
 int64_t stunp_read_header(const uint8_t *bytes, size_t length, stunp_header *header);
 
-/* The class and the method of a message, and its transaction id, 12 bytes, which are copied to
- * the front of `out`.
+/* Returns the class of a message, a stunp_message_class. To read several fields of the header, call
+ * stunp_read_header.
  *
- * They return a stunp_message_class, a number below 4096, and 12. They fail as stunp_parse does;
- * stunp_id then with STUNP_BUFFER_TOO_SMALL. */
+ * Errors:
+ *   STUNP_TRUNCATED, STUNP_NOT_STUN, STUNP_TOO_LARGE
+ *                    the bytes are not one whole message (stunp_parse) */
+STUNP_USE_RESULT STUNP_READS(1, 2)
 int64_t stunp_class(const uint8_t *message, size_t length);
+
+/* Returns the method of a message, a number below 4096. Errors:
+ *   STUNP_TRUNCATED, STUNP_NOT_STUN, STUNP_TOO_LARGE
+ *                    the bytes are not one whole message (stunp_parse) */
+STUNP_USE_RESULT STUNP_READS(1, 2)
 int64_t stunp_method(const uint8_t *message, size_t length);
+
+/* Copies the transaction id of a message, 12 bytes, to the front of `out`.
+ *
+ * Returns 12. Errors:
+ *   STUNP_TRUNCATED, STUNP_NOT_STUN, STUNP_TOO_LARGE
+ *                           the bytes are not one whole message (stunp_parse)
+ *   STUNP_BUFFER_TOO_SMALL  `out_length` is less than 12 */
+STUNP_READS(1, 2) STUNP_WRITES(3, 4)
 int64_t stunp_id(const uint8_t *message, size_t length, uint8_t *out, size_t out_length);
 
-/* ---- Attributes found. After MESSAGE-INTEGRITY only MESSAGE-INTEGRITY-SHA256 and FINGERPRINT
- * are visible, after MESSAGE-INTEGRITY-SHA256 only FINGERPRINT, and after FINGERPRINT nothing
- * (sections 14.5 to 14.7). The place of an attribute is where it begins in its message, 20 or
- * more; its value begins at `message + place + 4`. */
+/* ---- Finding attributes
+ *
+ * These calls return the offset of an attribute: the position of its first byte in the message,
+ * which is at least 20. Its value starts at `message + offset + 4`. The calls that read an
+ * attribute take the offset as `place`.
+ *
+ * They find visible attributes only. After MESSAGE-INTEGRITY only MESSAGE-INTEGRITY-SHA256 and
+ * FINGERPRINT are visible, after MESSAGE-INTEGRITY-SHA256 only FINGERPRINT, and after FINGERPRINT
+ * nothing (sections 14.5 to 14.7). */
 
 /* Finds the first visible attribute of a type.
  *
- * Returns its place, and writes the length of its value. Fails: STUNP_BAD_ARGUMENT where the type
- * is not below 65536; as stunp_parse does; STUNP_MISSING_ATTRIBUTE. */
+ * Returns its offset, and writes the length of its value to `*value_length`. Errors:
+ *   STUNP_BAD_ARGUMENT       `type` is 65536 or more
+ *   STUNP_TRUNCATED, STUNP_NOT_STUN, STUNP_TOO_LARGE
+ *                            the bytes are not one whole message (stunp_parse)
+ *   STUNP_MISSING_ATTRIBUTE  no attribute of this type is visible */
+STUNP_USE_RESULT STUNP_READS(1, 2) STUNP_NOT_NULL(4)
 int64_t stunp_find(const uint8_t *message, size_t length, uint32_t type, size_t *value_length);
 
-/* Walks to the next visible attribute of a message, from a cursor: with one of zeros to the
- * first, and then with what the call before left. So a loop over the calls comes to each visible
- * attribute once, in order. It takes time that grows by the number of attributes, since only the
- * first call looks at the whole message.
+/* Goes to the next visible attribute of a message. Called in a loop, it returns each visible
+ * attribute once, in order:
  *
- * Returns the place of the attribute, writes its type and the length of its value, and puts the
- * cursor after it; or returns 0 where there is none, leaves both numbers, and does so again with
- * the cursor that it leaves. Fails, and leaves numbers and cursor: with a place of 0 as
- * stunp_parse does, with another STUNP_BAD_ARGUMENT where it is below 20 or above the length. Any
- * cursor may be passed, and no byte outside the message is read. At a place that no walk of this
- * message left, the bytes there are read as attributes. */
+ *     stunp_cursor cursor = {0};
+ *     uint16_t type;
+ *     size_t value_length;
+ *     int64_t place;
+ *     while ((place = stunp_walk(message, length, &cursor, &type, &value_length)) > 0)
+ *         use(type, message + place + 4, value_length);
+ *     if (place < 0) ..       // the bytes are not a message
+ *
+ * Initialize the cursor with zeros, and pass it on from call to call. The whole loop takes time
+ * proportional to the number of attributes, because only the first call checks the whole message.
+ *
+ * Returns the offset of the attribute, writes its type and the length of its value, and moves the
+ * cursor past it. Or returns 0 if there are no more; `*type` and `*value_length` are then not
+ * written, and a further call with this cursor returns 0 again. Errors, which leave the cursor
+ * unchanged too:
+ *   STUNP_TRUNCATED, STUNP_NOT_STUN, STUNP_TOO_LARGE
+ *                       if `cursor->place` is 0: the bytes are not one whole message (stunp_parse)
+ *   STUNP_BAD_ARGUMENT  otherwise: `cursor->place` is below 20 or above `length`
+ *
+ * The call reads no byte outside the message, whatever cursor you pass. With a cursor that does not
+ * come from a walk of this message, it reads the bytes at that offset as attributes. */
+STUNP_USE_RESULT STUNP_READS(1, 2) STUNP_NOT_NULL(3, 4, 5)
 int64_t stunp_walk(const uint8_t *message, size_t length, stunp_cursor *cursor, uint16_t *type,
                    size_t *value_length);
 
-/* Finds the first visible attribute that comes after a place: call it with 0, and then with what
- * the call before returned. A walk by stunp_walk comes to the same attributes, and is the linear
- * way. Each call of stunp_next reads the message from its start. So a loop over its calls takes
- * time that grows by the square of the number of attributes, and a message can have 16383.
+/* Finds the first visible attribute after an offset. Pass 0 to get the first attribute of the
+ * message, and then the offset that the call before returned.
  *
- * Returns its place, and writes its type and the length of its value; or returns 0 where there is
- * none. Fails as stunp_parse does. Where there is none and where it fails, it leaves both
- * numbers. */
+ * stunp_walk returns the same attributes in linear time. This call reads the message from its
+ * start each time, so a loop takes time proportional to the square of the number of attributes, of
+ * which a message can have 16383.
+ *
+ * Returns the offset of the attribute, and writes its type and the length of its value. Or returns
+ * 0 if there are no more, and does not write them. Errors:
+ *   STUNP_TRUNCATED, STUNP_NOT_STUN, STUNP_TOO_LARGE
+ *                    the bytes are not one whole message (stunp_parse) */
+STUNP_USE_RESULT STUNP_READS(1, 2) STUNP_NOT_NULL(4, 5)
 int64_t stunp_next(const uint8_t *message, size_t length, size_t place, uint16_t *type,
                    size_t *value_length);
 
-/* ---- Attributes read by place. They take a place that stunp_find, stunp_walk or stunp_next
- * returned of this message, whatever the type there. Any place may be passed, and no byte outside
- * the message is read: each fails first with STUNP_BAD_ARGUMENT where the place is below 20 or no
- * whole attribute is there. At another place than of an attribute the bytes there are read as
- * one. */
-
-/* Reads a text, as USERNAME, REALM, NONCE and SOFTWARE are (sections 14.3, 14.9, 14.10 and
- * 14.14). No zero byte ends it.
+/* ---- Reading the attribute at an offset
  *
- * Returns where the text begins in the message, 24 or more, and writes its length in bytes.
- * Fails: STUNP_BAD_ARGUMENT; STUNP_NOT_TEXT where the value is not UTF-8. */
+ * Pass a `place` that stunp_find, stunp_walk or stunp_next returned for this message. The type of
+ * the attribute does not matter. These calls read no byte outside the message, whatever `place` you
+ * pass. If no attribute starts there, they read the bytes at that offset as one. */
+
+/* Finds the text in an attribute such as USERNAME, REALM, NONCE or SOFTWARE (sections 14.3, 14.9,
+ * 14.10 and 14.14). The text is not copied, and no zero byte ends it.
+ *
+ * Returns the offset of the text in the message, 24 or more, and writes its length in bytes to
+ * `*text_length`. Errors:
+ *   STUNP_BAD_ARGUMENT  `place` is below 20, or no whole attribute starts there
+ *   STUNP_NOT_TEXT      the value is not UTF-8 */
+STUNP_USE_RESULT STUNP_READS(1, 2) STUNP_NOT_NULL(4)
 int64_t stunp_read_text(const uint8_t *message, size_t length, size_t place, size_t *text_length);
 
-/* Reads a number of 1, 2, 4 or 8 bytes, which are in network order, as PRIORITY and LIFETIME have
- * 4 and ICE-CONTROLLING has 8.
+/* Reads a number of 1, 2, 4 or 8 bytes in network order. PRIORITY and LIFETIME have 4 bytes,
+ * ICE-CONTROLLING has 8.
  *
- * Returns how many bytes it has, and writes the number. Fails: STUNP_BAD_ARGUMENT;
- * STUNP_MALFORMED_ATTRIBUTE where the value has another length. */
+ * Returns the number of bytes that the value has, and writes the number to `*number`. Errors:
+ *   STUNP_BAD_ARGUMENT         `place` is below 20, or no whole attribute starts there
+ *   STUNP_MALFORMED_ATTRIBUTE  the value does not have 1, 2, 4 or 8 bytes */
+STUNP_USE_RESULT STUNP_READS(1, 2) STUNP_NOT_NULL(4)
 int64_t stunp_read_number(const uint8_t *message, size_t length, size_t place, uint64_t *number);
 
-/* Reads an address, as in MAPPED-ADDRESS and ALTERNATE-SERVER (sections 14.1 and 14.15): 4 bytes
- * (IPv4) or 16 (IPv6) in network order, which go to the front of `out`, and its port. 16 bytes
- * have room for either.
+/* Reads an address and a port that are not XORed, as in MAPPED-ADDRESS and ALTERNATE-SERVER
+ * (sections 14.1 and 14.15).
  *
- * Returns 4 or 16. Fails: STUNP_BAD_ARGUMENT; STUNP_MALFORMED_ATTRIBUTE; STUNP_BUFFER_TOO_SMALL. */
+ * The address goes to the front of `out`: 4 bytes (IPv4) or 16 (IPv6), in network order. A buffer
+ * of 16 bytes has room for both. The port goes to `*port`, in the processor's order.
+ *
+ * Returns 4 or 16. Errors:
+ *   STUNP_BAD_ARGUMENT         `place` is below 20, or no whole attribute starts there
+ *   STUNP_MALFORMED_ATTRIBUTE  the value is not an address
+ *   STUNP_BUFFER_TOO_SMALL     `out` has no room for the address */
+STUNP_USE_RESULT STUNP_READS(1, 2) STUNP_WRITES(4, 5) STUNP_NOT_NULL(6)
 int64_t stunp_read_address(const uint8_t *message, size_t length, size_t place, uint8_t *out,
                            size_t out_length, uint16_t *port);
 
-/* The same of an address that is hidden under the id of the message. XOR-MAPPED-ADDRESS has one
- * (section 14.2), and so have XOR-PEER-ADDRESS and XOR-RELAYED-ADDRESS (RFC 8656, sections 18.3
- * and 18.5). */
+/* Reads an address and a port that are XORed with the magic cookie and the transaction id, as in
+ * XOR-MAPPED-ADDRESS (section 14.2), XOR-PEER-ADDRESS and XOR-RELAYED-ADDRESS (RFC 8656, sections
+ * 18.3 and 18.5).
+ *
+ * The address goes to the front of `out`: 4 bytes (IPv4) or 16 (IPv6), in network order. A buffer
+ * of 16 bytes has room for both. The port goes to `*port`, in the processor's order.
+ *
+ * Returns 4 or 16. Errors:
+ *   STUNP_BAD_ARGUMENT         `place` is below 20, or no whole attribute starts there
+ *   STUNP_MALFORMED_ATTRIBUTE  the value is not an address
+ *   STUNP_BUFFER_TOO_SMALL     `out` has no room for the address */
+STUNP_USE_RESULT STUNP_READS(1, 2) STUNP_WRITES(4, 5) STUNP_NOT_NULL(6)
 int64_t stunp_read_xor_address(const uint8_t *message, size_t length, size_t place, uint8_t *out,
                                size_t out_length, uint16_t *port);
 
-/* Reads the types of attributes that UNKNOWN-ATTRIBUTES holds, 2 bytes each (section 14.13).
- * `types` is an array of numbers, and its length a number of types.
+/* Reads the list of attribute types in UNKNOWN-ATTRIBUTES (section 14.13).
  *
- * Returns how many there are, also where they are more than have room. It writes the first of
- * them, as many as have room, to the front of `types`. Fails: STUNP_BAD_ARGUMENT;
- * STUNP_MALFORMED_ATTRIBUTE where the value has an odd number of bytes. */
+ * Writes the types to the front of `types`, as many as it has room for. `types_length` is the
+ * number of elements of that array.
+ *
+ * Returns the number of types in the attribute, which may be more than were written. Errors:
+ *   STUNP_BAD_ARGUMENT         `place` is below 20, or no whole attribute starts there
+ *   STUNP_MALFORMED_ATTRIBUTE  the value has an odd number of bytes */
+STUNP_USE_RESULT STUNP_READS(1, 2) STUNP_WRITES(4, 5)
 int64_t stunp_read_types(const uint8_t *message, size_t length, size_t place, uint16_t *types,
                          size_t types_length);
 
-/* ---- Attributes read by type: the first visible one. Each returns what the call by place does.
- * Each fails as stunp_find does, and then as the call by place. */
+/* ---- Reading an attribute by its type
+ *
+ * Each call reads the first visible attribute of a type: it calls stunp_find, and then one of the
+ * calls above. */
 
+/* Finds the text in the first visible attribute of a type (stunp_read_text).
+ *
+ *     size_t text_length;
+ *     int64_t text = stunp_find_text(message, length, STUNP_SOFTWARE, &text_length);
+ *     if (text > 0) printf("%.*s\n", (int)text_length, (const char *)message + text);
+ *
+ * Returns the offset of the text in the message, and writes its length to `*text_length`. Errors:
+ *   STUNP_BAD_ARGUMENT       `type` is 65536 or more
+ *   STUNP_TRUNCATED, STUNP_NOT_STUN, STUNP_TOO_LARGE
+ *                            the bytes are not one whole message (stunp_parse)
+ *   STUNP_MISSING_ATTRIBUTE  no attribute of this type is visible
+ *   STUNP_NOT_TEXT           the value is not UTF-8 */
 static inline int64_t stunp_find_text(const uint8_t *message, size_t length, uint32_t type,
                                       size_t *text_length) {
     size_t value_length;
@@ -380,6 +555,15 @@ static inline int64_t stunp_find_text(const uint8_t *message, size_t length, uin
     return place < 0 ? place : stunp_read_text(message, length, (size_t)place, text_length);
 }
 
+/* Reads the number in the first visible attribute of a type (stunp_read_number).
+ *
+ * Returns the number of bytes that the value has, and writes the number. Compare the result with
+ * the length that the attribute must have, such as 4 for PRIORITY. Errors:
+ *   STUNP_BAD_ARGUMENT         `type` is 65536 or more
+ *   STUNP_TRUNCATED, STUNP_NOT_STUN, STUNP_TOO_LARGE
+ *                              the bytes are not one whole message (stunp_parse)
+ *   STUNP_MISSING_ATTRIBUTE    no attribute of this type is visible
+ *   STUNP_MALFORMED_ATTRIBUTE  the value does not have 1, 2, 4 or 8 bytes */
 static inline int64_t stunp_find_number(const uint8_t *message, size_t length, uint32_t type,
                                         uint64_t *number) {
     size_t value_length;
@@ -387,6 +571,15 @@ static inline int64_t stunp_find_number(const uint8_t *message, size_t length, u
     return place < 0 ? place : stunp_read_number(message, length, (size_t)place, number);
 }
 
+/* Reads the address in the first visible attribute of a type, not XORed (stunp_read_address).
+ *
+ * Returns 4 or 16, and writes the address to the front of `out` and the port to `*port`. Errors:
+ *   STUNP_BAD_ARGUMENT         `type` is 65536 or more
+ *   STUNP_TRUNCATED, STUNP_NOT_STUN, STUNP_TOO_LARGE
+ *                              the bytes are not one whole message (stunp_parse)
+ *   STUNP_MISSING_ATTRIBUTE    no attribute of this type is visible
+ *   STUNP_MALFORMED_ATTRIBUTE  the value is not an address
+ *   STUNP_BUFFER_TOO_SMALL     `out` has no room for the address */
 static inline int64_t stunp_find_address(const uint8_t *message, size_t length, uint32_t type,
                                          uint8_t *out, size_t out_length, uint16_t *port) {
     size_t value_length;
@@ -395,6 +588,17 @@ static inline int64_t stunp_find_address(const uint8_t *message, size_t length, 
     return stunp_read_address(message, length, (size_t)place, out, out_length, port);
 }
 
+/* Reads the XORed address in the first visible attribute of a type (stunp_read_xor_address).
+ *
+ * For XOR-MAPPED-ADDRESS you can also call stunp_xor_mapped_address.
+ *
+ * Returns 4 or 16, and writes the address to the front of `out` and the port to `*port`. Errors:
+ *   STUNP_BAD_ARGUMENT         `type` is 65536 or more
+ *   STUNP_TRUNCATED, STUNP_NOT_STUN, STUNP_TOO_LARGE
+ *                              the bytes are not one whole message (stunp_parse)
+ *   STUNP_MISSING_ATTRIBUTE    no attribute of this type is visible
+ *   STUNP_MALFORMED_ATTRIBUTE  the value is not an address
+ *   STUNP_BUFFER_TOO_SMALL     `out` has no room for the address */
 static inline int64_t stunp_find_xor_address(const uint8_t *message, size_t length, uint32_t type,
                                              uint8_t *out, size_t out_length, uint16_t *port) {
     size_t value_length;
@@ -403,6 +607,14 @@ static inline int64_t stunp_find_xor_address(const uint8_t *message, size_t leng
     return stunp_read_xor_address(message, length, (size_t)place, out, out_length, port);
 }
 
+/* Reads the list of types in the first visible attribute of a type (stunp_read_types).
+ *
+ * Returns the number of types in the attribute, and writes as many as `types` has room for. Errors:
+ *   STUNP_BAD_ARGUMENT         `type` is 65536 or more
+ *   STUNP_TRUNCATED, STUNP_NOT_STUN, STUNP_TOO_LARGE
+ *                              the bytes are not one whole message (stunp_parse)
+ *   STUNP_MISSING_ATTRIBUTE    no attribute of this type is visible
+ *   STUNP_MALFORMED_ATTRIBUTE  the value has an odd number of bytes */
 static inline int64_t stunp_find_types(const uint8_t *message, size_t length, uint32_t type,
                                        uint16_t *types, size_t types_length) {
     size_t value_length;
@@ -411,158 +623,291 @@ static inline int64_t stunp_find_types(const uint8_t *message, size_t length, ui
     return stunp_read_types(message, length, (size_t)place, types, types_length);
 }
 
-/* ---- What a response reports. */
+/* ---- What a response reports */
 
-/* The code of the error that a message reports in its first visible ERROR-CODE (section 14.8).
- * The reason is that attribute's value from its fifth byte on.
+/* Returns the error code of a message, a number from 300 to 699, from the first visible ERROR-CODE
+ * (section 14.8). The reason phrase is the value of that attribute from its fifth byte on.
  *
- * Returns a number from 300 to 699. Fails as stunp_parse does, and then: STUNP_MISSING_ATTRIBUTE,
- * STUNP_MALFORMED_ATTRIBUTE. */
+ * Errors:
+ *   STUNP_TRUNCATED, STUNP_NOT_STUN, STUNP_TOO_LARGE
+ *                              the bytes are not one whole message (stunp_parse)
+ *   STUNP_MISSING_ATTRIBUTE    no ERROR-CODE is visible
+ *   STUNP_MALFORMED_ATTRIBUTE  the first visible ERROR-CODE is malformed */
+STUNP_USE_RESULT STUNP_READS(1, 2)
 int64_t stunp_error_code(const uint8_t *message, size_t length);
 
-/* Reads the address that a message reports in its first visible XOR-MAPPED-ADDRESS (section
- * 14.2), to the front of `out`, and its port, as stunp_read_xor_address does.
+/* Reads the address that a server saw, from the first visible XOR-MAPPED-ADDRESS (section 14.2).
  *
- * Returns 4 or 16. Fails as stunp_parse does, and then: STUNP_MISSING_ATTRIBUTE,
- * STUNP_MALFORMED_ATTRIBUTE, STUNP_BUFFER_TOO_SMALL. */
+ * The address goes to the front of `out`: 4 bytes (IPv4) or 16 (IPv6), in network order. A buffer
+ * of 16 bytes has room for both. The port goes to `*port`, in the processor's order.
+ *
+ * Returns 4 or 16. Errors:
+ *   STUNP_TRUNCATED, STUNP_NOT_STUN, STUNP_TOO_LARGE
+ *                              the bytes are not one whole message (stunp_parse)
+ *   STUNP_MISSING_ATTRIBUTE    no XOR-MAPPED-ADDRESS is visible
+ *   STUNP_MALFORMED_ATTRIBUTE  the first visible XOR-MAPPED-ADDRESS is malformed
+ *   STUNP_BUFFER_TOO_SMALL     `out` has no room for the address */
+STUNP_USE_RESULT STUNP_READS(1, 2) STUNP_WRITES(3, 4) STUNP_NOT_NULL(5)
 int64_t stunp_xor_mapped_address(const uint8_t *message, size_t length, uint8_t *out,
                                  size_t out_length, uint16_t *port);
 
-/* ---- Checks. */
+/* ---- Checks */
 
-/* Which digest of a message verifies under a key of any length: a short-term password (section
- * 9.1.1) or a long-term key (section 9.2.2).
+/* Verifies the signature of a message with a key: a short-term password (section 9.1.1) or a
+ * long-term key (section 9.2.2). The key may have any length.
  *
- * Returns a stunp_algorithm. Fails as stunp_parse does, and then: STUNP_NO_INTEGRITY,
- * STUNP_MALFORMED_INTEGRITY, STUNP_INTEGRITY_FAILED. MESSAGE-INTEGRITY-SHA256 decides where it is
- * visible, and MESSAGE-INTEGRITY where it is not. A SHA-256 digest that is cut short does not
- * verify. FINGERPRINT is not checked. */
+ * If MESSAGE-INTEGRITY-SHA256 is visible, only that attribute is checked; otherwise
+ * MESSAGE-INTEGRITY is. A truncated HMAC-SHA256 is not accepted. FINGERPRINT is not checked.
+ *
+ * Returns the algorithm of a valid signature, STUNP_SHA1 or STUNP_SHA256. Test it with `> 0`, or
+ * call stunp_is_signed. Errors:
+ *   STUNP_TRUNCATED, STUNP_NOT_STUN, STUNP_TOO_LARGE
+ *                              the bytes are not one whole message (stunp_parse)
+ *   STUNP_NO_INTEGRITY         the message has no visible integrity attribute: it is unsigned
+ *   STUNP_MALFORMED_INTEGRITY  the integrity attribute has a length that its type cannot have
+ *   STUNP_INTEGRITY_FAILED     the signature is not valid for this message and key */
+STUNP_USE_RESULT STUNP_READS(1, 2) STUNP_READS(3, 4)
 int64_t stunp_verify(const uint8_t *message, size_t length, const void *key, size_t key_length);
 
-/* What the FINGERPRINT of a message is (section 14.7).
+/* Returns whether a message is signed with this key: whether stunp_verify returns an algorithm. */
+STUNP_USE_RESULT STUNP_READS(1, 2) STUNP_READS(3, 4)
+static inline bool stunp_is_signed(const uint8_t *message, size_t length, const void *key,
+                                   size_t key_length) {
+    return stunp_verify(message, length, key, key_length) > 0;
+}
+
+/* Checks the FINGERPRINT of a message (section 14.7).
  *
- * Returns a stunp_fingerprint. Fails as stunp_parse does. */
+ * Returns a stunp_fingerprint. Compare it with STUNP_RIGHT_FINGERPRINT, or call
+ * stunp_has_right_fingerprint: a wrong FINGERPRINT is a value above 0 too. Errors:
+ *   STUNP_TRUNCATED, STUNP_NOT_STUN, STUNP_TOO_LARGE
+ *                    the bytes are not one whole message (stunp_parse) */
+STUNP_USE_RESULT STUNP_READS(1, 2)
 int64_t stunp_check_fingerprint(const uint8_t *message, size_t length);
 
-/* The types of a message's visible attributes that must be understood, those below 32768, and
- * that are not among `known`, in their order, each once. `known` and `types` are arrays of
- * numbers, and their lengths are numbers of types: of `known` at most 256, of `types` any. A
- * server answers a request that has one 420, which stunp_refuse_unknown writes; an agent drops an
- * indication that has one, and a response that has one ends its request as failed (sections 6.3.1
- * to 6.3.4).
+/* Returns whether the last attribute of a message is a FINGERPRINT that matches the message:
+ * whether stunp_check_fingerprint returns STUNP_RIGHT_FINGERPRINT. */
+STUNP_USE_RESULT STUNP_READS(1, 2)
+static inline bool stunp_has_right_fingerprint(const uint8_t *message, size_t length) {
+    return stunp_check_fingerprint(message, length) == STUNP_RIGHT_FINGERPRINT;
+}
+
+/* Lists the attributes of a message that its receiver must understand and does not know: the types
+ * of its visible attributes that are below 32768 and are not among `known`. They are listed in the
+ * order of the message, each once.
  *
- * Returns how many there are, also where they are more than have room. It writes the first of
- * them, as many as have room, to the front of `types`. Fails: STUNP_BAD_ARGUMENT where `known`
- * has more than 256; as stunp_parse does. */
+ * What to do if there are any (sections 6.3.1 to 6.3.4): a server answers a request with 420, which
+ * stunp_refuse_unknown writes; an agent drops an indication; and a response ends its request as
+ * failed.
+ *
+ * `known_length` and `types_length` are numbers of elements. `known` may have 256 of them, and
+ * `types` any number. The types are written to the front of `types`, as many as it has room for.
+ *
+ * Returns the number of such types, which may be more than were written. Errors:
+ *   STUNP_BAD_ARGUMENT  `known_length` is more than 256
+ *   STUNP_TRUNCATED, STUNP_NOT_STUN, STUNP_TOO_LARGE
+ *                       the bytes are not one whole message (stunp_parse) */
+STUNP_USE_RESULT STUNP_READS(1, 2) STUNP_READS(3, 4) STUNP_WRITES(5, 6)
 int64_t stunp_unknown_types(const uint8_t *message, size_t length, const uint16_t *known,
                             size_t known_length, uint16_t *types, size_t types_length);
 
-/* ---- Messages written. */
-
-/* Writes a message without attributes, 20 bytes (section 5): of a class, of a method, and of a
- * transaction id. The id is to be random in a request, and that of the request in a response.
+/* ---- Writing messages
  *
- * Returns 20. Fails: STUNP_BAD_ARGUMENT where the class is not one of four, the method not below
- * 4096, or the id not of 12 bytes; STUNP_BUFFER_TOO_SMALL. */
+ * To write a message, call stunp_begin, and then add its attributes one by one. Each call returns
+ * the new length of the message, which you pass to the next as `length`. The writer below does this
+ * for you and is easier to use. */
+
+/* Writes a message without attributes, 20 bytes, to the front of `out` (section 5).
+ *
+ * The transaction id of a request must be random. A response has that of its request.
+ *
+ * Returns 20. Errors:
+ *   STUNP_BAD_ARGUMENT      the class is none of the four, the method is 4096 or more, or
+ *                           `id_length` is not 12
+ *   STUNP_BUFFER_TOO_SMALL  `out_length` is less than 20 */
+STUNP_USE_RESULT STUNP_READS(3, 4) STUNP_WRITES(5, 6)
 int64_t stunp_begin(stunp_message_class message_class, uint32_t method, const uint8_t *id,
                     size_t id_length, uint8_t *out, size_t out_length);
 
-/* The calls that follow add an attribute to the message in the first `length` bytes of a buffer
- * of `room` bytes. The message is one of stunp_begin, or any other without an integrity attribute
- * and FINGERPRINT. They raise its length field, write the attribute after it with zeros as
- * padding, and leave the rest of the buffer. Each reads the message from its start, so to build
- * one takes time that grows by the square of the number of attributes: 0.1 ms for 100.
+/* The calls that follow append an attribute to the message in the first `length` bytes of `buffer`,
+ * which has `room` bytes. This may be any message that has neither an integrity attribute nor
+ * FINGERPRINT, also one that stunp_begin did not write.
  *
- * Each returns the new length of the message. Each fails, after what its own comment names first:
- * STUNP_BAD_ARGUMENT where `length` is above `room`; as stunp_parse does; STUNP_CLOSED; and where
- * an attribute of the type is visible STUNP_ATTRIBUTE_EXISTS; STUNP_MESSAGE_TOO_LONG;
- * STUNP_BUFFER_TOO_SMALL. */
+ * They update the length field of the message, write the attribute after it with zeros as padding,
+ * and leave the rest of the buffer unchanged. Each reads the message from its start, so the time to
+ * write a message is proportional to the square of the number of attributes: 0.1 ms for 100. */
 
-/* Adds an attribute of any type but the two of integrity and FINGERPRINT. The value is written as
- * it is.
+/* Appends an attribute with this value, which is written as it is. The integrity attributes and
+ * FINGERPRINT have calls of their own: stunp_sign and stunp_add_fingerprint.
  *
- * Fails first with STUNP_BAD_ARGUMENT where the type is not below 65536; and with
- * STUNP_NOT_ALLOWED after STUNP_CLOSED. */
+ * Returns the new length of the message. Errors:
+ *   STUNP_BAD_ARGUMENT      `type` is 65536 or more, or `length` exceeds `room`
+ *   STUNP_TRUNCATED, STUNP_NOT_STUN, STUNP_TOO_LARGE
+ *                           the buffer does not hold one whole message (stunp_parse)
+ *   STUNP_CLOSED            the message has an integrity attribute or FINGERPRINT already
+ *   STUNP_NOT_ALLOWED       `type` is an integrity attribute or FINGERPRINT
+ *   STUNP_ATTRIBUTE_EXISTS  the message has an attribute of this type already
+ *   STUNP_MESSAGE_TOO_LONG  the message would have more than 65532 bytes after its header
+ *   STUNP_BUFFER_TOO_SMALL  the attribute does not fit into `room` bytes */
+STUNP_USE_RESULT STUNP_CHANGES(1, 2) STUNP_READS(5, 6)
 int64_t stunp_add(uint8_t *buffer, size_t room, size_t length, uint32_t type, const void *value,
                   size_t value_length);
 
-/* Adds an attribute of any type that stunp_add takes. Its value is a number of `size` bytes, 1,
- * 2, 4 or 8, in network order: PRIORITY and LIFETIME have 4, and ICE-CONTROLLING has 8.
+/* Appends an attribute whose value is a number of `size` bytes, 1, 2, 4 or 8, in network order.
+ * PRIORITY and LIFETIME have 4 bytes, ICE-CONTROLLING has 8.
  *
- * Fails first with STUNP_BAD_ARGUMENT where the type is not below 65536, the size is another, or
- * the number has more bytes; and with STUNP_NOT_ALLOWED after STUNP_CLOSED. */
+ * Returns the new length of the message. Errors:
+ *   STUNP_BAD_ARGUMENT      `type` is 65536 or more, `size` is not 1, 2, 4 or 8, the number does
+ *                           not fit in `size` bytes, or `length` exceeds `room`
+ *   STUNP_TRUNCATED, STUNP_NOT_STUN, STUNP_TOO_LARGE
+ *                           the buffer does not hold one whole message (stunp_parse)
+ *   STUNP_CLOSED            the message has an integrity attribute or FINGERPRINT already
+ *   STUNP_NOT_ALLOWED       `type` is an integrity attribute or FINGERPRINT
+ *   STUNP_ATTRIBUTE_EXISTS  the message has an attribute of this type already
+ *   STUNP_MESSAGE_TOO_LONG  the message would have more than 65532 bytes after its header
+ *   STUNP_BUFFER_TOO_SMALL  the attribute does not fit into `room` bytes */
+STUNP_USE_RESULT STUNP_CHANGES(1, 2)
 int64_t stunp_add_number(uint8_t *buffer, size_t room, size_t length, uint32_t type,
                          uint64_t number, size_t size);
 
-/* Adds an attribute of any type that stunp_add takes. Its value is an address, of 4 bytes (IPv4)
- * or 16 (IPv6) in network order, and a port. MAPPED-ADDRESS and ALTERNATE-SERVER have it
- * (sections 14.1 and 14.15).
+/* Appends an attribute whose value is an address and a port, not XORed, such as MAPPED-ADDRESS or
+ * ALTERNATE-SERVER (sections 14.1 and 14.15). The address has 4 bytes (IPv4) or 16 (IPv6), in
+ * network order; the port is in the processor's order.
  *
- * Fails first with STUNP_BAD_ARGUMENT where the type or the port is not below 65536 or the
- * address of another length; and with STUNP_NOT_ALLOWED after STUNP_CLOSED. */
+ * Returns the new length of the message. Errors:
+ *   STUNP_BAD_ARGUMENT      `type` or `port` is 65536 or more, `address_length` is not 4 or 16, or
+ *                           `length` exceeds `room`
+ *   STUNP_TRUNCATED, STUNP_NOT_STUN, STUNP_TOO_LARGE
+ *                           the buffer does not hold one whole message (stunp_parse)
+ *   STUNP_CLOSED            the message has an integrity attribute or FINGERPRINT already
+ *   STUNP_NOT_ALLOWED       `type` is an integrity attribute or FINGERPRINT
+ *   STUNP_ATTRIBUTE_EXISTS  the message has an attribute of this type already
+ *   STUNP_MESSAGE_TOO_LONG  the message would have more than 65532 bytes after its header
+ *   STUNP_BUFFER_TOO_SMALL  the attribute does not fit into `room` bytes */
+STUNP_USE_RESULT STUNP_CHANGES(1, 2) STUNP_READS(5, 6)
 int64_t stunp_add_address(uint8_t *buffer, size_t room, size_t length, uint32_t type,
                           const uint8_t *address, size_t address_length, uint32_t port);
 
-/* The same of an address that is hidden under the id of the message. XOR-MAPPED-ADDRESS has one
- * (section 14.2), and so have XOR-PEER-ADDRESS and XOR-RELAYED-ADDRESS (RFC 8656, sections 18.3
- * and 18.5). */
+/* Appends an attribute whose value is an address and a port, XORed with the magic cookie and the
+ * transaction id of the message, such as XOR-MAPPED-ADDRESS (section 14.2), XOR-PEER-ADDRESS or
+ * XOR-RELAYED-ADDRESS (RFC 8656, sections 18.3 and 18.5). The address has 4 bytes (IPv4) or 16
+ * (IPv6), in network order; the port is in the processor's order.
+ *
+ * Returns the new length of the message. Errors:
+ *   STUNP_BAD_ARGUMENT      `type` or `port` is 65536 or more, `address_length` is not 4 or 16, or
+ *                           `length` exceeds `room`
+ *   STUNP_TRUNCATED, STUNP_NOT_STUN, STUNP_TOO_LARGE
+ *                           the buffer does not hold one whole message (stunp_parse)
+ *   STUNP_CLOSED            the message has an integrity attribute or FINGERPRINT already
+ *   STUNP_NOT_ALLOWED       `type` is an integrity attribute or FINGERPRINT
+ *   STUNP_ATTRIBUTE_EXISTS  the message has an attribute of this type already
+ *   STUNP_MESSAGE_TOO_LONG  the message would have more than 65532 bytes after its header
+ *   STUNP_BUFFER_TOO_SMALL  the attribute does not fit into `room` bytes */
+STUNP_USE_RESULT STUNP_CHANGES(1, 2) STUNP_READS(5, 6)
 int64_t stunp_add_xor_address(uint8_t *buffer, size_t room, size_t length, uint32_t type,
                               const uint8_t *address, size_t address_length, uint32_t port);
 
-/* The same for XOR-MAPPED-ADDRESS, without the refusals for a type. */
+/* Appends XOR-MAPPED-ADDRESS, with which a server tells a client its address (section 14.2). The
+ * address has 4 bytes (IPv4) or 16 (IPv6), in network order; the port is in the processor's order.
+ *
+ * Returns the new length of the message. Errors:
+ *   STUNP_BAD_ARGUMENT      `port` is 65536 or more, `address_length` is not 4 or 16, or `length`
+ *                           exceeds `room`
+ *   STUNP_TRUNCATED, STUNP_NOT_STUN, STUNP_TOO_LARGE
+ *                           the buffer does not hold one whole message (stunp_parse)
+ *   STUNP_CLOSED            the message has an integrity attribute or FINGERPRINT already
+ *   STUNP_ATTRIBUTE_EXISTS  the message has XOR-MAPPED-ADDRESS already
+ *   STUNP_MESSAGE_TOO_LONG  the message would have more than 65532 bytes after its header
+ *   STUNP_BUFFER_TOO_SMALL  the attribute does not fit into `room` bytes */
+STUNP_USE_RESULT STUNP_CHANGES(1, 2) STUNP_READS(4, 5)
 int64_t stunp_add_xor_mapped_address(uint8_t *buffer, size_t room, size_t length,
                                      const uint8_t *address, size_t address_length, uint32_t port);
 
-/* Adds ERROR-CODE, of a code from 300 to 699 and a reason of at most 763 bytes (section 14.8).
+/* Appends ERROR-CODE (section 14.8): a code from 300 to 699, and a reason phrase, a text of at most
+ * 763 bytes.
  *
- * Fails first with STUNP_BAD_ARGUMENT for another code; STUNP_NOT_TEXT; STUNP_TEXT_TOO_LONG. */
+ * Returns the new length of the message. Errors:
+ *   STUNP_BAD_ARGUMENT      the code is not from 300 to 699
+ *   STUNP_NOT_TEXT          the reason is not UTF-8
+ *   STUNP_TEXT_TOO_LONG     the reason has more than 763 bytes
+ *   STUNP_BAD_ARGUMENT      `length` exceeds `room`
+ *   STUNP_TRUNCATED, STUNP_NOT_STUN, STUNP_TOO_LARGE
+ *                           the buffer does not hold one whole message (stunp_parse)
+ *   STUNP_CLOSED            the message has an integrity attribute or FINGERPRINT already
+ *   STUNP_ATTRIBUTE_EXISTS  the message has ERROR-CODE already
+ *   STUNP_MESSAGE_TOO_LONG  the message would have more than 65532 bytes after its header
+ *   STUNP_BUFFER_TOO_SMALL  the attribute does not fit into `room` bytes */
+STUNP_USE_RESULT STUNP_CHANGES(1, 2) STUNP_READS(5, 6)
 int64_t stunp_add_error(uint8_t *buffer, size_t room, size_t length, uint32_t code,
                         const void *reason, size_t reason_length);
 
-/* Adds the integrity attribute of an algorithm, whose digest is made under a key of any length: a
- * short-term password or a long-term key (sections 14.5 and 14.6). Nothing may be added after it
- * but FINGERPRINT.
+/* Signs the message: appends MESSAGE-INTEGRITY for STUNP_SHA1, or MESSAGE-INTEGRITY-SHA256 for
+ * STUNP_SHA256 (sections 14.5 and 14.6), 24 or 36 bytes.
  *
- * Fails first with STUNP_BAD_ARGUMENT for another algorithm, and never with
- * STUNP_ATTRIBUTE_EXISTS. */
+ * The key may have any length. It is a short-term password, or a long-term key
+ * (stunp_long_term_key). Add all other attributes first: only FINGERPRINT may follow.
+ *
+ * Returns the new length of the message. Errors:
+ *   STUNP_BAD_ARGUMENT      the algorithm is neither of the two, or `length` exceeds `room`
+ *   STUNP_TRUNCATED, STUNP_NOT_STUN, STUNP_TOO_LARGE
+ *                           the buffer does not hold one whole message (stunp_parse)
+ *   STUNP_CLOSED            the message has an integrity attribute or FINGERPRINT already
+ *   STUNP_MESSAGE_TOO_LONG  the message would have more than 65532 bytes after its header
+ *   STUNP_BUFFER_TOO_SMALL  the attribute does not fit into `room` bytes */
+STUNP_USE_RESULT STUNP_CHANGES(1, 2) STUNP_READS(5, 6)
 int64_t stunp_sign(uint8_t *buffer, size_t room, size_t length, stunp_algorithm algorithm,
                    const void *key, size_t key_length);
 
-/* Adds FINGERPRINT, 8 bytes, with which a message ends, signed or not (section 14.7): its
- * integrity attribute verifies as before.
+/* Appends FINGERPRINT, 8 bytes, to a message that is signed or not (section 14.7). It must be the
+ * last attribute. The signature stays valid.
  *
- * Fails never with STUNP_CLOSED, and with STUNP_ATTRIBUTE_EXISTS where the message has a
- * FINGERPRINT. */
+ * Returns the new length of the message. Errors:
+ *   STUNP_BAD_ARGUMENT      `length` exceeds `room`
+ *   STUNP_TRUNCATED, STUNP_NOT_STUN, STUNP_TOO_LARGE
+ *                           the buffer does not hold one whole message (stunp_parse)
+ *   STUNP_ATTRIBUTE_EXISTS  the message has FINGERPRINT already
+ *   STUNP_MESSAGE_TOO_LONG  the message would have more than 65532 bytes after its header
+ *   STUNP_BUFFER_TOO_SMALL  FINGERPRINT does not fit into `room` bytes */
+STUNP_USE_RESULT STUNP_CHANGES(1, 2)
 int64_t stunp_add_fingerprint(uint8_t *buffer, size_t room, size_t length);
 
-/* ---- The same by a writer, which keeps the length of its message and the first refusal: each
- * call makes one of those above, writes and fails as it does, and does nothing where one before
- * failed. So a message is written by one call after the other, and stunp_written tells at the
- * end. */
+/* ---- Writing messages with a writer
+ *
+ * A stunp_writer keeps the length of its message and the first error, so that you need not check
+ * each call. Each call with a writer calls one of those above, and does nothing if one before it
+ * has failed. Ask once at the end, with stunp_written:
+ *
+ *     stunp_writer writer = stunp_write(STUNP_REQUEST, STUNP_BINDING, id, buffer, sizeof buffer);
+ *     stunp_write_text(&writer, STUNP_SOFTWARE, "example 1.0");
+ *     stunp_write_fingerprint(&writer);
+ *     if (stunp_written(&writer) < 0) ..       // an error
+ *                                              // or else send the first writer.length bytes */
 
-/* Keeps what a call returned that adds to the message: the new length, or the refusal. So a program
- * gives a writer calls of its own. */
+/* Stores the result of a call that appends to the message of a writer: the new length, or an error.
+ * With it you can write calls of your own for a writer, like stunp_write_bytes below. */
 static inline void stunp_writer_took(stunp_writer *writer, int64_t answer) {
     if (answer < 0) writer->refusal = answer;
     else writer->length = (size_t)answer;
 }
 
-/* A writer that goes on with the message at the front of a buffer. Another call, as
- * stunp_refuse_unknown, returned the length of that message, or why there is none. */
+/* Returns a writer that continues the message at the front of a buffer of `room` bytes. `answer` is
+ * what the call that wrote the message returned, such as stunp_refuse_unknown: the length of the
+ * message, or an error, which the writer then keeps. */
 static inline stunp_writer stunp_write_on(int64_t answer, uint8_t *bytes, size_t room) {
     stunp_writer writer = {bytes, room, 0, 0};
     stunp_writer_took(&writer, answer);
     return writer;
 }
 
-/* A writer of a new message, by stunp_begin. */
+/* Starts a message without attributes (stunp_begin) in a buffer of `room` bytes, and returns a
+ * writer for it. */
 static inline stunp_writer stunp_write(stunp_message_class message_class, uint32_t method,
                                        const uint8_t id[12], uint8_t *bytes, size_t room) {
     int64_t begun = stunp_begin(message_class, method, id, STUNP_ID_LENGTH, bytes, room);
     return stunp_write_on(begun, bytes, room);
 }
 
-/* By stunp_add. */
+/* Appends an attribute with this value (stunp_add). */
 static inline void stunp_write_bytes(stunp_writer *writer, uint32_t type, const void *value,
                                      size_t value_length) {
     if (writer->refusal < 0) return;
@@ -570,12 +915,13 @@ static inline void stunp_write_bytes(stunp_writer *writer, uint32_t type, const 
                                         value_length));
 }
 
-/* By stunp_add, up to the zero byte that ends the text and without it. */
+/* Appends an attribute with this text (stunp_add). The zero byte that ends the text is not
+ * written. */
 static inline void stunp_write_text(stunp_writer *writer, uint32_t type, const char *text) {
     stunp_write_bytes(writer, type, text, strlen(text));
 }
 
-/* By stunp_add_number. */
+/* Appends an attribute with a number of `size` bytes (stunp_add_number). */
 static inline void stunp_write_number(stunp_writer *writer, uint32_t type, uint64_t number,
                                       size_t size) {
     if (writer->refusal < 0) return;
@@ -583,7 +929,7 @@ static inline void stunp_write_number(stunp_writer *writer, uint32_t type, uint6
                                                number, size));
 }
 
-/* By stunp_add_address. */
+/* Appends an attribute with an address that is not XORed (stunp_add_address). */
 static inline void stunp_write_address(stunp_writer *writer, uint32_t type, const uint8_t *address,
                                        size_t address_length, uint32_t port) {
     if (writer->refusal < 0) return;
@@ -591,7 +937,8 @@ static inline void stunp_write_address(stunp_writer *writer, uint32_t type, cons
                                                 address, address_length, port));
 }
 
-/* By stunp_add_xor_address. */
+/* Appends an attribute with an XORed address (stunp_add_xor_address), such as
+ * STUNP_XOR_MAPPED_ADDRESS. */
 static inline void stunp_write_xor_address(stunp_writer *writer, uint32_t type,
                                            const uint8_t *address, size_t address_length,
                                            uint32_t port) {
@@ -600,14 +947,14 @@ static inline void stunp_write_xor_address(stunp_writer *writer, uint32_t type,
                                                     type, address, address_length, port));
 }
 
-/* By stunp_add_error, up to the zero byte that ends the reason and without it. */
+/* Appends ERROR-CODE (stunp_add_error). The zero byte that ends the reason is not written. */
 static inline void stunp_write_error(stunp_writer *writer, uint32_t code, const char *reason) {
     if (writer->refusal < 0) return;
     stunp_writer_took(writer, stunp_add_error(writer->bytes, writer->room, writer->length, code,
                                               reason, strlen(reason)));
 }
 
-/* By stunp_sign. */
+/* Signs the message (stunp_sign). */
 static inline void stunp_write_integrity(stunp_writer *writer, stunp_algorithm algorithm,
                                          const void *key, size_t key_length) {
     if (writer->refusal < 0) return;
@@ -615,108 +962,160 @@ static inline void stunp_write_integrity(stunp_writer *writer, stunp_algorithm a
                                          key, key_length));
 }
 
-/* By stunp_add_fingerprint. */
+/* Appends FINGERPRINT (stunp_add_fingerprint). */
 static inline void stunp_write_fingerprint(stunp_writer *writer) {
     if (writer->refusal < 0) return;
     stunp_writer_took(writer, stunp_add_fingerprint(writer->bytes, writer->room, writer->length));
 }
 
-/* Whether all was written: 0, and the first `writer->length` bytes of the buffer are the message;
- * or the first refusal, and they are the message without what that call and those after it would
- * have written. */
+/* Returns 0 if every call with this writer succeeded. The message is then in the first
+ * `writer->length` bytes of the buffer.
+ *
+ * Otherwise returns the error of the first call that failed. The buffer then holds the message
+ * without what that call and the ones after it would have added. */
+STUNP_USE_RESULT STUNP_NOT_NULL(1)
 static inline int64_t stunp_written(const stunp_writer *writer) { return writer->refusal; }
 
-/* ---- Whole messages. */
+/* ---- Whole messages */
 
-/* Writes a Binding request with this transaction id, a USERNAME and the integrity attribute of
- * the algorithm under a key of any length. Its bytes are 28 and the user name's, rounded up to a
- * multiple of 4, and 20 or 32. The id is to be random (section 5).
+/* Writes a signed Binding request to the front of `out`: a header with this transaction id,
+ * USERNAME, and the integrity attribute of the algorithm under a key of any length.
  *
- * Returns how many bytes were written, at the front of `out`. Fails: STUNP_BAD_ARGUMENT,
- * STUNP_NOT_TEXT, STUNP_TEXT_TOO_LONG, STUNP_BUFFER_TOO_SMALL. */
+ * The transaction id must be random (section 5). The request has 28 bytes, plus the length of the
+ * user name rounded up to a multiple of 4, plus 20 for STUNP_SHA1 or 32 for STUNP_SHA256. That is
+ * at most STUNP_LONGEST_SIGNED.
+ *
+ * Returns the length of the request. Errors:
+ *   STUNP_BAD_ARGUMENT      the algorithm is neither of the two, or `id_length` is not 12
+ *   STUNP_NOT_TEXT          the user name is not UTF-8
+ *   STUNP_TEXT_TOO_LONG     the user name has more than 513 bytes
+ *   STUNP_BUFFER_TOO_SMALL  the request does not fit into `out` */
+STUNP_USE_RESULT STUNP_READS(2, 3) STUNP_READS(4, 5) STUNP_READS(6, 7) STUNP_WRITES(8, 9)
 int64_t stunp_build_signed(stunp_algorithm algorithm, const uint8_t *id, size_t id_length,
                            const void *username, size_t username_length, const void *key,
                            size_t key_length, uint8_t *out, size_t out_length);
 
-/* Writes the answer to a request with types that must be understood and are not among `known`
- * (sections 6.3.1 and 14.13): an error response of its method and its id, with ERROR-CODE 420
- * `Unknown Attribute` and with UNKNOWN-ATTRIBUTES, which names the types as stunp_unknown_types
- * tells them. It may be signed, and FINGERPRINT added, like any other message.
+/* Writes the error response to a request that has unknown attributes (sections 6.3.1 and 14.13).
  *
- * Returns how many bytes were written, at the front of `out`, 56 or more; or 0 where each such
- * type is known, and writes nothing. Fails: STUNP_BAD_ARGUMENT where `known` has more than 256
- * types; as stunp_parse does; STUNP_BAD_ARGUMENT where the message is no request;
- * STUNP_BUFFER_TOO_SMALL. */
+ * If each type that must be understood is among `known`, the call writes nothing and returns 0.
+ * Otherwise it writes a response with the method and the transaction id of the request, ERROR-CODE
+ * 420 `Unknown Attribute`, and UNKNOWN-ATTRIBUTES with the types that stunp_unknown_types lists.
+ * You may sign the response, and add FINGERPRINT.
+ *
+ * `known_length` is a number of elements.
+ *
+ * Returns the length of the response, 56 or more, or 0 if none is needed. Errors:
+ *   STUNP_BAD_ARGUMENT      `known_length` is more than 256
+ *   STUNP_TRUNCATED, STUNP_NOT_STUN, STUNP_TOO_LARGE
+ *                           the bytes are not one whole message (stunp_parse)
+ *   STUNP_BAD_ARGUMENT      the message is not a request
+ *   STUNP_BUFFER_TOO_SMALL  the response does not fit into `out` */
+STUNP_USE_RESULT STUNP_READS(1, 2) STUNP_READS(3, 4) STUNP_WRITES(5, 6)
 int64_t stunp_refuse_unknown(const uint8_t *request, size_t length, const uint16_t *known,
                              size_t known_length, uint8_t *out, size_t out_length);
 
-/* ---- Keys. */
+/* ---- Keys */
 
-/* Writes the long-term key of a user at a realm for an algorithm: the hash of
- * `username:realm:password`, by MD5 for STUNP_SHA1 and by SHA-256 for STUNP_SHA256 (section
- * 9.2.2).
+/* Makes the long-term key of a user in a realm (section 9.2.2): the hash of
+ * `username:realm:password`, with MD5 for STUNP_SHA1 and with SHA-256 for STUNP_SHA256. The key
+ * goes to the front of `out`.
  *
- * Returns how many bytes were written, 16 or 32. Fails: STUNP_BAD_ARGUMENT, STUNP_NOT_TEXT,
- * STUNP_BUFFER_TOO_SMALL. */
+ *     uint8_t key[STUNP_SHA256_KEY_LENGTH];
+ *     int64_t key_length = stunp_long_term_key(STUNP_SHA1, "alice", 5, "example.org", 11,
+ *                                              "wonderland", 10, key, sizeof key);
+ *     if (key_length > 0 && stunp_is_signed(message, length, key, (size_t)key_length))
+ *         ..                  // somebody who knows this password signed the message
+ *
+ * Returns the length of the key, 16 or 32. Errors:
+ *   STUNP_BAD_ARGUMENT      the algorithm is neither of the two
+ *   STUNP_NOT_TEXT          one of the three texts is not UTF-8
+ *   STUNP_BUFFER_TOO_SMALL  the key does not fit into `out` */
+STUNP_USE_RESULT STUNP_READS(2, 3) STUNP_READS(4, 5) STUNP_READS(6, 7) STUNP_WRITES(8, 9)
 int64_t stunp_long_term_key(stunp_algorithm algorithm, const void *username, size_t username_length,
                             const void *realm, size_t realm_length, const void *password,
                             size_t password_length, uint8_t *out, size_t out_length);
 
-/* Writes the hash that stands for a user at a realm, which a USERHASH holds: SHA-256 of
- * `username:realm` (section 14.4).
+/* Makes the hash that stands for a user in a realm, for the attribute USERHASH (section 14.4):
+ * SHA-256 of `username:realm`. The hash goes to the front of `out`.
  *
- * Returns how many bytes were written, 32. Fails: STUNP_NOT_TEXT, STUNP_BUFFER_TOO_SMALL. */
+ * Returns its length, 32. Errors:
+ *   STUNP_NOT_TEXT          one of the two texts is not UTF-8
+ *   STUNP_BUFFER_TOO_SMALL  `out_length` is less than 32 */
+STUNP_USE_RESULT STUNP_READS(1, 2) STUNP_READS(3, 4) STUNP_WRITES(5, 6)
 int64_t stunp_userhash(const void *username, size_t username_length, const void *realm,
                        size_t realm_length, uint8_t *out, size_t out_length);
 
-/* ---- Packets and streams. */
+/* ---- Packets and streams */
 
-/* Whether a packet is to be given to STUN, where other protocols share its port: it begins with a
- * header of STUN, whose first byte is 0 to 3 (section 7; RFC 7983, section 7).
+/* Tells whether a packet is for STUN, on a port that other protocols share: whether it starts with
+ * a STUN header, whose first byte is 0 to 3 (section 7; RFC 7983, section 7).
  *
- * Returns 1 or 0. Never fails. */
+ * Returns 1 or 0. It never fails. */
+STUNP_USE_RESULT STUNP_READS(1, 2)
 int64_t stunp_is_stun(const uint8_t *packet, size_t length);
 
-/* Messages in a stream of bytes, as over TCP (section 6.2.2). Each call takes the bytes of the
- * stream that are there, from where a message is to begin, however many they are. It returns a
- * number of bytes. Where so many are there, they are the first message. Where they are not, so
- * many must be there before more can be told, and are wanted at the front. So a reader goes like
- * this:
+/* Messages in a stream, such as TCP (section 6.2.2)
+ *
+ * The three calls below find the end of the first message in a stream. Pass all the bytes that you
+ * have from the start of a message on, however many. The result is a number of bytes:
+ *
+ * - If you have at least that many, the first message consists of exactly that many bytes.
+ * - If you have fewer, the message has at least that many. Read on and call again after each read,
+ *   because bytes with which no message begins are refused as soon as a byte decides it: the first,
+ *   the fourth, or one of the magic cookie (RFC 8489, section 5).
+ *
+ * So a reader goes like this:
  *
  *     while ((wanted = stunp_next_frame(bytes, length)) > 0 && (size_t)wanted <= length)
- *         ..                  // take the first `wanted` bytes
- *     if (wanted < 0) ..      // close: it is not STUN
- *                             // or else read on, to `wanted`
+ *         ..                  // remove the first `wanted` bytes
+ *     if (wanted < 0) ..      // close the connection: it is not STUN
+ *                             // or else read on, up to `wanted` bytes
  *
- * A message is as long as its header says; whether its attributes are whole, stunp_parse or
- * stunp_walk tells.
+ * The length of a message is the one that its header states. Whether its attributes are whole, you
+ * learn from stunp_parse or stunp_walk. */
+
+/* Finds the end of the first STUN message.
  *
- * stunp_next_frame returns 20 or more. It fails with STUNP_NOT_STUN where no message begins
- * there, whatever follows.
- *
- * stunp_next_packet_frame is for packets behind their length in 2 bytes, as ICE sends them over
- * TCP (RFC 4571, section 2). It counts these 2 bytes, returns 2 or more, 2 also of an empty
- * packet, and never fails.
- *
- * stunp_next_turn_frame is for messages and ChannelData, as TURN sends them over TCP (RFC 8656,
- * sections 12.4 and 12.5). It is ChannelData where the first byte is 0x40 to 0x4F. That is
- * counted with its header of 4 bytes and its padding up to a multiple of 4. It returns 4 or
- * more, and fails as stunp_next_frame does. */
+ * Returns 20 or more: the length of the message if `length` is at least that, and otherwise a
+ * number of bytes that the message has at least. Errors:
+ *   STUNP_NOT_STUN  no message starts here, whatever bytes may follow */
+STUNP_USE_RESULT STUNP_READS(1, 2)
 int64_t stunp_next_frame(const uint8_t *bytes, size_t length);
+
+/* Finds the end of the first packet that has its length in 2 bytes before it, as ICE sends packets
+ * over TCP (RFC 4571, section 2). The packet need not be STUN.
+ *
+ * Returns 2 or more: the length of the packet, including these 2 bytes, if `length` is at least
+ * that, and otherwise a number of bytes that the packet has at least. For an empty packet it is 2.
+ * It never fails. */
+STUNP_USE_RESULT STUNP_READS(1, 2)
 int64_t stunp_next_packet_frame(const uint8_t *bytes, size_t length);
+
+/* Finds the end of the first STUN message or ChannelData message, as TURN sends them over TCP
+ * (RFC 8656, sections 12.4 and 12.5). It is ChannelData if the first byte is 0x40 to 0x7F: RFC 8656
+ * uses channels with 0x40 to 0x4F alone, and RFC 5766 with all of these.
+ *
+ * Returns 4 or more: the length of the message if `length` is at least that, and otherwise a number
+ * of bytes that the message has at least. The length of ChannelData includes its header of 4 bytes
+ * and its padding to a multiple of 4. Errors:
+ *   STUNP_NOT_STUN  no message starts here, whatever bytes may follow */
+STUNP_USE_RESULT STUNP_READS(1, 2)
 int64_t stunp_next_turn_frame(const uint8_t *bytes, size_t length);
 
-/* ---- Errors and versions. */
+/* ---- Errors and versions */
 
-/* Writes what a number that a call returned says, in English, with a zero byte at its end: of 0
- * or more "no error", of a refusal why, of a number below those of stunp_refusal "unknown
- * refusal".
+/* Writes an English text for a result of a call to the front of `out`, with a zero byte at its end:
+ * for 0 or more "no error", for a stunp_refusal its cause, and for any other negative number
+ * "unknown refusal".
  *
- * Returns how many bytes were written, the zero byte among them, at most
- * STUNP_LONGEST_ERROR_TEXT. Fails: STUNP_BUFFER_TOO_SMALL. */
+ * Returns the number of bytes written, including the zero byte, at most STUNP_LONGEST_ERROR_TEXT.
+ * Errors:
+ *   STUNP_BUFFER_TOO_SMALL  the text does not fit into `out` */
+STUNP_WRITES(2, 3)
 int64_t stunp_error_text(int64_t answer, uint8_t *out, size_t out_length);
 
-/* The same text, which is constant. */
+/* Returns the text of stunp_error_text for a result of a call. The text is a constant: do not free
+ * it. */
 static inline const char *stunp_strerror(int64_t answer) {
     static const char *const texts[] = {
         "no error",
@@ -752,14 +1151,16 @@ static inline const char *stunp_strerror(int64_t answer) {
     return answer >= STUNP_TOO_MANY_ADDRESSES ? texts[-answer] : "unknown refusal";
 }
 
-/* The version of the archive, which is STUNP_VERSION where header and archive are of one release.
- * Never fails. */
+/* Returns the version of the archive. It equals STUNP_VERSION if header and archive come from the
+ * same release. Never fails. */
 int64_t stunp_version(void);
 
-/* The same, by a name that each release changes with what it breaks. Each file that includes this
- * header refers to it, so that a program that was compiled against another release does not link;
- * but for one with STUNP_ANY_RELEASE defined before, and where the compiler is neither GCC nor
- * clang. */
+/* Returns the version of the archive too, but under a name that changes with each release that
+ * breaks compatibility.
+ *
+ * Every file that includes this header refers to that name, so that a program which was compiled
+ * for another release does not link. To prevent this, define STUNP_ANY_RELEASE before the include.
+ * Compilers other than GCC and clang do not make the check. */
 int64_t stunp_release_0_2(void);
 #if defined __GNUC__ && !defined STUNP_ANY_RELEASE
 static int64_t (*const stunp_release_wanted)(void) __attribute__((used)) = stunp_release_0_2;

@@ -1,7 +1,7 @@
 #!/bin/sh
 # Builds the archives, and tests them: by the transcripts (play.py), and by what only C can pass.
-# Where STUN_C and STUN_STATE name other archives, as libstunp.a and libstunp-program.a of
-# tools/rust_c.sh, nothing is proved. LIBRARIES tells what those want beside. Sanitizers watch
+# Where STUN_C and STUN_STATE name other archives, as the libstunp.a of tools/rust_c.sh
+# for both, nothing is proved. LIBRARIES tells what those want beside. Sanitizers watch
 # where the compiler has them. Without a C compiler it checks nothing. The last line says what was
 # checked.
 set -eu

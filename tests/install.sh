@@ -53,10 +53,10 @@ in_root() {
 }
 told=$(in_root .. install)
 [ "$told" = "left out: $scratch/bin/stun_inspect is not built" ] || fail "told $told"
-for file in bin/stun_tool share/man/man1/stun_tool.1 share/man/man1/stun_inspect.1 \
-    share/stunp/heap.c; do
+for file in bin/stun_tool share/man/man1/stun_tool.1 share/stunp/heap.c; do
     [ -s "$root/usr/$file" ] || fail "no $file"
 done
+[ ! -e "$root/usr/share/man/man1/stun_inspect.1" ] || fail 'a page of a program that is left out'
 cmp -s "$STUN_STATE" "$root/usr/lib/libstunp_state.a" || fail 'another archive'
 
 # prints WANTED PROGRAM
@@ -82,12 +82,19 @@ for memory in LIBRARYS_MEMORY OWN_MEMORY; do
     $cc $strict -D$memory c/installed.c $(flags stunp_state) -o "$scratch/installed"
     prints "$version" "$scratch/installed"
 done
-# The first archive wants no memory, but for one of the exported crate with the program's memory.
-messages='stunp'
-! nm -u "$STUN_C" 2>/dev/null | grep -q rattle_alloc || messages='stunp stunp_heap'
-$cc c/arguments.c $(flags $messages) -o "$scratch/arguments"
+# The first archive wants no memory.
+$cc c/arguments.c $(flags stunp) -o "$scratch/arguments"
 prints 'arguments: passed' "$scratch/arguments"
 if command -v pkg-config >/dev/null; then checked="$checked, pkg-config"; fi
+# The header for C++.
+if there "${CXX-}" c++; then
+    printf '#include <stunp.hpp>\nint main() { return stunp::server::make("realm") ? 0 : 1; }\n' \
+        >"$scratch/made.cpp"
+    ${CXX:-c++} -std=c++17 -Wall -Wextra -Wpedantic -Werror "$scratch/made.cpp" \
+        $(flags stunp_state) -o "$scratch/made"
+    "$scratch/made" || fail "the program in C++ ended with $?"
+    checked="$checked, C++"
+fi
 # The memory functions under other names, by the recipe of stunp_state.h.
 if command -v objcopy >/dev/null; then
     renamed=''
@@ -96,8 +103,7 @@ if command -v objcopy >/dev/null; then
         strict="$strict -Drattle_$name=mine_$name"
     done
     objcopy $renamed "$root/usr/lib/libstunp_state.a" "$scratch/renamed.a"
-    $cc $strict -DOWN_MEMORY c/installed.c "$scratch/renamed.a" $(flags $messages) \
-        -o "$scratch/renamed"
+    $cc $strict -DOWN_MEMORY c/installed.c "$scratch/renamed.a" $(flags stunp) -o "$scratch/renamed"
     prints "$version" "$scratch/renamed"
     checked="$checked, renamed memory"
 fi

@@ -1,6 +1,7 @@
 #!/bin/sh
-# What the headers have a compiler and a linker refuse: exchanged arguments, and a program that was
-# compiled against another release. STUN_C is the archive of stunp.h, STUN_STATE that of
+# What the headers have a compiler and a linker refuse: exchanged arguments, a verdict that nobody
+# looks at, a null output, a length that is not that of the array, and a program that was compiled
+# against another release. STUN_C is the archive of stunp.h, STUN_STATE that of
 # stunp_state.h, LIBRARIES what they need beside. Without a C compiler nothing is tried, and without
 # an archive nothing is linked to it.
 set -eu
@@ -38,6 +39,43 @@ wants enum-conversion $cc $strict -fsyntax-only "$scratch/exchanged.c"
 # An algorithm is no class either.
 begins 'STUNP_SHA1, STUNP_BINDING' "$scratch/exchanged.c"
 wants enum-conversion $cc $strict -fsyntax-only "$scratch/exchanged.c"
+
+# warns ATTRIBUTE WORD STATEMENT: where the compiler has the attribute, it refuses a program of this
+# statement for this word, and takes the program without it.
+warns() {
+    printf '#if !__has_attribute(%s)\n#error\n#endif\n' "$1" |
+        $cc -fsyntax-only -x c - 2>/dev/null || return 0
+    for statement in '(void)0;' "$3"; do
+        printf '#include "stunp_state.h"\n' >"$scratch/statement.c"
+        printf 'int statement(const uint8_t *bytes, size_t length, stunp_server *server) {\n' \
+            >>"$scratch/statement.c"
+        printf '    uint8_t key[16] = {1}, out[20];\n    stunp_address from = {{0}, 1, 4};\n' \
+            >>"$scratch/statement.c"
+        printf '    uint32_t words[16] = {0};\n    int64_t got = 0;\n    %s\n' "$statement" \
+            >>"$scratch/statement.c"
+        printf '    (void)bytes, (void)length, (void)server, (void)key, (void)out, (void)from;\n' \
+            >>"$scratch/statement.c"
+        printf '    (void)words;\n    return got == 0;\n}\n' >>"$scratch/statement.c"
+        build="$cc $strict -O1 -c $scratch/statement.c -o $scratch/statement.o"
+        case $statement in
+        '(void)0;') $build ;;
+        *) wants "$2" $build ;;
+        esac
+    done
+}
+verify='stunp_verify(bytes, length, key'
+warns warn_unused_result unused-result "$verify, sizeof key);"
+warns warn_unused_result unused-result 'stunp_is_signed(bytes, length, "key", 3);'
+warns warn_unused_result unused-result 'stunp_has_right_fingerprint(bytes, length);'
+warns warn_unused_result unused-result 'stunp_is_authentic(got);'
+warns warn_unused_result unused-result \
+    'stunp_server_validate(server, bytes, length, &from, 0, words);'
+warns warn_unused_result unused-result 'stunp_sign(out, 20, 20, STUNP_SHA1, key, 16);'
+warns nonnull nonnull 'got = stunp_read_header(bytes, length, NULL);'
+warns nonnull nonnull 'got = stunp_server_validate(server, bytes, length, NULL, 0, words);'
+warns nonnull nonnull 'got = stunp_server_validate(NULL, bytes, length, &from, 0, words);'
+warns access stringop-over "got = $verify, 32);"
+warns access stringop-over 'got = stunp_begin(STUNP_REQUEST, STUNP_BINDING, key, 12, out, 21);'
 
 # links OPTION..: the right program, linked and run.
 links() {

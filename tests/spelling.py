@@ -2,9 +2,10 @@
 byte. Digests are Python's own."""
 
 import hashlib
-import hmac
 import ipaddress
 import struct
+
+import stun
 
 COOKIE = bytes.fromhex("2112a442")
 CLASSES = {"request": 0, "indication": 1, "success": 2, "error": 3}
@@ -173,7 +174,11 @@ class Spelling:
     def add(self, kind, value):
         if len(value) > 0xFFFF:
             raise Words("too long")
-        self.attributes += struct.pack(">HH", kind, len(value)) + value + bytes(-len(value) % 4)
+        self.attributes += stun.attribute(kind, value)
+
+    def sign(self, algorithm, secret, size):
+        key = key_of(secret, algorithm)
+        self.attributes = stun.signed(self.header(size) + self.attributes, algorithm, key)[20:]
 
     def add_words(self, words, meanings):
         for word in words:
@@ -193,13 +198,9 @@ class Spelling:
         elif name == "TYPE":
             self.kind = attribute_type(value)
         elif name == "MI":
-            digest = hmac.new(key_of(value, 1), self.header(24) + self.attributes,
-                              hashlib.sha1).digest()
-            self.add(TYPES["MESSAGE-INTEGRITY"], digest)
+            self.sign(stun.SHA1, value, 24)
         elif name == "MI256":
-            digest = hmac.new(key_of(value, 2), self.header(36) + self.attributes,
-                              hashlib.sha256).digest()
-            self.add(TYPES["MESSAGE-INTEGRITY-SHA256"], digest)
+            self.sign(stun.SHA256, value, 36)
         else:
             self.add(attribute_type(name),
                      unhex(value[2:]) if value.startswith("0x") else self.value_of(name, value))

@@ -212,11 +212,12 @@ class Stage:
     def server_forget(self, word=None):
         if word:
             return self.asked_for("server-forget", wide(address(word)))
-        return self.asked_for("server-forget-expired", self.now)
+        return self.asked_for("server-forget-expired", self.now, 0)
 
     def server_forget_some(self, most, word=None):
         start = wide(address(word)) if word else wide((b"", 0))
-        answer, outputs = self.ask("server-forget-expired-within", self.now, start, number(most))
+        answer, outputs = self.ask("server-forget-expired-within", self.now, 0, start,
+                                   number(most))
         return address_text(*address_in(outputs[0])) if answer == 1 else "none"
 
     def server_support(self, word):

@@ -3,10 +3,14 @@
 with what examples/rust declares.
 
 Functions are compared by name, result, and the types of parameters in their order, those of a
-closed family by its enum. The structs but the handles are compared by their fields, refusals by
-number. The handles' fields and the numbers of other answers are not compared. Of the archives that
+closed family by its enum. What a declaration says to compilers, `STUNP_READS` and the like, is
+compared with what its parameters want. The structs but the handles are compared by their fields.
+The numbers of refusals, attribute types, methods, classes, algorithms, transports, features and
+fingerprints are compared with the sources, and so are lengths. The handles' fields and the numbers
+of other answers are not compared. Of the archives that
 are built it looks whether they have writable data or thread-locals: they must not. Run at the top
-of the repository. Prints each difference, then a count; the status is 1 where one is.
+of the repository. Prints each difference with the files and lines that name it, then a count; the
+status is 1 if there is one.
 """
 import re
 import shutil
@@ -27,19 +31,52 @@ PASSED = {
 # The enum of a number by its name in Rattle and Rust.
 ENUMS = {"class": "stunp_message_class", "message_class": "stunp_message_class",
          "algorithm": "stunp_algorithm", "transport": "stunp_transport", "feature": "stunp_feature"}
+# Where the numbers of an enum stand in the sources, each beside its name.
+NUMBERS = {
+    "stunp_message_class": ("stun_c/src/header.rt", r"MessageClass::(\w+) => (\d+)"),
+    "stunp_algorithm": ("stun_numbers/src/algorithm.rt", r"IntegrityAlgorithm::(\w+) => (\d+)"),
+    "stunp_transport": ("stun_state/src/agent.rt", r"(\d+) => Ok\(TransportType::(\w+)\)"),
+    "stunp_feature": ("stun_state/src/codes.rt", r"(\d+) => Ok\(Feature::(\w+)\)"),
+    "fingerprint": ("stun_c/src/fingerprint.rt", r"Fingerprint::(\w+) => (\d+)"),
+}
+# Names of the header that are other ones in the sources.
+RENAMED = {"NO_FINGERPRINT": "ABSENT", "RIGHT_FINGERPRINT": "RIGHT", "WRONG_FINGERPRINT": "WRONG",
+           "MISPLACED_FINGERPRINT": "MISPLACED", "DATA_METHOD": "DATA"}
+# Lengths of the header, each with the constant of the sources that it is.
+LENGTHS = {
+    "ID_LENGTH": ("stun_numbers/src/id.rt", "ID_LENGTH"),
+    "HEADER_LENGTH": ("stun_base/src/wire/header.rt", "HEADER_LENGTH"),
+    "ATTRIBUTE_HEADER_LENGTH": ("stun_types/src/attribute.rt", "ATTRIBUTE_HEADER_LENGTH"),
+    "LONGEST_MESSAGE": ("stun_types/src/limits.rt", "LENGTH_LIMIT"),
+    "LONGEST_SIGNED": ("stun_c/src/request.rt", "LONGEST_REQUEST"),
+    "USERHASH_LENGTH": ("stun_types/src/attribute/userhash.rt", "LENGTH"),
+    "FINGERPRINT_LENGTH": ("stun_extra/src/fingerprint.rt", "FINGERPRINT_LENGTH"),
+    "MOST_KNOWN": ("stun_c/src/unknown.rt", "MOST_KNOWN"),
+}
 HANDLES = ("stunp_agent *", "stunp_server *", "stunp_client *")
-wrong, compared = [], 0
+wrong, compared, were_read = [], 0, {}
 
 def read(*paths):
-    return "".join(re.sub(r"/\*.*?\*/|//[^\n]*", "", open(path, encoding="utf-8").read(),
-                          flags=re.DOTALL) for path in paths)
+    """The files without comments; the lines stay."""
+    for path in paths:
+        blank = lambda comment: "\n" * comment.group(0).count("\n")
+        were_read[path] = re.sub(r"/\*.*?\*/|//[^\n]*", blank, Path(path).read_text("utf-8"),
+                                 flags=re.DOTALL)
+    return "".join(were_read[path] for path in paths)
+
+def places(key):
+    """Where the files that were read name a key first. A refusal is a key without underscores."""
+    name = re.compile(r"(?i)\b(?:STUNP_)?" + "_?".join(map(re.escape, key)) + r"\b")
+    found = {path: name.search(text) for path, text in were_read.items()}
+    return " and ".join(f"{path}:{were_read[path].count(chr(10), 0, one.start()) + 1}"
+                        for path, one in found.items() if one) or "no file that was read"
 
 def compare(what, part, whole):
     """Each of the part is in the whole, and alike."""
     global compared
     compared += len(part)
-    wrong.extend(f"{what}: {key} is {part[key]}, not {whole.get(key)}" for key in part
-                 if part[key] != whole.get(key))
+    wrong.extend(f"{places(key)}: {what}: {key} is {part[key]}, not {whole.get(key)}: make them "
+                 "alike" for key in part if part[key] != whole.get(key))
 
 def enums_of_header(text):
     """The enums by name, each with its numbers."""
@@ -78,6 +115,40 @@ def functions_of_header(text):
     return {name: [result] + [kind(one) for one in listed.split(",") if kind(one)]
             for result, name, listed in re.findall(r"^(\w+) (\w+)\(([^)]*)\);", text, re.MULTILINE)}
 
+# Calls whose result may be ignored: what they do, they do as far as they can, or they cannot fail.
+MAY_IGNORE = re.compile(
+    r"stunp_((agent|server|client)_(new(_with)?|set_\w+|add_user|remove_\w+|forget\w*|cancel\w*|"
+    r"configure|statistics|validated_peer|send)|read_header|id|error_text|"
+    r"(state_)?(version|release_\w+))")
+
+def wanted_attributes(result, name, listed):
+    """What a declaration says to compilers: a result that is to be used, pointers with a length by
+    their number and its, and all others together, as what is not null."""
+    parts = [one.strip() for one in listed.split(",")]
+    labels = [re.search(r"(\w+)(?:\[\d+\])?$", one).group(1) if one != "void" else ""
+              for one in parts] + ["", ""]
+    found = ["STUNP_USE_RESULT"] if result == "int64_t" and not MAY_IGNORE.fullmatch(name) else []
+    single = []
+    for number, (part, label) in enumerate(zip(parts, labels), 1):
+        after, third = labels[number:number + 2]
+        is_sized = (after in (label + "_length", "length", "room") and "*" in part
+                    and "*" not in parts[number] and not re.search(r"\bstunp_\w+ \*", part))
+        if is_sized:
+            is_changed = (label, after, third) == ("buffer", "room", "length")
+            kind = ("READS" if part.startswith("const ") else
+                    "CHANGES" if is_changed else "WRITES")
+            found.append(f"STUNP_{kind}({number}, {number + 1})")
+        elif "*" in part or part.endswith("]"):
+            single.append(str(number))
+    return found + ([f"STUNP_NOT_NULL({', '.join(single)})"] if single else [])
+
+def attributes_of_header(text):
+    """The declarations with what they say, and with what they are to say."""
+    found = re.findall(r"^((?:STUNP_[^\n]*\n)*)(\w+) (stunp_\w+)\(([^)]*)\);", text, re.MULTILINE)
+    said = {name: re.findall(r"STUNP_\w+(?:\([^)]*\))?", words) for words, _, name, _ in found}
+    return said, {name: wanted_attributes(result, name, listed)
+                  for _, result, name, listed in found}
+
 def structs_of_rust(text, enums):
     fields = re.compile(r"(\w+): \[?(\w+)((?:; \d+\])?)")
     structs = re.compile(r"struct (Address|Cursor|Header|Timeouts|Statistics) \{(.*?)\}", re.DOTALL)
@@ -92,6 +163,47 @@ def structs_of_header(text):
                    for kind, fields in re.findall(r"(\w+) ([^;]+);", body)
                    for field in re.split(r",\s*", fields)]
             for body, name in structs.findall(text)}
+
+def number(text):
+    """The value of a number or of a sum of numbers."""
+    return sum(int(part.strip().replace("_", ""), 0) for part in text.split("+"))
+
+def compare_numbers(header):
+    """The header's numbers, each with that of the sources."""
+    declared = {name: int(value, 0) for name, value
+                in re.findall(r"\bSTUNP_(\w+) = (0x\w+|\d+)", header)}
+    # Attribute types by the definitions that the sources are proved to meet.
+    types = dict(re.findall(r"(?m)^([A-Z_0-9]+) = (0x[0-9A-F]{4})$",
+                            read("crates/stun_base/specs/Attributes.antt",
+                                 "crates/stun_extra/specs/AttributeTypes.antt")))
+    types = {name: number(value) for name, value in types.items()}
+    listed = {name: value for name, value in declared.items() if re.search(
+        rf"STUNP_{name} = 0x", header)}
+    compare("attribute type", listed, types)
+    compare("definition of an attribute type", types, listed)
+    methods = dict(re.findall(r"const (\w+): (?:u16|Method) = (?:Method\()?(0x\w+)",
+                              read("crates/stun_base/src/wire/message_type.rt",
+                                   "crates/stun_extra/src/turn.rt")))
+    named = ("BINDING", "ALLOCATE", "REFRESH", "SEND", "DATA_METHOD", "CREATE_PERMISSION",
+             "CHANNEL_BIND")
+    compare("method", {name: declared.get(name) for name in named},
+            {name: number(methods[RENAMED.get(name, name)]) for name in named})
+    for enum, (path, pattern) in NUMBERS.items():
+        pairs = [sorted(pair, key=str.isdigit)
+                 for pair in re.findall(pattern, read(f"crates/{path}"))]
+        found = {name.upper(): int(value) for name, value in pairs}
+        names = [name for name in declared if RENAMED.get(name, name) in found
+                 and (name in RENAMED) == (enum == "fingerprint")]
+        compare(enum, {RENAMED.get(name, name): declared[name] for name in names}, found)
+        compare(f"{enum} of the sources", found,
+                {RENAMED.get(name, name): declared[name] for name in names})
+    for name, (path, constant) in LENGTHS.items():
+        value = re.search(rf"const {constant}: usize = ([^;]*);", read(f"crates/{path}"))[1]
+        compare("length", {name: declared.get(name)}, {name: number(value)})
+    longest = max(len(text) for text in re.findall(r'b"([^"]*)\\0"',
+                                                   read("crates/stun_c/src/error_text.rt")))
+    compare("length of a text", {"LONGEST_ERROR_TEXT": True},
+            {"LONGEST_ERROR_TEXT": longest < declared["LONGEST_ERROR_TEXT"]})
 
 def written_sections(archive):
     """The sections of an archive that a program writes to, or has for each thread. Those that the
@@ -131,6 +243,7 @@ def main():
     defined = with_constants(crates, functions_of_rust(crates, before, enums))
     compare("declaration", declared, defined)
     compare("definition", defined, declared)
+    compare("attributes", *attributes_of_header(header))
     imported = "".join(re.findall(r'extern "C" \{(.*?)\n\}', read("examples/rust/main.rs"),
                                   re.DOTALL))
     compare("extern of examples/rust", functions_of_rust(imported, r"(?=fn stunp_)", enums),
@@ -142,6 +255,7 @@ def main():
     refusals = {name.upper(): int(number) for name, number in found}
     compare("refusal", refusals, numbers)
     compare("declared refusal", numbers, refusals)
+    compare_numbers(header)
     compare_archives()
     print("\n".join(wrong + [f"exports: {compared} compared, {len(wrong)} differ"]))
     return bool(wrong)

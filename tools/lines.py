@@ -1,39 +1,17 @@
 #!/usr/bin/env python3
-"""Counts what is too long to read well, and fails if there is more than before.
+"""Prints what is too long to read well. It refuses nothing.
 
-- `KIND lines`: lines of over 100 columns, in tables too, for each kind of file. An import
-  whose path alone is that long does not count, nor an attribute of `rt fmt`'s layout.
-- `KIND files`: files of over 600 lines.
-- `functions`: functions of the sources of over 40 lines, with their clauses.
+- Lines of over 100 columns. A row of a table in a page does not count, nor an import whose path
+  alone is that long, nor an attribute of `rt fmt`'s layout.
+- Files of over 600 lines.
+- Functions of the sources of over 40 lines, with their clauses.
 
-What another tool writes is left out. Run at the top of the repository. `--list` prints each,
-`--list "rt lines"` those of a kind. `write` lowers the numbers below to what is counted, and raises
-none.
+What another tool writes is left out. Each line has the file and the line, and what would mend it.
+Run at the top of the repository.
 """
 
 import os
 import re
-import sys
-
-import ratchet
-
-AT_MOST = {
-    "antt lines": 0,
-    "c lines": 0,
-    "md lines": 1,
-    "py lines": 0,
-    "rs lines": 0,
-    "rt lines": 0,
-    "sh lines": 0,
-    "antt files": 0,
-    "c files": 2,
-    "md files": 0,
-    "py files": 0,
-    "rs files": 0,
-    "rt files": 0,
-    "sh files": 0,
-    "functions": 1,
-}
 
 COLUMNS, LINES, FUNCTION_LINES = 100, 600, 40
 KINDS = {".antt": "antt", ".c": "c", ".cpp": "c", ".go": "c", ".h": "c", ".hpp": "c", ".md": "md",
@@ -42,6 +20,8 @@ KINDS = {".antt": "antt", ".c": "c", ".cpp": "c", ".go": "c", ".h": "c", ".hpp":
 NOT_OURS = {".git", "__pycache__", "out", "release", "scratch", "target"}
 # Files that other tools write, most of them or all.
 WRITTEN = {"docs/DEFINITIONS.md"}
+# A row of a table, which Markdown cannot break.
+ROW = re.compile(r" *\|")
 # An import whose path cannot be broken, and an attribute that `rt fmt` keeps in one line.
 UNBROKEN = re.compile(r" *(?:(?:pub |ghost )?use \S+(?: as \w+)?;?$|#\[tactic\()")
 FUNCTION = re.compile(r'( *)(?:pub(?:\([^)]*\))? )?(?:(?:const|unsafe|extern "C") )*fn (\w+)')
@@ -74,20 +54,30 @@ def functions(lines):
 
 
 def finds():
-    """Each line, file and function that is too long."""
+    """Each line, file and function that is too long: where it is and what would mend it."""
     for kind, path in files():
         with open(path) as opened:
             lines = opened.read().split("\n")
         for number, line in enumerate(lines, 1):
-            if len(line) > COLUMNS and not UNBROKEN.match(line):
-                yield kind + " lines", "%s:%d has %d columns" % (path, number, len(line))
+            is_whole = UNBROKEN.match(line) or (kind == "md" and ROW.match(line))
+            if len(line) > COLUMNS and not is_whole:
+                yield "%s:%d: %d columns: break the line at %d" % (path, number, len(line), COLUMNS)
         if len(lines) - 1 > LINES:
-            yield kind + " files", "%s has %d lines" % (path, len(lines) - 1)
+            yield "%s:%d: a file of %d lines: split it by subject, at %d at most" % (
+                path, LINES + 1, len(lines) - 1, LINES)
         if kind == "rt":
             for first, name, count in functions(lines):
                 if count > FUNCTION_LINES:
-                    yield "functions", "%s:%d %s has %d lines" % (path, first + 1, name, count)
+                    yield "%s:%d: %s has %d lines: give a part of it to a function of its own" % (
+                        path, first + 1, name, count)
+
+
+def main():
+    found = list(finds())
+    for line in found:
+        print(line)
+    print("lines: %d to look at" % len(found))
 
 
 if __name__ == "__main__":
-    sys.exit(ratchet.main("lines", __file__, AT_MOST, list(finds())))
+    main()

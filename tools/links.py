@@ -3,7 +3,7 @@
 
 A relative link must lead to a file or folder of the repository, its anchor to a heading of that
 page or to a line that the file has. A page that a file names, as `docs/SERVER.md`, must be there.
-Prints each that is not, and fails then.
+Prints each that is not, with its file and line, and fails then.
 """
 
 import os
@@ -12,13 +12,19 @@ import subprocess
 import sys
 
 LINK = re.compile(r"\[[^\]\n]*(?:\n[^\]\n]*)?\]\(([^)\s]+)\)")
+BLOCK = re.compile(r"(?ms)^```.*?^```")
 NAMED = re.compile(r"(?<![\w/.-])((?:docs|rust|bench|examples)/[\w/]*\.md)\b")
+
+
+def blank(block):
+    """A block without its text, of as many lines."""
+    return "\n" * block.group(0).count("\n")
 
 
 def anchors(text):
     """The anchors of a page's headings, as a forge makes them."""
     found = set()
-    for heading in re.findall(r"(?m)^#{1,6} +(.*?) *$", re.sub(r"(?ms)^```.*?^```", "", text)):
+    for heading in re.findall(r"(?m)^#{1,6} +(.*?) *$", BLOCK.sub("", text)):
         plain = re.sub(r"\[([^\]]*)\]\([^)]*\)", r"\1", heading)
         name = re.sub(r"[^\w\- ]", "", plain.lower()).replace(" ", "-")
         again = re.compile(re.escape(name) + r"(-\d+)?")
@@ -48,17 +54,20 @@ def main():
     for file in filter(os.path.isfile, files):
         with open(file, errors="ignore") as opened:
             text = opened.read()
-        targets = re.sub(r"(?ms)^```.*?^```", "", text) if file.endswith(".md") else ""
-        named = [(name, None if os.path.exists(name) else "is not there")
-                 for name in NAMED.findall(text)]
-        linked = [(target, reason(file, target))
-                  for target in LINK.findall(targets) if not re.match(r"\w+:", target)]
-        for target, why in named + linked:
+        targets = BLOCK.sub(blank, text) if file.endswith(".md") else ""
+        named = [(found.start(1), found.group(1),
+                  None if os.path.exists(found.group(1)) else "is not there")
+                 for found in NAMED.finditer(text)]
+        linked = [(found.start(1), found.group(1), reason(file, found.group(1)))
+                  for found in LINK.finditer(targets) if not re.match(r"\w+:", found.group(1))]
+        for at, target, why in named + linked:
             links += 1
             if why:
                 wrong += 1
-                print("links: %s: %s %s" % (file, target, why))
-    print("links: %d looked at, %d lead nowhere" % (links, wrong))
+                line = text.count("\n", 0, at) + 1
+                print("%s:%d: the link to %s: it %s" % (file, line, target, why))
+    print("links: %d looked at, %d lead nowhere%s"
+          % (links, wrong, ": name a file, heading or line that is there" if wrong else ""))
     return 1 if wrong else 0
 
 

@@ -18,8 +18,8 @@ PAGE = "docs/DEFINITIONS.md"
 BLOCK = re.compile(r"<!-- (definition|file) ([^\n]*?) -->\n.*?\n```\n.*?\n```\n", re.S)
 
 
-def block(repository, kind, words):
-    """The block that a marker asks for."""
+def block(repository, kind, words, line):
+    """The block that a marker asks for, which is in this line of the page."""
     if kind == "file":
         with open(words) as opened:
             where, text = "[%s](../%s)" % (words, words), opened.read().rstrip("\n")
@@ -27,7 +27,8 @@ def block(repository, kind, words):
         crate, file, name = words.split()
         definition = repository.named.get(("Rattle.%s.specs.%s" % (crate, file), name))
         if definition is None:
-            sys.exit("printed: %s prints %s, and no file has it" % (PAGE, words))
+            sys.exit("%s:%d: no file has the definition %s: name one that is there"
+                     % (PAGE, line, words))
         path = definition.path.removeprefix("./")
         where = "[%s:%d](../%s#L%d)" % (path, definition.line, path, definition.line)
         text = "\n".join(definition.lines)
@@ -38,13 +39,21 @@ def main():
     repository = Repository(".")
     with open(PAGE) as opened:
         page = opened.read()
-    fresh = BLOCK.sub(lambda found: block(repository, found.group(1), found.group(2)), page)
+    wrong = []
+
+    def anew(found):
+        line = page.count("\n", 0, found.start()) + 1
+        text = block(repository, found.group(1), found.group(2), line)
+        if text != found.group(0):
+            wrong.append("%s:%d: %s is not printed as it is" % (PAGE, line, found.group(2)))
+        return text
+
+    fresh = BLOCK.sub(anew, page)
     if sys.argv[1:] == ["write"]:
         with open(PAGE, "w") as opened:
             opened.write(fresh)
     elif fresh != page:
-        print("printed: %s does not print its definitions as they are: run tools/printed.py write"
-              % PAGE)
+        print("\n".join(wrong + ["printed: %d differ: run tools/printed.py write" % len(wrong)]))
         return 1
     print("printed: %d definitions as they are" % len(BLOCK.findall(page)))
     return 0

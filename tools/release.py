@@ -125,6 +125,8 @@ def record(log):
     """What was proved, by which toolchain, at which commit, and the gate's last line."""
     if run("git", "status", "--porcelain", cwd=TOP):
         sys.exit("release: files differ from those of the commit")
+    if subprocess.run([sys.executable, "tools/wrong.py", "--whole"], cwd=TOP).returncode != 0:
+        sys.exit("release: not every wrong edit was tried at this commit")
     commit = "commit: " + run("git", "rev-parse", "HEAD", cwd=TOP).strip()
     with open(log, errors="replace") as opened:
         lines = opened.read().splitlines()
@@ -174,7 +176,7 @@ def install(folder):
 
 def crate(folder, is_tried):
     """The exported crate: packed by cargo, which builds what it packed if asked, and as source."""
-    run(sys.executable, os.path.join(TOP, "tools/export.py"), EXPORTED, cwd=TOP)
+    run(sys.executable, os.path.join(TOP, "tools/export/export.py"), EXPORTED, cwd=TOP)
     name = "seatcrane-stun-%s.crate" % version()
     run("cargo", "package", "--quiet", "--offline", "--allow-dirty", "-p", "seatcrane-stun",
         *([] if is_tried else ["--no-verify"]), cwd=EXPORTED)
@@ -237,6 +239,8 @@ def differences(one, other):
 
 def verify(out, log):
     folder = os.path.abspath(os.path.join(out, "stunp-" + version()))
+    if not os.path.exists(os.path.join(folder, "SHA256SUMS")):
+        sys.exit("release: %s is not there: run `make release`" % folder)
     if contents(folder, "SHA256SUMS").decode() != sums(folder):
         sys.exit("release: %s is not what SHA256SUMS says" % folder)
     with tempfile.TemporaryDirectory() as scratch:

@@ -5,8 +5,8 @@ may cite `specs/code/`, and so may private functions.
 
 Each module that a file of specs or proofs declares has a file.
 
-Run at the top of the repository. Prints each definition in the wrong room with a definition that
-cites it and each module without a file, then a count a crate.
+Run at the top of the repository. Prints each definition in the wrong room, with its file and line
+and a definition that cites it, and each module without a file, then a count a crate.
 """
 
 import collections
@@ -20,6 +20,10 @@ from definitions import Repository, crates, sources
 TEST_CRATES = ("tests", "test_support", "fail_alloc")
 
 
+def place(definition):
+    return "%s:%d: %s" % (definition.path.removeprefix("./"), definition.line, definition)
+
+
 def is_code(definition):
     return definition.module.split(".")[3] == "code"
 
@@ -29,10 +33,12 @@ def without_a_file():
     for path in sorted(glob.glob("crates/*/[ps]*s/**/*.antt", recursive=True)):
         folder = path.removesuffix("/Lib.antt").removesuffix(".antt")
         with open(path, encoding="utf-8") as opened:
-            for name in re.findall(r"(?m)^(?:pub )?mod (\w+)\s*$", opened.read()):
-                if not any(os.path.exists(folder + "/" + name + end)
-                           for end in (".antt", "/Lib.antt")):
-                    yield "%s declares %s, which has no file" % (path, name)
+            for number, line in enumerate(opened, 1):
+                declared = re.match(r"(?:pub )?mod (\w+)\s*$", line)
+                if declared and not any(os.path.exists(folder + "/" + declared.group(1) + end)
+                                        for end in (".antt", "/Lib.antt")):
+                    yield "%s:%d: the module %s has no file: write it, or drop this line" % (
+                        path, number, declared.group(1))
 
 
 def main():
@@ -59,10 +65,11 @@ def main():
                 wrong += 1
                 citing = because[definition]
                 by = ", by %s" % citing if citing else ""
-                print("a public clause says %s%s" % (definition, by))
+                print("%s is in a public clause%s: move it from specs/code/ to specs/"
+                      % (place(definition), by))
             elif not is_code(definition) and definition not in because:
                 wrong += 1
-                print("no public clause says %s" % definition)
+                print("%s is in no public clause: move it to specs/code/" % place(definition))
     for crate in sorted({name for name, _ in counts}):
         in_specs, in_code = counts[(crate, False)], counts[(crate, True)]
         print("%-12s specs %3d  specs/code %3d" % (crate, in_specs, in_code))

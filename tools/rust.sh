@@ -2,8 +2,8 @@
 # Exports the library as plain Rust to target/export, and tries what comes out: warnings, pages,
 # tests, transcripts. It needs cargo, the Rust of rust/Cargo.toml and Python 3.9. Where the crates
 # of Debian are installed, or can be by root, it needs no network beside. Without clippy its
-# warnings are left out. With --can it tells by its status whether all that it needs is there, with
-# the crates of Debian.
+# warnings are left out. With --build it exports and builds, and tests nothing. With --can it tells
+# by its status whether all that it needs is there, with the crates of Debian.
 set -eu
 cd "$(dirname "$0")/.."
 out=target/export
@@ -38,8 +38,8 @@ if [ "${1:-}" = --can ]; then
     echo "The crates of Debian are not there: $packages." >&2
     exit 1
 fi
-python3 tools/export_test.py
-python3 tools/export.py "$out"
+[ "${1:-}" = --build ] || python3 tests/export/export_test.py
+python3 tools/export/export.py "$out"
 mkdir -p "$out/.cargo"
 if has_packages; then
     printf '%s\n' '[source.crates-io]' 'replace-with = "debian"' '[source.debian]' \
@@ -49,6 +49,13 @@ else
     rm -f "$out/.cargo/config.toml"
 fi
 
+if [ "${1:-}" = --build ]; then
+    cd "$out"
+    cargo build --quiet --package seatcrane-stun --package seatcrane-checks
+    echo "The crate is in $out, and stun_tool in $out/target/debug."
+    exit 0
+fi
+python3 tests/export/same_tokens.py "$out"
 cd "$out"
 export RUSTFLAGS="-D warnings" RUSTDOCFLAGS="-D warnings"
 if cargo clippy --version > /dev/null 2>&1; then
@@ -58,7 +65,9 @@ else
     echo "No clippy is there: its warnings are left out." >&2
 fi
 cargo doc --quiet --no-deps
-# With the memory of the program the calls for C are linked by a program alone (rust_c.sh).
+# The tests of the calls for C are in C (rust_c.sh).
 cargo test --quiet --workspace --exclude seatcrane-stun-c --all-features
 cargo build --quiet --package seatcrane-checks
 target/debug/transcripts ../../crates/transcripts/data/*.txt
+python3 ../../tests/programs/tool/check.py --exported target/debug/stun_tool
+python3 ../../tests/programs/captures/check.py "$PWD/target/debug/stun_inspect"

@@ -1,16 +1,14 @@
 #!/bin/sh
 # Builds the calls for C of the exported crate (target/export, by tools/rust.sh), and runs tests of
 # tests/c and the transcripts over them. It needs cargo, a C compiler and the binutils. What it
-# leaves in target/c: libstunp.a and libstunp.so with malloc, and libstunp-program.a, whose memory
-# comes from the program.
+# leaves in target/c: libstunp.a and libstunp.so, whose memory comes from the program's functions
+# where it has them, and otherwise from malloc.
 set -eu
 cd "$(dirname "$0")/.."
 out=$PWD/target/c
 mkdir -p "$out"
 (cd target/export
- cargo build --quiet --release -p seatcrane-stun-c
- cargo build --quiet --release -p seatcrane-stun-c --features program-memory \
-    --target-dir target/program)
+ cargo build --quiet --release -p seatcrane-stun-c)
 
 # only FROM TO: the archive again, in which no symbol is seen but stunp_ ones.
 only() {
@@ -21,7 +19,7 @@ only() {
     rm "$out/one.o"
 }
 only target/export/target/release/libstunp.a "$out/libstunp.a"
-only target/export/target/program/release/libstunp.a "$out/libstunp-program.a"
+rm -f "$out/libstunp-program.a" # of an earlier version
 # The name for the loader has as many numbers of the version as releases that go together share.
 shared=libstunp.so.$(sed 's/^\(0\.[0-9]*\)\..*/\1/; s/^\([1-9][0-9]*\)\..*/\1/' VERSION)
 rm -f "$out"/libstunp.so*
@@ -34,7 +32,7 @@ objdump -p "$out/libstunp.so" | grep -qx " *SONAME  *$shared" ||
 # Each library has the calls that the headers declare, and shows no other symbol.
 sed -n 's/^[a-z0-9_]* \(stunp_[a-z0-9_]*\)(.*/\1/p' include/stunp.h include/stunp_state.h |
     sort > "$out/declared"
-for seen in "-g $out/libstunp.a" "-g $out/libstunp-program.a" "-D $out/libstunp.so"; do
+for seen in "-g $out/libstunp.a" "-D $out/libstunp.so"; do
     nm --defined-only $seen 2>/dev/null | awk 'NF == 3 {print $3}' | sort > "$out/defined"
     cmp "$out/declared" "$out/defined"
 done
@@ -55,28 +53,26 @@ for name in arguments attributes extra; do
     expect "$name: passed" "$out/$name"
     expect "$name: passed" "$out/$name-shared"
 done
-expect "refused: passed" env STUN_C="$out/libstunp.a" STUN_STATE="$out/libstunp-program.a" \
+expect "refused: passed" env STUN_C="$out/libstunp.a" STUN_STATE="$out/libstunp.a" \
     LIBRARIES="$libraries" tests/refused.sh
+LIBRARIES="$libraries" tests/memory.sh "$out"
 # These look at the memory that is taken. `worked` has the examples of the headers.
 sed -n 's/^ \*     //p; /\*\/$/q' include/stunp.h > "$out/answer.h"
 sed -n 's/^ \*     //p; /\*\/$/q' include/stunp_state.h > "$out/ask.h"
 for name in agents handles hostile many users worked play; do
-    ${CC:-cc} $strict -I"$out" "tests/c/$name.c" examples/c/heap.c "$out/libstunp-program.a" \
-        $libraries -o "$out/$name"
+    ${CC:-cc} $strict -I"$out" "tests/c/$name.c" examples/c/heap.c "$out/libstunp.a" $libraries \
+        -o "$out/$name"
     [ $name = play ] || expect "$name: passed" "$out/$name"
 done
 python3 tests/play.py "$out/play" crates/transcripts/data/*.txt > "$out/played" ||
     { cat "$out/played" >&2; exit 1; }
 tail -n 1 "$out/played"
 # The same installed, in the place of the two archives.
-STUN_C="$out/libstunp.a" STUN_STATE="$out/libstunp-program.a" LIBRARIES="$libraries" \
-    tests/install.sh
+STUN_C="$out/libstunp.a" STUN_STATE="$out/libstunp.a" LIBRARIES="$libraries" tests/install.sh
 if [ "${1-}" = udp ]; then
     built=target/export/target/debug/examples
     (cd target/export && cargo build --quiet --examples)
-    # Either archive's place is this one's.
-    cp "$out/libstunp-program.a" "$out/again.a"
-    STUN_C="$out/libstunp-program.a" STUN_STATE="$out/again.a" LIBRARIES="$libraries" \
-        python3 examples/udp/check.py --server "$built/udp_server" --client "$built/udp_client"
+    STUN_C="$out/libstunp.a" STUN_STATE="$out/libstunp.a" LIBRARIES="$libraries" \
+        python3 tests/udp/check.py --server "$built/udp_server" --client "$built/udp_client"
 fi
 echo "rust_c: passed"

@@ -4,14 +4,12 @@
     tools/transcripts.py FOLDER ..        each transcript of a page, with the programs of these
                                           folders
     tools/transcripts.py --first-minute   the command of README.md that needs no proof, in a fresh
-                                          clone of this repository, and all that --commands does
-    tools/transcripts.py --commands       each command that a page names is one of commands.txt;
-                                          those that it says so of are run in a fresh clone
+                                          clone of this repository
     tools/transcripts.py --c ARCHIVE ..   the program in C of README.md, with these archives and
                                           flags, on that request; with the proved archive also the
                                           commands of examples/README.md
-    tools/transcripts.py --rust FOLDER    the command of README.md after `make rust`, and its lines
-                                          of Rust, with the exported crate of that folder
+    tools/transcripts.py --rust FOLDER    the command of README.md after `make export`, and its
+                                          lines of Rust, with the exported crate of that folder
     tools/transcripts.py --write FOLDER   each transcript as two files, .command and .wanted, beside
                                           request.bin, to be run elsewhere
 
@@ -28,9 +26,24 @@ import subprocess
 import sys
 import tempfile
 
-import commands
-
 TOP = os.path.normpath(os.path.join(os.path.dirname(os.path.abspath(__file__)), ".."))
+
+
+def text_of(path):
+    with open(os.path.join(TOP, path)) as opened:
+        return opened.read()
+
+
+def pages():
+    """All pages, those at the top first."""
+    yield from sorted(name for name in os.listdir(TOP) if name.endswith(".md"))
+    for folder in ("docs", "rust", "examples", "bench", "tests"):
+        for at, names, here in os.walk(os.path.join(TOP, folder)):
+            names[:] = sorted(set(names) - {"out", "target", "__pycache__"})
+            for name in sorted(here):
+                path = os.path.relpath(os.path.join(at, name), TOP)
+                if path.endswith(".md") and not path.startswith("rust/src/"):
+                    yield path
 
 
 def blocks(text):
@@ -83,8 +96,8 @@ def lay_request(folder):
 
 def all_transcripts():
     """Each with the page and the number of the line at which its block begins."""
-    for page in commands.pages():
-        for number, block in blocks(commands.text_of(page)):
+    for page in pages():
+        for number, block in blocks(text_of(page)):
             for command, printed in transcripts(block):
                 yield page, number, command, printed
 
@@ -142,7 +155,7 @@ def first_minute(clone):
     if not prints("valid MESSAGE-INTEGRITY\n", ["sh", "-ec", shown], cwd=clone):
         return False
     print("transcripts: the command of README.md that needs no proof prints what README.md says")
-    return commands.tried(clone)
+    return True
 
 
 def block_after(text, words):
@@ -153,7 +166,7 @@ def block_after(text, words):
 
 
 def readme():
-    return commands.text_of("README.md")
+    return text_of("README.md")
 
 
 def prints(wanted, command, **how):
@@ -166,10 +179,10 @@ def prints(wanted, command, **how):
 
 def wrapped_in_c(scratch):
     """The commands of examples/README.md for C++, over the proved archives."""
-    for name in ("include", "examples", "crates"):
+    for name in ("include", "examples", "tests", "crates"):
         os.symlink(os.path.join(TOP, name), os.path.join(scratch, name))
-    shown = block_after(commands.text_of("examples/README.md"), "and both archives:")
-    wanted = commands.text_of("examples/cpp/check.txt")
+    shown = block_after(text_of("examples/README.md"), "and both archives:")
+    wanted = text_of("tests/cpp/check.txt")
     return prints(wanted, ["sh", "-ec", shown + "./a.out"], cwd=scratch)
 
 
@@ -201,7 +214,7 @@ def in_c(archives):
 
 def in_rust(folder):
     command = block_after(readme(), "section 2.1.").split("\n", 1)
-    if command[0] != "make rust" or not prints("valid MESSAGE-INTEGRITY\n",
+    if command[0] != "make export" or not prints("valid MESSAGE-INTEGRITY\n",
                                                ["sh", "-ec", command[1]], cwd=TOP):
         return False
     source = os.path.join(folder, "examples", "readme.rs")
@@ -222,7 +235,6 @@ if __name__ == "__main__":
     if not sys.argv[1:]:
         sys.exit(__doc__)
     modes = {"--first-minute": lambda _: in_clone(first_minute), "--c": in_c,
-             "--commands": lambda _: in_clone(commands.tried),
              "--rust": lambda words: in_rust(words[0]),
              "--write": lambda words: write_all(words[0])}
     mode = modes.get(sys.argv[1])

@@ -1,8 +1,9 @@
 #!/usr/bin/env python3
-"""Compares the version in the file VERSION with each place that tells one. Run at the top of the
-repository.
+"""Compares the version in the file VERSION with each place that has one. Run at the top of the
+repository. With --write it writes the version there first, but for the heading of CHANGELOG.md,
+which is written by hand.
 
-Prints each place that tells another, then how many were compared."""
+Prints each place that has another, with file and line, then how many were compared."""
 
 import re
 import sys
@@ -14,6 +15,7 @@ TEXTS = (
     ("rust/checks/Cargo.toml", r'(?m)^version = "(.*)"'),
     ("crates/stun_inspect/src/usage.rt", r'VERSION: &str = "stun_inspect (.*)\\n"'),
     ("crates/stun_inspect/specs/Run.antt", r'codes "stun_inspect ([0-9.]*)"'),
+    ("tests/programs/inspect/words.txt", r"(?m)^> stun_inspect (.*)$"),
     ("CHANGELOG.md", r"(?m)^## (.*)"),
     ("README.md", r"\| Version \| ([0-9.]+[0-9])"),
 )
@@ -39,7 +41,21 @@ NAMES = (
 )
 
 
+def write(path, pattern, wanted, is_each):
+    """Writes the version in a place of a file, or in each."""
+    with open(path) as opened:
+        text = opened.read()
+    found = list(re.finditer(pattern, text))
+    for one in reversed(found if is_each else found[:1]):
+        text = text[:one.start(1)] + wanted + text[one.end(1):]
+    with open(path, "w") as opened:
+        opened.write(text)
+
+
 def main():
+    is_written = sys.argv[1:] == ["--write"]
+    if sys.argv[1:] and not is_written:
+        sys.exit(__doc__)
     with open("VERSION") as opened:
         version = opened.read().strip()
     first, second, third = map(int, version.split("."))
@@ -48,13 +64,20 @@ def main():
             (TEXTS, version), (NUMBERS, str(10000 * first + 100 * second + third)),
             (NAMES, "%d_%d" % (first, second))):
         for path, pattern in places:
+            if is_written and path != "CHANGELOG.md":
+                write(path, pattern, wanted, places is NAMES)
             with open(path) as opened:
-                found = re.findall(pattern, opened.read()) or ["no version"]
-            told = found if places is NAMES else found[:1]
+                text = opened.read()
+            found = list(re.finditer(pattern, text))
             compared += 1
-            if told != [wanted] * len(told):
-                wrong += 1
-                print("%s tells %s, not %s" % (path, " and ".join(told), wanted))
+            others = [one for one in (found if places is NAMES else found[:1])
+                      if one.group(1) != wanted]
+            wrong += bool(others or not found)
+            for one in others:
+                print("%s:%d: the version is %s, not %s: write the one of the file VERSION"
+                      % (path, text.count("\n", 0, one.start(1)) + 1, one.group(1), wanted))
+            if not found:
+                print("%s:1: no version, where %s is looked for by %s" % (path, wanted, pattern))
     print("version: %d compared, %d differ" % (compared, wrong))
     return wrong == 0
 

@@ -11,7 +11,8 @@
  * --addresses N       for how many addresses each process keeps a nonce: 131072, and 16 at least
  * --workers N         so many processes on one port
  * --ahead SECONDS     SIGUSR1 moves the clock so far ahead, to see nonces expire (for tests)
- * --any-method        judges requests of other methods too, and answers them 508 once validated
+ * --any-method        judges requests of other methods too, and answers them 508 once validated, or
+ *                     400 where they are malformed
  * -v                  prints a line for each datagram: from where, the answer, and who had signed
  * --                  what follows is no option, as a PASSWORD that begins with `-`
  *
@@ -66,8 +67,8 @@ static uint64_t now(void) { return moment() + (uint64_t)jumps * settings.ahead; 
 static void forget_now_and_then(bool is_idle) {
     static uint64_t due;
     static stunp_address next;
-    if (!settings.has_users || now() < due || now() < settings.expiry) return;
-    int64_t more = stunp_server_forget_expired_within(&server, now() - settings.expiry, &next,
+    if (!settings.has_users || now() < due) return;
+    int64_t more = stunp_server_forget_expired_within(&server, now(), settings.expiry, &next,
                                                      is_idle ? AT_ONCE_IDLE : AT_ONCE);
     due = now() + (more > 0 ? PAUSE : PERIOD);
 }
@@ -99,6 +100,15 @@ static int64_t validate(const struct message *request) {
     return is_stale ? STUNP_STALE_NONCE : verdict;
 }
 
+/* Whether a request lacks what its method must have: an Allocate without REQUESTED-TRANSPORT (RFC
+ * 8656, section 7.2). */
+static bool is_malformed(const struct message *request) {
+    const struct datagram *got = request->got;
+    size_t value_length;
+    return request->header.method == STUNP_ALLOCATE
+        && stunp_find(got->bytes, got->length, STUNP_REQUESTED_TRANSPORT, &value_length) < 0;
+}
+
 /* The code that a judged request draws: 200 for a success, 0 where there is no answer. */
 static uint32_t code_of(int64_t verdict, const struct message *request) {
     if (verdict == STUNP_BAD_REQUEST) return 400;
@@ -106,13 +116,16 @@ static uint32_t code_of(int64_t verdict, const struct message *request) {
     if (verdict == STUNP_STALE_NONCE) return 438;
     if (verdict < 0) return 0;
     if (!request->is_understood) return 420;
+    if (is_malformed(request)) return 400;
     return request->header.method == STUNP_BINDING ? 200 : 508;
 }
 
-static stunp_writer write_answer(const struct message *request, uint32_t code, uint8_t *out,
-                                 size_t room) {
+/* Each answer is signed but the one to a request that failed authentication by its form (section
+ * 9.2.4). The 400 to a malformed request of a known user is: its client drops an unsigned one. */
+static stunp_writer write_answer(const struct message *request, int64_t verdict, uint32_t code,
+                                 uint8_t *out, size_t room) {
     stunp_writer answer = begin_answer(request, code, out, room);
-    if (settings.has_users && code != 400)
+    if (settings.has_users && verdict != STUNP_BAD_REQUEST)
         stunp_write_server_sign(&answer, &server, &request->got->from);
     if (request->has_fingerprint) stunp_write_fingerprint(&answer);
     return answer;
@@ -124,11 +137,11 @@ static void tell(const stunp_address *from, uint32_t code, int64_t verdict) {
     size_t length = 0;
     const char *algorithm = verdict == STUNP_SHA256 ? "SHA256" : "SHA1";
     if (!settings.is_verbose) return;
-    if (verdict <= 0) {
+    if (!stunp_is_authentic(verdict)
+        || stunp_server_client(&server, from, (uint8_t *)name, sizeof name, &length) < 0) {
         say("%s %u\n", text_of(from), code);
         return;
     }
-    stunp_server_client(&server, from, (uint8_t *)name, sizeof name, &length);
     say("%s %u %s %.*s\n", text_of(from), code, algorithm, (int)length, name);
 }
 
@@ -154,9 +167,11 @@ static const char *answer(int socket, const struct datagram *got) {
     uint32_t code = code_of(verdict, &request);
     if (code == 0) return stunp_strerror(verdict);
     tell(&got->from, code, verdict);
-    stunp_writer answer = write_answer(&request, code, bytes, sizeof bytes);
-    if (verdict > 0) keep_place(&got->from);
-    if (verdict > 0) stunp_server_remove_client(&server, &got->from);
+    stunp_writer answer = write_answer(&request, verdict, code, bytes, sizeof bytes);
+    if (stunp_is_authentic(verdict)) {
+        keep_place(&got->from);
+        stunp_server_remove_client(&server, &got->from);
+    }
     if (stunp_written(&answer) < 0) return stunp_strerror(stunp_written(&answer));
     send_to(socket, bytes, answer.length, &got->peer); /* who gets no answer asks again */
     return NULL;

@@ -159,13 +159,15 @@ impl Server {
         }
     }
 
-    /// The code that a request draws, 200 for a success; or why it draws no answer.
+    /// The code that a request draws, 200 for a success, and whether the answer is signed; or why
+    /// it draws no answer. Only the 400 to a request that failed authentication is not signed
+    /// (section 9.2.4): a client drops an unsigned answer.
     fn judge(
         &mut self,
         request: &Message<'_>,
         read: &Reading,
         from: SocketAddr,
-    ) -> Result<u16, Box<dyn Error>> {
+    ) -> Result<(u16, bool), Box<dyn Error>> {
         if let Some(auth) = &mut self.auth {
             if let Some(gone) = self.places.take(from) {
                 auth.forget(gone);
@@ -177,33 +179,35 @@ impl Server {
                 .map_err(|error| error.reason())
             {
                 Ok(LongTermServerValidation::Validated(_)) => self.places.keep(from),
-                Err(LongTermServerAuthErrorReason::Unauthorized) => return Ok(401),
-                Err(LongTermServerAuthErrorReason::StaleNonce) => return Ok(438),
+                Err(LongTermServerAuthErrorReason::Unauthorized) => return Ok((401, true)),
+                Err(LongTermServerAuthErrorReason::StaleNonce) => return Ok((438, true)),
                 Err(LongTermServerAuthErrorReason::BadRequest) => {
                     // A forgotten address repeats an offer that is forgotten too: it is to ask
                     // anew.
                     let is_forgotten = !was_known && auth.nonce_for_client(from).is_some();
-                    return Ok(if is_forgotten { 438 } else { 400 });
+                    let code = if is_forgotten { 438 } else { 400 };
+                    return Ok((code, is_forgotten));
                 }
                 Err(reason) => return Err(reason.into()),
             }
         }
-        Ok(if read.has_unknown { 420 } else { 200 })
+        Ok((if read.has_unknown { 420 } else { 200 }, self.auth.is_some()))
     }
 
-    /// What a datagram draws: a code and an answer; or why it is dropped. The request is judged,
-    /// the server says who asked, and each answer but a 400 is signed. Nobody is kept: a Binding
-    /// request begins no session.
+    /// Returns the code and the bytes of the answer to a datagram, or why it is dropped. The
+    /// request is judged, the server says who sent it, and the answer is signed, unless it is the
+    /// 400 of a request that failed authentication. The client is forgotten, because a Binding
+    /// request starts no session.
     fn answer(
         &mut self,
         bytes: &[u8],
         from: SocketAddr,
     ) -> Result<(String, Vec<u8>), Box<dyn Error>> {
         let (request, read) = read_request(bytes)?;
-        let code = self.judge(&request, &read, from)?;
+        let (code, is_signed) = self.judge(&request, &read, from)?;
         let mut told = code.to_string();
         let mut answer = unsigned_answer(&request, code, from)?;
-        if let (Some(auth), true) = (&mut self.auth, code != 400) {
+        if let (Some(auth), true) = (&mut self.auth, is_signed) {
             if let Some((name, algorithm)) = auth.client(from) {
                 let algorithm = format!("{algorithm:?}").to_uppercase();
                 told = format!("{code} {algorithm} {name}");
@@ -224,7 +228,7 @@ impl Server {
     fn forget(&mut self) {
         let now = self.clock.elapsed();
         if let (Some(auth), true) = (&mut self.auth, now >= self.due) {
-            let ended = Instant::ZERO + now.saturating_sub(self.expiry);
+            let ended = Instant::ZERO + now - self.expiry;
             self.next = auth.forget_expired_within(ended, self.next, AT_ONCE);
             self.due = now + self.next.map_or(PERIOD, |_| PAUSE);
         }

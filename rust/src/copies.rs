@@ -1,24 +1,24 @@
-//! Copies of values whose memory the global allocator gives.
+//! Copies of values whose memory the global allocator provides.
 
 use crate::exported::stun_types::attribute::{
     ErrorCode, MessageIntegritySha256, Nonce, PasswordAlgorithms, RawAttribute, Realm, Username,
 };
-use crate::exported::stun_types::message::{IntegrityKey, MessageAttributesIter};
+use crate::exported::stun_types::message::{IntegrityKey, MessageAttributesIter, PreparedKey};
 use crate::kit::alloc::{AllocError, Global};
 use crate::kit::prelude::{String, TryClone};
 use alloc::alloc::{Layout, handle_alloc_error};
 
-/// The value, or an end as the global allocator makes one where it has no memory.
+/// Returns the value, or ends the program like the global allocator does if it has no memory.
 pub(crate) fn granted<T, E: Into<AllocError>>(answer: Result<T, E>) -> T {
     answer.unwrap_or_else(|_| handle_alloc_error(Layout::new::<u8>()))
 }
 
-/// The same value again.
+/// Returns a copy of the value.
 pub(crate) fn copy<T: TryClone>(value: &T) -> T {
     granted(value.try_clone())
 }
 
-/// The core's text of these bytes, which are not copied.
+/// Converts a `String` to the core's type of text, without copying its bytes.
 pub(crate) fn text(text: alloc::string::String) -> String {
     String::from(text)
 }
@@ -33,7 +33,7 @@ macro_rules! clone {
     )*};
 }
 
-// None of these allocates, but for a key of more than 32 bytes.
+// Only the copy of a key of more than 32 bytes allocates.
 clone!(
     ErrorCode<'_>,
     MessageAttributesIter<'_>,
@@ -43,6 +43,7 @@ clone!(
 clone!(
     IntegrityKey<Global>,
     PasswordAlgorithms<'_>,
+    PreparedKey<Global>,
     RawAttribute<'_>,
     Realm<'_>,
     Username<'_>

@@ -1,4 +1,5 @@
-//! Passwords, and the keys of digests that they give (RFC 8489, section 9). `Debug` shows none.
+//! Passwords, and the keys that are derived from them (RFC 8489, section 9). `Debug` reveals
+//! neither.
 
 use crate::copies::{copy, granted, text};
 use crate::exported::stun_base::compare::is_same_text;
@@ -9,7 +10,19 @@ use alloc::string::String;
 use core::fmt;
 
 impl IntegrityKey<Global> {
-    /// A key of these bytes. Up to 32 are in the key itself.
+    /// Creates a key from its bytes.
+    ///
+    /// Up to 32 bytes are stored in the key itself; a longer key is allocated.
+    ///
+    /// # Examples
+    ///
+    /// ```
+    /// use seatcrane_stun::types::message::IntegrityKey;
+    ///
+    /// let key = IntegrityKey::new(b"VOkJxbRl1RmTxUk/WvJxBt");
+    /// assert_eq!(key.as_bytes().len(), 22);
+    /// assert_eq!(format!("{key:?}"), "IntegrityKey { .. }");
+    /// ```
     pub fn new(bytes: &[u8]) -> Self {
         granted(IntegrityKey::from_bytes(Global, bytes))
     }
@@ -21,7 +34,8 @@ impl AsRef<[u8]> for IntegrityKey<Global> {
     }
 }
 
-/// Equal are keys of the same bytes. They are compared without an early exit.
+/// Keys are equal if and only if their bytes are. Keys of the same length are compared without an
+/// early exit.
 impl PartialEq for IntegrityKey<Global> {
     fn eq(&self, other: &Self) -> bool {
         is_same_text(self.as_bytes(), other.as_bytes())
@@ -30,8 +44,24 @@ impl PartialEq for IntegrityKey<Global> {
 
 impl Eq for IntegrityKey<Global> {}
 
-/// The long-term key of a user at a realm (section 9.2.2): 16 bytes for `Sha1`, 32 for `Sha256`.
-/// The texts are taken as they are. It does not allocate.
+/// Derives the long-term key of a user in a realm (RFC 8489, section 9.2.2): 16 bytes for `Sha1`,
+/// 32 bytes for `Sha256`.
+///
+/// The texts are used as they are: to prepare them with OpaqueString (RFC 8265, section 4.2) is up
+/// to you. This does not allocate.
+///
+/// A database can store these keys instead of passwords: see
+/// [`StoredKeys`](crate::auth::StoredKeys).
+///
+/// # Examples
+///
+/// ```
+/// use seatcrane_stun::types::message::{IntegrityAlgorithm, long_term_key};
+///
+/// let key = long_term_key(IntegrityAlgorithm::Sha1, "user", "realm", "pass");
+/// // The MD5 hash of "user:realm:pass" (RFC 8489, section 9.2.2).
+/// assert_eq!(key.as_bytes()[..4], [0x84, 0x93, 0xfb, 0xc5]);
+/// ```
 pub fn long_term_key(
     algorithm: IntegrityAlgorithm,
     username: &str,
@@ -53,18 +83,34 @@ macro_rules! credentials {
     };
 }
 
-/// The password of a short-term credential (section 9.1).
+/// The password of a short-term credential (RFC 8489, section 9.1).
+///
+/// The user name of a short-term credential is not part of it: see
+/// [`ShortTermAuth`](crate::auth::ShortTermAuth). The text is used as it is: to prepare it with
+/// OpaqueString (RFC 8265, section 4.2) is up to you.
+///
+/// # Examples
+///
+/// ```
+/// use seatcrane_stun::types::message::{MessageIntegrityCredentials, ShortTermCredentials};
+///
+/// let credentials = ShortTermCredentials::new("VOkJxbRl1RmTxUk/WvJxBt".to_string());
+/// assert_eq!(format!("{credentials:?}"), "ShortTermCredentials { .. }");
+///
+/// // For the calls that sign or verify one message.
+/// let credentials: MessageIntegrityCredentials = credentials.into();
+/// ```
 pub struct ShortTermCredentials(Proved);
 
 credentials!(ShortTermCredentials);
 
 impl ShortTermCredentials {
-    /// The credentials of this password.
+    /// Creates the credentials from a password.
     pub fn new(password: String) -> ShortTermCredentials {
         ShortTermCredentials(proved::ShortTermCredentials::new(text(password)).into())
     }
 
-    /// What `new` made.
+    /// Returns what `new` made.
     fn kept(&self) -> &proved::ShortTermCredentials {
         match &self.0 {
             Proved::ShortTerm(kept) => kept,
@@ -72,17 +118,17 @@ impl ShortTermCredentials {
         }
     }
 
-    /// A copy for the core.
+    /// Returns a copy for the core.
     pub(crate) fn to_proved(&self) -> proved::ShortTermCredentials {
         copy(self.kept())
     }
 
-    /// The password. Its bytes are the key of either digest.
+    /// Returns the password. Its bytes are the key for both algorithms.
     pub fn password(&self) -> &str {
         self.kept().password()
     }
 
-    /// The key, which is the password's bytes.
+    /// Returns the key, which consists of the bytes of the password.
     pub fn make_key(&self) -> IntegrityKey {
         granted(self.kept().make_key())
     }
@@ -100,14 +146,26 @@ impl PartialEq for ShortTermCredentials {
     }
 }
 
-/// The name and the password of a user (section 9.2). To prepare them by OpaqueString (RFC 8265,
-/// section 4.2) is the caller's part.
+/// The name and the password of a user (RFC 8489, section 9.2).
+///
+/// The texts are used as they are: to prepare them with OpaqueString (RFC 8265, section 4.2) is up
+/// to you.
+///
+/// # Examples
+///
+/// ```
+/// use seatcrane_stun::types::message::{IntegrityAlgorithm, LongTermCredentials};
+///
+/// let alice = LongTermCredentials::new("alice".to_string(), "wonderland".to_string());
+/// let key = alice.to_key("example.org".to_string()).make_key(IntegrityAlgorithm::Sha256);
+/// assert_eq!(key.as_bytes().len(), 32);
+/// ```
 pub struct LongTermCredentials(pub(crate) proved::LongTermCredentials);
 
 credentials!(LongTermCredentials);
 
 impl LongTermCredentials {
-    /// The credentials of this user.
+    /// Creates the credentials from a user name and a password.
     pub fn new(username: String, password: String) -> LongTermCredentials {
         LongTermCredentials(proved::LongTermCredentials::new(
             text(username),
@@ -115,17 +173,17 @@ impl LongTermCredentials {
         ))
     }
 
-    /// The user's name.
+    /// Returns the user name.
     pub fn username(&self) -> &str {
         self.0.username()
     }
 
-    /// The user's password.
+    /// Returns the password.
     pub fn password(&self) -> &str {
         self.0.password()
     }
 
-    /// The credentials of this user at a realm, which keys are made of.
+    /// Combines the credentials with a realm. Keys can be derived from the result.
     pub fn to_key(&self, realm: String) -> LongTermKeyCredentials {
         LongTermKeyCredentials(granted(self.0.to_key(text(realm))).into())
     }
@@ -143,13 +201,33 @@ impl PartialEq for LongTermCredentials {
     }
 }
 
-/// The name and the password of a user at a realm, which a long-term key is made of.
+/// The name and the password of a user in a realm, from which long-term keys are derived.
+/// [`LongTermCredentials::to_key`] returns it.
+///
+/// # Examples
+///
+/// ```
+/// use seatcrane_stun::types::message::*;
+/// use seatcrane_stun::types::prelude::*;
+///
+/// let alice = LongTermCredentials::new("alice".to_string(), "wonderland".to_string());
+/// let alice: LongTermKeyCredentials = alice.to_key("example.org".to_string());
+/// let key = alice.make_key(IntegrityAlgorithm::Sha1); // 16 bytes, by MD5
+///
+/// # let id = TransactionId::from(*b"any 12 bytes");
+/// let mut request = Message::builder_request_with_id(BINDING, id, MessageWriteVec::new());
+/// request.add_message_integrity(&alice.into(), IntegrityAlgorithm::Sha1)?;
+/// let request = request.finish();
+/// let request = Message::from_bytes(&request).unwrap();
+/// assert_eq!(request.validate_integrity_with_key(&key), Ok(IntegrityAlgorithm::Sha1));
+/// # Ok::<(), StunWriteError>(())
+/// ```
 pub struct LongTermKeyCredentials(Proved);
 
 credentials!(LongTermKeyCredentials);
 
 impl LongTermKeyCredentials {
-    /// What `LongTermCredentials::to_key` made.
+    /// Returns what `LongTermCredentials::to_key` made.
     fn kept(&self) -> &proved::LongTermKeyCredentials {
         match &self.0 {
             Proved::LongTerm(kept) => kept,
@@ -157,22 +235,22 @@ impl LongTermKeyCredentials {
         }
     }
 
-    /// The user's name.
+    /// Returns the user name.
     pub fn username(&self) -> &str {
         self.kept().username()
     }
 
-    /// The realm.
+    /// Returns the realm.
     pub fn realm(&self) -> &str {
         self.kept().realm()
     }
 
-    /// The user's password.
+    /// Returns the password.
     pub fn password(&self) -> &str {
         self.kept().password()
     }
 
-    /// The key for this algorithm, as `long_term_key` makes it.
+    /// Derives the key for this algorithm, like [`long_term_key`].
     pub fn make_key(&self, algorithm: IntegrityAlgorithm) -> IntegrityKey {
         self.kept().make_key(algorithm)
     }
@@ -191,17 +269,31 @@ impl PartialEq for LongTermKeyCredentials {
     }
 }
 
-/// What protects a message. `Debug` shows its kind alone.
+/// The credentials that a message is signed or verified with. `Debug` reveals only which kind they
+/// are.
+///
+/// # Examples
+///
+/// ```
+/// use seatcrane_stun::types::message::*;
+///
+/// let password = ShortTermCredentials::new("VOkJxbRl1RmTxUk/WvJxBt".to_string());
+/// let alice = LongTermCredentials::new("alice".to_string(), "wonderland".to_string());
+///
+/// let session: MessageIntegrityCredentials = password.into();
+/// let user: MessageIntegrityCredentials = alice.to_key("example.org".to_string()).into();
+/// assert_ne!(session, user);
+/// ```
 #[derive(Clone, PartialEq, Eq)]
 pub enum MessageIntegrityCredentials {
-    /// A password alone (section 9.1).
+    /// A password without a user (RFC 8489, section 9.1).
     ShortTerm(ShortTermCredentials),
-    /// A user at a realm (section 9.2).
+    /// A user in a realm (RFC 8489, section 9.2).
     LongTerm(LongTermKeyCredentials),
 }
 
 impl MessageIntegrityCredentials {
-    /// What the core reads.
+    /// Returns the core's form of the credentials.
     pub(crate) fn proved(&self) -> &Proved {
         match self {
             MessageIntegrityCredentials::ShortTerm(credentials) => &credentials.0,

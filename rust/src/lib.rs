@@ -1,6 +1,21 @@
 #![cfg_attr(all(feature = "std", feature = "rand"), doc = include_str!("../README.md"))]
+#![cfg_attr(not(all(feature = "std", feature = "rand")), doc = "Sans-I/O STUN (RFC 8489).")]
+//!
+//! # Modules
+//!
+//! | Module | What it is for |
+//! |---|---|
+//! | [`types`] | parsing, verifying, building and signing messages |
+//! | [`agent`] | sending requests, retransmitting them and matching their responses |
+//! | [`auth`] | authenticating both sides with short-term or long-term credentials |
+//! | [`endpoint`] | a server as one value: what to do with a datagram, without records of addresses |
+//! | [`extra`] | FINGERPRINT, unknown attributes, framing over TCP, attributes of ICE and TURN |
+//! | [`stats`] | what an agent has counted |
+//! | [`replay`] | whole runs of calls, and the core as it is exported |
+//!
+//! [`Instant`] is the type of all times: no call reads a clock.
+//!
 #![cfg_attr(all(feature = "std", feature = "rand"), doc = include_str!("loops.md"))]
-#![cfg_attr(not(all(feature = "std", feature = "rand")), doc = "STUN without input or output.")]
 #![no_std]
 #![cfg_attr(docsrs, feature(doc_cfg))]
 #![forbid(unsafe_code)]
@@ -15,9 +30,10 @@ mod address;
 pub mod auth;
 mod copies;
 mod credentials;
-// The front offers a part of these.
+// The public modules export a part of these.
 #[allow(dead_code, unused_imports)]
 mod exported;
+pub mod endpoint;
 pub mod extra;
 mod instant;
 #[allow(dead_code, unused_imports)]
@@ -29,6 +45,7 @@ mod nonce;
 mod random;
 pub mod replay;
 pub mod stats;
+mod text;
 mod transaction;
 mod transmit;
 pub mod types;
@@ -36,5 +53,6 @@ mod write;
 
 pub use exported::stun_base::instant::Instant;
 
-/// Empty, as in the Rust crate: the traits of attributes and of writers stand in `types::prelude`.
+/// Empty, as in the crate `stun-proto`. The traits of attributes and writers are in
+/// [`types::prelude`].
 pub mod prelude {}

@@ -1,21 +1,27 @@
-//! Messages, attributes, writers, credentials and digests.
+//! Messages and what they are made of: attributes, writers and credentials.
+//!
+//! - [`message`] parses, verifies, builds and signs messages.
+//! - [`attribute`] has the attributes of STUN. Those of ICE and TURN are in
+//!   [`extra::attribute`](crate::extra::attribute).
+//! - [`prelude`] has the traits whose methods you call on messages and attributes. Import all of
+//!   it.
 
 pub use crate::exported::stun_base::transport::TransportType;
 
-/// Attributes: types, values and raw forms.
+/// Attributes: their types, their values and their raw form.
 pub mod attribute {
     pub use crate::address::XorMappedAddress;
     pub use crate::exported::stun_types::attribute::{
         ATTRIBUTE_HEADER_LENGTH, Attribute, AttributeFromRaw, AttributeStaticType, AttributeType,
-        ErrorCode, ErrorCodeBuilder, MessageIntegrity, MessageIntegritySha256, Nonce,
-        PasswordAlgorithm, PasswordAlgorithmValue, PasswordAlgorithms, RawAttribute, Realm,
-        Userhash, Username,
+        ErrorCode, ErrorCodeBuilder, MessageIntegrity, MessageIntegritySha256, PasswordAlgorithm,
+        PasswordAlgorithmValue, PasswordAlgorithms, RawAttribute, Userhash,
     };
     pub use crate::exported::stun_extra::attribute::Software;
     pub use crate::names::AttributeExt;
+    pub use crate::text::{Nonce, Realm, Username};
 }
 
-/// Messages that are read, checked, written and signed, and the credentials for it.
+/// Messages: parsing, verifying, building and signing them, and the credentials for this.
 pub mod message {
     pub use crate::credentials::{
         LongTermCredentials, LongTermKeyCredentials, MessageIntegrityCredentials,
@@ -23,23 +29,28 @@ pub mod message {
     };
     pub use crate::exported::stun_types::message::{
         BINDING, IntegrityAlgorithm, IntegrityKey, MessageAttributesIter, MessageClass,
-        MessageType, MessageWriteMutSlice, Method, StunParseError, StunWriteError, ValidateError,
+        MessageType, MessageWriteMutSlice, Method, PreparedKey, StunParseError, StunWriteError,
+        ValidateError,
         hmac_sha1, hmac_sha256,
     };
     pub use crate::message::{Message, MessageHeader};
     pub use crate::transaction::TransactionId;
     pub use crate::write::MessageWriteVec;
-    // Where the Rust crate has them too.
+    // The crate `stun-proto` has them here too.
     pub use crate::types::attribute::{AttributeType, RawAttribute};
 }
 
-/// Bytes that are borrowed or owned, and values that hold bytes.
+/// Bytes that are borrowed or owned, and values that contain bytes.
 pub mod data {
     pub use crate::exported::stun_base::data::OwnedBytes;
     pub use crate::transmit::Data;
 }
 
-/// The traits of attributes and of writers.
+/// The traits of attributes and of writers, to be imported as a whole:
+///
+/// ```
+/// use seatcrane_stun::types::prelude::*;
+/// ```
 pub mod prelude {
     pub use crate::exported::stun_types::prelude::MessageWrite;
     pub use crate::types::attribute::{

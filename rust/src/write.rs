@@ -1,11 +1,14 @@
-//! Writers, and what can be written to each of them.
+//! Writers, and the calls that every writer has.
 
 use crate::copies::granted;
 use crate::credentials::MessageIntegrityCredentials;
-use crate::exported::stun_types::attribute::{Attribute, AttributeType, ErrorCode};
+use crate::exported::stun_base::header::HEADER_LENGTH;
+use crate::exported::stun_types::attribute::{
+    Attribute, AttributeType, ErrorCode, attribute_length,
+};
 use crate::exported::stun_types::message::{
     self as proved, IntegrityAlgorithm, MessageClass, MessageType, MessageWriteMutSlice, Method,
-    StunWriteError,
+    PreparedKey, StunWriteError,
 };
 use crate::exported::stun_types::prelude::MessageWrite;
 use crate::exported::stun_types::prelude::MessageWriteExt as Proved;
@@ -18,71 +21,206 @@ use core::fmt;
 use core::net::SocketAddr;
 use core::ops::Deref;
 
-/// Calls that every writer has: they tell what its message has, add attributes, and sign it. A
-/// refusal leaves the message as it was.
+/// The calls that every writer has: they inspect the message in the writer, add attributes to it,
+/// and sign it. A call that fails leaves the message unchanged.
 ///
-/// The writer holds a message without FINGERPRINT, as the builders of `Message` leave it and each
-/// of these calls keeps it. On an empty one they panic, or refuse by `TooLarge` where overflow is
-/// not checked.
+/// The writer must hold a message without FINGERPRINT. The builders of
+/// [`Message`](crate::types::message::Message) start such a message, and these calls keep it that
+/// way. FINGERPRINT comes last, with
+/// [`finish_with_fingerprint`](crate::extra::finish_with_fingerprint).
+///
+/// On an empty writer these calls panic, with two exceptions:
+/// [`has_attribute`](MessageWriteExt::has_attribute) returns `false`, and an error that is tested
+/// before the length is returned as usual. In a build without overflow checks, such as a release
+/// build, [`add_attribute`](MessageWriteExt::add_attribute),
+/// [`add_another_attribute`](MessageWriteExt::add_another_attribute),
+/// [`add_error_code`](MessageWriteExt::add_error_code) and the calls that sign fail with
+/// [`StunWriteError::TooLarge`] instead of panicking.
+///
+/// # Examples
+///
+/// ```
+/// use seatcrane_stun::extra::attribute::{IceControlling, Priority};
+/// use seatcrane_stun::types::attribute::Username;
+/// use seatcrane_stun::types::message::*;
+/// use seatcrane_stun::types::prelude::*;
+///
+/// # let id = TransactionId::from(*b"any 12 bytes");
+/// let mut check = Message::builder_request_with_id(BINDING, id, MessageWriteVec::new());
+/// check.add_attribute(&Username::new("their-name:my-name")?)?;
+/// check.add_attribute(&Priority::new(1_845_501_695))?;
+/// check.add_attribute(&IceControlling::new(0x0123_4567_89ab_cdef))?;
+/// check.add_message_integrity_with_key(b"their password", IntegrityAlgorithm::Sha1)?;
+/// let datagram: Vec<u8> = check.finish();
+/// # Ok::<(), StunWriteError>(())
+/// ```
 pub trait MessageWriteExt: MessageWrite + Sized {
-    /// The type of the message.
+    /// Returns the type of the message, which combines its class and its method.
     fn get_type(&self) -> MessageType {
         MessageHeader::from_bytes(self.data())
             .expect("a message that a builder began")
             .get_type()
     }
 
-    /// The class of the message.
+    /// Returns the class of the message.
     fn class(&self) -> MessageClass {
         self.get_type().class()
     }
 
-    /// The method of the message.
+    /// Returns the method of the message.
     fn method(&self) -> Method {
         self.get_type().method()
     }
 
-    /// Whether the message has this class.
+    /// Returns `true` if the message has this class.
     fn has_class(&self, class: MessageClass) -> bool {
         Proved::has_class(self, class)
     }
 
-    /// Whether the message is a response.
+    /// Returns `true` if the message is a response.
     fn is_response(&self) -> bool {
         Proved::is_response(self)
     }
 
-    /// The id of the message's transaction.
+    /// Returns the transaction ID of the message.
     fn transaction_id(&self) -> TransactionId {
         TransactionId(Proved::transaction_id(self))
     }
 
-    /// Whether the message has an attribute of this type, visible or not.
+    /// Returns `true` if the message has an attribute of this type, whether it is visible or not.
     fn has_attribute(&self, kind: AttributeType) -> bool {
         Proved::has_attribute(self, kind)
     }
 
-    /// Adds an attribute at the end.
+    /// Adds an attribute at the end of the message.
     ///
     /// # Errors
     ///
-    /// The first that holds:
+    /// The first of these that applies:
     ///
-    /// - `NotAllowed`: it is an integrity attribute or FINGERPRINT.
-    /// - `MessageIntegrityExists`: the message has an integrity attribute.
-    /// - `AttributeExists`: the message has one of this type.
-    /// - `TooLarge`: the message would be longer than 65532 bytes after its header.
-    /// - `TooSmall`: the writer has no room.
+    /// - [`StunWriteError::NotAllowed`]: it is an integrity attribute, for which there is
+    ///   [`add_message_integrity`](MessageWriteExt::add_message_integrity), or FINGERPRINT, for
+    ///   which there is [`finish_with_fingerprint`](crate::extra::finish_with_fingerprint).
+    /// - [`StunWriteError::MessageIntegrityExists`]: the message has an integrity attribute.
+    /// - [`StunWriteError::AttributeExists`]: the message has an attribute of this type.
+    /// - [`StunWriteError::TooLarge`]: the message would have more than 65532 bytes after its
+    ///   header.
+    /// - [`StunWriteError::TooSmall`]: the writer has no room.
+    /// - [`StunWriteError::OutOfMemory`]: an allocation failed.
+    ///
+    /// # Panics
+    ///
+    /// If [`Attribute::write_into`] of an attribute type of your own appends something else than
+    /// the attribute that `get_type` and `length` describe. The message in the writer is damaged
+    /// then.
+    ///
+    /// # Examples
+    ///
+    /// ```
+    /// use seatcrane_stun::types::attribute::{AttributeType, Software};
+    /// use seatcrane_stun::types::message::*;
+    /// use seatcrane_stun::types::prelude::*;
+    ///
+    /// # let id = TransactionId::from(*b"any 12 bytes");
+    /// let mut request = Message::builder_request_with_id(BINDING, id, MessageWriteVec::new());
+    /// request.add_attribute(&Software::new("example 1.0")?)?;
+    ///
+    /// let again = request.add_attribute(&Software::new("example 2.0")?);
+    /// assert_eq!(again, Err(StunWriteError::AttributeExists(AttributeType::SOFTWARE)));
+    /// # Ok::<(), StunWriteError>(())
+    /// ```
     fn add_attribute<A: Attribute>(&mut self, attribute: &A) -> Result<(), StunWriteError> {
-        Proved::add_attribute(self, attribute)
+        let before = self.data().len();
+        Proved::add_attribute(self, attribute)?;
+        check_appended(self.data(), before, attribute);
+        Ok(())
     }
 
-    /// Adds the integrity attribute of an algorithm, whose digest is made under the key that the
-    /// credentials have for it: the bytes of a password, or a long-term key.
+    /// Adds an attribute at the end of the message, even if the message has an attribute of this
+    /// type already.
+    ///
+    /// A request with several attributes of one type needs this, such as CreatePermission for
+    /// several peers (RFC 8656, section 9.1). Where the type may occur once, use
+    /// [`add_attribute`](MessageWriteExt::add_attribute), which makes sure of that.
     ///
     /// # Errors
     ///
-    /// Those of `add_message_integrity_with_key`.
+    /// The first of these that applies:
+    ///
+    /// - [`StunWriteError::NotAllowed`]: it is an integrity attribute, for which there is
+    ///   [`add_message_integrity`](MessageWriteExt::add_message_integrity), or FINGERPRINT, for
+    ///   which there is [`finish_with_fingerprint`](crate::extra::finish_with_fingerprint).
+    /// - [`StunWriteError::MessageIntegrityExists`]: the message has an integrity attribute.
+    /// - [`StunWriteError::TooLarge`]: the message would have more than 65532 bytes after its
+    ///   header.
+    /// - [`StunWriteError::TooSmall`]: the writer has no room.
+    /// - [`StunWriteError::OutOfMemory`]: an allocation failed.
+    ///
+    /// # Panics
+    ///
+    /// Like [`add_attribute`](MessageWriteExt::add_attribute).
+    ///
+    /// # Examples
+    ///
+    /// ```
+    /// use seatcrane_stun::extra::attribute::XorPeerAddress;
+    /// use seatcrane_stun::types::message::*;
+    /// use seatcrane_stun::types::prelude::*;
+    ///
+    /// # fn main() -> Result<(), Box<dyn std::error::Error>> {
+    /// let create_permission = Method::new(8).expect("a method has 12 bits");
+    /// let kind = MessageType::from_class_method(MessageClass::Request, create_permission);
+    /// # let id = TransactionId::from(*b"any 12 bytes");
+    /// let mut request = Message::builder(kind, id, MessageWriteVec::new());
+    /// for peer in ["192.0.2.7:0", "192.0.2.8:0"] {
+    ///     request.add_another_attribute(&XorPeerAddress::new(peer.parse()?, id))?;
+    /// }
+    ///
+    /// let request = request.finish();
+    /// let peers = Message::from_bytes(&request)?.iter_attributes().count();
+    /// assert_eq!(peers, 2);
+    /// # Ok(())
+    /// # }
+    /// ```
+    fn add_another_attribute<A: Attribute>(&mut self, attribute: &A) -> Result<(), StunWriteError> {
+        let before = self.data().len();
+        Proved::add_another_attribute(self, attribute)?;
+        check_appended(self.data(), before, attribute);
+        Ok(())
+    }
+
+    /// Signs the message: adds MESSAGE-INTEGRITY or MESSAGE-INTEGRITY-SHA256, depending on the
+    /// algorithm.
+    ///
+    /// The key is the one that the credentials have for this algorithm: the bytes of the password,
+    /// or a long-term key.
+    ///
+    /// # Errors
+    ///
+    /// The first of these that applies:
+    ///
+    /// - [`StunWriteError::MessageIntegrityExists`]: the message has an integrity attribute.
+    /// - [`StunWriteError::TooLarge`]: the message would have more than 65532 bytes after its
+    ///   header.
+    /// - [`StunWriteError::TooSmall`]: the writer has no room.
+    /// - [`StunWriteError::OutOfMemory`]: an allocation failed.
+    ///
+    /// # Examples
+    ///
+    /// ```
+    /// use seatcrane_stun::types::message::*;
+    /// use seatcrane_stun::types::prelude::*;
+    ///
+    /// let credentials = ShortTermCredentials::new("VOkJxbRl1RmTxUk/WvJxBt".to_string()).into();
+    /// # let id = TransactionId::from(*b"any 12 bytes");
+    /// let mut request = Message::builder_request_with_id(BINDING, id, MessageWriteVec::new());
+    /// request.add_message_integrity(&credentials, IntegrityAlgorithm::Sha256)?;
+    /// let request = request.finish();
+    ///
+    /// let request = Message::from_bytes(&request).unwrap();
+    /// assert_eq!(request.validate_integrity(&credentials), Ok(IntegrityAlgorithm::Sha256));
+    /// # Ok::<(), StunWriteError>(())
+    /// ```
     fn add_message_integrity(
         &mut self,
         credentials: &MessageIntegrityCredentials,
@@ -91,11 +229,18 @@ pub trait MessageWriteExt: MessageWrite + Sized {
         Proved::add_message_integrity(self, credentials.proved(), algorithm)
     }
 
-    /// The same under a key: an `IntegrityKey`, or bytes of any length.
+    /// Like [`add_message_integrity`](MessageWriteExt::add_message_integrity), with a key: an
+    /// [`IntegrityKey`](crate::types::message::IntegrityKey), or bytes of any length.
     ///
     /// # Errors
     ///
-    /// The first of `MessageIntegrityExists`, `TooLarge` and `TooSmall`, as of `add_attribute`.
+    /// The first of these that applies:
+    ///
+    /// - [`StunWriteError::MessageIntegrityExists`]: the message has an integrity attribute.
+    /// - [`StunWriteError::TooLarge`]: the message would have more than 65532 bytes after its
+    ///   header.
+    /// - [`StunWriteError::TooSmall`]: the writer has no room.
+    /// - [`StunWriteError::OutOfMemory`]: an allocation failed.
     fn add_message_integrity_with_key<K: AsRef<[u8]> + ?Sized>(
         &mut self,
         key: &K,
@@ -104,21 +249,41 @@ pub trait MessageWriteExt: MessageWrite + Sized {
         Proved::add_message_integrity_with_key_bytes(self, key.as_ref(), algorithm)
     }
 
-    /// Adds XOR-MAPPED-ADDRESS, hidden under the message's id.
+    /// Signs the message with a prepared key, like
+    /// [`add_message_integrity_with_key`](Self::add_message_integrity_with_key), but without the
+    /// cost of preparing the key again.
     ///
     /// # Errors
     ///
-    /// Those of `add_attribute`.
+    /// Like [`add_message_integrity_with_key`](Self::add_message_integrity_with_key).
+    fn add_message_integrity_with_prepared_key(
+        &mut self,
+        key: &PreparedKey,
+        algorithm: IntegrityAlgorithm,
+    ) -> Result<(), StunWriteError> {
+        Proved::add_message_integrity_with_prepared_key(self, key, algorithm)
+    }
+
+    /// Adds XOR-MAPPED-ADDRESS with this address, XORed with the magic cookie and the transaction
+    /// ID of the message.
+    ///
+    /// # Errors
+    ///
+    /// The errors of [`add_attribute`](MessageWriteExt::add_attribute).
     fn add_xor_mapped_address(&mut self, address: SocketAddr) -> Result<(), StunWriteError> {
         let id = MessageWriteExt::transaction_id(self);
         Proved::add_attribute(self, &XorMappedAddress::new(address, id))
     }
 
-    /// Adds ERROR-CODE.
+    /// Adds ERROR-CODE with this code and this reason phrase.
     ///
     /// # Errors
     ///
-    /// Those of `ErrorCodeBuilder::build`, then those of `add_attribute`.
+    /// The first of these that applies:
+    ///
+    /// - [`StunWriteError::NotAllowed`]: the code is not from 300 to 699.
+    /// - [`StunWriteError::TooLarge`]: the reason has more than 763 bytes.
+    /// - The errors of [`add_attribute`](MessageWriteExt::add_attribute).
     fn add_error_code(&mut self, code: u16, reason: &str) -> Result<(), StunWriteError> {
         Proved::add_attribute(self, &ErrorCode::new(code, reason)?)
     }
@@ -126,7 +291,24 @@ pub trait MessageWriteExt: MessageWrite + Sized {
 
 impl<W: MessageWrite> MessageWriteExt for W {}
 
-/// The writer, where its bytes begin with a header, or `NotAllowed`.
+/// Panics unless the message ends with this attribute, whole, from the offset `at` on.
+///
+/// The attributes of this crate are proved to append themselves. One of a type of the user's own
+/// could append other bytes, and would change how a reader takes what follows it.
+fn check_appended<A: Attribute>(message: &[u8], at: usize, attribute: &A) {
+    let length = attribute.length();
+    let [k0, k1] = attribute.get_type().value().to_be_bytes();
+    let [n0, n1] = (length as u16).to_be_bytes();
+    assert!(
+        message.len() == at.saturating_add(attribute_length(length))
+            && message[at..].starts_with(&[k0, k1, n0, n1])
+            && usize::from(u16::from_be_bytes([message[2], message[3]])) + HEADER_LENGTH
+                == message.len(),
+        "`write_into` appended something else than its attribute"
+    );
+}
+
+/// Returns the writer if its bytes start with a header, and `NotAllowed` otherwise.
 pub(crate) fn with_header<W: MessageWrite>(writer: W) -> Result<W, StunWriteError> {
     match MessageHeader::from_bytes(writer.data()) {
         Ok(_) => Ok(writer),
@@ -134,11 +316,28 @@ pub(crate) fn with_header<W: MessageWrite>(writer: W) -> Result<W, StunWriteErro
     }
 }
 
-/// Writes a message to a `Vec`, which grows.
+/// A writer that puts a message into a `Vec`, which grows as needed.
+///
+/// The bytes written so far can be read through [`Deref`]. [`finish`](MessageWrite::finish) returns
+/// the `Vec`.
+///
+/// To write into a buffer of your own, use [`MessageWriteMutSlice`].
+///
+/// # Examples
+///
+/// ```
+/// use seatcrane_stun::types::message::*;
+/// use seatcrane_stun::types::prelude::*;
+///
+/// # let id = TransactionId::from(*b"any 12 bytes");
+/// let request = Message::builder_request_with_id(BINDING, id, MessageWriteVec::new());
+/// assert_eq!(request.len(), 20);
+/// let bytes: Vec<u8> = request.finish();
+/// ```
 pub struct MessageWriteVec(proved::MessageWriteVec<Global>);
 
 impl MessageWriteVec {
-    /// Without bytes. It does not allocate.
+    /// Creates an empty writer. This does not allocate.
     pub fn new() -> MessageWriteVec {
         MessageWriteVec(proved::MessageWriteVec::new(Global))
     }
@@ -150,7 +349,7 @@ impl Default for MessageWriteVec {
     }
 }
 
-/// A writer of the same bytes.
+/// Copies the bytes written so far into a new writer.
 impl Clone for MessageWriteVec {
     fn clone(&self) -> Self {
         let mut copy = MessageWriteVec::new();
@@ -195,7 +394,7 @@ impl MessageWrite for MessageWriteVec {
     ///
     /// # Panics
     ///
-    /// Where bytes that were not reserved do not fit, or get no memory.
+    /// If bytes that were not reserved do not fit, or if they cannot be allocated.
     fn append(&mut self, tail: &[u8]) {
         self.0
             .reserve(tail.len())

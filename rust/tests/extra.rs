@@ -108,8 +108,38 @@ fn cuts_a_stream() {
         Frame::Need(3)
     );
     assert_eq!(next_turn_frame(&[0x40, 0, 0, 0, 0x40]), Frame::Message(4));
+    assert_eq!(next_turn_frame(&[0x7F, 0xFF, 0, 0]), Frame::Message(4));
+    assert_eq!(next_turn_frame(&[]), Frame::Need(4));
+    assert_eq!(next_turn_frame(&[0x00]), Frame::Need(19));
+    assert_eq!(next_turn_frame(&[0x80]), Frame::NotStun);
     assert_eq!(next_packet_frame(&[0]), Frame::Need(1));
     assert_eq!(next_packet_frame(&[0, 2, 7, 7, 7]), Frame::Message(4));
+}
+
+/// RFC 8489, section 5: the first two bits and the last two of the length are zero, and the cookie
+/// is fixed.
+#[test]
+fn refuses_a_stream_at_the_byte_that_decides() {
+    let streams: [(&[u8], usize); 8] = [
+        (b"GET / HTTP/1.0\r\n\r\n", 1),
+        (b"\x80", 1),
+        (b"\xFF\xFF\xFF", 1),
+        (b"\x16\x03\x01\x02\x00\x01\x00\x01", 4),
+        (b"\x00\x01\x00\x00\x20", 5),
+        (b"\x00\x01\x00\x00\x21\x13", 6),
+        (b"\x00\x01\x00\x00\x21\x12\xA5", 7),
+        (b"\x00\x01\x00\x00\x21\x12\xA4\x43 any 12 by", 8),
+    ];
+    for (stream, decides) in streams {
+        for there in 0..=stream.len() {
+            let frame = next_frame(&stream[..there]);
+            if there < decides {
+                assert_eq!(frame, Frame::Need(20 - there), "{stream:?}");
+            } else {
+                assert_eq!(frame, Frame::NotStun, "{stream:?}");
+            }
+        }
+    }
 }
 
 /// An attribute is of this type, is written as this value, and is read of it again.
@@ -205,11 +235,18 @@ fn reads_what_turn_writes() {
     refuses::<ChannelNumber>(&[
         &[0x40, 0],
         &[0x3F, 0xFF, 0, 0],
-        &[0x50, 0, 0, 0],
+        &[0x80, 0, 0, 0],
         &[0x40; 5],
     ]);
-    let raw = RawAttribute::new(ChannelNumber::TYPE, &[0x40, 1, 7, 7]);
-    assert_eq!(ChannelNumber::from_raw(raw).unwrap().channel(), 0x4001);
+    // RFC 5766, section 11, allowed 0x4000 to 0x7FFF.
+    for (value, number) in [
+        ([0x40, 1, 7, 7], 0x4001),
+        ([0x50, 0, 0, 0], 0x5000),
+        ([0x7F, 0xFF, 0, 0], 0x7FFF),
+    ] {
+        let raw = RawAttribute::new(ChannelNumber::TYPE, &value);
+        assert_eq!(ChannelNumber::from_raw(raw).unwrap().channel(), number);
+    }
 
     assert_eq!(
         stands(Lifetime::new(600), 0x000D, &[0, 0, 2, 88]).seconds(),

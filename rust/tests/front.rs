@@ -7,8 +7,10 @@ use seatcrane_stun::agent::*;
 use seatcrane_stun::auth::*;
 use seatcrane_stun::replay;
 use seatcrane_stun::types::TransportType;
+use seatcrane_stun::types::attribute::{Nonce, Realm, Username};
 use seatcrane_stun::types::message::*;
 use seatcrane_stun::types::prelude::*;
+use std::time::Duration;
 
 #[test]
 fn whatever_is_kept_is_sent_and_shared_between_threads() {
@@ -266,4 +268,94 @@ fn a_source_of_random_numbers_makes_ids_and_nonces() {
             .is_err()
     );
     assert_eq!(other.nonce_for_client(from), server.nonce_for_client(from));
+}
+
+#[test]
+fn texts_are_types_apart_with_constructors() {
+    let (name, realm, nonce) = (
+        Username::new("alice").unwrap(),
+        Realm::new("example.org").unwrap(),
+        Nonce::try_from("a nonce").unwrap(),
+    );
+    assert_eq!(
+        format!("{name} {realm} {nonce}"),
+        "alice example.org a nonce"
+    );
+    assert_eq!((name.username(), name.as_ref()), ("alice", "alice"));
+    assert_eq!((name.clone(), realm.realm()), (name, "example.org"));
+    assert_ne!(nonce, Nonce::new("another").unwrap());
+    assert_eq!(format!("{realm:?}"), r#"Realm { text: "example.org" }"#);
+    let long = "x".repeat(764);
+    assert_eq!(
+        Username::new(&long[..514]),
+        Err(StunWriteError::TooLarge)
+    );
+    assert_eq!(Realm::new(&long), Err(StunWriteError::TooLarge));
+    assert_eq!(Nonce::try_from(&*long), Err(StunWriteError::TooLarge));
+    // A name that says which type it is, and not the type of a text that has such a number.
+    for (told, wanted) in [
+        (core::any::type_name::<Username>(), "Username"),
+        (core::any::type_name::<Realm>(), "Realm"),
+        (core::any::type_name::<Nonce>(), "Nonce"),
+    ] {
+        assert!(told.ends_with(wanted) || told.contains(&format!("{wanted}<")), "{told}");
+    }
+}
+
+#[test]
+fn times_are_taken_apart() {
+    let second = Duration::from_secs(1);
+    let (early, late) = (Instant::ZERO + second, Instant::ZERO + 3 * second);
+    assert_eq!(late - 2 * second, early);
+    assert_eq!(early - 2 * second, Instant::ZERO);
+    assert_eq!(Instant::MAX - Duration::MAX, Instant::ZERO);
+    let mut moved = late;
+    moved -= second;
+    moved += second;
+    assert_eq!(moved, late);
+    assert_eq!(late.saturating_duration_since(early), 2 * second);
+    assert_eq!(early.saturating_duration_since(late), Duration::ZERO);
+    assert_eq!(late.checked_duration_since(early), Some(2 * second));
+    assert_eq!(early.checked_duration_since(late), None);
+    assert_eq!(early.checked_add(2 * second), Some(late));
+    assert_eq!(Instant::MAX.checked_add(Duration::from_nanos(1)), None);
+    assert_eq!(Instant::ZERO.checked_add(Duration::MAX), None);
+    assert_eq!(late.checked_sub(2 * second), Some(early));
+    assert_eq!(early.checked_sub(2 * second), None);
+    assert_eq!(late.checked_sub(Duration::MAX), None);
+}
+
+#[cfg(feature = "std")]
+#[test]
+fn times_go_to_the_standard_clock_and_back() {
+    let start = std::time::Instant::now();
+    let span = Duration::from_millis(1500);
+    assert_eq!((Instant::ZERO + span).to_std(start), start + span);
+    assert_eq!(Instant::ZERO.to_std(start), start);
+    assert!(Instant::MAX.to_std(start) > start);
+    assert!(Instant::from_std(start).to_std(start) >= start);
+}
+
+/// A clock that is younger than the age forgets nobody.
+#[test]
+fn a_young_clock_forgets_nobody() {
+    let from = "192.0.2.1:1".parse().unwrap();
+    let request = Message::builder_request_with_id(
+        BINDING,
+        TransactionId::from([1; 12]),
+        MessageWriteVec::new(),
+    )
+    .finish();
+    let request = Message::from_bytes(&request).unwrap();
+    let mut server = LongTermServerAuth::new("realm".to_string());
+    let refused =
+        server.validate_incoming_message_with_words(&request, from, Instant::ZERO, [7; 16]);
+    assert!(refused.is_err());
+    let lifetime = Duration::from_secs(3600);
+    server.forget_expired(Instant::ZERO + Duration::from_secs(5) - lifetime);
+    assert_eq!(server.address_count(), 1);
+    server.forget_expired(Instant::ZERO + 2 * lifetime - lifetime);
+    assert_eq!(server.address_count(), 1);
+    server.forget_expired(Instant::ZERO + 2 * lifetime + Duration::from_nanos(1) - lifetime);
+    assert_eq!(server.address_count(), 0);
 }

@@ -1,7 +1,9 @@
 //! Whole conversations of a client and a server with long-term credentials.
 use IntegrityAlgorithm::{Sha1, Sha256};
 use seatcrane_stun::Instant;
+use seatcrane_stun::agent::StunAgent;
 use seatcrane_stun::auth::*;
+use seatcrane_stun::types::TransportType;
 use seatcrane_stun::types::message::*;
 use seatcrane_stun::types::prelude::*;
 use std::time::Duration;
@@ -369,5 +371,55 @@ fn a_realm_that_no_message_has_room_for_is_refused() {
             Err(refusal),
             "{length}"
         );
+    }
+}
+
+/// An Allocate without REQUESTED-TRANSPORT is malformed (RFC 8656, section 7.2). Its 400 is signed,
+/// because only the 400 that answers a failed authentication is not (RFC 8489, section 9.2.4).
+#[test]
+fn a_malformed_request_of_a_known_user_is_answered_by_a_signed_400() {
+    let there = "192.0.2.1:3478".parse().unwrap();
+    for (mut both, algorithm) in [
+        (Conversation::new("pass"), Sha1),
+        (Conversation::with_both("pass"), Sha256),
+    ] {
+        both.is_challenged(Instant::ZERO);
+        let mut agent = StunAgent::builder(TransportType::Udp, both.from).build();
+        let allocate = Method::new(3).unwrap();
+        let id = TransactionId::from([9; 12]);
+        let request = Message::builder_request_with_id(allocate, id, MessageWriteVec::new());
+        let request = both.client.sign_outgoing_message(request).unwrap().finish();
+        agent
+            .send_request(request.clone(), there, Instant::ZERO)
+            .unwrap();
+        let request = Message::from_bytes(&request).unwrap();
+        let verdict = both.server.validate_incoming_message_with_words(
+            &request,
+            both.from,
+            Instant::ZERO,
+            WORDS,
+        );
+        assert!(verdict.is_ok());
+        let refusal = || {
+            let mut refusal = Message::builder_error(&request, MessageWriteVec::new());
+            refusal.add_error_code(400, "Bad Request").unwrap();
+            refusal
+        };
+        // The client drops an unsigned one, so that it would ask until its timeout.
+        assert_eq!(
+            both.read(&refusal().finish()),
+            Err(LongTermClientAuthErrorReason::IntegrityFailed)
+        );
+        let signed = both.server.sign_outgoing_message(refusal(), both.from);
+        let signed = signed.unwrap().finish();
+        assert_eq!(
+            both.read(&signed),
+            Ok(LongTermClientValidation::Validated(algorithm))
+        );
+        let signed = Message::from_bytes(&signed).unwrap();
+        assert_eq!(signed.error_code(), Ok(400));
+        assert!(agent.request_transaction(id).is_some());
+        assert!(agent.handle_stun_message_with_time(&signed, there, Instant::ZERO));
+        assert!(agent.request_transaction(id).is_none());
     }
 }

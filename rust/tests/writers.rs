@@ -1,6 +1,7 @@
 //! Writers: a message that is written again, into a slice, and into a writer of a program's own.
 use IntegrityAlgorithm::{Sha1, Sha256};
 use seatcrane_stun::auth::*;
+use seatcrane_stun::extra::attribute::XorPeerAddress;
 use seatcrane_stun::types::attribute::*;
 use seatcrane_stun::types::data::OwnedBytes;
 use seatcrane_stun::types::message::*;
@@ -184,4 +185,140 @@ fn a_message_takes_an_attribute_of_each_type_once_until_it_is_signed() {
     let mut copy = request(1);
     assert_eq!(copy.add_attribute(&digest), Err(StunWriteError::NotAllowed));
     assert_eq!(copy, request(1));
+}
+
+#[test]
+fn an_attribute_of_a_type_may_be_added_again() {
+    let peers = ["192.0.2.7:0", "[2001:db8::8]:0", "192.0.2.7:0"];
+    let peers = peers.map(|peer| XorPeerAddress::new(peer.parse().unwrap(), id(1)));
+    let mut msg = request(1);
+    for peer in &peers {
+        msg.add_another_attribute(peer).unwrap();
+    }
+    // The first of a type is written as by the other call.
+    let mut alone = request(1);
+    alone.add_attribute(&peers[0]).unwrap();
+    assert_eq!(msg[20..32], alone[20..]);
+    assert_eq!(
+        msg.add_attribute(&peers[0]),
+        Err(StunWriteError::AttributeExists(XorPeerAddress::TYPE))
+    );
+
+    // It refuses what the other call refuses for another reason, and in the same order.
+    let before = msg.clone();
+    let digest = RawAttribute::new(AttributeType::MESSAGE_INTEGRITY, &[0; 20]);
+    assert_eq!(
+        msg.add_another_attribute(&digest),
+        Err(StunWriteError::NotAllowed)
+    );
+    let large = vec![0; 65532];
+    let large = RawAttribute::new(AttributeType::SOFTWARE, &large);
+    assert_eq!(
+        msg.add_another_attribute(&large),
+        Err(StunWriteError::TooLarge)
+    );
+    assert_eq!(msg, before);
+    msg.add_message_integrity_with_key(b"key", Sha1).unwrap();
+    let signed = msg.clone();
+    for (attribute, error) in [
+        (&digest, StunWriteError::NotAllowed),
+        (&large, StunWriteError::MessageIntegrityExists),
+    ] {
+        assert_eq!(msg.add_another_attribute(attribute), Err(error));
+    }
+    assert_eq!(msg, signed);
+
+    // All are read again, in order.
+    let msg = Message::from_bytes(&msg).unwrap();
+    assert!(msg.validate_integrity_with_key(b"key").is_ok());
+    let read = msg
+        .iter_attributes()
+        .filter(|(_, attribute)| attribute.get_type() == XorPeerAddress::TYPE)
+        .map(|(_, attribute)| XorPeerAddress::from_raw(attribute).unwrap().addr(id(1)));
+    assert!(read.eq(peers.iter().map(|peer| peer.addr(id(1)))));
+
+    let mut room = [0; 20 + 12 + 11];
+    let mut msg =
+        Message::builder_request_with_id(BINDING, id(1), MessageWriteMutSlice::new(&mut room));
+    msg.add_another_attribute(&peers[0]).unwrap();
+    assert_eq!(
+        msg.add_another_attribute(&peers[0]),
+        Err(StunWriteError::TooSmall)
+    );
+    assert_eq!(msg[..], alone[..]);
+}
+
+/// An attribute of a program's own, which appends these bytes whatever it says.
+struct Own {
+    length: usize,
+    padded: usize,
+    appended: &'static [u8],
+}
+
+impl Attribute for Own {
+    fn get_type(&self) -> AttributeType {
+        AttributeType::new(0x8123)
+    }
+
+    fn length(&self) -> usize {
+        self.length
+    }
+
+    fn padded_len(&self) -> usize {
+        self.padded
+    }
+
+    fn write_into<W: MessageWrite>(&self, writer: &mut W) {
+        writer.append(self.appended);
+    }
+}
+
+#[test]
+fn an_attribute_of_a_programs_own_never_shifts_what_follows() {
+    let add = |length, padded, appended| {
+        let own = Own {
+            length,
+            padded,
+            appended,
+        };
+        let added = |another: bool| {
+            std::panic::catch_unwind(|| {
+                let mut msg = request(1);
+                match another {
+                    false => msg.add_attribute(&own).unwrap(),
+                    true => msg.add_another_attribute(&own).unwrap(),
+                }
+                msg.finish()[20..] == *appended
+            })
+            .ok()
+        };
+        assert_eq!(added(false), added(true));
+        added(false)
+    };
+    assert_eq!(add(4, 8, b"\x81\x23\0\x04abcd"), Some(true));
+    assert_eq!(add(3, 8, b"\x81\x23\0\x03abc\0"), Some(true));
+    // Its header is forgotten, or its padding.
+    assert_eq!(add(4, 8, b"abcd"), None);
+    assert_eq!(add(3, 8, b"\x81\x23\0\x03abc"), None);
+    assert_eq!(add(3, 7, b"\x81\x23\0\x03abc"), None);
+    // It appends more, less or nothing, also where it says how many bytes those are.
+    assert_eq!(add(4, 8, b"\x81\x23\0\x04abcdefgh"), None);
+    assert_eq!(add(4, 12, b"\x81\x23\0\x04abcdefgh"), None);
+    assert_eq!(add(8, 12, b"\x81\x23\0\x04abcd"), None);
+    assert_eq!(add(0, 4, b""), None);
+    // It appends another length field, or an attribute of another type.
+    assert_eq!(add(4, 8, b"\x81\x23\0\x05abcd"), None);
+    assert_eq!(add(4, 8, b"\x80\x22\0\x04abcd"), None);
+}
+
+#[test]
+fn the_proved_writer_takes_bytes_that_were_not_reserved() {
+    use seatcrane_stun::replay::proved::{Global, types::message as proved, types::prelude};
+    let mut writer = proved::MessageWriteVec::new(Global);
+    prelude::MessageWrite::reserve(&mut writer, 2).unwrap();
+    prelude::MessageWrite::append(&mut writer, b"three");
+    assert_eq!(prelude::MessageWrite::data(&writer), b"three");
+    prelude::MessageWrite::reserve(&mut writer, 8).unwrap();
+    prelude::MessageWrite::append(&mut writer, b"eight on");
+    assert_eq!(prelude::MessageWrite::data(&writer), b"threeeight on");
 }

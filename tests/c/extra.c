@@ -259,16 +259,47 @@ static void frames(void) {
     out[2] = 0xff, out[3] = 0xfc;
     CHECK(stunp_next_frame(out, 20), STUNP_LONGEST_MESSAGE);
     out[3] = 0xfd;
-    CHECK(stunp_next_frame(out, 20), STUNP_NOT_STUN);
-    CHECK(stunp_next_frame(out, 19), 20);
-    CHECK(stunp_next_turn_frame(out, 19), 20);
-    CHECK(stunp_next_turn_frame(out, 20), STUNP_NOT_STUN);
+    for (size_t there = 4; there <= 20; there++) {
+        CHECK(stunp_next_frame(out, there), STUNP_NOT_STUN);
+        CHECK(stunp_next_turn_frame(out, there), STUNP_NOT_STUN);
+    }
+    CHECK(stunp_next_frame(out, 3), 20);
+    CHECK(stunp_next_turn_frame(out, 3), 20);
+    CHECK(stunp_next_turn_frame(out, 0), 4);
+    out[0] = 0x7f;
     CHECK(stunp_next_turn_frame(out, 3), 4);
-    out[0] = 0x4f;
     CHECK(stunp_next_turn_frame(out, 4), 4 + 65536);
     CHECK(stunp_next_frame(out, 70000), STUNP_NOT_STUN);
     CHECK(stunp_next_packet_frame(out, 1), 2);
     CHECK(stunp_next_packet_frame(BYTES("\xff\xff")), 2 + 65535);
+}
+
+/* A stream that is not STUN is refused at the byte that decides it (RFC 8489, section 5), here the
+ * `decides`th, and not before. */
+static void refuses_at(const char *stream, size_t length, size_t decides) {
+    for (size_t there = 0; there <= length; there++) {
+        CHECK(stunp_next_frame((const uint8_t *)stream, there),
+              there < decides ? 20 : STUNP_NOT_STUN);
+        if ((uint8_t)stream[0] >> 6 != 1 && there > 0)
+            CHECK(stunp_next_turn_frame((const uint8_t *)stream, there),
+                  there < decides ? 20 : STUNP_NOT_STUN);
+    }
+}
+
+static void refuses_streams(void) {
+    static const char http[] = "GET / HTTP/1.0\r\n\r\n", tls[] = "\x16\x03\x01\x02\x00\x01",
+        dns[] = "\0\x1d\xab\xcd\x01\0", cookie[] = "\0\1\0\0\x21\x12\xa4\x43";
+    refuses_at("\x40", 1, 1);
+    refuses_at("\x80", 1, 1);
+    refuses_at("\xff\xff\xff", 3, 1);
+    refuses_at(http, sizeof http - 1, 1);
+    refuses_at(dns, sizeof dns - 1, 4);
+    refuses_at(tls, sizeof tls - 1, 4);
+    refuses_at("\0\1\0\0\x20", 5, 5);
+    refuses_at("\0\1\0\0\x21\x13", 6, 6);
+    refuses_at("\0\1\0\0\x21\x12\xa5", 7, 7);
+    refuses_at(cookie, sizeof cookie - 1, 8);
+    CHECK(stunp_next_turn_frame((const uint8_t *)http, 18), 4 + 0x5420);
 }
 
 static void tells_packets(void) {
@@ -295,6 +326,7 @@ int main(void) {
     answers_420();
     cuts_streams();
     frames();
+    refuses_streams();
     tells_packets();
     puts("extra: passed");
     return 0;

@@ -22,8 +22,8 @@ static void empty_servers(void) {
     want("address_count", stunp_server_address_count(&server), STUNP_EMPTY_HANDLE);
     want("remove_client", stunp_server_remove_client(&server, &nowhere), STUNP_EMPTY_HANDLE);
     want("forget", stunp_server_forget(&server, &nowhere), STUNP_EMPTY_HANDLE);
-    want("forget_expired", stunp_server_forget_expired(&server, 9), STUNP_EMPTY_HANDLE);
-    want("forget some", stunp_server_forget_expired_within(&server, 9, &from, 9),
+    want("forget_expired", stunp_server_forget_expired(&server, 9, 0), STUNP_EMPTY_HANDLE);
+    want("forget some", stunp_server_forget_expired_within(&server, 9, 0, &from, 9),
          STUNP_EMPTY_HANDLE);
     want("client", stunp_server_client(&server, &nowhere, &byte, 1, &length), STUNP_EMPTY_HANDLE);
     want("nonce", stunp_server_nonce(&server, &nowhere, &byte, 1), STUNP_EMPTY_HANDLE);
@@ -332,28 +332,61 @@ static void forget_in_steps(void) {
     struct pair pair = pair_of(STUNP_SHA1);
     struct message request = message_of(STUNP_REQUEST, 9);
     stunp_address at = address_of(9), from = nowhere;
-    want("nowhere", stunp_server_forget_expired_within(&pair.server, 0, &from, 2),
+    want("nowhere", stunp_server_forget_expired_within(&pair.server, 0, 0, &from, 2),
          STUNP_BAD_ARGUMENT);
     want_same("it is left", &from, &nowhere, sizeof from);
     for (uint32_t i = 0; i < ADDRESSES; i++) {
         at = address_of(1 + i);
-        stunp_server_validate(&pair.server, request.bytes, request.length, &at, 0, some_words);
+        want("a nonce", stunp_server_validate(&pair.server, request.bytes, request.length, &at, 0,
+                                              some_words), STUNP_UNAUTHORIZED);
     }
     from = none;
     stunp_heap_bound(0);
     for (uint32_t i = 1; i < ADDRESSES; i += 2) {
-        want("goes on", stunp_server_forget_expired_within(&pair.server, 3601 * SECOND, &from, 2),
-             1);
+        want("goes on",
+             stunp_server_forget_expired_within(&pair.server, 3601 * SECOND, 0, &from, 2), 1);
         at = address_of(2 + i);
         want_same("where", &from, &at, sizeof from);
     }
-    want("the end", stunp_server_forget_expired_within(&pair.server, 3601 * SECOND, &from, 2), 0);
+    want("the end",
+         stunp_server_forget_expired_within(&pair.server, 3601 * SECOND, 0, &from, 2), 0);
     want_same("no address", &from, &none, sizeof from);
     want("nothing is left",
-         stunp_server_forget_expired_within(&pair.server, 3601 * SECOND, &from, 0), 0);
+         stunp_server_forget_expired_within(&pair.server, 3601 * SECOND, 0, &from, 0), 0);
     stunp_heap_bound(SIZE_MAX);
     free_pair(&pair);
     want_no_blocks("forget_in_steps");
+}
+
+/* An age is taken off the time, and a clock that is younger than the age forgets nobody. */
+static void forget_by_age(void) {
+    struct pair pair = pair_of(STUNP_SHA1);
+    struct message request = message_of(STUNP_REQUEST, 9);
+    stunp_address at = address_of(9), from = none;
+    want("a nonce", stunp_server_validate(&pair.server, request.bytes, request.length, &at, 0,
+                                          some_words), STUNP_UNAUTHORIZED);
+    static const struct { uint64_t now, age; } young[] = {
+        {5 * SECOND, 6 * SECOND}, {0, 1}, {0, UINT64_MAX}, {UINT64_MAX - 1, UINT64_MAX},
+        {UINT64_MAX, UINT64_MAX}, {7200 * SECOND, 3600 * SECOND},
+    };
+    for (size_t i = 0; i < sizeof young / sizeof *young; i++) {
+        uint64_t now = young[i].now, age = young[i].age;
+        want("too young", stunp_server_forget_expired(&pair.server, now, age), 0);
+        want("kept", stunp_server_address_count(&pair.server), 1);
+        want("too young in steps",
+             stunp_server_forget_expired_within(&pair.server, now, age, &from, 2), 0);
+        want("kept in steps", stunp_server_address_count(&pair.server), 1);
+    }
+    want("old enough",
+         stunp_server_forget_expired(&pair.server, 7200 * SECOND + 1, 3600 * SECOND), 0);
+    want("forgotten", stunp_server_address_count(&pair.server), 0);
+    want("a nonce", stunp_server_validate(&pair.server, request.bytes, request.length, &at, 0,
+                                          some_words), STUNP_UNAUTHORIZED);
+    want("old enough in steps",
+         stunp_server_forget_expired_within(&pair.server, UINT64_MAX, 1, &from, 2), 0);
+    want("forgotten in steps", stunp_server_address_count(&pair.server), 0);
+    free_pair(&pair);
+    want_no_blocks("forget_by_age");
 }
 
 /* No signing adds more than with the longest realm, name and nonce, and both algorithms. */
@@ -466,6 +499,7 @@ int main(void) {
     sign_without_memory();
     forget();
     forget_in_steps();
+    forget_by_age();
     most_room();
     clients();
     late_settings();

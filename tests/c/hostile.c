@@ -222,18 +222,28 @@ static void read_address(const uint8_t *message, size_t length, size_t place, bo
             fail("another address under the id", number);
 }
 
+/* A message may begin so: its first two bits, the last two of its length and its cookie are fixed. */
+static bool may_begin(const uint8_t *message, size_t length) {
+    static const uint8_t cookie[4] = {0x21, 0x12, 0xa4, 0x42};
+    for (size_t i = 4; i < 8 && i < length; i++)
+        if (message[i] != cookie[i - 4]) return false;
+    return (length < 1 || message[0] < 64) && (length < 4 || message[3] % 4 == 0);
+}
+
 /* What a stream would have of the bytes hangs on the first 20 of them. */
 static void frame(const uint8_t *message, size_t length, long number) {
     stunp_header header = {0, 0, 0, {0}};
     int64_t answer = stunp_read_header(message, length, &header),
         frame = stunp_next_frame(message, length);
-    if (frame != (length < 20 ? 20 : answer < 0 ? STUNP_NOT_STUN : (int64_t)header.length))
+    if (frame != (!may_begin(message, length) ? STUNP_NOT_STUN
+                  : length < 20               ? 20
+                                              : (int64_t)header.length))
         fail("another frame", number);
     if (stunp_is_stun(message, length) != (answer == 0 && message[0] <= 3))
         fail("another packet", number);
     int64_t wanted = length < 2 ? 2 : 2 + (message[0] << 8 | message[1]);
     if (stunp_next_packet_frame(message, length) != wanted) fail("another packet's frame", number);
-    wanted = length < 4 ? 4 : message[0] >> 4 != 4 ? frame
+    wanted = length < 1 ? 4 : message[0] >> 6 != 1 ? frame : length < 4 ? 4
         : 4 + ((message[2] << 8 | message[3]) + 3) / 4 * 4;
     if (stunp_next_turn_frame(message, length) != wanted) fail("another frame of TURN", number);
 }

@@ -19,9 +19,9 @@ static void addresses(void) {
         most[round] = stunp_heap_bytes();
         want("each address is kept", stunp_heap_blocks() >= before, true);
         want("each is counted", stunp_server_address_count(&pair.server), MANY);
-        want("forget none", stunp_server_forget_expired(&pair.server, now + 3600 * SECOND), 0);
+        want("forget none", stunp_server_forget_expired(&pair.server, now + 3600 * SECOND, 0), 0);
         want("none is forgotten", (int64_t)stunp_heap_bytes(), (int64_t)most[round]);
-        want("forget all", stunp_server_forget_expired(&pair.server, now + 3601 * SECOND), 0);
+        want("forget all", stunp_server_forget_expired(&pair.server, now + 3601 * SECOND, 0), 0);
         want("none is counted", stunp_server_address_count(&pair.server), 0);
         bytes[round] = stunp_heap_bytes();
         blocks[round] = stunp_heap_blocks();
@@ -44,12 +44,12 @@ static void validated(void) {
     challenge(&pair, &from, 0);
     validate(&pair, &from, 0, STUNP_SHA256);
     size_t blocks = stunp_heap_blocks();
-    want("forget", stunp_server_forget_expired(&pair.server, UINT64_MAX), 0);
+    want("forget", stunp_server_forget_expired(&pair.server, UINT64_MAX, 0), 0);
     want("kept", stunp_server_client(&pair.server, &from, name, sizeof name, &length),
          STUNP_SHA256);
     want("its blocks", (int64_t)stunp_heap_blocks(), (int64_t)blocks);
     want("remove", stunp_server_remove_client(&pair.server, &from), 0);
-    want("forget", stunp_server_forget_expired(&pair.server, UINT64_MAX), 0);
+    want("forget", stunp_server_forget_expired(&pair.server, UINT64_MAX, 0), 0);
     want("forgotten", stunp_heap_blocks() < blocks, true);
     free_pair(&pair);
     want_no_blocks("validated");

@@ -279,15 +279,16 @@ CALL(server_add_user, block *name = bytes(); block *password = bytes(),
 CALL(server_remove_user, block *name = bytes(), stunp_server_remove_user(&server, ALL(name)))
 CALL(server_remove_client, (void)0, stunp_server_remove_client(&server, address()))
 CALL(server_forget, (void)0, stunp_server_forget(&server, address()))
-CALL(server_forget_expired, (void)0, stunp_server_forget_expired(&server, number()))
+CALL(server_forget_expired, uint64_t now = number(),
+     stunp_server_forget_expired(&server, now, number()))
 CALL(server_sign, block *message = buffer(),
      wrote(message, stunp_server_sign(&server, USED(message), address())))
 
 static int64_t server_forget_expired_within(void) {
-    uint64_t now = number();
+    uint64_t now = number(), age = number();
     block *from = block_of_value(address(), sizeof(stunp_address));
-    int64_t answer = stunp_server_forget_expired_within(&server, now, VALUE(stunp_address, from),
-                                                        (size_t)number());
+    int64_t answer = stunp_server_forget_expired_within(
+        &server, now, age, VALUE(stunp_address, from), (size_t)number());
     wrote_all(from, answer >= 0);
     return answer;
 }

@@ -11,6 +11,7 @@ static uint64_t moment(void);
 static void fill_randomly(uint8_t *out, size_t length);
 static void send_to(const stunp_address *to, const uint8_t *bytes, size_t length);
 static size_t receive(stunp_address *from, uint8_t *bytes, size_t room, uint64_t until);
+static uint32_t check(const uint8_t *bytes, size_t received);
 
 #include "answer.h"
 #include "ask.h"
@@ -120,7 +121,17 @@ static void send_to(const stunp_address *to, const uint8_t *bytes, size_t length
                                           waiting[after_waiting].bytes, sizeof waiting[0].bytes);
     after_waiting++;
     if (peer == FORGETFUL && transmissions == 2)
-        want("forgetting", stunp_server_forget_expired(&server, UINT64_MAX), 0);
+        want("forgetting", stunp_server_forget_expired(&server, UINT64_MAX, 0), 0);
+}
+
+/* A Binding request succeeds, and so does an Allocate that has REQUESTED-TRANSPORT; without it, it
+ * is malformed (RFC 8656, section 7.2). */
+static uint32_t check(const uint8_t *bytes, size_t received) {
+    size_t value_length;
+    if (stunp_method(bytes, received) == STUNP_BINDING) return 200;
+    if (stunp_method(bytes, received) != STUNP_ALLOCATE) return 0;
+    bool is_whole = stunp_find(bytes, received, STUNP_REQUESTED_TRANSPORT, &value_length) > 0;
+    return is_whole && value_length == 4 ? 200 : 400;
 }
 
 static size_t receive(stunp_address *from, uint8_t *bytes, size_t room, uint64_t until) {
@@ -154,6 +165,64 @@ static void asks(stunp_agent *agent, const char *password, enum peer with, int64
     if (wanted == 4) want("the octets", memcmp(octets, client_address.octets, 4), 0);
     if (wanted == 4) want("the port", port, client_address.port);
     stunp_client_free(&client);
+}
+
+/* The server's answer to a request of a method. The agent of the client has the request. */
+static size_t served(stunp_agent *agent, stunp_client *client, uint32_t method, bool is_whole,
+                     uint8_t *bytes, size_t room) {
+    uint8_t id[STUNP_ID_LENGTH], out[512];
+    fill_randomly(id, sizeof id);
+    stunp_writer request = stunp_write(STUNP_REQUEST, method, id, out, sizeof out);
+    if (is_whole) stunp_write_number(&request, STUNP_REQUESTED_TRANSPORT, 17u << 24, 4);
+    stunp_write_client_sign(&request, client);
+    want("a request is written", stunp_written(&request), 0);
+    want("it is kept",
+         stunp_agent_send_request(agent, out, request.length, &server_address, moment()), 0);
+    return serve(&server, out, request.length, &client_address, bytes, room);
+}
+
+/* What the client says of an answer, and whether its agent takes it. */
+static void hears(stunp_agent *agent, stunp_client *client, const uint8_t *bytes, size_t length,
+                  int64_t code, int64_t verdict) {
+    want("the code", stunp_error_code(bytes, length), code);
+    int64_t heard = stunp_client_validate(client, bytes, length);
+    want("the verdict", heard, verdict);
+    if (heard == STUNP_INTEGRITY_FAILED) return;
+    want("it is taken",
+         stunp_agent_handle(agent, bytes, length, &server_address, moment()), 1);
+}
+
+/* A request of a known user that is malformed is answered by a signed 400, which ends the request
+ * at its client. An unsigned one, as it answers a failed authentication, the client drops. */
+static void malformed(uint32_t algorithms, int64_t algorithm) {
+    static stunp_client client;
+    static stunp_agent agent;
+    uint8_t bytes[512], id[STUNP_ID_LENGTH];
+    stunp_address to;
+    want("forgetting", stunp_server_forget(&server, &client_address), 0);
+    want("an agent", stunp_agent_new(&agent, STUNP_UDP, &client_address), 0);
+    want("a client", stunp_client_new(&client), 0);
+    want("algorithms", stunp_client_set_algorithms(&client, algorithms), 0);
+    want("credentials", stunp_client_set_credentials(&client, TEXT("name"), TEXT("password")), 0);
+    size_t length = served(&agent, &client, STUNP_ALLOCATE, false, bytes, sizeof bytes);
+    hears(&agent, &client, bytes, length, 401, STUNP_RESEND);
+    length = served(&agent, &client, STUNP_ALLOCATE, false, bytes, sizeof bytes);
+    want("the id", stunp_id(bytes, length, id, sizeof id), STUNP_ID_LENGTH);
+    want("it waits", stunp_agent_is_outstanding(&agent, id, sizeof id, &to), 1);
+    hears(&agent, &client, bytes, length, 400, algorithm);
+    want("it has ended", stunp_agent_is_outstanding(&agent, id, sizeof id, &to), 0);
+    length = served(&agent, &client, STUNP_ALLOCATE, true, bytes, sizeof bytes);
+    hears(&agent, &client, bytes, length, STUNP_MISSING_ATTRIBUTE, algorithm);
+    /* The code of an answer that nobody signed. */
+    length = served(&agent, &client, STUNP_BINDING, false, bytes, sizeof bytes);
+    want("the id", stunp_id(bytes, length, id, sizeof id), STUNP_ID_LENGTH);
+    stunp_writer unsigned_one = stunp_write(STUNP_ERROR, STUNP_BINDING, id, bytes, sizeof bytes);
+    stunp_write_error(&unsigned_one, 400, "");
+    hears(&agent, &client, bytes, unsigned_one.length, 400, STUNP_INTEGRITY_FAILED);
+    want("it waits still", stunp_agent_is_outstanding(&agent, id, sizeof id, &to), 1);
+    want("another method", (int64_t)served(&agent, &client, 77, false, bytes, sizeof bytes), 0);
+    stunp_client_free(&client);
+    stunp_agent_free(&agent);
 }
 
 /* What a loop without stunp_agent_poll_transmit comes to: it does not wait, nothing is sent again,
@@ -201,6 +270,8 @@ int main(void) {
     asks(&agent, "password", HONEST, 4, 3);
     asks(&agent, "password", FORGETFUL, 4, 4);
     asks(&agent, "password", CHALLENGING, STUNP_UNAUTHORIZED, 5);
+    malformed(STUNP_SHA1, STUNP_SHA1);
+    malformed(STUNP_SHA1 | STUNP_SHA256, STUNP_SHA256);
     polls_alone();
     stunp_agent_free(&agent);
     stunp_server_free(&server);

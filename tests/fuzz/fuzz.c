@@ -41,11 +41,14 @@ static struct {
  * the setting says. */
 static enum handing handing_of(unsigned bits, uint8_t setting) {
     if (bits < 2) return bits == 0 ? NOT_HANDED : BY_PASSWORD;
-    stunp_long_term_key(STUNP_SHA1, TEXT("name"), TEXT("realm"), TEXT("word"), stored.sha1,
-                        sizeof stored.sha1);
-    stunp_long_term_key(STUNP_SHA256, TEXT("name"), TEXT("realm"), TEXT("word"), stored.sha256,
-                        sizeof stored.sha256);
-    stored.sha1_length = STUNP_SHA1_KEY_LENGTH, stored.sha256_length = STUNP_SHA256_KEY_LENGTH;
+    stored.sha1_length = (size_t)stunp_long_term_key(
+        STUNP_SHA1, TEXT("name"), TEXT("realm"), TEXT("word"), stored.sha1, sizeof stored.sha1);
+    stored.sha256_length =
+        (size_t)stunp_long_term_key(STUNP_SHA256, TEXT("name"), TEXT("realm"), TEXT("word"),
+                                    stored.sha256, sizeof stored.sha256);
+    require(stored.sha1_length == STUNP_SHA1_KEY_LENGTH
+                && stored.sha256_length == STUNP_SHA256_KEY_LENGTH,
+            "other lengths of keys");
     if (bits == 3) {
         stored.sha1_length -= setting % 2 == 0 ? 16 : setting % 18u - 1;
         stored.sha256_length -= setting % 4 < 2 ? 32 : setting % 34u - 1;
@@ -380,13 +383,14 @@ static void forget(uint8_t setting) {
     int64_t kept = stunp_server_address_count(&world.server);
     bool is_kept = stunp_server_nonce(&world.server, at, nonce, sizeof nonce) > 0;
     uint64_t moment = setting & 1 ? world.now : UINT64_MAX;
+    uint64_t age = setting & 8 ? (uint64_t)setting << 56 : 0;
     switch (setting / 2 % 4) {
     case 0: named(stunp_server_remove_client(&world.server, at)); break;
-    case 1: named(stunp_server_forget_expired(&world.server, moment)); break;
+    case 1: named(stunp_server_forget_expired(&world.server, moment, age)); break;
     case 2:
         for (int i = 0;
              i < 8
-             && named(stunp_server_forget_expired_within(&world.server, moment, &next, 1)) == 1;
+             && named(stunp_server_forget_expired_within(&world.server, moment, age, &next, 1)) == 1;
              i++)
             require(is_address(&next), "goes on nowhere");
         break;

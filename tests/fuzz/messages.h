@@ -75,6 +75,14 @@ static void find(struct bytes m, int64_t parsed) {
             "a type that is none");
 }
 
+/* The bytes that are there of the two top bits, the two last bits of the length and the cookie. */
+static bool may_begin(struct bytes m) {
+    static const uint8_t cookie[4] = {0x21, 0x12, 0xa4, 0x42};
+    for (size_t i = 4; i < 8 && i < m.length; i++)
+        if (m.at[i] != cookie[i - 4]) return false;
+    return (m.length < 1 || m.at[0] < 64) && (m.length < 4 || m.at[3] % 4 == 0);
+}
+
 static void read_header(struct bytes m, int64_t parsed) {
     stunp_header header;
     memset(&header, PATTERN, sizeof header);
@@ -83,9 +91,9 @@ static void read_header(struct bytes m, int64_t parsed) {
     uint8_t id[STUNP_ID_LENGTH] = {0};
     require(answer == 0 || parsed == answer, "a message without a header");
     require(frame
-                == (m.length < 20 ? 20
-                    : answer < 0  ? STUNP_NOT_STUN
-                                  : (int64_t)header.length),
+                == (answer == STUNP_NOT_STUN || !may_begin(m) ? STUNP_NOT_STUN
+                    : m.length < 20                           ? 20
+                                                              : (int64_t)header.length),
             "another frame");
     require(stunp_is_stun(m.at, m.length) == (answer == 0 && m.at[0] <= 3), "stunp_is_stun");
     require(stunp_next_packet_frame(m.at, m.length) >= 2

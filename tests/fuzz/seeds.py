@@ -1,6 +1,6 @@
 #!/usr/bin/env python3
 """Writes the inputs that fuzz.c begins with to a folder: the samples of RFC 5769 and the messages
-of examples/captures, each through each call that takes one, and sequences of calls with state.
+of tests/programs/captures, each through each call that takes one, and sequences of calls with state.
 
     seeds.py FOLDER
 """
@@ -24,7 +24,7 @@ def messages():
     samples = (TOP / "crates/transcripts/data/message.rfc5769.txt").read_text()
     for digits in re.findall(r"^sample = bytes ([0-9a-f ]+)$", samples, re.M):
         yield bytes.fromhex(digits)
-    for path in sorted((TOP / "examples/captures").glob("*.txt")):
+    for path in sorted((TOP / "tests/programs/captures").glob("*.txt")):
         for digits in re.findall(r"^from .*\n((?:[0-9a-f]+(?:\n|\Z))+)", path.read_text(), re.M):
             yield bytes.fromhex(digits)
 

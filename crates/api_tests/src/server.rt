@@ -1,6 +1,5 @@
-//! What only Rattle can ask of the authenticators: what they sign in calls whose conditions are
-//! proved at the call, each allocation refused in turn, and in a writer of a test's own; the texts
-//! of their reasons; and what `Debug` shows of a server.
+//! What a password, a client and a server sign in calls that check nothing, whose conditions are
+//! proved at the call, each allocation refused in turn.
 //!
 //! The digests are those of Python's module `hmac`.
 use fail_alloc::RefusingAllocator;
@@ -8,25 +7,18 @@ use std::alloc::{AllocError, Allocator, Global};
 use std::net::SocketAddr;
 use std::process::Abort;
 use std::test::Fail;
-use stun_auth::auth::{
-    Feature, LongTermClientAuth, LongTermClientAuthErrorReason, LongTermServerAuth,
-    LongTermServerAuthErrorReason, ShortTermAuth,
-};
+use stun_auth::auth::{Feature, LongTermClientAuth, LongTermServerAuth, ShortTermAuth};
 use stun_auth::laws::{signing_leaves_what_is_added, what_was_signed_may_be_signed};
 use stun_types::attribute::{AttributeType, PasswordAlgorithmValue};
-use stun_types::data::OwnedBytes;
 use stun_types::message::{
     BINDING, IntegrityAlgorithm, Message, MessageClass, MessageType, MessageWriteVec,
     ShortTermCredentials, StunWriteError, TransactionId,
 };
 use stun_types::prelude::*;
-use test_support::array_writer::ArrayWriter;
 use test_support::client::{RESEND, sha1_client, told};
 use test_support::parts::{PLAIN_NONCE, Part, begin, message};
-use test_support::secrets::{are_silent, shown};
 use test_support::server::{
     FULL_REQUEST, SHA256, ZEROS, address, asked, full_server, knocked, offering_server,
-    plain_server, signed_for,
 };
 use test_support::spelled::bytes_of;
 
@@ -268,86 +260,4 @@ fn a_server_signs_unchecked_or_not(rt: HostRuntime) -> Result<(), Fail> {
 #[test]
 fn a_server_offers_unchecked_or_not(rt: HostRuntime) -> Result<(), Fail> {
     expect_each(&rt, rt.alloc(), Side::OfferingServer, OFFER)
-}
-
-/// A writer of a test's own takes the signed message.
-#[test]
-fn another_writer_takes_the_signed_message(rt: HostRuntime) -> Result<(), Fail> {
-    let expected = bytes_of(rt.alloc(), SUCCESS)?;
-    let mut server = server_of_client(&rt, rt.alloc(), rt.alloc())?;
-    let writer = begin(MessageClass::Success, ArrayWriter::<192>::new())?;
-    let signed = signed_for(&mut server, writer)?.finish();
-    assert_eq!(rt; signed.bytes(), expected.as_slice());
-    Ok(())
-}
-
-#[test]
-fn a_server_names_its_reasons(rt: HostRuntime) -> Result<(), Fail> {
-    const TEXTS: &[(LongTermServerAuthErrorReason, &str)] = &[
-        (
-            LongTermServerAuthErrorReason::Unauthorized,
-            "The message is not sufficiently authenticated",
-        ),
-        (
-            LongTermServerAuthErrorReason::IntegrityFailed,
-            "The message failed integrity checks",
-        ),
-        (
-            LongTermServerAuthErrorReason::UnsupportedFeature,
-            "A required feature is not supported",
-        ),
-        (
-            LongTermServerAuthErrorReason::BadRequest,
-            "The request message is not well-formed",
-        ),
-        (
-            LongTermServerAuthErrorReason::StaleNonce,
-            "The request presented with an out of date nonce.",
-        ),
-        (LongTermServerAuthErrorReason::OutOfMemory, "Out of memory"),
-    ];
-    for (reason, text) in TEXTS {
-        assert_eq!(rt; format!(in rt.alloc(); "{reason}")?.as_str(), *text);
-    }
-    Ok(())
-}
-
-#[test]
-fn a_client_names_its_reasons(rt: HostRuntime) -> Result<(), Fail> {
-    const TEXTS: &[(LongTermClientAuthErrorReason, &str)] = &[
-        (
-            LongTermClientAuthErrorReason::Unauthorized,
-            "The message is not sufficiently authenticated",
-        ),
-        (
-            LongTermClientAuthErrorReason::IntegrityFailed,
-            "The message failed integrity checks",
-        ),
-        (
-            LongTermClientAuthErrorReason::UnsupportedFeature,
-            "A required feature is not supported",
-        ),
-        (LongTermClientAuthErrorReason::OutOfMemory, "Out of memory"),
-    ];
-    for (reason, text) in TEXTS {
-        assert_eq!(rt; format!(in rt.alloc(); "{reason}")?.as_str(), *text);
-    }
-    Ok(())
-}
-
-/// Whatever the formatter asks for, and where a write fails.
-#[test]
-fn debug_shows_nothing_of_a_server(rt: HostRuntime) -> Result<(), Fail> {
-    // The user, the realm, the nonce, the password, and a byte of the key.
-    const SECRETS: &[&str] = &["user", "realm", "AAAA", "pass", "147"];
-    let server = plain_server(rt.alloc(), rt.alloc())?;
-    let texts = shown(rt.alloc(), &server)?;
-    assert_eq!(rt; texts[0].as_str(), "LongTermServerAuth { .. }");
-    assert!(rt; are_silent(&texts, SECRETS));
-    Ok(())
-}
-
-#[test]
-fn names_are_hashed_where_a_client_wants_them(rt: HostRuntime) {
-    assert_eq!(rt; Feature::default(), Feature::Auto);
 }

@@ -1,5 +1,5 @@
-//! Short-term credentials that sign by the call that checks nothing, and in a writer of the test's
-//! own.
+//! Short-term credentials that sign by the call that checks nothing, whose condition is proved at
+//! the call.
 
 use std::alloc::{AllocError, Global};
 use std::process::Abort;
@@ -11,7 +11,6 @@ use stun_types::message::{
     IntegrityAlgorithm, MessageClass, MessageWriteVec, ShortTermCredentials,
 };
 use stun_types::prelude::*;
-use test_support::array_writer::ArrayWriter;
 use test_support::parts::begin;
 use test_support::spelled::bytes_of;
 
@@ -61,16 +60,5 @@ fn the_call_that_checks_nothing_signs(rt: HostRuntime) -> Result<(), Fail> {
     ] {
         expect_signed_unchecked(&rt, rt.alloc(), algorithm, digits)?;
     }
-    Ok(())
-}
-
-#[test]
-fn another_writer_takes_the_signed_message(rt: HostRuntime) -> Result<(), Fail> {
-    let mut auth = authenticator(rt.alloc(), IntegrityAlgorithm::Sha256)?;
-    let writer = begin(MessageClass::Request, ArrayWriter::<192>::new())?;
-    assert!(rt; writer.data().len() == 20);
-    let written = auth.sign_outgoing_message(writer)?.finish();
-    let expected = bytes_of(rt.alloc(), SIGNED_BY_SHA256)?;
-    assert_eq!(rt; written.bytes(), expected.as_slice());
     Ok(())
 }

@@ -1,12 +1,13 @@
-//! A capture, read one packet after another.
-ghost use Rattle.std.specs.Prelude.{◌≡◌, ◌≢◌, ◌≤◌, ◌+◌, IfOk, Ok, length};
+//! A capture, read one record after another. It holds no record: its caller reads each, so that a
+//! capture of any size takes the memory of its longest record.
+ghost use Rattle.std.specs.Prelude.{◌≡◌, ◌≤◌, IfOk, MatchResult, length};
 ghost use Rattle.captures.specs.Records.{BLOCK_LENGTH};
 
 use crate::blocks::{self, Captured, Interface};
 use crate::classic::{self, Header};
 use crate::clock::Moment;
 use crate::damage::{Damage, Failure, Fault};
-use crate::numbers::{Order, number_32};
+use crate::numbers::{Order, count_32, number_32};
 use std::alloc::Allocator;
 
 /// A packet of a capture.
@@ -26,13 +27,12 @@ pub struct Packet<'a> {
     pub bytes: &'a [u8],
 }
 
-/// The next record of a capture.
+/// A record of a capture.
 #[derive(Clone, Copy)]
 pub enum Step<'a> {
     Packet(Packet<'a>),
     /// A block without a packet.
     Other,
-    End,
 }
 
 /// How a file is laid out.
@@ -42,13 +42,17 @@ enum Format {
     Blocks(Order),
 }
 
+/// The bytes at the front of a file that tell whether it is a capture.
+pub const FRONT_LENGTH: usize = 12;
+
+/// The most bytes of a record that is read.
+pub const RECORD_LIMIT: usize = 4_194_304;
+
 /// A capture that is partly read.
 #[derive(Drop)]
-pub struct Capture<'a, A: Allocator> {
-    /// What is left of the file, from the next record on.
-    rest: &'a [u8],
-    /// How many bytes the file has.
-    length: usize,
+pub struct Capture<A: Allocator> {
+    /// The place of the next record in the file, counted from 0.
+    place: usize,
     /// How many packets were read.
     packets: usize,
     format: Format,
@@ -56,59 +60,83 @@ pub struct Capture<'a, A: Allocator> {
     interfaces: Vec<Interface, A>,
 }
 
-impl<'a, A: Allocator> Capture<'a, A> {
-    /// The capture that a file is, before its first packet. `None` if its first bytes are those of
-    /// no capture. Fails if the header of the file is cut.
-    pub fn open(alloc: A, bytes: &'a [u8]) -> Option<Result<Capture<'a, A>, Failure>> {
-        let (format, header) = if classic::magic_of(bytes).is_some() {
-            match classic::header_of(bytes) {
-                Some(header) => (Format::Classic(header), classic::HEADER_LENGTH),
-                None => return Some(Err(damaged(0, 0, Fault::HeaderCut))),
+/// How many bytes the header of a file has before its first record, by the front of the file. `None`
+/// if the file is no capture.
+pub fn header_length_of(front: &[u8]) -> Option<usize> {
+    if classic::magic_of(front).is_some() {
+        return Some(classic::HEADER_LENGTH);
+    }
+    (number_32(Order::Big, front, 0)? == blocks::SECTION).then_some(0)
+}
+
+impl<A: Allocator> Capture<A> {
+    /// The capture that has this header. Fails if the header is cut.
+    pub fn open(alloc: A, header: &[u8]) -> Result<Capture<A>, Failure> {
+        let format = match classic::header_of(header) {
+            Some(header) => Format::Classic(header),
+            None if classic::magic_of(header).is_some() => {
+                return Err(damaged(0, 0, Fault::HeaderCut));
             }
-        } else if number_32(Order::Big, bytes, 0)? == blocks::SECTION {
-            (Format::Blocks(Order::Big), 0)
-        } else {
-            return None;
+            None => Format::Blocks(Order::Big),
         };
-        Some(Ok(Capture {
-            rest: bytes.get(header..).unwrap_or(&[]),
-            length: bytes.len(),
+        let place = match format {
+            Format::Classic(_) => classic::HEADER_LENGTH,
+            Format::Blocks(_) => 0,
+        };
+        Ok(Capture {
+            place,
             packets: 0,
             format,
             interfaces: Vec::new(alloc),
-        }))
+        })
     }
 
-    /// Reads the next record. If there is one, at least twelve bytes fewer are left after it. Fails
-    /// if the record is damaged or an allocation fails. The next call then reads it again.
-    pub fn step(&mut self) -> Result<Step<'a>, Failure>
-        ensures end { length self.old.rest.now ≡ 0 → result ≡ Ok Step.End }
-        ensures moves { length self.old.rest.now ≢ 0 → IfOk result (λ step.
-            length self.new.rest.now + BLOCK_LENGTH ≤ length self.old.rest.now) }
-    {
-        if self.rest.is_empty() {
-            return Ok(Step::End);
-        }
+    /// How many bytes at the front of a record tell its length.
+    pub fn front_length(&self) -> usize {
         match self.format {
-            Format::Classic(header) => self.step_classic(header),
-            Format::Blocks(order) => self.step_blocks(order),
+            Format::Classic(_) => classic::RECORD_LENGTH,
+            Format::Blocks(_) => blocks::BLOCK_LENGTH,
         }
     }
 
-    /// The place of the next record in the file.
-    fn place(&self) -> usize {
-        self.length.saturating_sub(self.rest.len())
+    /// How many bytes the record has that begins so. Fails if they are more than 4194304. A front
+    /// that is cut, or that tells no length, is all of the record.
+    pub fn record_length(&self, front: &[u8]) -> Result<usize, Failure> {
+        let length = match self.format {
+            Format::Classic(header) => match count_32(header.order, front, 8) {
+                Some(count) => Some(count.saturating_add(classic::RECORD_LENGTH)),
+                None => None,
+            },
+            Format::Blocks(order) => match blocks::order_of(order, front) {
+                Ok(order) => count_32(order, front, 4),
+                Err(_) => None,
+            },
+        };
+        match length {
+            Some(length) if length > RECORD_LIMIT => Err(self.damage(Fault::RecordLength(length))),
+            Some(length) => Ok(length),
+            None => Ok(front.len()),
+        }
+    }
+
+    /// Reads a record. Fails if it is damaged or an allocation fails.
+    pub fn step<'a>(&mut self, record: &'a [u8]) -> Result<Step<'a>, Failure>
+        ensures whole { IfOk result (λ step. BLOCK_LENGTH ≤ length record.now) }
+    {
+        match self.format {
+            Format::Classic(header) => self.step_classic(header, record),
+            Format::Blocks(order) => self.step_blocks(order, record),
+        }
     }
 
     fn damage(&self, fault: Fault) -> Failure {
-        damaged(self.packets, self.place(), fault)
+        damaged(self.packets, self.place, fault)
     }
 
-    fn step_classic(&mut self, header: Header) -> Result<Step<'a>, Failure>
-        ensures moves { IfOk result (λ step.
-            length self.new.rest.now + BLOCK_LENGTH ≤ length self.old.rest.now) }
+    fn step_classic<'a>(&mut self, header: Header, bytes: &'a [u8]) -> Result<Step<'a>, Failure>
+        ensures { IfOk result (λ step. BLOCK_LENGTH ≤ length bytes.now) }
     {
-        let Some(record) = classic::record_of(header.order, self.rest) else {
+        let Some(record) = classic::record_of(header.order, bytes) else {
             return Err(self.damage(Fault::RecordCut));
         };
         let ticks = u64::from(record.ticks);
@@ -120,12 +148,17 @@ impl<'a, A: Allocator> Capture<'a, A> {
             None => None,
         };
         let step = self.packet(moment, header.link, record.whole, record.bytes);
-        self.rest = record.rest;
+        self.pass(bytes.len());
         Ok(step)
     }
 
+    /// Goes on to the place behind a record of this many bytes.
+    fn pass(&mut self, length: usize) {
+        self.place = self.place.saturating_add(length);
+    }
+
     /// The packet of the record at the place.
-    fn packet(
+    fn packet<'a>(
         &mut self,
         moment: Option<Moment>,
         link: u32,
@@ -135,7 +168,7 @@ impl<'a, A: Allocator> Capture<'a, A> {
         self.packets = self.packets.saturating_add(1);
         Step::Packet(Packet {
             number: self.packets,
-            place: self.place(),
+            place: self.place,
             moment,
             link,
             whole,
@@ -143,11 +176,9 @@ impl<'a, A: Allocator> Capture<'a, A> {
         })
     }
 
-    fn step_blocks(&mut self, order: Order) -> Result<Step<'a>, Failure>
-        ensures moves { IfOk result (λ step.
-            length self.new.rest.now + BLOCK_LENGTH ≤ length self.old.rest.now) }
+    fn step_blocks<'a>(&mut self, order: Order, bytes: &'a [u8]) -> Result<Step<'a>, Failure>
+        ensures { IfOk result (λ step. BLOCK_LENGTH ≤ length bytes.now) }
     {
-        let bytes = self.rest;
         let order = match blocks::order_of(order, bytes) {
             Ok(order) => order,
             Err(fault) => return Err(self.damage(fault)),
@@ -157,12 +188,17 @@ impl<'a, A: Allocator> Capture<'a, A> {
             Err(fault) => return Err(self.damage(fault)),
         };
         let step = self.take_block(order, block.kind, block.body)?;
-        self.rest = block.rest;
+        self.pass(bytes.len());
         Ok(step)
     }
 
     /// Takes what a block of this kind has.
-    fn take_block(&mut self, order: Order, kind: u32, body: &'a [u8]) -> Result<Step<'a>, Failure> {
+    fn take_block<'a>(
+        &mut self,
+        order: Order,
+        kind: u32,
+        body: &'a [u8],
+    ) -> Result<Step<'a>, Failure> {
         let captured = match kind {
             blocks::SECTION => {
                 self.format = Format::Blocks(order);
@@ -200,7 +236,7 @@ impl<'a, A: Allocator> Capture<'a, A> {
         }
     }
 
-    fn take_packet(&mut self, captured: Captured<'a>) -> Result<Step<'a>, Failure> {
+    fn take_packet<'a>(&mut self, captured: Captured<'a>) -> Result<Step<'a>, Failure> {
         let Some(interface) = self.interfaces.get(captured.interface) else {
             return Err(self.damage(Fault::Interface(captured.interface)));
         };

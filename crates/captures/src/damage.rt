@@ -10,6 +10,8 @@ pub enum Fault {
     HeaderCut,
     /// The record of a packet, or a block, ends early.
     RecordCut,
+    /// The record of a packet, or a block, has this many bytes, which are too many.
+    RecordLength(usize),
     /// A block's length is none that a block can have, or the one at its end is another.
     BlockLength(usize),
     /// A section's mark tells no order of bytes.
@@ -51,6 +53,12 @@ impl fmt::Display for Fault {
         match self {
             Fault::HeaderCut => f.write_str("the file ends within its header"),
             Fault::RecordCut => f.write_str("the file ends within a record"),
+            Fault::RecordLength(length) => {
+                write!(
+                    f,
+                    "a record of {length} bytes is longer than the 4194304 that are read"
+                )
+            }
             Fault::BlockLength(length) => {
                 write!(
                     f,

@@ -3,7 +3,7 @@
 use crate::numbers::{Order, number_16};
 use std::net::{IpAddr, Ipv4Addr, Ipv6Addr, SocketAddr};
 
-/// A UDP datagram.
+/// A UDP datagram, or a segment of TCP.
 #[derive(Clone, Copy)]
 pub struct Datagram<'a> {
     pub from: SocketAddr,
@@ -18,6 +18,7 @@ pub struct Datagram<'a> {
 #[derive(Clone, Copy)]
 pub enum Carried<'a> {
     Udp(Datagram<'a>),
+    Tcp(Datagram<'a>),
     /// A part of a packet.
     Fragment,
     /// Something else.
@@ -29,11 +30,17 @@ pub enum Carried<'a> {
 /// The number of UDP among the protocols of IP.
 const UDP: u8 = 17;
 
+/// The number of TCP among the protocols of IP.
+const TCP: u8 = 6;
+
 /// How many bytes a header of IPv6 has.
 const IPV6_LENGTH: usize = 40;
 
 /// How many bytes a header of UDP has.
 const UDP_LENGTH: usize = 8;
+
+/// How many bytes a header of TCP has, or more.
+const TCP_LENGTH: usize = 20;
 
 /// What a packet of IPv4 or IPv6 carries, by its version. `None` if the headers are not whole, here
 /// and below.
@@ -57,13 +64,18 @@ pub fn ipv4(bytes: &[u8]) -> Option<Carried<'_>> {
     let protocol = *bytes.get(9)?;
     let from = ipv4_at(bytes, 12)?;
     let to = ipv4_at(bytes, 16)?;
-    if protocol != UDP {
+    if protocol != UDP && protocol != TCP {
         return Some(Carried::Other);
     }
     if fragment & 0x3FFF != 0 {
         return Some(Carried::Fragment);
     }
-    udp(from, to, up_to(bytes, total).get(header..)?)
+    let body = up_to(bytes, total).get(header..)?;
+    if protocol == UDP {
+        udp(from, to, body)
+    } else {
+        tcp(from, to, body, total > bytes.len())
+    }
 }
 
 /// The address of IPv4 at a place.
@@ -93,8 +105,9 @@ pub fn ipv6(bytes: &[u8]) -> Option<Carried<'_>> {
     let next = *bytes.get(6)?;
     let from = address_at(bytes, 8)?;
     let to = address_at(bytes, 24)?;
-    let rest = up_to(bytes.get(IPV6_LENGTH..)?, length);
-    behind_extensions(from, to, next, rest)
+    let behind = bytes.get(IPV6_LENGTH..)?;
+    let is_cut = length > behind.len();
+    behind_extensions(from, to, next, up_to(behind, length), is_cut)
 }
 
 /// The address of IPv6 at a place.
@@ -109,17 +122,20 @@ fn address_at(bytes: &[u8], place: usize) -> Option<IpAddr> {
 }
 
 /// What follows the extension headers (RFC 8200, section 4), the first of which is of this kind.
+/// The packet was captured whole, or not.
 fn behind_extensions<'a>(
     from: IpAddr,
     to: IpAddr,
     next: u8,
     bytes: &'a [u8],
+    is_cut: bool,
 ) -> Option<Carried<'a>> {
     let mut kind = next;
     let mut rest = bytes;
     for _header in 0..bytes.len().saturating_add(1) {
         let length = match kind {
             UDP => return udp(from, to, rest),
+            TCP => return tcp(from, to, rest, is_cut),
             // Options from hop to hop, routing, options of the destination, mobility, HIP, Shim6.
             0 | 43 | 60 | 135 | 139 | 140 => (usize::from(*rest.get(1)?) + 1) * 8,
             // Authentication (RFC 4302, section 2.2).
@@ -154,5 +170,25 @@ fn udp(from: IpAddr, to: IpAddr, bytes: &[u8]) -> Option<Carried<'_>> {
         to,
         payload,
         is_cut: length > bytes.len(),
+    }))
+}
+
+/// The segment of TCP that these bytes are (RFC 9293, section 3.1). A header that is shorter than
+/// its fixed part is no segment's.
+fn tcp(from: IpAddr, to: IpAddr, bytes: &[u8], is_cut: bool) -> Option<Carried<'_>> {
+    if bytes.len() < TCP_LENGTH && !is_cut {
+        return Some(Carried::Other);
+    }
+    let from = SocketAddr::new(from, number_16(Order::Big, bytes, 0)?);
+    let to = SocketAddr::new(to, number_16(Order::Big, bytes, 2)?);
+    let header = usize::from(*bytes.get(12)? >> 4) * 4;
+    if header < TCP_LENGTH {
+        return Some(Carried::Other);
+    }
+    Some(Carried::Tcp(Datagram {
+        from,
+        to,
+        payload: bytes.get(header..)?,
+        is_cut,
     }))
 }

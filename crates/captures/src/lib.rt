@@ -1,10 +1,11 @@
 //! Captures of packets, from the files of `tcpdump`, `tshark` and Wireshark: packet by packet, with
-//! the UDP datagram that each carries.
+//! the UDP datagram or the segment of TCP that each carries.
 //!
 //! ```text
-//! Capture::open(alloc, bytes)              none: the bytes are no capture
-//! capture.step()                           a packet, a block without one, or the end
-//! carried(packet.link, packet.bytes)       the datagram, or what is there in its place
+//! Capture::open(alloc, front)              none: the file that begins so is no capture
+//! capture.record_length(front)             how many bytes the record has that begins so
+//! capture.step(record)                     a packet, or a block without one
+//! carried(packet.link, packet.bytes)       the datagram or segment, or what is there instead
 //! ```
 #![tactic(auto)]
 

@@ -12,10 +12,9 @@ use Rattle.std.proofs.lemmas.List.Elements.{filter-append}
 use Rattle.std.proofs.lemmas.List.Sums.{fold-append}
 use Rattle.stun_agent.specs.declared.state.deadlines.Deadline.{Deadline}
 use Rattle.stun_agent.specs.declared.state.deadline_tree.Link.{Link}
-use Rattle.stun_agent.specs.declared.state.deadline_tree.Node.{Node}
 use Rattle.stun_agent.specs.Transactions.{sooner}
 use Rattle.stun_agent.specs.code.Deadlines.{is_passed, lesser}
-use Rattle.stun_agent.specs.code.DeadlineTree.{items, middle, IsFirst, IsTree, IsBelow}
+use Rattle.stun_agent.specs.code.DeadlineTree.{items, IsFirst, IsTree}
 use Rattle.stun_agent.specs.code.DeadlineTree.{least_come, first_has_come, with_id}
 use Rattle.stun_agent.proofs.DeadlineTreeLemmas.{all_weaker, items_within}
 use Rattle.stun_agent.proofs.DeadlineTreeLemmas.{BeginsSoonest, begins_soonest}
@@ -223,13 +222,9 @@ module _ (now : ℕ) where
         with_one (least_come now None rs) (on_right ls rs (sym first) soonest)
 
 -- ---- the two sides of a node
-module _ {A : Type 0} (low high : ℕ) (node : Node A) (sides : IsBelow low high node) where
-  pub left_below : AllByRecursion (λ (d : Deadline). d.id < middle low high) (items node.left)
-  left_below =
-      all_weaker _ _ (λ d within. within.1) (items node.left)
-      (items_within low (middle low high) node.left sides.0)
+module _ {A : Type 0} (low high : ℕ) (l : Link A) (tree : IsTree low high l) where
+  pub left_below : AllByRecursion (λ (d : Deadline). d.id < high) (items l)
+  left_below = all_weaker _ _ (λ d within. within.1) (items l) (items_within low high l tree)
 
-  pub right_from : AllByRecursion (λ (d : Deadline). middle low high ≤ d.id) (items node.right)
-  right_from =
-      all_weaker _ _ (λ d within. within.0) (items node.right)
-      (items_within (middle low high) high node.right sides.1)
+  pub right_from : AllByRecursion (λ (d : Deadline). low ≤ d.id) (items l)
+  right_from = all_weaker _ _ (λ d within. within.0) (items l) (items_within low high l tree)

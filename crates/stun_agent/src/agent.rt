@@ -1,13 +1,14 @@
-//! The agent: requests, their retransmissions and their ends, and the addresses that messages came
-//! from.
+//! The transaction layer: sending requests, retransmitting them and giving up on them (RFC 8489,
+//! section 6.2). It also remembers the addresses that messages came from.
 //!
-//! A whole loop around an agent and a long-term authenticator, from a request to its response:
+//! This is a whole loop around an agent and a long-term authenticator, from a request to its
+//! response:
 //!
 //! ```text
 //! let mut agent = StunAgent::builder(alloc, TransportType::Udp, local_addr).build();
 //! let mut is_to_ask = true;
 //! loop {
-//!     // Ask under a new id, signed with what the authenticator knows so far.
+//!     // Send a request with a new transaction ID, signed with what the client knows so far.
 //!     if is_to_ask {
 //!         let id = TransactionId::generate(&mut rng);
 //!         let request = Message::builder_request(BINDING, id, MessageWriteVec::new(alloc))?;
@@ -15,24 +16,24 @@
 //!         socket.send(agent.send_request(request, server, clock.now())?);
 //!         is_to_ask = false;
 //!     }
-//!     // Send again what is due, one at a time.
+//!     // Send the retransmissions that are due, one at a time.
 //!     if let Some(again) = agent.poll_transmit(clock.now()) {
 //!         socket.send(again);
 //!         continue;
 //!     }
-//!     // Learn what has ended, or until when to wait.
+//!     // Find out whether the request has ended, or how long to wait.
 //!     let until = match agent.poll(clock.now()) {
-//!         StunAgentPollRet::WaitUntil(moment) => moment,
+//!         StunAgentPollRet::WaitUntil(time) => time,
 //!         StunAgentPollRet::TransactionTimedOut(id) => return Err(no_response(id)),
 //!         StunAgentPollRet::TransactionCancelled(id) => return Err(cancelled(id)),
 //!     };
 //!     let Some((bytes, from)) = socket.receive(until) else { continue };
-//!     // Drop what is no message, and what answers no outstanding request of this sender.
+//!     // Drop everything but a response to an outstanding request that was sent to this address.
 //!     let Ok(message) = Message::from_bytes(&bytes) else { continue };
 //!     let id = message.transaction_id();
 //!     let Some(asked) = agent.request_transaction(id) else { continue };
 //!     if !message.is_response() || asked.peer_address() != from { continue }
-//!     // Ask the authenticator, and drop what is forged.
+//!     // Authenticate the response first, and drop it if it is forged.
 //!     let verdict = match authenticator.validate_incoming_message(&message) {
 //!         Ok(verdict) => verdict,
 //!         Err(error) => match error.reason() {
@@ -40,30 +41,33 @@
 //!             _ => return Err(refused(error)),
 //!         },
 //!     };
-//!     // Only then hand it to the agent.
+//!     // Only then pass it to the agent.
 //!     agent.handle_stun_message_with_time(&message, from, clock.now())?;
 //!     match verdict {
-//!         // A challenge: another request answers it.
+//!         // The server challenges the client, which answers with another request.
 //!         LongTermClientValidation::ResendRequest(_) => is_to_ask = true,
-//!         // The server's response, a success or an error.
+//!         // This is the server's response, a success or an error.
 //!         LongTermClientValidation::Validated(_) => return Ok(message),
 //!     }
 //! }
 //! ```
 //!
-//! The caller owns the socket, the clock and the source of random numbers. After each call that can
-//! change the agent, call both polls again: `poll_transmit` until it returns `None`, then `poll`.
-//! The test `client_loop` of the crate `api_tests` runs this loop.
+//! You own the socket, the clock and the source of random numbers. After every call that can change
+//! the agent, call both polls again: `poll_transmit` until it returns `None`, and then `poll`.
+//! Their order matters, because only `poll_transmit` advances the retransmission timers. A loop
+//! that calls `poll` alone never retransmits and never times out. The test `client_loop` of the
+//! crate `api_tests` runs the loop above.
 ghost use Rattle.std.specs.Prelude.{◌≡◌};
 ghost use Rattle.std.specs.Borrow.{sem};
 ghost use Rattle.std.specs.Option.{option_copied, option_copied_mut};
 ghost use Rattle.stun_agent.specs.Agent.{Agent};
 
 pub use crate::calls::builder::StunAgentBuilder;
+#[doc(hidden)]
+pub use crate::calls::poll::reads::Reads;
 pub use crate::calls::request::{StunRequest, StunRequestMut};
 pub use crate::calls::transmit::Transmit;
 pub use crate::error::{NoRoom, StunError};
-pub use crate::state::deadlines::Reads;
 use crate::state::outstanding::Outstanding;
 pub use crate::state::rto::RequestRto;
 use crate::stats::StunAgentStats;
@@ -75,21 +79,30 @@ use stun_base::instant::Instant;
 use stun_base::transaction_id::TransactionId;
 use stun_base::transport::TransportType;
 
-/// What `StunAgent::poll` returns.
+/// The result of `StunAgent::poll`.
 #[derive(Clone, Copy, Debug, PartialEq, Eq)]
 pub enum StunAgentPollRet {
-    /// The request of this id has ended: no response came in time.
+    /// The request with this transaction ID has ended: no response arrived in time.
     TransactionTimedOut(TransactionId),
-    /// The request of this id has ended: its user cancelled it, or its retransmissions.
+    /// The request with this transaction ID has ended, after `StunRequestMut::cancel` or
+    /// `StunRequestMut::cancel_retransmissions`.
     TransactionCancelled(TransactionId),
-    /// Nothing has ended. Poll again at this time, or after any other call.
+    /// No request has ended. Poll again at this time, or earlier if you make another call first.
     WaitUntil(Instant),
 }
 
-/// A STUN agent: requests, their retransmissions and their ends.
+/// The outstanding requests of one local address, with their retransmission timers.
 ///
-/// It has no socket and no clock: the caller passes the time, sends the bytes it is given, and
-/// hands in what arrives.
+/// An agent can have any number of requests outstanding, to any number of servers or peers. It
+/// performs no I/O: you pass it the current time and the messages that arrive, and you send the
+/// bytes that it returns.
+///
+/// The agent also remembers the source address of every message that it accepted. It calls these
+/// addresses *validated peers*. The list grows until you call `forget_validated_peer`, so limit the
+/// number of strangers whose messages you pass to the agent.
+///
+/// An agent does not verify signatures. The authenticators decide whether a message may be
+/// believed.
 #[derive(Drop)]
 #[derive_where(Debug)]
 pub struct StunAgent<A: Allocator = Global> {
@@ -124,9 +137,11 @@ impl<A: Allocator + Copy> StunAgent<A> {
     ghost use Rattle.stun_agent.specs.Agent.{new_agent};
     ghost use Rattle.stun_agent.specs.AgentLends.{lends_statistics};
 
-    /// A builder of an agent. If nothing is set, the agent has no fixed peer, the timeouts of
-    /// `RequestRto::default()` and no statistics. Does not allocate: the agent allocates later,
-    /// from `alloc`.
+    /// Creates a builder for an agent that sends from `local_addr` over `transport`.
+    ///
+    /// By default the agent may send to any address, uses the timeouts of `RequestRto::default()`,
+    /// and keeps no statistics. This call does not allocate. The agent allocates from `alloc` when
+    /// it stores requests and addresses.
     pub fn builder(
         alloc: A,
         transport: TransportType,
@@ -144,36 +159,37 @@ impl<A: Allocator + Copy> StunAgent<A> {
         }
     }
 
-    /// The transport that carries the messages.
+    /// Returns the transport that carries the messages.
     pub fn transport(&self) -> TransportType
         ensures { result ≡ self.now.transport }
     {
         self.outstanding.transport()
     }
 
-    /// The address that the agent sends from.
+    /// Returns the address that the agent sends from.
     pub fn local_addr(&self) -> SocketAddr
         ensures { result ≡ self.now.local_addr }
     {
         self.local_addr
     }
 
-    /// The fixed peer, if one is set: the one address that the agent sends to. It does not restrict
-    /// whose messages are accepted.
+    /// Returns the only address that the agent may send to, if `StunAgentBuilder::remote_addr` set
+    /// one. Receiving is not restricted.
     pub fn remote_addr(&self) -> Option<SocketAddr>
         ensures { result ≡ self.now.remote_addr }
     {
         self.remote_addr
     }
 
-    /// The statistics, if they are kept.
+    /// Returns the statistics, if the agent keeps them.
     pub fn stats(&self) -> Option<&StunAgentStats>
         ensures { option_copied result ≡ self.now.statistics }
     {
         self.stats.as_ref()
     }
 
-    /// The statistics, if they are kept, to be changed.
+    /// Returns a mutable reference to the statistics, if the agent keeps them. Use it to reset
+    /// them.
     pub fn stats_mut(&mut self) -> Option<&mut StunAgentStats>
         ensures* lends { sem 𝓛 (lends_statistics A.row A.Allocator self.entry result) }
         ensures value { option_copied_mut result ≡ self.old.statistics }

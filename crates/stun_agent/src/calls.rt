@@ -1,4 +1,4 @@
-//! The calls of an agent: sending, receiving, polls, and the handles of requests.
+//! The calls of an agent: sending, receiving, polling, and the handles of requests.
 
 pub(crate) mod builder;
 pub(crate) mod poll;

@@ -1,4 +1,4 @@
-//! What derived impls and defaults of an agent do: comparisons, copies and first values.
+//! The derived impls of an agent: comparisons, copies and default values.
 ghost use Rattle.std.specs.Prelude.{◌≡◌, ◌↔◌, IsTrue, Ok};
 ghost use Rattle.stun_agent.specs.Statistics.{new_statistics};
 ghost use Rattle.stun_agent.specs.Timing.{settings_of, default_settings};
@@ -10,28 +10,28 @@ use crate::state::rto::RequestRto;
 use crate::stats::StunAgentStats;
 use std::alloc::{AllocError, Allocator};
 
-/// The default settings are those of RFC 8489, section 6.2.1.
+/// Returns the default settings, which are those of RFC 8489, section 6.2.1.
 pub fn default_retransmissions() -> RequestRto
     ensures { settings_of result ≡ default_settings }
 {
     RequestRto::default()
 }
 
-/// In the default statistics nothing is counted.
+/// Returns the default statistics, in which nothing is counted.
 pub fn default_statistics() -> StunAgentStats
     ensures { result ≡ new_statistics }
 {
     StunAgentStats::default()
 }
 
-/// Copies of statistics are the same values, and do not allocate.
+/// Copies statistics. The copy is the same value, and does not allocate.
 pub fn copied_statistics(statistics: &StunAgentStats) -> Result<StunAgentStats, AllocError>
     ensures { result ≡ Ok statistics.now }
 {
     statistics.clone()
 }
 
-/// Copies of settings, of what polls return and of errors are the same values.
+/// Copies settings, results of polls and errors. The copies are the same values.
 pub fn copied_parts(
     settings: &RequestRto,
     answer: &StunAgentPollRet,
@@ -48,7 +48,7 @@ pub fn copied_parts(
     ))
 }
 
-/// A copy of a `StunRequest` is of the same agent and request.
+/// Copies a `StunRequest`. The copy is of the same agent and request.
 pub fn copied_request<'a, A: Allocator>(
     request: &StunRequest<'a, A>,
 ) -> Result<StunRequest<'a, A>, AllocError>
@@ -57,35 +57,35 @@ pub fn copied_request<'a, A: Allocator>(
     request.clone()
 }
 
-/// Statistics are equal if and only if all counters and round trips are.
+/// Compares statistics, which are equal if and only if all counters and round trips are.
 pub fn are_same_statistics(one: &StunAgentStats, other: &StunAgentStats) -> bool
     ensures { IsTrue result ↔ (one.now ≡ other.now) }
 {
     one == other
 }
 
-/// Settings of retransmissions are equal if and only if all their fields are.
+/// Compares settings of retransmissions, which are equal if and only if all their fields are.
 pub fn are_same_settings(one: RequestRto, other: RequestRto) -> bool
     ensures { IsTrue result ↔ (one ≡ other) }
 {
     one == other
 }
 
-/// Equality of what polls return is equality of values.
+/// Compares results of polls, which are equal if and only if their values are.
 pub fn is_same_poll(one: StunAgentPollRet, other: StunAgentPollRet) -> bool
     ensures { IsTrue result ↔ (one ≡ other) }
 {
     one == other
 }
 
-/// Equality of an agent's errors is equality of values.
+/// Compares errors of an agent, which are equal if and only if their values are.
 pub fn is_same_error(one: StunError, other: StunError) -> bool
     ensures { IsTrue result ↔ (one ≡ other) }
 {
     one == other
 }
 
-/// All values of `NoRoom` are equal.
+/// Compares values of `NoRoom`, which are all equal.
 pub fn is_same_want_of_room(one: NoRoom, other: NoRoom) -> bool
     ensures { IsTrue result ↔ (one ≡ other) }
 {

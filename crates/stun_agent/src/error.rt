@@ -1,31 +1,31 @@
-//! Why an agent refuses a call.
+//! The errors of an agent.
 use std::alloc::AllocError;
 use stun_base::error::{StunParseError, StunWriteError};
 use thiserror::Error;
 
-/// Why an agent refuses a call. A refused call leaves the agent as it was.
+/// The reason why a call of an agent failed. The agent is then unchanged.
 #[derive(Clone, Copy, Debug, PartialEq, Eq, Error)]
 pub enum StunError {
-    /// A request of this transaction is outstanding.
+    /// A request with this transaction ID is already outstanding.
     #[error("The operation is already in progress")]
     AlreadyInProgress,
-    /// Kept from the Rust crate: no call of an agent returns it.
+    /// No call of an agent returns this. It exists because the Rust crate has it.
     #[error("A required resource could not be found")]
     ResourceNotFound,
-    /// Kept from the Rust crate: no call of an agent returns it.
+    /// No call of an agent returns this. It exists because the Rust crate has it.
     #[error("An operation timed out")]
     TimedOut,
-    /// The call does not send messages of this class, or the agent has a fixed peer and this is
-    /// another address.
+    /// The call does not send messages of this class, or the agent has a fixed remote address and
+    /// the message was to be sent to a different one.
     #[error("Unexpected data was received")]
     ProtocolViolation,
-    /// Kept from the Rust crate: no call of an agent returns it.
+    /// No call of an agent returns this. It exists because the Rust crate has it.
     #[error("Operation was aborted")]
     Aborted,
-    /// The bytes do not begin with a STUN header.
+    /// The bytes do not start with a STUN header.
     #[error(transparent)]
     ParseError(StunParseError),
-    /// Kept from the Rust crate: no call of an agent returns it.
+    /// No call of an agent returns this. It exists because the Rust crate has it.
     #[error(transparent)]
     WriteError(StunWriteError),
     /// An allocation failed.
@@ -33,7 +33,7 @@ pub enum StunError {
     OutOfMemory,
 }
 
-/// The bytes that are to be sent do not fit into the room that was given.
+/// The bytes to send do not fit into the room that the caller has.
 #[derive(Clone, Copy, Debug, PartialEq, Eq, Error)]
 #[error("No room for what is to be sent")]
 pub struct NoRoom;

@@ -1,4 +1,5 @@
-//! Laws of an agent over any calls. Calls may come in any order, and their time may go back.
+//! Laws of an agent over any calls. The calls may be made in any order, and their times may go
+//! back.
 ghost use Rattle.std.specs.Prelude.{◌≡◌, ◌&&◌, ◌||◌, ◌↔◌, true, not};
 ghost use Rattle.std.specs.declared.net.socket_addr.SocketAddr.{SocketAddr};
 ghost use Rattle.stun_base.specs.Address.{same_address};
@@ -22,14 +23,14 @@ pub fn a_request_is_transmitted_at_most_as_often_as_set()
     ensures { IsTransmittedAtMost }
 {}
 
-/// If `poll` says to wait, it says until when: not before now, and at most an hour from now. Until
-/// then nothing is to be sent again and nothing ends, as long as no other call is made.
+/// If `poll` returns `WaitUntil`, its time is not before now, and at most an hour from now. Before
+/// that time nothing is due to be sent again and nothing ends, as long as no other call is made.
 pub fn a_poll_tells_how_long_all_is_quiet()
     ensures { WaitsAsTold }
 {}
 
 /// Each request that `send_request` accepted is outstanding, or has ended once: by a response, a
-/// time-out, or a cancellation. This holds over any calls of an agent that began with no request
+/// timeout, or a cancellation. This holds over any calls of an agent that began with no request
 /// outstanding.
 pub fn a_request_ends_once()
     ensures { EndsOnce }
@@ -41,20 +42,20 @@ pub fn a_response_to_no_request_changes_nothing()
     ensures { IgnoresUnknown }
 {}
 
-/// A response from another address than its request went to is not accepted, and leaves requests,
-/// peers and statistics unchanged.
+/// A response from another address than its request was sent to is not accepted, and leaves
+/// requests, peers and statistics unchanged.
 pub fn a_response_from_elsewhere_changes_nothing()
     ensures { IgnoresElsewhere }
 {}
 
-/// Let two requests be sent at one time with the same settings, one over UDP and one over TCP. Then
-/// the plans of both end at one time (RFC 8489, section 6.2.2).
+/// If two requests are sent at the same time with the same settings, one over UDP and one over TCP,
+/// their plans end at the same time (RFC 8489, section 6.2.2).
 pub fn both_transports_end_at_one_moment()
     ensures { EndsAlike }
 {}
 
 /// While no counter is full, each call keeps this sum: the requests sent are those answered, timed
-/// out, cancelled or outstanding.
+/// out, canceled or outstanding.
 pub fn statistics_tell_how_many_requests_are_outstanding()
     ensures { KeepsCount }
 {}
@@ -68,8 +69,8 @@ pub fn statistics_count_the_calls()
     ensures nothing { CountsNothing }
 {}
 
-/// Validating an address adds it to the peers, and no other. Addresses are equal if and only if all
-/// their parts are.
+/// Validating an address adds this address alone to the peers. Addresses are equal if and only if
+/// all their parts are.
 pub fn validating_adds_one_peer()
     ensures added { (address other : SocketAddr) (peers : Peers)
         → is_peer other (with_peer address peers)
@@ -78,7 +79,7 @@ pub fn validating_adds_one_peer()
         → (same_address address other ≡ true) ↔ (address ≡ other) }
 {}
 
-/// Forgetting an address removes it from the peers, and no other.
+/// Forgetting an address removes this address alone from the peers.
 pub fn forgetting_removes_one_peer()
     ensures { (address other : SocketAddr) (peers : Peers)
         → is_peer other (without_peer address peers)

@@ -1,4 +1,5 @@
-//! A STUN agent without sockets and clocks: requests, their retransmissions and their ends.
+//! A STUN agent: it stores outstanding requests, retransmits them, and gives up on them. It
+//! performs no I/O: it owns no socket and reads no clock.
 #![tactic(auto)]
 
 pub mod agent;

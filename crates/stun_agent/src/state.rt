@@ -1,6 +1,8 @@
 //! What an agent keeps between calls: the outstanding requests and their deadlines.
 
 pub(crate) mod address;
+pub(crate) mod deadline_search;
+pub(crate) mod deadline_set;
 pub(crate) mod deadline_tree;
 pub(crate) mod deadlines;
 pub(crate) mod outstanding;

@@ -1,4 +1,5 @@
-//! What an agent counts: messages, bytes, ends of requests and round trips.
+//! The statistics of an agent: how many messages and bytes it sent and received, how its requests
+//! ended, and how long round trips took.
 ghost use Rattle.std.specs.Prelude.{◌≡◌, ◌≤◌, ◌+◌, ℕ, List};
 ghost use Rattle.std.specs.Option.{option_map};
 ghost use Rattle.std.specs.Duration.{as_nanos};
@@ -16,13 +17,12 @@ use std::marker::Model;
 use std::time::Duration;
 
 pub(crate) mod counting;
-#[cfg(test)]
-mod tests;
 
-/// What an agent has counted since it was built, or since `reset`.
+/// The statistics of an agent since it was built, or since `reset`.
 ///
-/// Bytes are those of whole messages. No counter wraps: it stays at the greatest number of 64 bits.
-/// The sum of the round trips stays at the greatest number of 128 bits. No call allocates.
+/// Bytes are counted over whole messages. No counter wraps around: each stays at the greatest
+/// number of 64 bits once it has reached it, and the sum of the round trips at the greatest number
+/// of 128 bits. None of the calls allocates.
 #[derive(Clone, Debug, Default, Drop, PartialEq, Eq)]
 pub struct StunAgentStats {
     requests_sent: u64,
@@ -35,7 +35,7 @@ pub struct StunAgentStats {
     transactions_cancelled: u64,
     bytes_sent: u64,
     bytes_received: u64,
-    // Round trips are kept in nanoseconds.
+    // Round trips are in nanoseconds.
     rtt_count: u64,
     rtt_min: Option<u64>,
     rtt_max: Option<u64>,
@@ -57,100 +57,106 @@ impl Model for StunAgentStats {
 }
 
 impl StunAgentStats {
-    /// Requests sent. Each counts once, however often it was sent again.
+    /// Returns the number of requests sent. Each request counts once, however often it was sent
+    /// again.
     pub fn requests_sent(&self) -> u64
         ensures { result ≡ self.now.requests_sent }
     {
         self.requests_sent
     }
 
-    /// Requests received.
+    /// Returns the number of requests received.
     pub fn requests_received(&self) -> u64
         ensures { result ≡ self.now.requests_received }
     {
         self.requests_received
     }
 
-    /// Responses sent, successes and errors.
+    /// Returns the number of responses sent, successes and errors.
     pub fn responses_sent(&self) -> u64
         ensures { result ≡ self.now.responses_sent }
     {
         self.responses_sent
     }
 
-    /// Responses received to an outstanding request, successes and errors.
+    /// Returns the number of responses received that answered an outstanding request, successes and
+    /// errors.
     pub fn responses_received(&self) -> u64
         ensures { result ≡ self.now.responses_received }
     {
         self.responses_received
     }
 
-    /// Indications sent.
+    /// Returns the number of indications sent.
     pub fn indications_sent(&self) -> u64
         ensures { result ≡ self.now.indications_sent }
     {
         self.indications_sent
     }
 
-    /// Indications received.
+    /// Returns the number of indications received.
     pub fn indications_received(&self) -> u64
         ensures { result ≡ self.now.indications_received }
     {
         self.indications_received
     }
 
-    /// Requests that ended because no response came in time (RFC 8489, section 6.2.1).
+    /// Returns the number of requests that ended because no response arrived in time (RFC 8489,
+    /// section 6.2.1).
     pub fn transactions_timed_out(&self) -> u64
         ensures { result ≡ self.now.transactions_timed_out }
     {
         self.transactions_timed_out
     }
 
-    /// Requests that ended because the caller cancelled them or their retransmissions.
+    /// Returns the number of requests that ended because you canceled them or their
+    /// retransmissions.
     pub fn transactions_cancelled(&self) -> u64
         ensures { result ≡ self.now.transactions_cancelled }
     {
         self.transactions_cancelled
     }
 
-    /// Bytes of the messages sent, retransmissions included.
+    /// Returns the number of bytes of the messages sent, retransmissions included.
     pub fn bytes_sent(&self) -> u64
         ensures { result ≡ self.now.bytes_sent }
     {
         self.bytes_sent
     }
 
-    /// Bytes of the messages received. Responses that were not accepted do not count.
+    /// Returns the number of bytes of the messages received. Responses that were not accepted do
+    /// not count.
     pub fn bytes_received(&self) -> u64
         ensures { result ≡ self.now.bytes_received }
     {
         self.bytes_received
     }
 
-    /// Round trips measured. A response has one if it was handed in with its time, before
-    /// `poll_transmit` passed any timeout of its request.
+    /// Returns the number of round trips measured. A round trip is measured if the response was
+    /// passed to `handle_stun_message_with_time` before `poll_transmit` passed any timeout of its
+    /// request.
     pub fn rtt_count(&self) -> u64
         ensures { result ≡ self.now.rtt_count }
     {
         self.rtt_count
     }
 
-    /// The shortest round trip, if any was measured.
+    /// Returns the shortest round trip, if any was measured.
     pub fn rtt_min(&self) -> Option<Duration>
         ensures { option_map as_nanos result ≡ self.now.rtt_min }
     {
         self.rtt_min.map(|nanos| Duration::from_nanos(nanos))
     }
 
-    /// The longest round trip, if any was measured.
+    /// Returns the longest round trip, if any was measured.
     pub fn rtt_max(&self) -> Option<Duration>
         ensures { option_map as_nanos result ≡ self.now.rtt_max }
     {
         self.rtt_max.map(|nanos| Duration::from_nanos(nanos))
     }
 
-    /// The mean round trip, if any was measured: the sum of all divided by their count, rounded
-    /// down to whole nanoseconds.
+    /// Returns the mean round trip, if any was measured: the sum of all divided by their count,
+    /// rounded down to whole nanoseconds.
     pub fn rtt_average(&self) -> Option<Duration>
         ensures { option_map as_nanos result ≡ average self.now }
     {
@@ -161,8 +167,8 @@ impl StunAgentStats {
         Some(Duration::from_nanos_u128(nanos))
     }
 
-    /// The requests sent, less those that were answered, timed out or were cancelled. It is 0 if
-    /// these are more than were sent, as they can be after `reset`.
+    /// Returns the number of requests sent, minus those that were answered, timed out or were
+    /// canceled. Returns 0 if these are more than were sent, which can be the case after `reset`.
     pub fn outstanding_requests(&self) -> u64
         ensures { result ≡ outstanding_requests self.now }
     {
@@ -172,7 +178,7 @@ impl StunAgentStats {
             .saturating_sub(self.transactions_cancelled)
     }
 
-    /// Starts to count from zero.
+    /// Resets all counters to zero.
     pub fn reset(&mut self)
         ensures { self.new ≡ new_statistics }
     {
@@ -213,7 +219,8 @@ impl StunAgentStats {
         self.bytes_received = self.bytes_received.saturating_add(bytes);
     }
 
-    /// A response to an outstanding request, and its round trip in nanoseconds if that is known.
+    /// Counts a response to an outstanding request, and its round trip in nanoseconds if that is
+    /// known.
     pub(crate) fn count_response_received(&mut self, bytes: u64, round_trip: Option<u64>)
         ensures { self.new ≡ statistics_after (response_received bytes round_trip) self.old }
     {
@@ -248,8 +255,9 @@ impl StunAgentStats {
 }
 
 /// Counting is adding. One tally after another counts as both together. From the start, any list of
-/// tallies counts as its sums, each capped once, and its shortest and longest round trip. A full
-/// counter stays full.
+/// tallies counts as its sums, each capped once, and its shortest and longest round trip. A counter
+/// is exact up to the greatest number of 64 bits, and then stays there; the sum of the round trips
+/// likewise at the greatest number of 128 bits.
 pub fn counting_is_adding()
     ensures both { (first second : Tally) (statistics : Statistics)
         → statistics_after second (statistics_after first statistics)
@@ -260,12 +268,14 @@ pub fn counting_is_adding()
         → IsLeast (total tallies).round_trips (counted_in_turn tallies new_statistics).rtt_min }
     ensures longest { (tallies : List Tally)
         → IsGreatest (total tallies).round_trips (counted_in_turn tallies new_statistics).rtt_max }
-    ensures full { (counter more : ℕ) → last_count ≤ counter
+    ensures exact { (counter more : ℕ) → counter + more ≤ last_count
+        → saturating_sum counter more ≡ counter + more }
+    ensures full { (counter more : ℕ) → last_count ≤ counter + more
         → saturating_sum counter more ≡ last_count }
 {}
 
 /// While no counter is full, the requests outstanding are those sent that had neither a response,
-/// nor a time-out, nor a cancellation. Before anything is counted there are none.
+/// nor a timeout, nor a cancellation. Before anything is counted there are none.
 pub fn outstanding_requests_are_those_left()
     ensures none { LeavesOutstanding new_statistics 0 }
     ensures left { (statistics : Statistics) (n : ℕ) → LeavesOutstanding statistics n

@@ -15,6 +15,7 @@ use Rattle.stun_auth.specs.declared.server.reason.VerdictRefusal.TheVariants as 
 use Rattle.stun_auth.specs.declared.server.reason.LongTermServerValidation.TheVariants.{Validated}
 use Rattle.stun_auth.specs.Algorithms.{contains}
 use Rattle.stun_base.specs.MessageType.{is_response}
+use Rattle.stun_auth.specs.Judged.{AcceptedSeen, JudgesAccepted, client_judged}
 use Rattle.stun_auth.specs.Reading.{Reading, verified_under}
 use Rattle.stun_auth.specs.Registered.{Registered, RegisteredUser, UserSecret}
 use Rattle.stun_auth.specs.Registered.{key_at, key_from, key_if, key_of, user_named}
@@ -196,11 +197,13 @@ looked_up users user (Some name) h = of_secret (fin.get users.secrets name) h
     of_secret None e = cc
     of_secret (Some secret) e = ap (option_map (λ (u : RegisteredUser). u.username)) e
 
-pub verdict_from_accepted : (users : Registered) (feature : Feature) (ours : List ℕ)
+-- who is accepted under one nonce is accepted under another if that is the same, and refused by it
+pub verdict_under_other : (users : Registered) (feature : Feature) (ours other : List ℕ)
     (offered : Option AlgorithmSet) (r : Reading) (client : ClientSeen)
     → IsAccepted users feature ours offered r client
-    → verdict users feature ours offered r ≡ Ok client
-verdict_from_accepted users feature ours offered r client h =
+    → verdict users feature other offered r
+    ≡ cond (bytes_eq ours other) (Ok client) (Err (nonce_refusal other ours))
+verdict_under_other users feature ours other offered r client h =
     let user : RegisteredUser = record { username = client.name; secret = h.secret } in
     let name : name_in users feature r ≡ Some client.name =
     looked_up users user (name_in users feature r)
@@ -215,21 +218,30 @@ verdict_from_accepted users feature ours offered r client h =
     all_there (is_some r.realm) (is_some r.nonce) (is_some r.userhash || is_some r.username) h.realm
     (ap is_some h.nonce) (name_there users feature client.name r.userhash r.username name) in
     let there : is_some r.integrity ≡ true = protected r.integrity h.key h.digest in
-    sym (by_steps-verdict users feature ours offered r)
+    sym (by_steps-verdict users feature other offered r)
     ∙ ap (λ b.
     cond (not b) (Err Refused.Unauthorized)
     (cond (not (is_complete r)) (Err Refused.BadRequest)
-    (by_attributes users feature ours offered r r.nonce))) there
+    (by_attributes users feature other offered r r.nonce))) there
     ∙ ap (λ b. cond (not b) (Err Refused.BadRequest)
-    (by_attributes users feature ours offered r r.nonce)) whole
-    ∙ ap (by_attributes users feature ours offered r) h.nonce
-    ∙ ap (by_choice users feature ours r ours) h.algorithm
-    ∙ ap (λ b. cond b (by_name users r (name_in users feature r) client.algorithm)
-    (Err (nonce_refusal ours ours))) ((bytes_eq-Decides ours ours).1 refl)
-    ∙ ap (λ o. by_name users r o client.algorithm) name
+    (by_attributes users feature other offered r r.nonce)) whole
+    ∙ ap (by_attributes users feature other offered r) h.nonce
+    ∙ ap (by_choice users feature other r ours) h.algorithm
+    ∙ ap (λ (v : Result ClientSeen VerdictRefusal).
+    cond (bytes_eq ours other) v (Err (nonce_refusal other ours)))
+    (ap (λ o. by_name users r o client.algorithm) name
     ∙ ap (λ o. cond (is_some (option_and_then (verified_under r) o)) (Ok client)
     (Err Refused.Unauthorized)) key
-    ∙ ap (λ b. cond b (Ok client) (Err Refused.Unauthorized)) h.digest
+    ∙ ap (λ b. cond b (Ok client) (Err Refused.Unauthorized)) h.digest)
+
+pub verdict_from_accepted : (users : Registered) (feature : Feature) (ours : List ℕ)
+    (offered : Option AlgorithmSet) (r : Reading) (client : ClientSeen)
+    → IsAccepted users feature ours offered r client
+    → verdict users feature ours offered r ≡ Ok client
+verdict_from_accepted users feature ours offered r client h =
+    verdict_under_other users feature ours ours offered r client h
+    ∙ ap (λ b. cond b (Ok client) (Err (nonce_refusal ours ours)))
+    ((bytes_eq-Decides ours ours).1 refl)
 
 -- ---- the answer
 
@@ -267,3 +279,15 @@ answer-accepted s now words r plain a = (forth, back)
         let judged =
         verdict_from_accepted s.registered s.feature p.nonce p.offered r client one.1 in
         unresponded s now words r plain ∙ ap answer_to judged
+
+-- ---- a verdict under a nonce that the caller gives
+
+-- a client is judged to be accepted if and only if the conjunction holds
+pub judged-accepted : (users : Registered) (feature : Feature) (ours : List ℕ)
+    (offered : AlgorithmSet) (r : Reading) (given : Result AcceptedSeen VerdictRefusal)
+    → client_judged given ≡ verdict users feature ours (Some offered) r
+    → JudgesAccepted users feature ours offered r given
+judged-accepted users feature ours offered r given same client = (
+  λ h. accepted_from_verdict users feature ours (Some offered) r client (sym same ∙ h),
+  λ one. same ∙ verdict_from_accepted users feature ours (Some offered) r client one,
+)

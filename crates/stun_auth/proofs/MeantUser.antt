@@ -37,7 +37,7 @@ use Rattle.stun_auth.proofs.ListSteps.{find-passes}
 -- ---- nobody, or one user
 
 -- a user of a name who has a secret, if any
-abbrev with_secret : List ℕ → Option UserSecret → Option RegisteredUser
+abbrev pub with_secret : List ℕ → Option UserSecret → Option RegisteredUser
 with_secret name o = option_map (λ secret. record { username = name; secret = secret }) o
 
 nothing : {X : Type 0} (es : List X) → length es ≡ 0 → es ≡ []
@@ -71,7 +71,7 @@ named_alone users name = by (fin.get users.secrets name)
     by (Some secret) = ap (with_secret name) (found name secret)
 
 -- whether a name has a hash
-abbrev has_hash : Registered → List ℕ → List ℕ → Bool
+abbrev pub has_hash : Registered → List ℕ → List ℕ → Bool
 has_hash users hash name = bytes_eq (userhash_of name users.realm) hash
 
 -- the first of these names that has a hash, as a user of a realm with one user or none
@@ -124,7 +124,7 @@ named_by-alone users feature (Some hash) username = by (is_possible feature)
     by false = refl
 
 -- the table of refusals, of the user who is named
-abbrev rows : Registered → List ℕ → Option AlgorithmSet → Reading → Option RegisteredUser
+abbrev pub rows : Registered → List ℕ → Option AlgorithmSet → Reading → Option RegisteredUser
     → List (Bool × VerdictRefusal)
 rows users ours offered r user =
     (is_none r.integrity, Unauthorized)
@@ -139,8 +139,8 @@ rows users ours offered r user =
     )
     ∷ []
 
-abbrev verdict_on_user : Registered → List ℕ → Option AlgorithmSet → Reading → Option RegisteredUser
-    → Result ClientSeen VerdictRefusal
+abbrev pub verdict_on_user : Registered → List ℕ → Option AlgorithmSet → Reading
+    → Option RegisteredUser → Result ClientSeen VerdictRefusal
 verdict_on_user users ours offered r user =
     or_refused
     (option_map_or (λ (row : Bool × VerdictRefusal). Some row.1)
@@ -157,6 +157,15 @@ verdict-named_user : (users : Registered) (user : Option RegisteredUser) (featur
     → verdict (just users user) feature ours offered r ≡ verdict users feature ours offered r
 verdict-named_user users user feature ours offered r same =
     ap (verdict_on_user users ours offered r) same
+
+-- a verdict is that on the one user who is named
+pub verdict-alone : (users : Registered) (feature : Feature) (ours : List ℕ)
+    (offered : Option AlgorithmSet) (r : Reading)
+    → verdict (alone users (named_in r.userhash r.username feature)) feature ours offered r
+    ≡ verdict users feature ours offered r
+verdict-alone users feature ours offered r =
+    verdict-named_user users _ feature ours offered r
+    (named_by-alone users feature r.userhash r.username)
 
 -- of a response: the client of its address
 client-alone : (users : Registered) (r : Reading) (place : Option PlaceSeen)

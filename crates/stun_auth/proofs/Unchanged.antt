@@ -33,7 +33,7 @@ use Rattle.std.specs.declared.result.Result.{Result}
 use Rattle.std.specs.declared.result.Result.TheVariants.{Ok, Err}
 use Rattle.stun_base.proofs.Addresses.{address_total, address_exact}
 
-equal_or : (o : Ordering) (x : Option PlaceSeen) (y : Option PlaceSeen) → (o ≡ Equal → x ≡ y)
+pub equal_or : (o : Ordering) (x : Option PlaceSeen) (y : Option PlaceSeen) → (o ≡ Equal → x ≡ y)
     → cond (is_eq o) x y ≡ y
 equal_or Less x y h = refl
 equal_or Equal x y h = h refl

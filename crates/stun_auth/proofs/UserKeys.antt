@@ -17,7 +17,8 @@ use Rattle.stun_auth.specs.Algorithms.{contains}
 use Rattle.stun_auth.specs.Handed.{AreKeysOf, just, only_user}
 use Rattle.stun_auth.specs.Registered.{Registered, RegisteredUser, UserSecret, key_at, key_if}
 use Rattle.stun_auth.specs.Registered.{key_of, name_cmp, of_keys, of_password, user_by_keys}
-use Rattle.stun_auth.specs.Registered.{user_by_password, with_user, without_user}
+use Rattle.stun_auth.specs.Registered.{stored_key, user_by_password, with_user}
+use Rattle.stun_auth.specs.Registered.{with_user_by_keys, without_user}
 use Rattle.stun_auth.proofs.MeantUser.{one}
 
 -- the key that a user of a name has by a secret, if any
@@ -27,14 +28,14 @@ key_by users name a o =
     (option_map (λ (secret : UserSecret). record { username = name; secret = secret }) o)
 
 -- a name is the same as itself
-same_name : (name : List ℕ) → eq_by_cmp name_cmp name name ≡ true
+pub same_name : (name : List ℕ) → eq_by_cmp name_cmp name name ≡ true
 same_name name = (eq_by_cmp_equiv nat_list_cmp_total).refl name
 
 -- names that are tied are the same
-tied : (name other : List ℕ) → eq_by_cmp name_cmp name other ≡ true → name ≡ other
+pub tied : (name other : List ℕ) → eq_by_cmp name_cmp name other ≡ true → name ≡ other
 tied name other h = (bytes_eq-Decides name other).0 (sym (is_eq-slice_cmp name other) ∙ h)
 
-other_name : {V : Type 0} (name gone : List ℕ) → name ≢ gone → (v o : V)
+pub other_name : {V : Type 0} (name gone : List ℕ) → name ≢ gone → (v o : V)
     → cond (eq_by_cmp name_cmp name gone) v o ≡ o
 other_name name gone other v o = by (eq_by_cmp name_cmp name gone) refl
   where
@@ -55,6 +56,14 @@ key-added users user a =
     ∙ ap (λ b. cond b (Some (of_password user.password)) (fin.get users.secrets user.username))
     (same_name user.username))
 
+pub key-by_keys : (users : Registered) (name : List ℕ) (keys : StoredKeys) (a : IntegrityAlgorithm)
+    → key_at (with_user_by_keys users name keys) name a
+    ≡ cond (contains a users.algorithms) (stored_key keys a) None
+key-by_keys users name keys a =
+    ap (key_by users name a)
+    (fin.get-insert nat_list_cmp_total users.secrets name (of_keys keys) name
+    ∙ ap (λ b. cond b (Some (of_keys keys)) (fin.get users.secrets name)) (same_name name))
+
 pub key-removed : (users : Registered) (name : List ℕ) (a : IntegrityAlgorithm)
     → key_at (without_user users name) name a ≡ None
 key-removed users name a =
@@ -70,6 +79,14 @@ key-by_others users user name a other =
     (fin.get-insert nat_list_cmp_total users.secrets user.username (of_password user.password) name
     ∙ other_name name user.username other (Some (of_password user.password))
     (fin.get users.secrets name))
+
+pub key-by_others_keys : (users : Registered) (added name : List ℕ) (keys : StoredKeys)
+    (a : IntegrityAlgorithm) → name ≢ added
+    → key_at (with_user_by_keys users added keys) name a ≡ key_at users name a
+key-by_others_keys users added name keys a other =
+    ap (key_by users name a)
+    (fin.get-insert nat_list_cmp_total users.secrets added (of_keys keys) name
+    ∙ other_name name added other (Some (of_keys keys)) (fin.get users.secrets name))
 
 pub key-of_others : (users : Registered) (gone name : List ℕ) (a : IntegrityAlgorithm)
     → name ≢ gone

@@ -16,8 +16,16 @@ pub mod Seen
 pub mod Server
 -- a whole server, and what validating a message answers and leaves (section 9.2.4)
 pub mod Validation
+-- whom a server accepts under a nonce that the caller gives (section 9.2.4)
+pub mod Judged
+-- the same under the nonces of two epochs
+pub mod Epochs
+-- a list of datagrams, each judged alone
+pub mod Datagrams
 -- a user who is handed in with a message
 pub mod Handed
+-- a change of one user, and the messages that mean another
+pub mod OtherUsers
 -- the places of all addresses
 pub mod Places
 -- when what is kept for an address is forgotten

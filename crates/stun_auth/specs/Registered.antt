@@ -52,6 +52,11 @@ abbrev pub with_user : Registered → NameAndPassword → Registered
 with_user r user =
     record r { secrets = map.insert r.secrets user.username (of_password user.password) }
 
+-- the users with one more who is known by stored keys, or with these keys for one of them
+abbrev pub with_user_by_keys : Registered → List ℕ → StoredKeys → Registered
+with_user_by_keys r name keys =
+    record r { secrets = map.insert r.secrets name (of_keys keys) }
+
 -- the users without the one of a name
 abbrev pub without_user : Registered → List ℕ → Registered
 without_user r name = record r { secrets = map.remove r.secrets name }

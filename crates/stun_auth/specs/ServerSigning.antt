@@ -2,7 +2,7 @@
 -- Additions are written in this order, and refused in it. Where the client's user is gone, only the
 -- digest fails. `added_by_server` in Signed.antt says what is added by attribute, which is what a
 -- reader finds. `laws::sides_add_by_attribute` says that both add the same.
-use Rattle.std.specs.Prelude.{ℕ, ◌+◌, List, [], ◌∷◌, ◌++◌, Bool, if◌then◌else◌}
+use Rattle.std.specs.Prelude.{ℕ, ◌+◌, List, [], ◌∷◌, ◌++◌, Bool, true, if◌then◌else◌}
 use Rattle.std.specs.Prelude.{Option, Some, None, Result, Ok, Err}
 use Rattle.std.specs.declared.net.socket_addr.SocketAddr.{SocketAddr}
 use Rattle.stun_base.specs.Algorithm.{digest_length}
@@ -14,6 +14,7 @@ use Rattle.stun_auth.specs.Additions.{Addition, Page, added_all, after}
 use Rattle.stun_auth.specs.Additions.{attribute, growth, integrity}
 use Rattle.stun_auth.specs.AddedAttribute as added
 use Rattle.stun_auth.specs.Algorithms.{is_sha256, algorithms_of}
+use Rattle.stun_auth.specs.Nonces.{asks_for_algorithms}
 use Rattle.stun_auth.specs.Places.{with_change, with_offer}
 use Rattle.stun_auth.specs.Registered.{Registered, key_at}
 use Rattle.stun_auth.specs.Seen.{ClientSeen, PlaceSeen}
@@ -31,6 +32,11 @@ abbrev pub offer : Bool → Registered → List Addition
 offer response users =
     if response then attribute (added.password_algorithms (algorithms_of users.algorithms)) ∷ []
     else []
+
+-- what a response says of a nonce to whoever is to sign under it: nonce and realm, and the
+-- algorithms where the nonce asks for a choice. A server that lists algorithms is to set that bit
+abbrev pub challenge_under : Registered → List ℕ → List Addition
+challenge_under users nonce = challenge true users nonce ++ offer (asks_for_algorithms nonce) users
 
 -- the algorithm of a client, which is named where it is not HMAC-SHA1
 abbrev pub named_algorithm : IntegrityAlgorithm → List Addition

@@ -1,11 +1,13 @@
-//! The client's side of long-term authentication (RFC 8489, section 9.2).
+//! The client side of long-term authentication (RFC 8489, section 9.2).
 //!
-//! For each request, a client does this:
+//! For each request, a client does the following:
 //!
-//! 1. `sign_outgoing_message`, which adds nothing before the first challenge, and send it.
-//! 2. `validate_incoming_message` with the response that answers it.
-//! 3. On `ResendRequest`, make the request anew with another transaction id, and go on at step 1.
-//!    On `Validated` take the response. On a refusal drop it.
+//! 1. It calls `sign_outgoing_message`, which adds nothing before the first challenge, and sends
+//!    the request.
+//! 2. It calls `validate_incoming_message` with the response that answers the request.
+//! 3. On `ResendRequest` it makes the request again with a new transaction ID, and continues with
+//!    step 1. On `Validated` it accepts the response. On `IntegrityFailed` it drops the response
+//!    and keeps waiting, and on any other refusal it gives up.
 ghost use Rattle.std.specs.Prelude.{◌≡◌, ◌∷◌, [], Some, OnErr, codes, option_copied, string_bytes};
 ghost use Rattle.std.specs.Fmt.{WritesOnOk, WritesStyledOnOk};
 ghost use Rattle.stun_auth.specs.Reading.{reading_of};
@@ -89,13 +91,45 @@ fn is_code(code: u16, error: Option<u16>) -> bool
     }
 }
 
-/// Answers a server's challenges, signs requests and checks responses (RFC 8489, section 9.2).
+/// The client side of long-term authentication: answers a server's challenges, signs requests and
+/// verifies responses (RFC 8489, section 9.2).
 ///
-/// A client begins without a key, so its first request goes out unsigned. A 401 brings realm and
-/// nonce, and the key is made for that realm. The request is signed and sent again. A success that
-/// verifies under the key confirms it. From then on the client answers no 401.
+/// A client starts without a key, so its first request goes out unsigned. The server answers 401,
+/// with a realm and a nonce. The client accepts this challenge: it derives its key from user name,
+/// realm and password, and its next request is signed. A success response whose signature verifies
+/// confirms the key. After that, a 401 is no longer treated as a challenge, because an attacker
+/// could have sent it.
 ///
-/// Contracts see its settings and its state. `Debug` shows nothing of what it holds.
+/// Until the key is confirmed, an attacker who can forge a response chooses the realm, and with it
+/// the key, and also the algorithm. If client and server both support HMAC-SHA256 and HMAC-SHA1,
+/// one forged message is enough to make both use HMAC-SHA1 under an MD5 key. The attacker has to
+/// see a request, and to answer it from the server's address before the server does:
+///
+/// 1. The attacker answers the first request with a 401 that has the server's realm and the nonce
+///    `x`. This nonce has no security bits, so the client takes its sender for an older server: it
+///    derives the MD5 key, and stores no list of algorithms. It also sends its user name in clear
+///    from now on.
+/// 2. The server answers the next request, signed under the nonce `x`, with a true 438: its own
+///    nonce, whose security bits ask for password algorithms, and its list.
+/// 3. The client takes realm and nonce from a 438, and nothing else. Key, algorithm, list and the
+///    form of the user name stay those of the forged 401.
+/// 4. The third request has the current nonce, and neither a list nor a choice of an algorithm. By
+///    section 9.2.4 that means MD5, so the server validates it. Client and server both return
+///    `Validated` with HMAC-SHA1.
+///
+/// A client that supports only HMAC-SHA256 refuses the nonce `x`, and falls to two forged messages:
+/// a 401 whose nonce has security bits that ask for no password algorithms, such as
+/// `obMatJos2QAAAx`, and a 438 with the nonce of the server.
+///
+/// The attacker learns no key and cannot sign. What the two sides lose is that the stronger
+/// algorithm, which both have, protects the session. To notice it, call `signing_algorithm` after
+/// every `ResendRequest`, before you sign, and give up if it is not the algorithm that you want.
+/// SECURITY.md says what else a client and a server can do.
+///
+/// Use one client for each server and user. To change the user after a success, create a new
+/// client. `Debug` shows nothing of the contents.
+///
+/// Contracts: they see the settings and the state.
 #[derive(Drop)]
 pub struct LongTermClientAuth<A: Allocator = Global> {
     alloc: A,
@@ -142,10 +176,10 @@ impl<A: Allocator> fmt::Debug for LongTermClientAuth<A> {
 }
 
 impl<A: Allocator> LongTermClientAuth<A> {
-    /// A client without credentials. It supports HMAC-SHA1 alone, and names its user as the server
-    /// allows (`Feature::Auto`).
+    /// Creates a client without credentials. It supports HMAC-SHA1 only, and sends the user name as
+    /// a hash if the server allows it (`Feature::Auto`).
     ///
-    /// It does not allocate. What it keeps later is in memory of this allocator.
+    /// It does not allocate. What the client stores later is allocated with `alloc`.
     pub fn new(alloc: A) -> Self
         ensures { result ≡ new_client }
     {
@@ -158,11 +192,11 @@ impl<A: Allocator> LongTermClientAuth<A> {
         }
     }
 
-    /// Sets the user. A challenge that was answered before keeps its key: only a later one gets
-    /// another.
+    /// Sets the user name and password. They take effect with the next challenge: if the client has
+    /// already accepted a challenge, it keeps the key that it made then.
     ///
-    /// A name of more than 513 bytes is taken, but requests cannot be signed where they need it as
-    /// USERNAME (RFC 8489, section 14.3).
+    /// A name longer than 513 bytes is accepted here, but a request that must carry it as USERNAME
+    /// cannot be signed (RFC 8489, section 14.3).
     pub fn set_credentials(&mut self, credentials: LongTermCredentials<A>)
         ensures { self.new ≡ record self.old {
           settings = record self.old.settings { credentials = Some credentials };
@@ -171,21 +205,24 @@ impl<A: Allocator> LongTermClientAuth<A> {
         self.credentials = Some(credentials);
     }
 
-    /// The user, if one was set.
+    /// Returns the user name and password, if they were set.
     pub fn credentials(&self) -> Option<&LongTermCredentials<A>>
         ensures { option_copied result ≡ self.now.settings.credentials }
     {
         self.credentials.as_ref()
     }
 
-    /// The supported algorithms in the order in which they were added, each once.
+    /// Returns the supported algorithms, each of them once, in the order in which they were added.
     pub fn supported_integrity(&self) -> &[IntegrityAlgorithm]
         ensures { result.now ≡ self.now.settings.supported }
     {
         self.supported.as_slice()
     }
 
-    /// Supports one algorithm more. It changes nothing if that is supported already.
+    /// Adds a supported algorithm. It changes nothing if the algorithm is supported already.
+    ///
+    /// If the server offers a list of algorithms, the client uses the first algorithm of that list
+    /// which it supports.
     pub fn add_supported_integrity(&mut self, algorithm: IntegrityAlgorithm)
         ensures { self.new ≡ record self.old {
           settings = record self.old.settings {
@@ -196,17 +233,18 @@ impl<A: Allocator> LongTermClientAuth<A> {
         self.supported = self.supported.with(algorithm);
     }
 
-    /// Supports this algorithm alone.
+    /// Makes this the only supported algorithm.
     ///
-    /// It does not keep a client of HMAC-SHA256 from signing with HMAC-SHA1 where a forged
-    /// challenge says so. Ask `signing_algorithm` before a message is signed, and give up if need
-    /// be.
+    /// This does not protect a client of HMAC-SHA256 from being downgraded by a forged challenge.
+    /// Call `signing_algorithm` after each `ResendRequest`, before you sign, and give up if it is
+    /// not the algorithm that you want.
     ///
     /// With HMAC-SHA256 alone, a challenge is answered as follows:
     ///
-    /// - A nonce without security bits is refused by `UnsupportedFeature`.
-    /// - A list of algorithms without HMAC-SHA256 is refused by `UnsupportedFeature`.
-    /// - Without a list, and where the bits ask for no password algorithms, the client takes
+    /// - If the nonce has no security bits, the challenge is refused with `UnsupportedFeature`.
+    /// - If there is a list of algorithms without HMAC-SHA256, it is refused with
+    ///   `UnsupportedFeature`.
+    /// - If there is no list, and the security bits ask for no password algorithms, the client uses
     ///   HMAC-SHA1 all the same.
     pub fn set_supported_integrity(&mut self, algorithm: IntegrityAlgorithm)
         ensures { self.new ≡ record self.old {
@@ -216,16 +254,16 @@ impl<A: Allocator> LongTermClientAuth<A> {
         self.supported = Supported::only(algorithm);
     }
 
-    /// Whether the user is named by a hash (RFC 8489, section 14.4): never, where the server takes
-    /// one, or always.
+    /// Returns whether the user name is sent as a hash (USERHASH, RFC 8489, section 14.4): never,
+    /// if the server allows it, or always.
     pub fn anonymous_username(&self) -> Feature
         ensures { result ≡ self.now.settings.feature }
     {
         self.feature
     }
 
-    /// Sets whether the user is named by a hash (RFC 8489, section 14.4). It holds from the next
-    /// challenge on.
+    /// Sets whether the user name is sent as a hash (USERHASH, RFC 8489, section 14.4). It takes
+    /// effect with the next challenge.
     pub fn set_anonymous_username(&mut self, feature: Feature)
         ensures { self.new ≡ record self.old {
           settings = record self.old.settings { feature = feature };
@@ -329,34 +367,43 @@ impl<A: Allocator> LongTermClientAuth<A> {
 }
 
 impl<A: Allocator + Copy> LongTermClientAuth<A> {
-    /// Judges a message from the server (RFC 8489, section 9.2.5).
+    /// Judges a response from the server (RFC 8489, section 9.2.5).
     ///
-    /// It sees neither transaction id nor address. Pass only what answers an outstanding request of
-    /// yours, from the address that was asked. Count how often you send again: a server can ask
-    /// without end.
+    /// - A **401** is a challenge until the first success has been validated, and is as good as its
+    ///   signature after that. If the client can answer the challenge, it stores realm and nonce,
+    ///   makes its key, and returns `ResendRequest`.
+    /// - A **438** that has REALM and NONCE replaces both, whether it is signed or not, and also
+    ///   returns `ResendRequest`. The key, and with it the algorithm, stays. If no challenge has
+    ///   been accepted yet, nothing is stored.
+    /// - **Any other response** is `Validated` if its signature verifies under the client's key. A
+    ///   success that is validated confirms the key.
     ///
-    /// A 401 is a challenge, until a success has confirmed the key. It is refused by the first of
-    /// these that holds:
+    /// After `ResendRequest` send the request again with a new transaction ID, signed by
+    /// `sign_outgoing_message`.
     ///
-    /// - `Unauthorized`: no credentials are set, REALM or NONCE is missing, or it is the challenge
-    ///   that the client is answering already.
-    /// - `UnsupportedFeature`: the client supports no algorithm that the server allows.
-    ///   `Unauthorized` instead, if the nonce asks for a list and there is none.
-    /// - `UnsupportedFeature`: the name must be hashed (`Feature::Required`) and the nonce does not
-    ///   allow it.
+    /// This call sees neither the transaction ID nor the source address. Pass it only responses to
+    /// an outstanding request of yours, from the address that the request went to. Limit the number
+    /// of requests that you send again, because a server, or an attacker who sees a transaction ID,
+    /// could otherwise make you resend forever.
     ///
-    /// Else the client keeps it and returns `ResendRequest`.
+    /// An error leaves the client unchanged. For a 401 that is a challenge, the first of these that
+    /// applies is returned:
     ///
-    /// A 438 with REALM and NONCE, signed or not, returns `ResendRequest`: the client keeps that
-    /// realm and nonce, and its key. Before a first challenge it keeps nothing, and returns the
-    /// same.
+    /// - `Unauthorized`: no credentials are set, REALM or NONCE is missing, or the client has
+    ///   already answered this challenge, which usually means a wrong password. Give up.
+    /// - `UnsupportedFeature`: client and server have no algorithm in common. If the nonce
+    ///   announces a list of algorithms and there is none, the error is `Unauthorized` instead.
+    ///   Give up.
+    /// - `UnsupportedFeature`: the user name must be hashed (`Feature::Required`), and the nonce
+    ///   does not allow it. Give up.
     ///
-    /// Every other message is `Validated` if its digest verifies under the kept key, and else
-    /// refused by `IntegrityFailed`. That goes for a 401 after a confirmed key too. A success that
-    /// is validated confirms the key.
+    /// For every other response:
     ///
-    /// A refusal changes nothing. `OutOfMemory` means that an allocation failed; it can come only
-    /// in place of `ResendRequest`.
+    /// - `IntegrityFailed`: the signature is missing or does not verify. Drop the response, which
+    ///   may be forged, and keep waiting.
+    ///
+    /// `OutOfMemory` means that an allocation failed, and can take the place of `ResendRequest`
+    /// only.
     pub fn validate_incoming_message(
         &mut self,
         message: &Message,

@@ -1,4 +1,5 @@
-//! What derived impls and defaults of the authenticators do: comparisons, copies and first values.
+//! What the derived impls and the defaults of the authenticators do: comparisons, copies and first
+//! values.
 ghost use Rattle.std.specs.Prelude.{◌≡◌, ◌<◌, [], ◌∷◌, Ok, IsTrue, ◌↔◌};
 
 use crate::client::answer::{
@@ -8,24 +9,26 @@ use crate::feature::Feature;
 use crate::message::nonce::NonceSecurityBits;
 use crate::server::reason::{
     LongTermServerAuthError, LongTermServerAuthErrorReason, LongTermServerValidation,
+    VerdictRefusal,
 };
+use crate::server::stored_keys::StoredKeys;
 use std::alloc::AllocError;
 
-/// The default is `Auto`: user names are hashed where the peer supports it too.
+/// Returns the default, `Auto`: user names are sent as a hash if the peer supports it too.
 pub fn default_feature() -> Feature
     ensures { result ≡ Feature.Auto }
 {
     Feature::default()
 }
 
-/// By default no security bit is set.
+/// Returns the default security bits, none of which is set.
 pub fn default_security_bits() -> NonceSecurityBits
     ensures { result ≡ 0 ∷ 0 ∷ 0 ∷ [] }
 {
     NonceSecurityBits::default()
 }
 
-/// Copies of a feature and of security bits are the same values.
+/// Clones a feature and security bits. The clones are the same values.
 pub fn copied_parts(
     feature: &Feature,
     bits: &NonceSecurityBits,
@@ -35,7 +38,7 @@ pub fn copied_parts(
     Ok((feature.clone()?, bits.clone()?))
 }
 
-/// Copies of answers and of reasons are the same values.
+/// Clones results and reasons of both sides. The clones are the same values.
 pub fn copied_answers(
     server: &LongTermServerValidation,
     client: &LongTermClientValidation,
@@ -60,7 +63,7 @@ pub fn copied_answers(
     ))
 }
 
-/// Copies of refusals have the same reason.
+/// Clones the errors of both sides. The clones have the same reasons.
 pub fn copied_refusals(
     server: &LongTermServerAuthError,
     client: &LongTermClientAuthError,
@@ -70,21 +73,21 @@ pub fn copied_refusals(
     Ok((server.clone()?, client.clone()?))
 }
 
-/// Features are equal as values.
+/// Returns true if two features are the same value.
 pub fn is_same_feature(one: Feature, other: Feature) -> bool
     ensures { IsTrue result ↔ (one ≡ other) }
 {
     one == other
 }
 
-/// Security bits are equal as bytes.
+/// Returns true if two security bits are the same bytes.
 pub fn are_same_security_bits(one: NonceSecurityBits, other: NonceSecurityBits) -> bool
     ensures { IsTrue result ↔ (one ≡ other) }
 {
     one == other
 }
 
-/// A server's validations are equal as values.
+/// Returns true if two results of a server are the same value.
 pub fn is_same_server_validation(
     one: LongTermServerValidation,
     other: LongTermServerValidation,
@@ -94,7 +97,7 @@ pub fn is_same_server_validation(
     one == other
 }
 
-/// A client's validations are equal as values.
+/// Returns true if two results of a client are the same value.
 pub fn is_same_client_validation(
     one: LongTermClientValidation,
     other: LongTermClientValidation,
@@ -104,7 +107,7 @@ pub fn is_same_client_validation(
     one == other
 }
 
-/// A server's reasons are equal as values.
+/// Returns true if two reasons of a server are the same value.
 pub fn is_same_server_reason(
     one: LongTermServerAuthErrorReason,
     other: LongTermServerAuthErrorReason,
@@ -114,7 +117,7 @@ pub fn is_same_server_reason(
     one == other
 }
 
-/// A client's reasons are equal as values.
+/// Returns true if two reasons of a client are the same value.
 pub fn is_same_client_reason(
     one: LongTermClientAuthErrorReason,
     other: LongTermClientAuthErrorReason,
@@ -124,16 +127,33 @@ pub fn is_same_client_reason(
     one == other
 }
 
-/// A server's refusals are equal where their reasons are.
+/// Returns true if two errors of a server have the same reason.
 pub fn is_same_server_refusal(one: LongTermServerAuthError, other: LongTermServerAuthError) -> bool
     ensures { IsTrue result ↔ (one ≡ other) }
 {
     one == other
 }
 
-/// A client's refusals are equal where their reasons are.
+/// Returns true if two errors of a client have the same reason.
 pub fn is_same_client_refusal(one: LongTermClientAuthError, other: LongTermClientAuthError) -> bool
     ensures { IsTrue result ↔ (one ≡ other) }
 {
     one == other
+}
+
+/// Returns true if two refusals under a nonce are the same value.
+pub fn is_same_verdict_refusal(one: VerdictRefusal, other: VerdictRefusal) -> bool
+    ensures { IsTrue result ↔ (one ≡ other) }
+{
+    one == other
+}
+
+/// Clones a refusal under a nonce and stored keys. The clones are the same values.
+pub fn copied_verdict_refusal(
+    refusal: &VerdictRefusal,
+    keys: &StoredKeys,
+) -> Result<(VerdictRefusal, StoredKeys), AllocError>
+    ensures { result ≡ Ok (refusal.now, keys.now) }
+{
+    Ok((refusal.clone()?, keys.clone()?))
 }

@@ -1,13 +1,13 @@
-//! Whether user names are sent as their hash.
+//! Whether user names are sent as a hash.
 ghost use Rattle.std.specs.Prelude.{◌≡◌};
 
-/// Whether user names are sent as their hash (RFC 8489, sections 9.2 and 14.4).
+/// Whether user names are sent as a hash (USERHASH; RFC 8489, sections 9.2 and 14.4).
 #[derive(Clone, Copy, Debug, Default, PartialEq, Eq, Hash)]
 pub enum Feature {
-    /// Where the peer supports it too.
+    /// If the peer supports it too.
     #[default]
     Auto,
-    /// Always. A client refuses a challenge whose nonce does not allow it. A server takes it as
+    /// Always. A client refuses a challenge whose nonce does not allow it. A server treats it like
     /// `Auto`.
     Required,
     /// Never.

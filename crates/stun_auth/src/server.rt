@@ -1,15 +1,22 @@
-//! The server's side of long-term authentication (RFC 8489, section 9.2.4).
+//! The server side of long-term authentication (RFC 8489, section 9.2.4).
 //!
-//! For each datagram that is a request, a server does this (docs/SERVER.md says why):
+//! For each datagram that is a request, a server does the following (docs/SERVER.md gives the
+//! reasons):
 //!
-//! 1. `validate_incoming_message` with the address that it came from, the time and random numbers.
-//! 2. On `Validated`, ask `client` who sent it, and make a success or an error response. On a
-//!    refusal make an error response: `Unauthorized` 401, `StaleNonce` 438, `BadRequest` 400 or
-//!    438.
-//! 3. `sign_outgoing_message` adds nonce, realm and digest to each response but a 400.
-//! 4. `remove_client`: each request has credentials of its own.
+//! 1. It calls `validate_incoming_message` with the source address, the current time and a source
+//!    of random numbers.
+//! 2. On `Validated` it asks `client` for the user who sent the request, and builds a success or an
+//!    error response. If the request is refused, it builds an error response: 401 for
+//!    `Unauthorized`, 438 for `StaleNonce`, 400 or 438 for `BadRequest`.
+//! 3. It calls `sign_outgoing_message`, which adds nonce, realm and signature to the response. Only
+//!    the 400 of a request that failed authentication, which was refused with `BadRequest`, goes
+//!    out as it is.
+//! 4. It calls `remove_client`, because each request brings its own credentials.
 //!
-//! Every few seconds it calls `forget_expired`, or `forget_expired_within`.
+//! Every few seconds it calls `forget_expired` or `forget_expired_within`.
+//!
+//! A server that stores nothing about its clients calls `nonce_of_words`, `judge` and
+//! `add_challenge` instead.
 
 ghost use Rattle.std.specs.Prelude.{◌≡◌, ◌≤◌, Option, None, Some, OnOk, OnErr, Ok, codes};
 ghost use Rattle.std.specs.Duration.{as_nanos};
@@ -23,13 +30,14 @@ ghost use Rattle.stun_auth.specs.ForgettingSteps.{after_step, next_address};
 ghost use Rattle.stun_auth.specs.Nonces.{MINIMUM_EXPIRY};
 ghost use Rattle.stun_auth.specs.Seen.{PlaceSeen};
 ghost use Rattle.stun_auth.specs.Places.{with_change, with_client};
-ghost use Rattle.stun_auth.specs.Registered.{with_user, without_user};
+ghost use Rattle.stun_auth.specs.Registered.{with_user, with_user_by_keys, without_user};
 ghost use Rattle.stun_auth.specs.Validation.{client_at, new_server};
 
 use crate::algorithm_set::AlgorithmSet;
 use crate::feature::Feature;
 use crate::server::places::Places;
 use crate::server::registry::Registry;
+use crate::server::stored_keys::StoredKeys;
 use std::alloc::{AllocError, Allocator, Global};
 use std::fmt;
 use std::marker::Model;
@@ -39,7 +47,9 @@ use stun_base::algorithm::IntegrityAlgorithm;
 use stun_base::credentials::LongTermCredentials;
 use stun_base::instant::Instant;
 
+pub(crate) mod accepted;
 mod handed;
+mod judged;
 pub(crate) mod name_index;
 pub(crate) mod named_user;
 pub(crate) mod places;
@@ -47,6 +57,7 @@ pub(crate) mod reason;
 pub(crate) mod registry;
 mod signing;
 pub(crate) mod stored_keys;
+pub(crate) mod told;
 pub(crate) mod user;
 pub(crate) mod user_secret;
 mod validation;
@@ -58,28 +69,33 @@ const MINIMUM_NONCE_EXPIRY_SECONDS: u64 = 30;
 /// How long a nonce lasts unless another time is set, in seconds.
 const DEFAULT_NONCE_EXPIRY_SECONDS: u64 = 3600;
 
-/// The shortest time that `LongTermServerAuth::set_nonce_expiry_duration` may be given: 30 seconds.
+/// Returns the shortest time for which a nonce may be valid, 30 seconds: the least that
+/// `LongTermServerAuth::set_nonce_expiry_duration` accepts.
 pub fn minimum_nonce_expiry_duration() -> Duration
     ensures { as_nanos result ≡ MINIMUM_EXPIRY }
 {
     Duration::from_secs(MINIMUM_NONCE_EXPIRY_SECONDS)
 }
 
-/// The server's side of long-term authentication: the users of a realm, and a record for each
-/// address (RFC 8489, section 9.2.4).
+/// The server side of long-term authentication (RFC 8489, section 9.2.4): the users of a realm, and
+/// a record for each client address.
 ///
-/// The record of an address holds the last nonce that was made for it and when that expires. It
-/// also holds the algorithms that were offered, and the client, who is the user validated last.
+/// The record of an address holds the latest nonce that was made for it, the time at which that
+/// nonce expires, the algorithms that the address was offered, and its *client*: the user who was
+/// validated there last.
 ///
-/// Each request or indication from a new address makes a record, unless it has integrity and lacks
-/// REALM, NONCE or a name. None of these need be right. So whoever can send from many addresses
-/// makes the server grow: bound `address_count`.
+/// Almost every request or indication from a new address adds a record, even if it is refused. The
+/// only exception is a message that has an integrity attribute but lacks REALM, NONCE or a user
+/// name. So anybody who can send from many addresses makes the server grow, and you have to set a
+/// limit to `address_count`.
 ///
-/// A record stays until the server is dropped or a call forgets it. `forget_expired` forgets it
-/// once its nonce has expired and it has no client; `forget` does so at once.
+/// A record stays until a call forgets it or the server is dropped. `forget_expired` forgets it
+/// once its nonce has expired, if it has no client. `forget` does so at once.
 ///
-/// Contracts see the realm, the supported algorithms, the settings, and the records (`places`).
-/// They see what each user is known by: a password, or stored keys. `Debug` shows none of it.
+/// `Debug` shows nothing of the contents.
+///
+/// Contracts: they see the realm, the supported algorithms, the settings, the records (`places`),
+/// and for each user a password or stored keys.
 #[derive(Drop)]
 pub struct LongTermServerAuth<A: Allocator = Global> {
     alloc: A,
@@ -122,11 +138,11 @@ impl<A: Allocator> fmt::Debug for LongTermServerAuth<A> {
 }
 
 impl<A: Allocator + Copy> LongTermServerAuth<A> {
-    /// A server of a realm without users. It supports HMAC-SHA1 alone and takes hashed names
-    /// (`Feature::Auto`). Its nonces last 3600 seconds.
+    /// Creates a server for a realm, without users. It supports HMAC-SHA1 only, accepts hashed user
+    /// names (`Feature::Auto`), and its nonces are valid for 3600 seconds.
     ///
-    /// It does not allocate. A realm of more than 763 bytes is taken, but then no response can be
-    /// signed (RFC 8489, section 14.9).
+    /// A realm longer than 763 bytes is accepted here, but then no response can be signed (RFC
+    /// 8489, section 14.9). The call does not allocate.
     pub fn new(alloc: A, realm: String<A>) -> Self
         ensures { result ≡ new_server (string_bytes realm) }
     {
@@ -139,39 +155,44 @@ impl<A: Allocator + Copy> LongTermServerAuth<A> {
         }
     }
 
-    /// The realm, which REALM of each signed response has (RFC 8489, section 14.9).
+    /// Returns the realm, which is the value of REALM in signed responses (RFC 8489, section 14.9).
     pub fn realm(&self) -> &str
         ensures { result.now ≡ self.now.registered.realm }
     {
         self.registry.realm()
     }
 
-    /// The supported algorithms, the strongest first: HMAC-SHA256 before HMAC-SHA1.
+    /// Returns the supported algorithms, the strongest first: HMAC-SHA256 before HMAC-SHA1.
     pub fn supported_integrity(&self) -> &[IntegrityAlgorithm]
         ensures { result.now ≡ algorithms_of self.now.registered.algorithms }
     {
         self.registry.supported().as_slice()
     }
 
-    /// Whether users may be named by a hash (RFC 8489, section 14.4).
+    /// Returns whether clients may send a hash (USERHASH) in place of the user name (RFC 8489,
+    /// section 14.4).
     pub fn anonymous_username(&self) -> Feature
         ensures { result ≡ self.now.feature }
     {
         self.feature
     }
 
-    /// How many addresses have a record, so that a caller can bound them.
+    /// Returns the number of addresses that have a record, in constant time, so that you can set a
+    /// limit.
     ///
     /// A message from a new address may add one. Only `forget`, `forget_expired` and
-    /// `forget_expired_within` take any away. It does not walk the records and does not allocate.
+    /// `forget_expired_within` remove any. If you have a message validated only while the count is
+    /// below your limit or its address has a record, the count never exceeds that limit.
+    ///
+    /// Contracts: law `addresses_stay_within_a_bound`.
     pub fn address_count(&self) -> usize
         ensures { result ≡ map.len self.now.places }
     {
         self.places.len()
     }
 
-    /// The last nonce that was made for an address, whether it is current or has expired. `None`
-    /// where the address has no record.
+    /// Returns the latest nonce that was made for an address, whether it has expired or not, or
+    /// `None` if the address has no record.
     pub fn nonce_for_client(&self, address: SocketAddr) -> Option<&str>
         ensures { option_copied result ≡ option_map (λ (p : PlaceSeen). p.nonce)
             (map.get self.now.places address) }
@@ -182,15 +203,15 @@ impl<A: Allocator + Copy> LongTermServerAuth<A> {
         }
     }
 
-    /// The client of an address: the user who was validated last there, with the algorithm that
-    /// both sides agreed on. It is the user whom the address's last `Validated` request or
-    /// indication named.
+    /// Returns the client of an address: the user who was validated there last, and the algorithm
+    /// that both sides agreed on. This is the user whom the last request or indication from there
+    /// named that was `Validated`.
     ///
-    /// Ask it, after `Validated`, who sent a request. Neither the first USERNAME of a message nor
-    /// the algorithm of its digest tells that. A refused message changes nothing here, and a user
-    /// who was removed since is still returned.
+    /// Call this right after `Validated` to learn who sent the request. Neither the first USERNAME
+    /// of a message nor the algorithm of its signature tells that. A refused message changes
+    /// nothing here, and a user who has been removed since is still returned.
     ///
-    /// `None` where nobody was validated at the address, and after `remove_client`.
+    /// Returns `None` if nobody was validated at the address, or after `remove_client`.
     pub fn client(&self, address: SocketAddr) -> Option<(&str, IntegrityAlgorithm)>
         ensures { option_map (λ pair. record { name = pair.0.now; algorithm = pair.1 }) result
             ≡ client_at self.now address }
@@ -204,11 +225,14 @@ impl<A: Allocator + Copy> LongTermServerAuth<A> {
         }
     }
 
-    /// Adds a user with a key for each supported algorithm (RFC 8489, section 9.2.2). A registered
-    /// user of that name gets this password, and its keys in place of those before.
+    /// Registers a user with a key for each supported algorithm (RFC 8489, section 9.2.2). A
+    /// registered user with this name gets this password, and the keys that it makes, instead of
+    /// the secret that it had.
     ///
-    /// A name of more than 513 bytes is taken, but only a USERHASH can name it (section 14.3).
-    /// Fails if an allocation fails; the server is then as before.
+    /// A name longer than 513 bytes is accepted, but only a USERHASH can name such a user (section
+    /// 14.3).
+    ///
+    /// Fails if an allocation fails. The server is then unchanged.
     pub fn add_user(&mut self, credentials: LongTermCredentials<A>) -> Result<(), AllocError>
         ensures ok { OnOk result (self.new ≡ record self.old {
           registered = with_user self.old.registered credentials;
@@ -218,7 +242,31 @@ impl<A: Allocator + Copy> LongTermServerAuth<A> {
         self.registry.add_user(credentials)
     }
 
-    /// Supports one algorithm more, and makes its key for each user. It does not allocate.
+    /// Registers a user by stored keys in place of a password. A registered user with this name
+    /// gets these keys instead of the secret that it had.
+    ///
+    /// Clients derive their keys for the realm that the server sends, so `keys` must have been made
+    /// for this realm. The user has the keys of the algorithms that the server supports, also of
+    /// those that it comes to support later, as far as `keys` has them.
+    ///
+    /// A name of more than 513 bytes is accepted, but only a USERHASH can name such a user, because
+    /// USERNAME is limited to 513 bytes (RFC 8489, section 14.3).
+    ///
+    /// Fails if an allocation fails. The server is then unchanged.
+    pub fn add_user_with_keys(
+        &mut self,
+        name: String<A>,
+        keys: StoredKeys,
+    ) -> Result<(), AllocError>
+        ensures ok { OnOk result (self.new ≡ record self.old {
+          registered = with_user_by_keys self.old.registered (string_bytes name) keys;
+        }) }
+        ensures err { OnErr result (self.new ≡ self.old) }
+    {
+        self.registry.add_user_with_keys(name, keys)
+    }
+
+    /// Adds a supported algorithm, and makes its key for each user. It does not allocate.
     pub fn add_supported_integrity(&mut self, algorithm: IntegrityAlgorithm)
         ensures { self.new ≡ record self.old {
           registered = record self.old.registered {
@@ -230,8 +278,11 @@ impl<A: Allocator + Copy> LongTermServerAuth<A> {
         self.registry.set_supported(supported);
     }
 
-    /// Supports this algorithm alone: each user has a key for it, and no other. It does not
-    /// allocate.
+    /// Makes this the only supported algorithm: each user has a key for it, and no other. It does
+    /// not allocate.
+    ///
+    /// Call it before the first message arrives, because messages to a client that uses another
+    /// algorithm can no longer be signed until you call `remove_client`.
     pub fn set_supported_integrity(&mut self, algorithm: IntegrityAlgorithm)
         ensures { self.new ≡ record self.old {
           registered = record self.old.registered { algorithms = only algorithm };
@@ -240,11 +291,13 @@ impl<A: Allocator + Copy> LongTermServerAuth<A> {
         self.registry.set_supported(AlgorithmSet::only(algorithm));
     }
 
-    /// Sets whether users may be named by a hash (RFC 8489, section 14.4). Nonces that are made
-    /// from now on tell clients so.
+    /// Sets whether clients may send a hash (USERHASH) in place of the user name (RFC 8489, section
+    /// 14.4). Nonces that are made from now on tell them so.
     ///
-    /// It never fails. The `Result` leaves room for a server that keeps hashes only where they are
-    /// wanted.
+    /// A server treats `Feature::Required` like `Feature::Auto`: it still accepts a plain USERNAME.
+    ///
+    /// It never fails. The `Result` leaves room for a server that stores hashes only if they are
+    /// needed.
     pub fn set_anonymous_username(&mut self, feature: Feature) -> Result<(), AllocError>
         ensures ok { result ≡ Ok tt }
         ensures state { self.new ≡ record self.old { feature = feature } }
@@ -253,11 +306,11 @@ impl<A: Allocator + Copy> LongTermServerAuth<A> {
         Ok(())
     }
 
-    /// Removes a user and the user's keys, so that requests of that name are refused from now on.
+    /// Removes a user and the user's keys, so that requests in that name are refused from now on.
     /// It does not allocate.
     ///
-    /// Where the user is still the client of an address, nothing to that address can be signed
-    /// (`IntegrityFailed`): call `remove_client` for it first.
+    /// If the user is still the client of an address, messages to that address cannot be signed
+    /// (`IntegrityFailed`) until you call `remove_client` for it.
     pub fn remove_user(&mut self, name: &str)
         ensures { self.new ≡ record self.old {
           registered = without_user self.old.registered name.now;
@@ -266,8 +319,12 @@ impl<A: Allocator + Copy> LongTermServerAuth<A> {
         self.registry.remove_user(name);
     }
 
-    /// Forgets the client of an address; its nonce and its offer stay. Signing adds no digest to
-    /// messages to that address until a client is validated there again. It does not allocate.
+    /// Forgets the client of an address, but not its nonce and its offer. Messages to this address
+    /// get no signature until a client is validated there again. It does not allocate.
+    ///
+    /// Call it after every response. As long as an address has a client, its record never expires,
+    /// and its 401 and 438 responses have no list of algorithms, so that a client that starts
+    /// afresh at the same address cannot authenticate.
     pub fn remove_client(&mut self, address: SocketAddr)
         ensures { self.new ≡ record self.old {
           places = with_change self.old.places address
@@ -277,49 +334,49 @@ impl<A: Allocator + Copy> LongTermServerAuth<A> {
         self.places.set_client(address, None);
     }
 
-    /// Forgets the record of an address: its nonce and when that expires, its offer, and its
-    /// client. Other addresses keep theirs. The next message from the address is judged as the
-    /// first from a new one.
+    /// Removes the record of an address: its nonce and when that expires, its offer, and its
+    /// client. The records of other addresses stay. The next message from the address is treated as
+    /// the first.
     ///
-    /// It finds the record without a walk, and does not allocate.
+    /// It finds the record in logarithmic time, and does not allocate.
     pub fn forget(&mut self, address: SocketAddr)
         ensures { self.new ≡ without_place self.old address }
     {
         self.places.forget(address);
     }
 
-    /// Forgets each record that has no client and whose nonce expired before `now`, and frees its
+    /// Removes every record that has no client and whose nonce expired before `now`, and frees its
     /// memory. Other records stay.
     ///
-    /// From a forgotten address an unsigned request draws a 401, as its first did. A signed one is
-    /// refused as stale. Where it repeats algorithms that were offered, it is refused as a bad
-    /// request instead. So pass a time in the past: the present less the time that a nonce lasts
-    /// keeps each offer as long again.
+    /// Pass the current time minus the nonce lifetime, so that a record outlives its nonce by as
+    /// long again. A client that comes back within that time is answered 438 and can continue. If
+    /// its record were gone, and it repeated the algorithms that it was once offered, it would be
+    /// refused with `BadRequest`.
     ///
-    /// It walks all records once: call it every few seconds, and not at each message. It does not
-    /// allocate.
+    /// This visits every record once, so call it every few seconds rather than for each message. It
+    /// does not allocate.
     pub fn forget_expired(&mut self, now: Instant)
         ensures { self.new ≡ after_forgetting self.old now }
     {
         self.places.forget_expired(now);
     }
 
-    /// Forgets what `forget_expired` does, among at most `most` addresses, so that a server of many
+    /// Like `forget_expired`, but visits at most `most` records, so that a server with many records
     /// has no long pause.
     ///
-    /// It looks at addresses that have a record, in the order of `SocketAddr`, from `from` on, or
-    /// from the first where that is `None`. It returns the first address that it did not look at,
-    /// or `None` at the end. What one call returns is the `from` of the next:
+    /// It visits addresses that have a record, in the order of `SocketAddr`, starting at `from`, or
+    /// at the first one if `from` is `None`. It returns the first address that it did not visit, or
+    /// `None` once it has visited the last. Pass the result of each call to the next:
     ///
     /// ```text
     /// next = auth.forget_expired_within(now, next, 100);
     /// ```
     ///
     /// Calls up to a `None`, with no other call between them, forget together what `forget_expired`
-    /// does (law `steps_forget_what_has_expired`). A record that is made between them is looked at
-    /// if its address comes after `next`, and else in the next round.
+    /// does (law `steps_forget_what_has_expired`). A record that is made between them is visited if
+    /// its address comes after `next`, and otherwise in the next round.
     ///
-    /// It does not allocate. Each address costs two or three look-ups.
+    /// It does not allocate. Each record costs two or three look-ups.
     pub fn forget_expired_within(
         &mut self,
         now: Instant,
@@ -332,8 +389,7 @@ impl<A: Allocator + Copy> LongTermServerAuth<A> {
         self.places.forget_expired_within(now, from, most)
     }
 
-    /// Sets how long nonces last that are made from now on. Those made before expire as they would
-    /// have.
+    /// Sets how long new nonces are valid. Existing nonces are not affected.
     ///
     /// `expiry` must be at least `minimum_nonce_expiry_duration()`, which is 30 seconds.
     pub fn set_nonce_expiry_duration(&mut self, expiry: Duration)

@@ -18,10 +18,14 @@ use stun_types::message::{
 };
 use stun_types::prelude::*;
 
-/// Signs messages under a password that both sides know, and checks theirs (RFC 8489, section 9.1).
+/// Signs messages with a shared password and verifies messages that were signed with it (RFC 8489,
+/// section 9.1).
 ///
-/// It adds and reads no USERNAME: that is the caller's. Contracts see the bytes of the password and
-/// the algorithm, once both are set. `Debug` shows neither.
+/// Short-term credentials also have a USERNAME. This type neither writes nor reads it: add it
+/// before you sign, and compare it yourself when a message arrives. `Debug` shows nothing of the
+/// contents.
+///
+/// Contracts: they see the bytes of the password and the algorithm, once both are set.
 #[derive(Drop)]
 pub struct ShortTermAuth<A: Allocator = Global> {
     kept: Option<KeptPassword<A>>,
@@ -64,15 +68,17 @@ impl<A: Allocator> fmt::Debug for ShortTermAuth<A> {
 }
 
 impl<A: Allocator> ShortTermAuth<A> {
-    /// An authenticator without credentials. It does not allocate, and does not keep the allocator:
-    /// the key uses that of the password.
+    /// Creates an authenticator without credentials. Until `set_credentials` is called, it signs
+    /// nothing and verifies nothing.
+    ///
+    /// It does not allocate, and does not store the allocator: the key uses that of the password.
     pub fn new(_alloc: A) -> Self
         ensures { result ≡ None }
     {
         ShortTermAuth { kept: None }
     }
 
-    /// The credentials that were set, and the algorithm to sign with.
+    /// Returns the credentials that were set, and the algorithm to sign with.
     pub fn credentials(&self) -> Option<(&ShortTermCredentials<A>, IntegrityAlgorithm)>
         ensures { option_map (λ pair. record { password = pair.0.now; algorithm = pair.1 }) result
             ≡ self.now }
@@ -82,15 +88,16 @@ impl<A: Allocator> ShortTermAuth<A> {
             .map(|kept| (&kept.credentials, kept.algorithm))
     }
 
-    /// The key of the credentials: the bytes of the password (RFC 8489, section 9.1.1).
+    /// Returns the key that the credentials give, which is the password itself (RFC 8489, section
+    /// 9.1.1).
     pub fn integrity_key(&self) -> Option<&IntegrityKey<A>>
         ensures { option_copied result ≡ option_map (λ secret. secret.password) self.now }
     {
         self.kept.as_ref().map(|kept| kept.key.key())
     }
 
-    /// How many bytes signing adds to a message of any class: 0 without credentials, 24 for
-    /// HMAC-SHA1, 36 for HMAC-SHA256.
+    /// Returns the number of bytes that signing adds to a message: 24 for HMAC-SHA1, 36 for
+    /// HMAC-SHA256, and 0 if there are no credentials.
     pub fn message_signature_bytes(&self) -> usize
         ensures { result ≡ short_term_growth self.now }
     {
@@ -100,17 +107,16 @@ impl<A: Allocator> ShortTermAuth<A> {
         }
     }
 
-    /// Adds the integrity attribute to a message, under the password (RFC 8489, section 9.1.2).
-    /// Without credentials the message stays as it is.
+    /// Signs a message with the password: appends MESSAGE-INTEGRITY or MESSAGE-INTEGRITY-SHA256
+    /// (RFC 8489, section 9.1.2). Without credentials the message is unchanged.
     ///
-    /// The writer must hold a message without FINGERPRINT. It fails with the first that holds:
+    /// The writer must hold a message without FINGERPRINT. The first of these errors that applies
+    /// drops the writer:
     ///
-    /// - `MessageIntegrityExists`: the message has an integrity attribute.
-    /// - `TooLarge`: the message would get too long.
+    /// - `MessageIntegrityExists`: the message is signed already.
+    /// - `TooLarge`: the message would be too long.
     /// - `TooSmall`: the writer has no room.
     /// - `OutOfMemory`: an allocation failed.
-    ///
-    /// A failure drops the writer.
     #[tactic(auto, using(crate::proofs::Growth::length_of_signed))]
     pub fn sign_outgoing_message<W: MessageWrite>(&mut self, writer: W) -> Result<W, StunWriteError>
         requires { 20 ≤ length (W.bytes writer) }
@@ -135,11 +141,11 @@ impl<A: Allocator> ShortTermAuth<A> {
         Ok(writer)
     }
 
-    /// Adds the integrity attribute to a message that the caller knows to be signable. The message
-    /// is the one that `sign_outgoing_message` gives.
+    /// Like `sign_outgoing_message`, for a message that you know to be signable, which it signs in
+    /// the same way.
     ///
-    /// Without credentials every message is signable. With them, a signable message has no
-    /// integrity attribute. Its writer and its length field have room for one: 24 bytes for
+    /// Without credentials every message is signable. With credentials, a signable message has no
+    /// integrity attribute, and its writer and its length field have room for one: 24 bytes for
     /// HMAC-SHA1, 36 for HMAC-SHA256.
     ///
     /// Fails if an allocation fails.
@@ -166,10 +172,14 @@ impl<A: Allocator> ShortTermAuth<A> {
         Ok(writer)
     }
 
-    /// The algorithm whose digest verifies under the password, or the error of
-    /// `Message::validate_integrity` (RFC 8489, section 9.1.3).
+    /// Verifies the signature of a message, and returns the algorithm that it was signed with (RFC
+    /// 8489, section 9.1.3).
     ///
-    /// Without credentials it checks nothing and returns `None`. It does not allocate.
+    /// If the message has MESSAGE-INTEGRITY-SHA256, only that attribute is checked. Otherwise
+    /// MESSAGE-INTEGRITY is. It fails like `Message::validate_integrity`, and does not allocate.
+    ///
+    /// Returns `None` if no credentials were set, because nothing was checked then. Do not mistake
+    /// it for a valid signature.
     pub fn validate_incoming_message(
         &mut self,
         message: &Message,
@@ -185,10 +195,11 @@ impl<A: Allocator> ShortTermAuth<A> {
 }
 
 impl<A: Allocator + Copy> ShortTermAuth<A> {
-    /// Sets the password and the algorithm to sign with.
+    /// Sets the password, and the algorithm to sign with. A message signed with either algorithm is
+    /// verified.
     ///
-    /// Fails if an allocation fails: both are then as they were. For a password of up to 32 bytes
-    /// nothing is allocated.
+    /// Fails if an allocation fails, and then leaves both unchanged. A password of up to 32 bytes
+    /// needs no allocation.
     pub fn set_credentials(
         &mut self,
         credentials: ShortTermCredentials<A>,

@@ -1,5 +1,5 @@
-//! The parts of STUN (RFC 8489) that the crates above share: headers, types, ids, moments, errors,
-//! HMAC, keys and credentials.
+//! The parts of STUN (RFC 8489) that the crates above share: headers, message types, transaction
+//! IDs, times, errors, HMAC, keys and credentials.
 #![tactic(auto)]
 
 pub mod derives;

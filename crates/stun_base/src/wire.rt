@@ -1,5 +1,5 @@
-//! What stands in the bytes of a message (RFC 8489, sections 5 and 18), and what is around them:
-//! time, transports, random numbers and errors.
+//! The fields of a message (RFC 8489, sections 5 and 18), and what is used beside them: times,
+//! transports, random numbers and errors.
 
 pub mod attribute_type;
 pub mod data;

@@ -1,7 +1,8 @@
 //! The calls for programs in C and Rust, which `include/stunp.h` declares.
 //!
-//! Each calls the crates below, and its clause cites their definitions. None allocates, and calls
-//! share nothing. A call that refuses returns the number of the refusal, which is below zero.
+//! Each of them calls the crates below, and its clause cites their definitions. None allocates, and
+//! calls share nothing. A call that fails returns the number of its error, which is negative. The
+//! header lists the errors of each call, in the order in which they are tested.
 #![tactic(auto)]
 
 ghost use Rattle.std.specs.Prelude.{◌≡◌, ◌↔◌, ◌⊎◌, drop, length, pos};
@@ -61,7 +62,7 @@ use stun_types::message::Message;
 use verdict::verdict;
 use walk::Cursor;
 
-/// Returns 0 if the bytes are a message, or why they are not.
+/// Checks that the bytes are one whole message, and returns 0.
 #[unsafe(no_mangle)]
 pub extern "C" fn stunp_parse(message: &[u8]) -> i64
     ensures { result ≡ parse_answer message.now }
@@ -72,7 +73,7 @@ pub extern "C" fn stunp_parse(message: &[u8]) -> i64
     }
 }
 
-/// The number of the algorithm whose digest verifies under the key, or why none does.
+/// Verifies the signature of a message with a key, and returns the algorithm of the signature.
 #[unsafe(no_mangle)]
 pub extern "C" fn stunp_verify(message: &[u8], key: &[u8]) -> i64
     ensures { result ≡ verify_answer message.now key.now }
@@ -83,7 +84,8 @@ pub extern "C" fn stunp_verify(message: &[u8], key: &[u8]) -> i64
     }
 }
 
-/// Writes a Binding request with this id, USERNAME and integrity under the key. Returns its length.
+/// Writes a Binding request with this ID and USERNAME, signed with this key, and returns its
+/// length.
 #[unsafe(no_mangle)]
 pub extern "C" fn stunp_build_signed(
     algorithm: u32,
@@ -106,7 +108,7 @@ pub extern "C" fn stunp_build_signed(
     }
 }
 
-/// Writes the long-term key of a user for an algorithm. Returns its length, 16 or 32.
+/// Writes the long-term key of a user for an algorithm, and returns its length, 16 or 32.
 #[unsafe(no_mangle)]
 pub extern "C" fn stunp_long_term_key(
     algorithm: u32,
@@ -125,7 +127,7 @@ pub extern "C" fn stunp_long_term_key(
     write_key(algorithm, username, realm, password, out)
 }
 
-/// Writes the USERHASH of a user in a realm. Returns its length, 32.
+/// Writes the USERHASH of a user in a realm, and returns its length, 32.
 #[unsafe(no_mangle)]
 pub extern "C" fn stunp_userhash(username: &[u8], realm: &[u8], out: &mut [u8]) -> i64
     ensures answer { result ≡ written_number (within_room (userhash_of_texts username.now realm.now)
@@ -139,7 +141,8 @@ pub extern "C" fn stunp_userhash(username: &[u8], realm: &[u8], out: &mut [u8]) 
     }
 }
 
-/// The version of this library: 10000 times its first number, 100 times its second, and its third.
+/// Returns the version of this library: 10000 times its first number, plus 100 times its second,
+/// plus its third.
 #[unsafe(no_mangle)]
 pub extern "C" fn stunp_version() -> i64
     ensures { result ≡ pos 200 }
@@ -147,8 +150,8 @@ pub extern "C" fn stunp_version() -> i64
     200
 }
 
-/// The same. Each release that breaks something changes this name, so that a program that was
-/// compiled against another one does not link.
+/// Returns the version too. Each release that breaks compatibility changes the name of this call,
+/// so that a program that was compiled against another release does not link.
 #[unsafe(no_mangle)]
 pub extern "C" fn stunp_release_0_2() -> i64
     ensures { result ≡ pos 200 }
@@ -156,8 +159,8 @@ pub extern "C" fn stunp_release_0_2() -> i64
     200
 }
 
-/// Writes what an answer says, in English, with a zero byte at its end. Returns how many bytes
-/// there are.
+/// Writes an English text for the result of a call, with a zero byte at its end, and returns the
+/// number of bytes written.
 #[unsafe(no_mangle)]
 pub extern "C" fn stunp_error_text(answer: i64, out: &mut [u8]) -> i64
     ensures answer { result ≡ written_number
@@ -168,7 +171,8 @@ pub extern "C" fn stunp_error_text(answer: i64, out: &mut [u8]) -> i64
     write(out, error_text(answer))
 }
 
-/// Writes a message without attributes, of a class, a method and an id. Returns its length, 20.
+/// Writes a message without attributes, with this class, method and ID, and returns its length,
+/// 20.
 #[unsafe(no_mangle)]
 pub extern "C" fn stunp_begin(class: u32, method: u32, id: &[u8], out: &mut [u8]) -> i64
     ensures answer { result ≡ written_number
@@ -179,7 +183,8 @@ pub extern "C" fn stunp_begin(class: u32, method: u32, id: &[u8], out: &mut [u8]
     writing::begin(class, method, id, out)
 }
 
-/// Adds an attribute to the message in the first bytes of a buffer. Returns the new length.
+/// Appends an attribute to the message in the first `count` bytes of a buffer, and returns the new
+/// length.
 #[unsafe(no_mangle)]
 pub extern "C" fn stunp_add(buffer: &mut [u8], count: usize, kind: u32, value: &[u8]) -> i64
     ensures answer { result ≡ written_number (added_number buffer.old count kind value.now) }
@@ -189,8 +194,8 @@ pub extern "C" fn stunp_add(buffer: &mut [u8], count: usize, kind: u32, value: &
     writing::add_numbered(buffer, count, kind, value)
 }
 
-/// Adds an attribute with a number of so many bytes to the message in the first bytes of a buffer.
-/// Returns the new length.
+/// Appends an attribute whose value is a number of `size` bytes to the message in the first `count`
+/// bytes of a buffer, and returns the new length.
 #[unsafe(no_mangle)]
 pub extern "C" fn stunp_add_number(
     buffer: &mut [u8],
@@ -206,8 +211,8 @@ pub extern "C" fn stunp_add_number(
     number::add_number(buffer, count, kind, number, size)
 }
 
-/// Adds an attribute of a type with an address, as MAPPED-ADDRESS has it, to the message in the
-/// first bytes of a buffer. Returns the new length.
+/// Appends an attribute whose value is an address that is not XORed, as in MAPPED-ADDRESS, to the
+/// message in the first `count` bytes of a buffer, and returns the new length.
 #[unsafe(no_mangle)]
 pub extern "C" fn stunp_add_address(
     buffer: &mut [u8],
@@ -224,8 +229,8 @@ pub extern "C" fn stunp_add_address(
     address::add_plain(buffer, count, kind, octets, port)
 }
 
-/// Adds an XOR-MAPPED-ADDRESS to the message in the first bytes of a buffer. Returns the new
-/// length.
+/// Appends XOR-MAPPED-ADDRESS to the message in the first `count` bytes of a buffer, and returns
+/// the new length.
 #[unsafe(no_mangle)]
 pub extern "C" fn stunp_add_xor_mapped_address(
     buffer: &mut [u8],
@@ -247,8 +252,8 @@ pub extern "C" fn stunp_add_xor_mapped_address(
     )
 }
 
-/// Adds an attribute of a type with an address, hidden as in XOR-MAPPED-ADDRESS, to the message in
-/// the first bytes of a buffer. Returns the new length.
+/// Appends an attribute whose value is an XORed address, as in XOR-MAPPED-ADDRESS, to the message
+/// in the first `count` bytes of a buffer, and returns the new length.
 #[unsafe(no_mangle)]
 pub extern "C" fn stunp_add_xor_address(
     buffer: &mut [u8],
@@ -268,7 +273,8 @@ pub extern "C" fn stunp_add_xor_address(
     address::add_address(buffer, count, AttributeType::new(kind as u16), octets, port)
 }
 
-/// Adds an ERROR-CODE to the message in the first bytes of a buffer. Returns the new length.
+/// Appends ERROR-CODE to the message in the first `count` bytes of a buffer, and returns the new
+/// length.
 #[unsafe(no_mangle)]
 pub extern "C" fn stunp_add_error(buffer: &mut [u8], count: usize, code: u32, reason: &[u8]) -> i64
     ensures answer { result ≡ written_number (added_error buffer.old count code reason.now) }
@@ -278,8 +284,8 @@ pub extern "C" fn stunp_add_error(buffer: &mut [u8], count: usize, code: u32, re
     writing::add_error(buffer, count, code, reason)
 }
 
-/// Adds the integrity attribute of an algorithm to the message in the first bytes of a buffer.
-/// Returns the new length.
+/// Signs the message in the first `count` bytes of a buffer: appends the integrity attribute of an
+/// algorithm, and returns the new length.
 #[unsafe(no_mangle)]
 pub extern "C" fn stunp_sign(buffer: &mut [u8], count: usize, algorithm: u32, key: &[u8]) -> i64
     ensures answer { result ≡ written_number (signed_message buffer.old count
@@ -290,7 +296,7 @@ pub extern "C" fn stunp_sign(buffer: &mut [u8], count: usize, algorithm: u32, ke
     writing::sign(buffer, count, algorithm, key)
 }
 
-/// Writes what the header says that the bytes begin with. Returns 0, or why they begin with none.
+/// Reads the header at the front of some bytes, and returns 0.
 #[unsafe(no_mangle)]
 pub extern "C" fn stunp_read_header(bytes: &[u8], header: &mut Header) -> i64
     ensures answer { result ≡ header_answer bytes.now }
@@ -299,7 +305,7 @@ pub extern "C" fn stunp_read_header(bytes: &[u8], header: &mut Header) -> i64
     header::read_header(bytes, header)
 }
 
-/// The class of a message, from 0 to 3, or why the bytes are none.
+/// Returns the class of a message, from 0 to 3.
 #[unsafe(no_mangle)]
 pub extern "C" fn stunp_class(message: &[u8]) -> i64
     ensures { result ≡ class_answer message.now }
@@ -307,7 +313,7 @@ pub extern "C" fn stunp_class(message: &[u8]) -> i64
     reading::class(message)
 }
 
-/// The method of a message, or why the bytes are none.
+/// Returns the method of a message.
 #[unsafe(no_mangle)]
 pub extern "C" fn stunp_method(message: &[u8]) -> i64
     ensures { result ≡ method_answer message.now }
@@ -315,7 +321,7 @@ pub extern "C" fn stunp_method(message: &[u8]) -> i64
     reading::method(message)
 }
 
-/// Writes the transaction id of a message. Returns its length, 12.
+/// Writes the transaction ID of a message, and returns its length, 12.
 #[unsafe(no_mangle)]
 pub extern "C" fn stunp_id(message: &[u8], out: &mut [u8]) -> i64
     ensures answer { result ≡ written_number
@@ -326,8 +332,8 @@ pub extern "C" fn stunp_id(message: &[u8], out: &mut [u8]) -> i64
     reading::id(message, out)
 }
 
-/// The place of the first visible attribute after a place, with its type and its value's length.
-/// Returns 0 where there is none, or why the bytes are no message.
+/// Finds the first visible attribute after an offset: returns its offset, and writes its type and
+/// the length of its value. Returns 0 if there is none.
 #[unsafe(no_mangle)]
 pub extern "C" fn stunp_next(
     message: &[u8],
@@ -345,9 +351,8 @@ pub extern "C" fn stunp_next(
     reading::next(message, place, kind, value_length)
 }
 
-/// The place of the first visible attribute that is ahead of a cursor, with its type and its
-/// value's length; the cursor goes past it. Returns 0 where there is none, or why the cursor or the
-/// bytes are refused.
+/// Goes to the next visible attribute: returns its offset, writes its type and the length of its
+/// value, and moves the cursor past it. Returns 0 if there is none.
 #[unsafe(no_mangle)]
 pub extern "C" fn stunp_walk(
     message: &[u8],
@@ -372,8 +377,8 @@ pub extern "C" fn stunp_walk(
     walk::walk(message, cursor, kind, value_length)
 }
 
-/// The place of the first visible attribute of a type, with its value's length, or why there is
-/// none.
+/// Finds the first visible attribute of a type: returns its offset, and writes the length of its
+/// value.
 #[unsafe(no_mangle)]
 pub extern "C" fn stunp_find(message: &[u8], kind: u32, value_length: &mut usize) -> i64
     ensures answer { result ≡ find_answer (finding_refusal kind message.now)
@@ -385,7 +390,7 @@ pub extern "C" fn stunp_find(message: &[u8], kind: u32, value_length: &mut usize
     reading::find(message, kind, value_length)
 }
 
-/// The code of the error that a message reports, or why it reports none.
+/// Returns the code in the first visible ERROR-CODE of a message.
 #[unsafe(no_mangle)]
 pub extern "C" fn stunp_error_code(message: &[u8]) -> i64
     ensures { result ≡ error_answer message.now }
@@ -393,8 +398,8 @@ pub extern "C" fn stunp_error_code(message: &[u8]) -> i64
     reading::error_code(message)
 }
 
-/// Writes the address that a message reports, 4 or 16 octets, and its port. Returns how many octets
-/// there are.
+/// Reads the address and the port in the first visible XOR-MAPPED-ADDRESS of a message, and returns
+/// the length of the address, 4 or 16.
 #[unsafe(no_mangle)]
 pub extern "C" fn stunp_xor_mapped_address(message: &[u8], out: &mut [u8], port: &mut u16) -> i64
     ensures answer { result ≡ written_number (within_room (octets_of_message message.now)
@@ -408,8 +413,8 @@ pub extern "C" fn stunp_xor_mapped_address(message: &[u8], out: &mut [u8], port:
     reading::mapped_address(message, out, port)
 }
 
-/// Writes the address in the attribute at a place of a message, hidden as in XOR-MAPPED-ADDRESS,
-/// and its port. The address has 4 or 16 octets. Returns how many there are.
+/// Reads the XORed address and the port in the attribute at an offset of a message, and returns the
+/// length of the address, 4 or 16.
 #[unsafe(no_mangle)]
 pub extern "C" fn stunp_read_xor_address(
     message: &[u8],
@@ -428,8 +433,8 @@ pub extern "C" fn stunp_read_xor_address(
     reading::address_at(message, place, out, port)
 }
 
-/// Writes the address in the attribute at a place of a message, as MAPPED-ADDRESS has it, and its
-/// port. The address has 4 or 16 octets. Returns how many there are.
+/// Reads the address and the port in the attribute at an offset of a message, which are not XORed,
+/// and returns the length of the address, 4 or 16.
 #[unsafe(no_mangle)]
 pub extern "C" fn stunp_read_address(
     message: &[u8],
@@ -450,8 +455,8 @@ pub extern "C" fn stunp_read_address(
     reading::plain_at(message, place, out, port)
 }
 
-/// Writes the number in the attribute at a place of a message, 1, 2, 4 or 8 bytes. Returns how many
-/// they are.
+/// Reads the number in the attribute at an offset of a message, and returns the number of its
+/// bytes, 1, 2, 4 or 8.
 #[unsafe(no_mangle)]
 pub extern "C" fn stunp_read_number(message: &[u8], place: usize, number: &mut u64) -> i64
     ensures answer { result ≡ written_number (sized_at message.now place) }
@@ -460,7 +465,8 @@ pub extern "C" fn stunp_read_number(message: &[u8], place: usize, number: &mut u
     number::number_at(message, place, number)
 }
 
-/// Where the text in the attribute at a place of a message begins, with its length.
+/// Finds the text in the attribute at an offset of a message: returns its offset, and writes its
+/// length.
 #[unsafe(no_mangle)]
 pub extern "C" fn stunp_read_text(message: &[u8], place: usize, text_length: &mut usize) -> i64
     ensures answer { result ≡ text_answer (text_at message.now place) place }
@@ -470,8 +476,8 @@ pub extern "C" fn stunp_read_text(message: &[u8], place: usize, text_length: &mu
     value::read_text(message, place, text_length)
 }
 
-/// How many types the attribute at a place of a message holds, as UNKNOWN-ATTRIBUTES does; the
-/// first of them are written.
+/// Reads the list of types in the attribute at an offset of a message, as in UNKNOWN-ATTRIBUTES:
+/// returns the number of types, and writes as many as there is room for.
 #[unsafe(no_mangle)]
 pub extern "C" fn stunp_read_types(message: &[u8], place: usize, types: &mut [u16]) -> i64
     ensures answer { result ≡ held_number (types_at message.now place) }
@@ -480,8 +486,8 @@ pub extern "C" fn stunp_read_types(message: &[u8], place: usize, types: &mut [u1
     value::read_types(message, place, types)
 }
 
-/// What the FINGERPRINT of a message is: 0 where it has none, 1 right, 2 wrong, 3 misplaced, or why
-/// the bytes are no message.
+/// Checks the FINGERPRINT of a message: returns 0 if it has none, 1 if it is right, 2 if it is
+/// wrong, and 3 if it is misplaced.
 #[unsafe(no_mangle)]
 pub extern "C" fn stunp_check_fingerprint(message: &[u8]) -> i64
     ensures { result ≡ fingerprint_answer message.now }
@@ -489,7 +495,8 @@ pub extern "C" fn stunp_check_fingerprint(message: &[u8]) -> i64
     fingerprint::check(message)
 }
 
-/// Adds FINGERPRINT to the message in the first bytes of a buffer. Returns the new length.
+/// Appends FINGERPRINT to the message in the first `count` bytes of a buffer, and returns the new
+/// length.
 #[unsafe(no_mangle)]
 pub extern "C" fn stunp_add_fingerprint(buffer: &mut [u8], count: usize) -> i64
     ensures answer { result ≡ written_number (fingerprinted_message buffer.old count) }
@@ -499,8 +506,8 @@ pub extern "C" fn stunp_add_fingerprint(buffer: &mut [u8], count: usize) -> i64
     fingerprint::add(buffer, count)
 }
 
-/// How many types a message has that must be understood and are not among the known; the first of
-/// them are written.
+/// Lists the types of a message that must be understood and are not among the known ones: returns
+/// their number, and writes as many as there is room for.
 #[unsafe(no_mangle)]
 pub extern "C" fn stunp_unknown_types(message: &[u8], known: &[u16], types: &mut [u16]) -> i64
     ensures answer { result ≡ told_number (known_refusal message.now known.now)
@@ -511,8 +518,8 @@ pub extern "C" fn stunp_unknown_types(message: &[u8], known: &[u16], types: &mut
     unknown::types(message, known, types)
 }
 
-/// Writes the answer 420 to a request that has such types. Returns its length, or 0 where it has
-/// none.
+/// Writes the error response 420 to a request that has unknown types which must be understood, and
+/// returns its length. Returns 0 if the request has none.
 #[unsafe(no_mangle)]
 pub extern "C" fn stunp_refuse_unknown(request: &[u8], known: &[u16], out: &mut [u8]) -> i64
     ensures answer { result ≡ written_number (within_room (unknown_made request.now known.now)
@@ -523,7 +530,7 @@ pub extern "C" fn stunp_refuse_unknown(request: &[u8], known: &[u16], out: &mut 
     unknown::refuse(request, known, out)
 }
 
-/// 1 where a packet is to be given to STUN, or 0.
+/// Returns 1 if a packet is for STUN, on a port that other protocols share, and otherwise 0.
 #[unsafe(no_mangle)]
 pub extern "C" fn stunp_is_stun(packet: &[u8]) -> i64
     ensures yes { (result ≡ pos 1) ↔ IsStunPacket packet.now }
@@ -532,8 +539,8 @@ pub extern "C" fn stunp_is_stun(packet: &[u8]) -> i64
     framing::is_stun_packet(packet)
 }
 
-/// How many bytes the message has that a stream begins with, or its header, where that is not
-/// whole, or why it is none.
+/// Finds the end of the message at the front of a stream: returns how many bytes it has, or if its
+/// header is not whole, how many bytes are needed to say more.
 #[unsafe(no_mangle)]
 pub extern "C" fn stunp_next_frame(bytes: &[u8]) -> i64
     ensures { result ≡ wanted_number (length bytes.now) (frame_of bytes.now) }
@@ -541,7 +548,8 @@ pub extern "C" fn stunp_next_frame(bytes: &[u8]) -> i64
     framing::next_frame(bytes)
 }
 
-/// The same of a packet behind its length in 2 bytes, which counts too.
+/// Finds the end of the packet at the front of a stream that has its length in 2 bytes before it.
+/// These 2 bytes count too.
 #[unsafe(no_mangle)]
 pub extern "C" fn stunp_next_packet_frame(bytes: &[u8]) -> i64
     ensures { result ≡ wanted_number (length bytes.now) (packet_frame_of bytes.now) }
@@ -549,7 +557,7 @@ pub extern "C" fn stunp_next_packet_frame(bytes: &[u8]) -> i64
     framing::next_packet_frame(bytes)
 }
 
-/// The same of a message or ChannelData, with its header and its padding.
+/// Finds the end of the message or the ChannelData at the front of a stream, its padding included.
 #[unsafe(no_mangle)]
 pub extern "C" fn stunp_next_turn_frame(bytes: &[u8]) -> i64
     ensures { result ≡ wanted_number (length bytes.now) (turn_frame_of bytes.now) }

@@ -1,9 +1,10 @@
 -- How often an input is asked for, and why a command has none.
-use Rattle.std.specs.Prelude.{◌≡◌, ◌≢◌, ◌<◌, ◌+◌, ◌-◌, ◌^◌, ◌⊎◌, ⊤, ℕ, List, Bool}
-use Rattle.std.specs.Prelude.{true, Option, Result, IfSome, MatchResult, length, min}
+use Rattle.std.specs.Prelude.{◌≡◌, ◌≢◌, ◌<◌, ◌+◌, ◌-◌, ◌^◌, ◌⊎◌, ◌++◌, ⊤, ℕ, List}
+use Rattle.std.specs.Prelude.{Bool, true, Option, Result, IfSome, MatchResult, length, min}
 use Rattle.std.specs.IoError.{error_kind}
 use Rattle.std.specs.declared.io.Error.{Error}
 use Rattle.std.specs.declared.io.ErrorKind.TheVariants.{Interrupted}
+use Rattle.std.specs.Io.KnownBytes.{Consumes}
 use Rattle.stun_cli.specs.declared.failure.Failure.{Failure}
 use Rattle.stun_cli.specs.declared.failure.Failure.TheVariants.{Io, Memory, NoEnd}
 
@@ -26,3 +27,9 @@ IsReason Io most given asked asked_now failed = failed ≡ true
 IsReason NoEnd most given asked asked_now failed =
     IfSome given (λ input. most < length input) ⊎ (asked_now ≡ asked_after most_tries asked)
 IsReason Memory most given asked asked_now failed = ⊤
+
+-- the bytes that a reader gave were read on after others
+pub record IsReadOn (given rest : Option (List ℕ)) (before bytes : List ℕ) : Type 0 where
+  pub read : List ℕ
+  pub consumed : Consumes given rest read
+  pub follows : bytes ≡ before ++ read

@@ -1,17 +1,17 @@
-//! Why nothing was read or written.
+//! The errors of reading and writing.
 ghost use Rattle.std.specs.Prelude.{◌≡◌};
 ghost use Rattle.stun_cli.specs.declared.failure.Failure.TheVariants.{Memory};
 
 use std::alloc::AllocError;
 
-/// Why nothing was read or written.
+/// Why something could not be read or written.
 #[derive(Clone, Copy, Debug, PartialEq, Eq)]
 pub enum Failure {
     /// A read or a write failed.
     Io,
     /// An allocation failed.
     Memory,
-    /// The end of the input did not come where it must.
+    /// The input did not end where it must.
     NoEnd,
 }
 

@@ -1,8 +1,10 @@
-//! Reading: all that a command reads comes in by this module.
-ghost use Rattle.std.specs.Prelude.{◌≡◌, ◌≤◌, ◌+◌, ◌↔◌, ℕ, Bool, true, IfErr, IfOk, IfSome, length};
+//! Reading: everything that a command reads comes in through this module.
+ghost use Rattle.std.specs.Prelude.{◌≡◌, ◌≤◌, ◌+◌, ◌++◌, ◌↔◌, ◌⊎◌, ℕ, Bool, true, IfErr, IfOk};
+ghost use Rattle.std.specs.Prelude.{IfSome, length};
 ghost use Rattle.std.specs.Io.{ReadsAtMost};
 ghost use Rattle.std.specs.Io.KnownBytes.{ReadConsumes};
-ghost use Rattle.stun_cli.specs.Input.{most_tries, asked_after, IsFailed, IsReason};
+ghost use Rattle.std.specs.Io.KnownBytes.{IsAtEnd};
+ghost use Rattle.stun_cli.specs.Input.{most_tries, asked_after, IsFailed, IsReadOn, IsReason};
 
 use crate::failure::Failure;
 use std::alloc::Allocator;
@@ -15,14 +17,14 @@ const MAX_READS: u32 = 1_048_576;
 /// How many bytes one read may give.
 const READ_SIZE: usize = 256;
 
-/// A reader that counts how often it is asked, so that contracts can bound it.
+/// A reader that counts how often it is read, so that contracts can bound it.
 pub trait CountedRead: Read {
     // How often the reader has been asked, up to 4294967295 times.
     ghost asked: { Self → ℕ };
     // Whether the last read failed, and was not only interrupted.
     ghost failed: { Self → Bool };
 
-    /// One read, as `read` makes it. It is counted, and so is one that is interrupted.
+    /// Reads once, like `read`, and counts the read. An interrupted read counts too.
     fn ask(&mut self, buf: &mut [u8]) -> io::Result<usize>
         ensures bound { ReadsAtMost result buf.new }
         ensures bytes { ReadConsumes (Self.remaining self.old)
@@ -31,7 +33,7 @@ pub trait CountedRead: Read {
         ensures failed { (failed self.new ≡ true) ↔ IsFailed result };
 }
 
-/// A reader that counts how often it is asked.
+/// A reader that counts how often it is read.
 #[derive(Drop)]
 pub struct Counted<R: Read + Drop> {
     pub reader: R,
@@ -40,7 +42,7 @@ pub struct Counted<R: Read + Drop> {
 }
 
 impl<R: Read + Drop> Counted<R> {
-    /// A reader that has not been asked yet.
+    /// Creates a counting reader that has not been read yet.
     pub fn new(reader: R) -> Counted<R> {
         Counted {
             reader,
@@ -74,10 +76,15 @@ impl<R: Read + Drop> CountedRead for Counted<R> {
     }
 }
 
-/// All bytes that the reader has left, which are at most `most`.
+/// Reads all bytes that the reader has left, which must be at most `most`.
 ///
-/// Fails if a read or an allocation fails, if there are more bytes, or if the end does not come
-/// within 1048576 reads. An interrupted read is tried again, and counts as one.
+/// A read that is interrupted is tried again, and counts as one read.
+///
+/// # Errors
+///
+/// - `Io`: a read failed.
+/// - `Memory`: an allocation failed.
+/// - `NoEnd`: there are more than `most` bytes, or the end does not come within 1048576 reads.
 pub fn read_to_end<R: CountedRead, A: Allocator>(
     alloc: A,
     reader: &mut R,
@@ -97,6 +104,74 @@ pub fn read_to_end<R: CountedRead, A: Allocator>(
             Ok(0) => return Ok(bytes),
             Ok(count) => {
                 if count > most - bytes.len() {
+                    return Err(Failure::NoEnd);
+                }
+                bytes.extend_from_slice(&buffer[..count])?;
+            }
+            Err(error) => {
+                if error.kind() != ErrorKind::Interrupted {
+                    return Err(Failure::Io);
+                }
+            }
+        }
+    }
+    Err(Failure::NoEnd)
+}
+
+/// The bytes before, and then those that the reader gives until there are `least` of them. There
+/// are fewer only if the reader has no more. Nothing beyond them is read.
+///
+/// Fails if a read or an allocation fails, or if it takes more than 1048576 reads.
+pub fn read_up_to<R: CountedRead, A: Allocator>(
+    reader: &mut R,
+    before: Vec<u8, A>,
+    least: usize,
+) -> Result<Vec<u8, A>, Failure>
+    ensures read { IfOk result (λ bytes. IsReadOn (R.remaining reader.old) (R.remaining reader.new)
+        before.items bytes.items) }
+    ensures enough { IfOk result (λ bytes.
+        (least ≤ length bytes.items) ⊎ IsAtEnd (R.remaining reader.new)) }
+{
+    let mut bytes = before;
+    let mut buffer = [0u8; READ_SIZE];
+    for _turn in 0..MAX_READS {
+        let lack = least.saturating_sub(bytes.len());
+        if lack == 0 {
+            return Ok(bytes);
+        }
+        let piece = &mut buffer[..lack.min(READ_SIZE)];
+        match reader.ask(piece) {
+            Ok(0) => return Ok(bytes),
+            Ok(count) => bytes.extend_from_slice(&piece[..count])?,
+            Err(error) => {
+                if error.kind() != ErrorKind::Interrupted {
+                    return Err(Failure::Io);
+                }
+            }
+        }
+    }
+    Err(Failure::NoEnd)
+}
+
+/// The bytes before, and then all that the reader has left. They are at most `most`.
+///
+/// Fails if a read or an allocation fails, if there are more bytes, or if the end does not come
+/// within 1048576 reads, of which those of the bytes before count as one each.
+pub fn read_rest<R: CountedRead, A: Allocator>(
+    reader: &mut R,
+    before: Vec<u8, A>,
+    most: usize,
+) -> Result<Vec<u8, A>, Failure>
+    ensures all { IfSome (R.remaining reader.old)
+        (λ rest. IfOk result (λ bytes. bytes.items ≡ before.items ++ rest)) }
+{
+    let mut bytes = before;
+    let mut buffer = [0u8; READ_SIZE];
+    for _turn in bytes.len()..MAX_READS as usize {
+        match reader.ask(&mut buffer) {
+            Ok(0) => return Ok(bytes),
+            Ok(count) => {
+                if count > most.saturating_sub(bytes.len()) {
                     return Err(Failure::NoEnd);
                 }
                 bytes.extend_from_slice(&buffer[..count])?;

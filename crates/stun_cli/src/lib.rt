@@ -1,4 +1,4 @@
-//! What the programs share: the words of a command line, reading and writing, what is said of a
+//! What the programs share: the arguments of a command line, reading and writing, the verdict on a
 //! message, and how a command ends.
 #![tactic(auto)]
 

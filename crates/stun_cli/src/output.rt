@@ -1,4 +1,4 @@
-//! Writing: all that a command writes goes out by this module.
+//! Writing: everything that a command writes goes out through this module.
 ghost use Rattle.std.specs.Prelude.{◌≡◌, ◌++◌, ◌∷◌, [], false, OnOk, OnErr, IfOk, string_bytes};
 ghost use Rattle.std.specs.Io.KnownBytes.{Appends};
 ghost use Rattle.stun_cli.specs.Line.{has_line_feed, IsLine};
@@ -11,10 +11,12 @@ use std::io::{ErrorKind, Write};
 /// How often a text is handed to its writer, at most.
 const MAX_WRITES: u32 = 1_048_576;
 
-/// Writes the text, in at most 1048576 writes. An interrupted write is tried again.
+/// Writes the text, in at most 1048576 writes. A write that is interrupted is tried again.
 ///
-/// Fails if a write fails or takes nothing, or if that many writes do not suffice. A beginning of
-/// the text is then written, and not the whole.
+/// # Errors
+///
+/// `Io`: a write failed or wrote nothing, or there were not enough writes. A beginning of the text
+/// is then written, but not all of it.
 pub fn write_text<W: Write>(writer: &mut W, text: &[u8]) -> Result<(), Failure>
     ensures ok { OnOk result (Appends (W.contents writer.old) (W.contents writer.new) text.now) }
     ensures err { OnErr result (AppendsBeginning (W.contents writer.old)
@@ -42,15 +44,19 @@ pub fn write_text<W: Write>(writer: &mut W, text: &[u8]) -> Result<(), Failure>
     }
 }
 
-/// Whether a text has a line feed.
+/// Returns `true` if the text contains a line feed.
 pub fn has_line_feed(text: &str) -> bool
     ensures { result ≡ has_line_feed text.now }
 {
     text.as_bytes().contains(&b'\n')
 }
 
-/// The text, or other words if it has a line feed. So lines stay apart, whatever their texts are.
-/// No text that the programs print has a line feed. Fails if an allocation fails.
+/// Returns the text, or another text in its place if it contains a line feed, so that each text
+/// stays on one line. None of the texts that the programs print contains a line feed.
+///
+/// # Errors
+///
+/// `AllocError`: an allocation failed.
 pub fn unbroken<A: Allocator>(alloc: A, text: String<A>) -> Result<String<A>, AllocError>
     ensures unbroken { IfOk result (λ unbroken. has_line_feed (string_bytes unbroken) ≡ false) }
     ensures same { has_line_feed (string_bytes text) ≡ false
@@ -63,8 +69,11 @@ pub fn unbroken<A: Allocator>(alloc: A, text: String<A>) -> Result<String<A>, Al
     }
 }
 
-/// The line of a text: the text as `unbroken` gives it, and a line feed. Fails if an allocation
-/// fails.
+/// Returns the text as a line: the result of `unbroken`, followed by a line feed.
+///
+/// # Errors
+///
+/// `AllocError`: an allocation failed.
 pub fn line_of<A: Allocator>(alloc: A, text: String<A>) -> Result<String<A>, AllocError>
     ensures line { IfOk result (λ line. IsLine (string_bytes line)) }
     ensures text { has_line_feed (string_bytes text) ≡ false

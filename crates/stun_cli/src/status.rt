@@ -8,18 +8,19 @@ use std::process::ExitCode;
 /// How a command ended.
 #[derive(Clone, Copy, Debug, PartialEq, Eq)]
 pub enum Status {
-    /// The answer is good.
+    /// The command did what it was asked, and the result is good.
     Good,
-    /// The answer is a refusal: what was asked does not hold.
+    /// The result is a refusal: what was asked does not hold.
     Bad,
-    /// The command has no answer, and has the status of a refusal.
+    /// The command has no result, and ends with the exit status of a refusal.
     Failed,
-    /// Nothing was judged.
+    /// The arguments were wrong, and nothing was judged.
     NotJudged,
 }
 
 impl Status {
-    /// The exit status of the process.
+    /// Returns the exit status of the process: 0 for `Good`, 1 for `Bad` and `Failed`, and 2 for
+    /// `NotJudged`.
     pub fn code(self) -> ExitCode
         ensures { exit_status result ≡ exit_code self }
     {

@@ -1,29 +1,29 @@
-//! What is said of bytes under a key.
+//! The verdict on a message under a key.
 ghost use Rattle.std.specs.Prelude.{◌≡◌, ◌≢◌};
 ghost use Rattle.stun_cli.specs.Verdict.{refusal_line, status_of, verdict_without_digest};
 
 use crate::status::Status;
 use stun_types::message::{IntegrityAlgorithm, StunParseError, ValidateError};
 
-/// What is said of an input under a key.
+/// The verdict on an input under a key.
 #[derive(Clone, Copy, Debug, PartialEq, Eq)]
 pub enum Verdict {
-    /// The digest of this algorithm verifies.
+    /// The message was signed with this algorithm.
     Valid(IntegrityAlgorithm),
-    /// The digest that decides is another.
+    /// The signature is invalid.
     OtherDigest,
     /// No integrity attribute is visible.
     NoIntegrity,
-    /// The integrity attribute that decides has a length that its type cannot have.
+    /// The integrity attribute that decides has a length that its type does not allow.
     MalformedIntegrity,
-    /// The bytes are no message.
+    /// The bytes are not a message.
     NotAMessage(StunParseError),
-    /// The input spells no bytes.
+    /// The input does not spell bytes.
     BadInput,
 }
 
 impl Verdict {
-    /// How a command ends that prints this verdict.
+    /// Returns how a command that prints this verdict ends.
     pub fn status(self) -> Status
         ensures value { result ≡ status_of self }
         ensures judged { (result ≢ Status.NotJudged) × (result ≢ Status.Failed) }
@@ -35,7 +35,7 @@ impl Verdict {
     }
 }
 
-/// The verdict on a message where no digest verifies.
+/// Converts the error of a verification to the verdict.
 pub fn verdict_without_digest(error: ValidateError) -> Verdict
     ensures { result ≡ verdict_without_digest error }
 {
@@ -46,7 +46,7 @@ pub fn verdict_without_digest(error: ValidateError) -> Verdict
     }
 }
 
-/// The line for bytes that are no message.
+/// Returns the line that is printed for bytes that are not a message.
 pub fn refusal_line(error: StunParseError) -> &'static str
     ensures { result.now ≡ refusal_line error }
 {

@@ -1,11 +1,14 @@
-//! The words of a command line.
+//! The arguments of a command line.
 
 use std::alloc::AllocError;
 use std::env;
 use std::io::ErrorKind;
 
-/// The words after the program's name. There are none if one of them is no text. Fails if an
-/// allocation fails.
+/// Returns the arguments that follow the name of the program, or none of them if one is not a text.
+///
+/// # Errors
+///
+/// `AllocError`: an allocation failed.
 pub fn words_of(rt: &(impl std::rt::Env + AllocGlobal)) -> Result<Vec<String>, AllocError> {
     match env::args(rt) {
         Ok(mut words) => {

@@ -1,12 +1,15 @@
 -- Lemmas of the crate.
 mod AnswerLemmas
+mod BeginLemmas
 mod ChangedLemmas
 mod Crc32Lemmas
+mod CuttingLemmas
 mod FingerprintLemmas
 mod FramingLemmas
 mod OnceLemmas
 mod PacketLemmas
 mod SpelledLemmas
 mod ToldLemmas
+mod TurnLemmas
 mod TypesLemmas
 mod UnknownLemmas

@@ -1,40 +1,58 @@
--- Packets behind their length, and ChannelData among messages.
-use Rattle.std.proofs.Common.{◌≡◌, ℕ, zero, suc, ◌+◌, ◌-◌, ◌/◌, ◌%◌, ◌≤◌, ◌<◌, ◌^◌, ◌≢◌}
-use Rattle.std.proofs.Common.{true, false, cond, List, [], ◌∷◌, ◌++◌, length, take}
-use Rattle.std.proofs.Common.{drop, replicate, refl, sym, ◌∙◌, ap, arith, length-append}
-use Rattle.std.specs.Prelude.{nat_lt, slice_index, ◌==◌}
+-- Packets behind their length.
+use Rattle.std.proofs.Common.{◌≡◌, ℕ, zero, suc, ◌+◌, ◌-◌, ◌≤◌, ◌<◌, ◌^◌, Bool, true, false}
+use Rattle.std.proofs.Common.{cond, List, ◌++◌, length, take, refl, sym, ◌∙◌, ap, arith, subst}
+use Rattle.std.proofs.Common.{length-append}
+use Rattle.std.specs.Prelude.{nat_lt}
 use Rattle.std.proofs.lemmas.Bool.Decides.{nat_tests}
-use Rattle.std.proofs.lemmas.List.{length-replicate, length-take-le}
+use Rattle.std.proofs.lemmas.List.{length-take-le}
 use Rattle.byteorder.specs.Endian.{big_number}
-use Rattle.byteorder.specs.Numbers.{big_number-reads_back}
-use Rattle.stun_base.specs.Header.{type_field}
-use Rattle.stun_types.specs.Attribute.{padded_length}
-use Rattle.stun_types.specs.Message.{IsMessage}
-use Rattle.stun_types.proofs.HeaderLemmas.{fields_of}
-use Rattle.stun_extra.specs.Framing.{IsPartBy, channel_data, frame_of, frame_to, framed_packet}
-use Rattle.stun_extra.specs.Framing.{is_channel, packet_frame_of, turn_frame_of}
+use Rattle.byteorder.specs.Numbers.{big_from-append, big_number-reads_back}
+use Rattle.stun_extra.specs.Framing.{IsFramedPacket, IsPartBy, frame_to, framed_packet}
+use Rattle.stun_extra.specs.Framing.{packet_frame_of}
+use Rattle.stun_extra.specs.declared.framing.Frame.{Frame}
 use Rattle.stun_extra.specs.declared.framing.Frame.TheVariants.{Need, Message}
-use Rattle.stun_extra.proofs.FramingLemmas.{frame-message}
+use Rattle.stun_extra.proofs.CuttingLemmas.{IsSteady, TakesWhole}
 
-is_lt : (a b : ℕ) → a < b → nat_lt a b ≡ true
+pub is_lt : (a b : ℕ) → a < b → nat_lt a b ≡ true
 is_lt a b below = grind (arith, nat_tests)
 
-is_not_lt : (a b : ℕ) → b ≤ a → nat_lt a b ≡ false
+pub is_not_lt : (a b : ℕ) → b ≤ a → nat_lt a b ≡ false
 is_not_lt a b above = grind (arith, nat_tests)
 
-alike : (a b : ℕ) → a ≡ b → (a == b) ≡ true
-alike a b same = grind (arith, nat_tests)
-
-differ : (a b : ℕ) → a ≢ b → (a == b) ≡ false
-differ a b other = grind (arith, nat_tests)
-
-frame_to-whole : (there whole : ℕ) → whole ≤ there → frame_to there whole ≡ Message whole
+pub frame_to-whole : (there whole : ℕ) → whole ≤ there → frame_to there whole ≡ Message whole
 frame_to-whole there whole enough =
     ap (λ b. cond b (Need (whole - there)) (Message whole)) (is_not_lt there whole enough)
 
-frame_to-part : (there whole : ℕ) → there < whole → frame_to there whole ≡ Need (whole - there)
+pub frame_to-part : (there whole : ℕ) → there < whole → frame_to there whole ≡ Need (whole - there)
 frame_to-part there whole few =
     ap (λ b. cond b (Need (whole - there)) (Message whole)) (is_lt there whole few)
+
+-- a whole that is there
+pub record IsThere (there whole n : ℕ) : Type 0 where
+  pub enough : whole ≤ there
+  pub counted : whole ≡ n
+
+pub frame_to-there : (there whole n : ℕ) → frame_to there whole ≡ Message n → IsThere there whole n
+frame_to-there there whole n answer = by (nat_lt there whole) refl answer
+  where
+    by : (part : Bool) → nat_lt there whole ≡ part
+        → cond part (Need (whole - there)) (Message whole) ≡ Message n → IsThere there whole n
+    by true is answer = cc
+    by false is answer =
+        let enough : whole ≤ there = grind (arith, nat_tests, is) in
+        let counted : whole ≡ n = cc in record { enough = enough; counted = counted }
+
+-- what needs more than a few bytes to tell is not whole with fewer
+pub long_enough : (there least n : ℕ) (rest : Frame)
+    → cond (nat_lt there least) (Need (least - there)) rest ≡ Message n
+    → (least ≤ there) × (rest ≡ Message n)
+long_enough there least n rest answer = by (nat_lt there least) refl answer
+  where
+    by : (short : Bool) → nat_lt there least ≡ short
+        → cond short (Need (least - there)) rest ≡ Message n
+        → (least ≤ there) × (rest ≡ Message n)
+    by true is answer = cc
+    by false is answer = (grind (arith, nat_tests, is), answer)
 
 -- ---- packets
 
@@ -82,96 +100,37 @@ packet-part packet (suc (suc k)) small below =
       within = omega (arith, below);
     }
 
--- ---- ChannelData
+pub packet-item : TakesWhole packet_frame_of IsFramedPacket
+packet-item item rest framed =
+    let P : List ℕ → Type 0 = λ xs. packet_frame_of (xs ++ rest) ≡ Message (length xs) in
+    subst P (sym framed.framed) (packet-whole framed.packet rest framed.fits)
 
--- with its header there, the length in it decides
-channel-long : (bytes : List ℕ) (count : ℕ) → 4 ≤ length bytes → slice_index bytes 0 / 16 ≡ 4
-    → big_number 2 (drop 2 bytes) ≡ count
-    → turn_frame_of bytes ≡ frame_to (length bytes) (4 + padded_length count)
-channel-long bytes count long first stated =
-    let data_frame = frame_to (length bytes) (4 + padded_length (big_number 2 (drop 2 bytes))) in
-    ap (λ b. cond b (Need (4 - length bytes)) (cond (is_channel bytes) data_frame (frame_of bytes)))
-    (is_not_lt (length bytes) 4 long)
-    ∙ (ap (λ b. cond b data_frame (frame_of bytes)) (alike (slice_index bytes 0 / 16) 4 first)
-    ∙ ap (λ k. frame_to (length bytes) (4 + padded_length k)) stated)
+-- what is whole by its length
+record IsWholePacket (bytes : List ℕ) (n : ℕ) : Type 0 where
+  pub long : 2 ≤ length bytes
+  pub enough : 2 + big_number 2 bytes ≤ length bytes
+  pub counted : 2 + big_number 2 bytes ≡ n
 
--- the data and its padding fill the padded length
-length-body : (bytes : List ℕ)
-    → length (bytes ++ replicate (padded_length (length bytes) - length bytes) 0)
-    ≡ padded_length (length bytes)
-length-body bytes =
-    let zeros : List ℕ = replicate (padded_length (length bytes) - length bytes) 0 in
-    let sum = length-append bytes zeros in
-    let count : length zeros ≡ padded_length (length bytes) - length bytes = rw length-replicate in
-    omega (arith, sum, count)
+whole_packet : (bytes : List ℕ) (n : ℕ) → packet_frame_of bytes ≡ Message n
+    → IsWholePacket bytes n
+whole_packet bytes n answer =
+    let told =
+    long_enough (length bytes) 2 n (frame_to (length bytes) (2 + big_number 2 bytes)) answer in
+    let there = frame_to-there (length bytes) (2 + big_number 2 bytes) n told.1 in
+    record { long = told.0; enough = there.enough; counted = there.counted }
 
-pub channel-whole : (channel : ℕ) (bytes rest : List ℕ) → 0x4000 ≤ channel → channel < 0x5000
-    → length bytes < 2 ^ 16
-    → turn_frame_of (channel_data channel bytes ++ rest)
-    ≡ Message (length (channel_data channel bytes))
-channel-whole channel bytes rest low high small =
-    let n = length bytes in
-    let tail = bytes ++ replicate (padded_length n - n) 0 in
-    let all = channel_data channel bytes ++ rest in
-    let sum = length-append tail rest in
-    let padded = length-body bytes in
-    let count : length all ≡ 4 + padded_length n + length rest = omega (arith, sum, padded) in
-    let first : channel / 256 % 256 / 16 ≡ 4 = omega (arith, low, high) in
-    let stated : big_number 2 (drop 2 all) ≡ n = big_number-reads_back 2 n (tail ++ rest) small in
-    let whole : length (channel_data channel bytes) ≡ 4 + padded_length n = omega (arith, padded) in
-    channel-long all n (omega (arith, count)) first stated
-    ∙ (frame_to-whole (length all) (4 + padded_length n) (omega (arith, count))
-    ∙ ap Message (sym whole))
-
-pub channel-part : (channel : ℕ) (bytes : List ℕ) (n : ℕ) → 0x4000 ≤ channel → channel < 0x5000
-    → length bytes < 2 ^ 16
-    → n < length (channel_data channel bytes)
-    → IsPartBy turn_frame_of (channel_data channel bytes) n
-channel-part channel bytes zero low high small below =
-    record { needed = 4; answer = refl; some = omega arith; within = omega arith }
-channel-part channel bytes (suc zero) low high small below =
-    record { needed = 3; answer = refl; some = omega arith; within = omega arith }
-channel-part channel bytes (suc (suc zero)) low high small below =
-    record { needed = 2; answer = refl; some = omega arith; within = omega arith }
-channel-part channel bytes (suc (suc (suc zero))) low high small below =
-    record { needed = 1; answer = refl; some = omega arith; within = omega arith }
-channel-part channel bytes (suc (suc (suc (suc k)))) low high small below =
-    let n = length bytes in
-    let tail = bytes ++ replicate (padded_length n - n) 0 in
-    let there = take (suc (suc (suc (suc k)))) (channel_data channel bytes) in
-    let padded = length-body bytes in
-    let fewer : k < padded_length n = omega (arith, below, padded) in
-    let part : length (take k tail) ≡ k = length-take-le k tail (omega (arith, fewer, padded)) in
-    let count : length there ≡ 4 + k = omega (arith, part) in
-    let first : channel / 256 % 256 / 16 ≡ 4 = omega (arith, low, high) in
-    let stated : big_number 2 (drop 2 there) ≡ n = big_number-reads_back 2 n (take k tail) small in
-    record {
-      needed = 4 + padded_length n - (4 + k);
-      answer =
-          channel-long there n (omega (arith, count)) first stated
-          ∙ (ap (λ l. frame_to l (4 + padded_length n)) count
-          ∙ frame_to-part (4 + k) (4 + padded_length n) (omega (arith, fewer)));
-      some = omega (arith, fewer);
-      within = omega (arith, fewer, padded);
-    }
-
--- ---- messages among them
-
--- the two top bits of a message are zero
-not_channel : (message rest : List ℕ) → 20 ≤ length message → type_field message < 2 ^ 14
-    → is_channel (message ++ rest) ≡ false
-not_channel [] rest long top_bits = absurd (omega (arith, long))
-not_channel (x ∷ message) rest long top_bits =
-    let other : x / 16 ≢ 4 = omega (arith, top_bits) in differ (x / 16) 4 other
-
-pub turn-message : (message rest : List ℕ) → IsMessage message
-    → turn_frame_of (message ++ rest) ≡ Message (length message)
-turn-message message rest is_message =
-    let bytes = message ++ rest in
-    let long = is_message.header.is_whole in
-    let data_frame = frame_to (length bytes) (4 + padded_length (big_number 2 (drop 2 bytes))) in
-    let fields = fields_of message is_message.header.fields in
-    ap (λ b. cond b (Need (4 - length bytes)) (cond (is_channel bytes) data_frame (frame_of bytes)))
-    (is_not_lt (length bytes) 4 (omega (arith, long, length-append message rest)))
-    ∙ (ap (λ b. cond b data_frame (frame_of bytes)) (not_channel message rest long fields.top_bits)
-    ∙ frame-message message rest is_message)
+pub packet-steady : IsSteady packet_frame_of
+packet-steady = record {
+  some = λ bytes n answer. let known = whole_packet bytes n answer in omega (arith, known.counted);
+  within =
+      λ bytes n answer.
+      let known = whole_packet bytes n answer in omega (arith, known.counted, known.enough);
+  stays =
+      λ bytes more n answer.
+      let known = whole_packet bytes n answer in
+      let sum = length-append bytes more in
+      packet-long (bytes ++ more) (big_number 2 bytes) (omega (arith, sum, known.long))
+      (big_from-append 2 bytes more known.long)
+      ∙ (frame_to-whole (length (bytes ++ more)) (2 + big_number 2 bytes)
+      (omega (arith, sum, known.enough)) ∙ ap Message known.counted);
+}

@@ -1,9 +1,12 @@
 -- Messages in a stream of bytes (RFC 8489, section 6.2.2).
-use Rattle.std.specs.Prelude.{◌≡◌, ◌≤◌, ℕ, zero, suc, ◌+◌, ◌-◌, Bool, List, [], ◌∷◌, ◌++◌, length}
-use Rattle.std.specs.Prelude.{take, drop, slice_index, nat_lt, ◌/◌, ◌==◌, replicate, if◌then◌else◌}
+use Rattle.std.specs.Prelude.{◌≡◌, ◌≤◌, ◌<◌, ◌^◌, ◌⊎◌, ℕ, zero, suc, ◌+◌, ◌-◌, Bool, IsTrue, List}
+use Rattle.std.specs.Prelude.{[], ◌∷◌, ◌++◌, length, take, drop, slice_index, nat_lt, ◌/◌, ◌==◌}
+use Rattle.std.specs.Prelude.{replicate, if◌then◌else◌}
 use Rattle.byteorder.specs.Endian.{big_bytes, big_number}
 use Rattle.stun_base.specs.Header.{HEADER_LENGTH, BeginsWithHeader, is_stun, length_field}
 use Rattle.stun_types.specs.Attribute.{padded_length}
+use Rattle.stun_types.specs.Message.{IsMessage}
+use Rattle.stun_extra.specs.Turn.{IsAnyChannel}
 use Rattle.stun_extra.specs.declared.framing.Frame.{Frame}
 use Rattle.stun_extra.specs.declared.framing.Frame.TheVariants.{Need, Message, NotStun}
 
@@ -11,11 +14,24 @@ use Rattle.stun_extra.specs.declared.framing.Frame.TheVariants.{Need, Message, N
 abbrev pub frame_to : ℕ → ℕ → Frame
 frame_to there whole = if nat_lt there whole then Need (whole - there) else Message whole
 
+-- a header whose fields are zero where section 5 does not fix them: the two top bits, the two last
+-- bits of the length, which are zero too, and the magic cookie
+abbrev pub BLANK_HEADER : List ℕ
+BLANK_HEADER =
+    0 ∷ 0 ∷ 0 ∷ 0 ∷ 0x21 ∷ 0x12 ∷ 0xA4 ∷ 0x42
+    ∷ 0 ∷ 0 ∷ 0 ∷ 0 ∷ 0 ∷ 0 ∷ 0 ∷ 0 ∷ 0 ∷ 0 ∷ 0 ∷ 0 ∷ []
+
+-- whether a header may begin with these bytes: it does if a blank header has the rest of it (law
+-- `stream_is_cut_into_its_messages`, clause `refused`)
+abbrev pub may_begin : List ℕ → Bool
+may_begin bytes = is_stun (bytes ++ drop (length bytes) BLANK_HEADER)
+
 -- what bytes begin with: the header comes first, and its length tells how many bytes the message
 -- has (section 5)
 abbrev pub frame_of : List ℕ → Frame
 frame_of bytes =
-    if nat_lt (length bytes) HEADER_LENGTH then Need (HEADER_LENGTH - length bytes)
+    if nat_lt (length bytes) HEADER_LENGTH
+    then (if may_begin bytes then Need (HEADER_LENGTH - length bytes) else NotStun)
     else if is_stun bytes then frame_to (length bytes) (HEADER_LENGTH + length_field bytes)
     else NotStun
 
@@ -26,13 +42,18 @@ pub record IsStunPacket (packet : List ℕ) : Type 0 where
 
 -- ---- a stream
 
--- the first `n` bytes of a message, fewer than it has, give `Need`, with at most the number of
--- bytes that the message lacks
-pub record IsPartOf (message : List ℕ) (n : ℕ) : Type 0 where
+-- the first `n` bytes of a whole, fewer than it has, give `Need`, with at most the number of bytes
+-- that the whole lacks
+pub record IsPartBy (reader : List ℕ → Frame) (whole : List ℕ) (n : ℕ) : Type 0 where
   pub needed : ℕ
-  pub answer : frame_of (take n message) ≡ Need needed
+  pub answer : reader (take n whole) ≡ Need needed
   pub some : 1 ≤ needed
-  pub within : n + needed ≤ length message
+  pub within : n + needed ≤ length whole
+
+-- whatever bytes follow, what they make together does not begin so
+abbrev pub NeverBegins : (List ℕ → Type 0) → List ℕ → Type 0
+NeverBegins Begins bytes =
+    (more : List ℕ) → ((i : ℕ) → slice_index more i < 2 ^ 8) → Begins (bytes ++ more) → ⊥
 
 -- the messages at the front of bytes, one after the other, and the bytes behind them
 pub record Cut : Type 0 where
@@ -50,31 +71,37 @@ cut_by (Need n) others bytes = record { messages = []; rest = bytes }
 cut_by NotStun others bytes = record { messages = []; rest = bytes }
 
 -- at most this number of messages
-unfoldable pub cut_up_to : ℕ → List ℕ → Cut
-cut_up_to zero bytes = record { messages = []; rest = bytes }
-cut_up_to (suc most) bytes = cut_by (frame_of bytes) (cut_up_to most) bytes
+unfoldable pub cut_up_to : (List ℕ → Frame) → ℕ → List ℕ → Cut
+cut_up_to reader zero bytes = record { messages = []; rest = bytes }
+cut_up_to reader (suc most) bytes = cut_by (reader bytes) (cut_up_to reader most) bytes
 
 -- all of them: there are no more of them than bytes
-abbrev pub cut_of : List ℕ → Cut
-cut_of bytes = cut_up_to (length bytes) bytes
+abbrev pub cut_of : (List ℕ → Frame) → List ℕ → Cut
+cut_of reader bytes = cut_up_to reader (length bytes) bytes
 
 -- more bytes follow what was left, and are cut with it
-abbrev pub cut_with_more : Cut → List ℕ → Cut
-cut_with_more before more =
+abbrev pub cut_with_more : (List ℕ → Frame) → Cut → List ℕ → Cut
+cut_with_more reader before more =
     record {
-      messages = before.messages ++ (cut_of (before.rest ++ more)).messages;
-      rest = (cut_of (before.rest ++ more)).rest;
+      messages = before.messages ++ (cut_of reader (before.rest ++ more)).messages;
+      rest = (cut_of reader (before.rest ++ more)).rest;
     }
 
 -- no whole message is at the front
-abbrev pub IsLeftOver : List ℕ → Type 0
-IsLeftOver bytes = (n : ℕ) → frame_of bytes ≡ Message n → ⊥
+abbrev pub IsLeftOver : (List ℕ → Frame) → List ℕ → Type 0
+IsLeftOver reader bytes = (n : ℕ) → reader bytes ≡ Message n → ⊥
 
 -- ---- other frames of a stream
 
 -- a packet after its length in 2 bytes, as ICE sends it over TCP (RFC 4571, section 2)
 abbrev pub framed_packet : List ℕ → List ℕ
 framed_packet packet = big_bytes 2 (length packet) ++ packet
+
+-- such a packet
+pub record IsFramedPacket (bytes : List ℕ) : Type 0 where
+  pub packet : List ℕ
+  pub fits : length packet < 2 ^ 16
+  pub framed : bytes ≡ framed_packet packet
 
 -- what bytes begin with, if such packets are expected
 abbrev pub packet_frame_of : List ℕ → Frame
@@ -89,22 +116,37 @@ channel_data channel bytes =
     big_bytes 2 channel ++ big_bytes 2 (length bytes) ++ bytes
     ++ replicate (padded_length (length bytes) - length bytes) 0
 
--- whether bytes begin with the number of a channel, 0x4000 to 0x4FFF (RFC 8656, section 12)
-abbrev pub is_channel : List ℕ → Bool
-is_channel bytes = slice_index bytes 0 / 16 == 4
+-- such data, on a channel of RFC 5766 (section 11), whose range includes that of RFC 8656
+pub record IsChannelData (bytes : List ℕ) : Type 0 where
+  pub channel : ℕ
+  pub data_bytes : List ℕ
+  pub is_channel : IsAnyChannel channel
+  pub fits : length data_bytes < 2 ^ 16
+  pub framed : bytes ≡ channel_data channel data_bytes
 
--- what bytes begin with, if ChannelData and messages are expected
+-- whether bytes begin with ChannelData: its first two bits are 01, and those of a message 00 (RFC
+-- 5766, section 11)
+abbrev pub is_channel : List ℕ → Bool
+is_channel bytes = slice_index bytes 0 / 64 == 1
+
+-- what bytes begin with that begin with ChannelData
+abbrev pub channel_frame_of : List ℕ → Frame
+channel_frame_of bytes =
+    if nat_lt (length bytes) 4 then Need (4 - length bytes)
+    else frame_to (length bytes) (4 + padded_length (big_number 2 (drop 2 bytes)))
+
+-- what bytes begin with, if ChannelData and messages are expected: their first byte tells them
+-- apart, and 4 bytes are the fewest that either has
 abbrev pub turn_frame_of : List ℕ → Frame
 turn_frame_of bytes =
-    if nat_lt (length bytes) 4 then Need (4 - length bytes)
-    else if is_channel bytes
-    then frame_to (length bytes) (4 + padded_length (big_number 2 (drop 2 bytes)))
-    else frame_of bytes
+    if length bytes == 0 then Need 4
+    else if is_channel bytes then channel_frame_of bytes else frame_of bytes
 
--- as `IsPartOf`, for any reader of frames: the first `n` bytes of a whole, fewer than it has, give
--- `Need`, with at most the number of bytes that it lacks
-pub record IsPartBy (reader : List ℕ → Frame) (whole : List ℕ) (n : ℕ) : Type 0 where
-  pub needed : ℕ
-  pub answer : reader (take n whole) ≡ Need needed
-  pub some : 1 ≤ needed
-  pub within : n + needed ≤ length whole
+-- a message or ChannelData
+abbrev pub IsTurnItem : List ℕ → Type 0
+IsTurnItem bytes = IsMessage bytes ⊎ IsChannelData bytes
+
+-- the bytes begin with a header of either
+abbrev pub BeginsWithTurnHeader : List ℕ → Type 0
+BeginsWithTurnHeader bytes =
+    BeginsWithHeader bytes ⊎ ((4 ≤ length bytes) × IsTrue (is_channel bytes))

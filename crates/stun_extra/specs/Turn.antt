@@ -19,19 +19,24 @@ use Rattle.stun_extra.specs.declared.attribute.address_family.AddressFamily.TheV
 abbrev pub is_channel_number : ℕ → Bool
 is_channel_number number = nat_le 0x4000 number && nat_lt number 0x5000
 
--- a number of a channel
-abbrev pub IsChannel : ℕ → Type 0
-IsChannel number = (0x4000 ≤ number) × (number < 0x5000)
+-- whether a number is one of a channel in RFC 5766 (section 11), whose range includes that of RFC
+-- 8656: its clients still bind such channels
+abbrev pub is_any_channel_number : ℕ → Bool
+is_any_channel_number number = nat_le 0x4000 number && nat_lt number 0x8000
+
+-- a number of a channel in RFC 5766
+abbrev pub IsAnyChannel : ℕ → Type 0
+IsAnyChannel number = (0x4000 ≤ number) × (number < 0x8000)
 
 -- CHANNEL-NUMBER (section 18.1): the number, and two reserved bytes
 abbrev pub channel_value : ℕ → List ℕ
 channel_value channel = big_bytes 2 channel ++ 0 ∷ 0 ∷ []
 
--- the channel in an attribute of this type
+-- the channel in an attribute of this type, as RFC 5766 allows it
 abbrev pub channel_of : TypedValue → Option ℕ
 channel_of attribute =
     if attribute.kind == CHANNEL_NUMBER && (length attribute.value == 4)
-    && is_channel_number (big_number 2 attribute.value)
+    && is_any_channel_number (big_number 2 attribute.value)
     then Some (big_number 2 attribute.value) else None
 
 -- REQUESTED-ADDRESS-FAMILY and ADDITIONAL-ADDRESS-FAMILY (sections 18.6 and 18.11): the number of
@@ -83,7 +88,7 @@ xored_address_of kind attribute =
 
 -- ---- what is written is read again
 
-pub channel_of-written : (channel : ℕ) → IsChannel channel
+pub channel_of-written : (channel : ℕ) → IsAnyChannel channel
     → channel_of (record { kind = CHANNEL_NUMBER; value = channel_value channel }) ≡ Some channel
 channel_of-written channel fits =
     let read : channel / 256 % 256 * 256 + (channel % 256 * 1 + 0) ≡ channel =

@@ -1,5 +1,5 @@
-//! Attributes beside those of authentication: of STUN (RFC 8489, section 14), of ICE (RFC 8445,
-//! section 16.1) and of TURN (RFC 8656, section 18).
+//! Further attributes: of STUN (RFC 8489, section 14), of ICE (RFC 8445, section 16.1) and of TURN
+//! (RFC 8656, section 18).
 
 mod additional_address_family;
 mod address;
@@ -47,5 +47,5 @@ pub use use_candidate::UseCandidate;
 pub use xor_peer_address::XorPeerAddress;
 pub use xor_relayed_address::XorRelayedAddress;
 
-/// The most bytes of an ALTERNATE-DOMAIN (RFC 8489, section 14.16).
+/// The largest number of bytes of an ALTERNATE-DOMAIN (RFC 8489, section 14.16).
 pub const DOMAIN_LIMIT: usize = 255;

@@ -1,8 +1,16 @@
-//! CRC-32 (ITU-T V.42, section 8.1.1.6.2; RFC 1952, section 8), by a table.
+//! CRC-32 (ITU-T V.42, section 8.1.1.6.2; RFC 1952, section 8), computed with a table.
 ghost use Rattle.std.specs.Prelude.{◌≡◌};
 ghost use Rattle.stun_extra.specs.Crc32.{after_byte, crc32};
 
-/// The CRC-32 of bytes.
+/// Computes the CRC-32 of bytes.
+///
+/// # Examples
+///
+/// ```
+/// use seatcrane_stun::extra::crc32;
+///
+/// assert_eq!(crc32(b"123456789"), 0xcbf4_3926); // the check value of this CRC
+/// ```
 pub fn crc32(bytes: &[u8]) -> u32
     ensures { result ≡ crc32 bytes.now }
 {
@@ -13,14 +21,14 @@ pub fn crc32(bytes: &[u8]) -> u32
     remainder ^ 0xFFFF_FFFF
 }
 
-/// The remainder after the bits of one more byte.
+/// Returns the remainder after the bits of one more byte.
 fn after_byte(remainder: u32, byte: u8) -> u32
     ensures { result ≡ after_byte remainder byte }
 {
     remainder / 256 ^ entry((remainder % 256) as u8 ^ byte)
 }
 
-/// The remainder after the bits of a byte alone.
+/// Returns the remainder after the bits of one byte alone.
 fn entry(byte: u8) -> u32
     ensures { result ≡ after_byte 0 byte }
 {

@@ -1,4 +1,4 @@
-//! FINGERPRINT (RFC 8489, section 14.7): adds it to a message, and checks it.
+//! Adds FINGERPRINT to a message, and checks it (RFC 8489, section 14.7).
 ghost use Rattle.std.specs.Prelude.{◌≡◌, ◌≤◌, ℕ, List, length, IfOk};
 ghost use Rattle.std.specs.Prelude.{IsOk, IsOkUnless, MatchOption, None, Err};
 ghost use Rattle.stun_base.specs.Attributes.{FINGERPRINT};
@@ -24,23 +24,39 @@ use stun_types::prelude::*;
 /// The number with which the CRC-32 of a message is XORed (RFC 8489, section 14.7).
 pub const FINGERPRINT_XOR: u32 = 0x5354_554E;
 
-/// The number of bytes of a FINGERPRINT with its type and its length.
+/// The number of bytes of a FINGERPRINT, with its type and its length.
 pub const FINGERPRINT_LENGTH: usize = 8;
 
-/// What the FINGERPRINT of a message is.
+/// The state of a message's FINGERPRINT.
+///
+/// # Examples
+///
+/// ```
+/// use seatcrane_stun::extra::{Fingerprint, check_fingerprint};
+/// use seatcrane_stun::types::message::Message;
+///
+/// /// Whether a message of ICE, which always has a FINGERPRINT, is to be read.
+/// fn is_whole(message: &Message<'_>) -> bool {
+///     check_fingerprint(message) == Fingerprint::Right
+/// }
+/// # assert!(!is_whole(&Message::from_bytes(b"\0\x01\0\0\x21\x12\xa4\x42 any 12 byte").unwrap()));
+/// ```
 #[derive(Clone, Copy, Debug, PartialEq, Eq)]
 pub enum Fingerprint {
-    /// The number is that of the bytes before it.
+    /// The CRC in it is that of the bytes before it.
     Right,
-    /// The number is another: the message is damaged, or is no message of STUN.
+    /// The CRC in it is another one: the message is damaged, or belongs to another protocol.
     Wrong,
     /// It is not the last attribute, or its value does not have 4 bytes.
     Misplaced,
-    /// The message has none.
+    /// The message has no FINGERPRINT.
     Absent,
 }
 
-/// Checks the FINGERPRINT of a message. It does not allocate.
+/// Checks the FINGERPRINT of a message (RFC 8489, section 14.7). It does not allocate.
+///
+/// A FINGERPRINT tells STUN from other protocols on the same port. It is no protection, because
+/// anybody can compute it.
 pub fn check_fingerprint(message: &Message<'_>) -> Fingerprint
     ensures { result ≡ fingerprint_in message.now }
 {
@@ -50,7 +66,7 @@ pub fn check_fingerprint(message: &Message<'_>) -> Fingerprint
     }
 }
 
-/// The first visible FINGERPRINT of a message, with its place.
+/// Returns the first visible FINGERPRINT of a message and its offset.
 fn first_fingerprint<'a>(message: &Message<'a>) -> Option<(usize, RawAttribute<'a>)>
     ensures { result ≡ first_of FINGERPRINT (visible message.now) }
 {
@@ -59,8 +75,10 @@ fn first_fingerprint<'a>(message: &Message<'a>) -> Option<(usize, RawAttribute<'
         .find(|found| found.1.get_type() == AttributeType::FINGERPRINT)
 }
 
-/// What an attribute at this place of a message is as its FINGERPRINT: `Right`, `Wrong` or
-/// `Misplaced` (RFC 8489, section 14.7). Its type is not looked at. It does not allocate.
+/// Checks an attribute as the FINGERPRINT of a message, at an offset of the message (RFC 8489,
+/// section 14.7). The type of the attribute is ignored.
+///
+/// Returns `Right`, `Wrong` or `Misplaced`. It does not allocate.
 pub fn fingerprint_at(message: &[u8], place: usize, attribute: &RawAttribute<'_>) -> Fingerprint
     ensures { result ≡ fingerprint_at message.now (place, attribute.now) }
 {
@@ -78,21 +96,26 @@ pub fn fingerprint_at(message: &[u8], place: usize, attribute: &RawAttribute<'_>
     }
 }
 
-/// The number in a FINGERPRINT after these bytes of a message.
+/// Returns the number in a FINGERPRINT that follows these bytes of a message.
 fn fingerprint_number(bytes: &[u8]) -> u32
     ensures { result ≡ fingerprint_word bytes.now }
 {
     crc32(bytes) ^ FINGERPRINT_XOR
 }
 
-/// Adds FINGERPRINT, 8 bytes, to a message and ends the writing, so that nothing follows it.
+/// Adds FINGERPRINT to a message, and finishes the writer, so that nothing can follow it.
 ///
-/// The message may be signed before, and its digest verifies as it did: it covers only the bytes
-/// before it, and a length that ends after it.
+/// Sign the message first if you want to sign it. Its signature stays valid, because it covers only
+/// the bytes in front of its own attribute.
 ///
-/// Fails by the first of these that holds, and drops the writer. `AttributeExists`: the message has
-/// a FINGERPRINT. `TooLarge`: it would have more than 65532 bytes after its header. `TooSmall`: the
-/// writer has no room for 8 bytes. `OutOfMemory`: an allocation fails.
+/// # Errors
+///
+/// The first of these that applies. The writer is then dropped.
+///
+/// - [`StunWriteError::AttributeExists`]: the message has a FINGERPRINT already.
+/// - [`StunWriteError::TooLarge`]: the message would have more than 65532 bytes after its header.
+/// - [`StunWriteError::TooSmall`]: the writer has room for fewer than 8 bytes.
+/// - [`StunWriteError::OutOfMemory`]: an allocation failed.
 pub fn finish_with_fingerprint<W: MessageWrite>(mut writer: W) -> Result<W::Output, StunWriteError>
     requires { 20 ≤ length (W.bytes writer) }
 

@@ -1,17 +1,19 @@
 //! Laws. A law is a function whose contract is the law; it does nothing.
-ghost use Rattle.std.specs.Prelude.{◌≡◌, ◌≤◌, ◌<◌, ◌^◌, ℕ, Some, List};
+ghost use Rattle.std.specs.Prelude.{◌≡◌, ◌≤◌, ◌<◌, ◌^◌, ◌↔◌, ℕ, Some, List, slice_index};
 ghost use Rattle.std.specs.Prelude.{◌∷◌, ◌++◌, filter, length, cond, ◌==◌};
 ghost use Rattle.std.specs.List.{AllByRecursion, concat, list_any};
 ghost use Rattle.stun_base.specs.Attributes.{FINGERPRINT};
+ghost use Rattle.stun_base.specs.Header.{BeginsWithHeader};
 ghost use Rattle.stun_types.specs.Integrity.{first_of};
 ghost use Rattle.stun_types.specs.Message.{IsMessage};
 ghost use Rattle.stun_types.specs.Visible.{visible};
 ghost use Rattle.stun_types.specs.Walk.{Member};
 ghost use Rattle.stun_extra.specs.Crc32.{crc32};
 ghost use Rattle.stun_extra.specs.Fingerprint.{fingerprint_in};
-ghost use Rattle.stun_extra.specs.Framing.{IsLeftOver, IsPartBy, IsPartOf, channel_data, cut_of};
-ghost use Rattle.stun_extra.specs.Framing.{cut_with_more};
-ghost use Rattle.stun_extra.specs.Framing.{frame_of, framed_packet, packet_frame_of, turn_frame_of};
+ghost use Rattle.stun_extra.specs.Framing.{BeginsWithTurnHeader, IsFramedPacket, IsLeftOver};
+ghost use Rattle.stun_extra.specs.Framing.{IsPartBy, IsTurnItem, NeverBegins, channel_data, cut_of};
+ghost use Rattle.stun_extra.specs.Framing.{cut_with_more, frame_of, framed_packet};
+ghost use Rattle.stun_extra.specs.Framing.{packet_frame_of, turn_frame_of};
 ghost use Rattle.stun_extra.specs.Unknown.{without_repeats};
 ghost use Rattle.stun_extra.specs.declared.fingerprint.Fingerprint.{Fingerprint};
 ghost use Rattle.stun_extra.specs.declared.framing.Frame.{Frame};
@@ -40,39 +42,62 @@ pub fn each_number_is_there_once()
         ≡ cond (list_any (λ y. y == x) xs) 1 0 }
 {}
 
-/// A stream of messages is cut into exactly these messages, whatever pieces it comes in.
+/// A stream of messages is cut into exactly these messages, whatever pieces it comes in, and is
+/// refused at the first byte with which no message can begin.
 pub fn stream_is_cut_into_its_messages()
     ensures whole { (message rest : List ℕ) → IsMessage message
         → frame_of (message ++ rest) ≡ Frame.Message (length message) }
-    ensures begun { (message : List ℕ) (n : ℕ) → IsMessage message → n < length message
-        → IsPartOf message n }
+    ensures begun { (message : List ℕ) (n : ℕ) → IsMessage message
+        → ((i : ℕ) → slice_index message i < 2 ^ 8) → n < length message
+        → IsPartBy frame_of message n }
+    ensures refused { (bytes : List ℕ) → (frame_of bytes ≡ Frame.NotStun)
+        ↔ NeverBegins BeginsWithHeader bytes }
     ensures cut { (messages : List (List ℕ)) (rest : List ℕ)
-        → AllByRecursion IsMessage messages → IsLeftOver rest
-        → cut_of (concat messages ++ rest) ≡ record { messages = messages; rest = rest } }
-    ensures fed { (bytes more : List ℕ)
-        → cut_of (bytes ++ more) ≡ cut_with_more (cut_of bytes) more }
+        → AllByRecursion IsMessage messages → IsLeftOver frame_of rest
+        → cut_of frame_of (concat messages ++ rest)
+        ≡ record { messages = messages; rest = rest } }
+    ensures fed { (bytes more : List ℕ) → cut_of frame_of (bytes ++ more)
+        ≡ cut_with_more frame_of (cut_of frame_of bytes) more }
 {}
 
-/// A packet after its length is cut off whole, and for a part of it `Need` is returned.
+/// A stream of packets behind their lengths is cut into exactly these packets, whatever pieces it
+/// comes in.
 pub fn packet_is_framed()
     ensures whole { (packet rest : List ℕ) → length packet < 2 ^ 16
         → packet_frame_of (framed_packet packet ++ rest)
         ≡ Frame.Message (length (framed_packet packet)) }
     ensures begun { (packet : List ℕ) (n : ℕ) → length packet < 2 ^ 16
         → n < length (framed_packet packet) → IsPartBy packet_frame_of (framed_packet packet) n }
+    ensures cut { (packets : List (List ℕ)) (rest : List ℕ)
+        → AllByRecursion IsFramedPacket packets → IsLeftOver packet_frame_of rest
+        → cut_of packet_frame_of (concat packets ++ rest)
+        ≡ record { messages = packets; rest = rest } }
+    ensures fed { (bytes more : List ℕ) → cut_of packet_frame_of (bytes ++ more)
+        ≡ cut_with_more packet_frame_of (cut_of packet_frame_of bytes) more }
 {}
 
-/// In a stream of messages and ChannelData each is cut off whole. For a part of ChannelData `Need`
-/// is returned.
+/// A stream of messages and ChannelData is cut into exactly these, whatever pieces it comes in, and
+/// is refused at the first byte with which neither can begin.
 pub fn turn_is_framed()
     ensures message { (message rest : List ℕ) → IsMessage message
         → turn_frame_of (message ++ rest) ≡ Frame.Message (length message) }
+    ensures message_begun { (message : List ℕ) (n : ℕ) → IsMessage message
+        → ((i : ℕ) → slice_index message i < 2 ^ 8) → n < length message
+        → IsPartBy turn_frame_of message n }
     ensures channel { (channel : ℕ) (bytes rest : List ℕ)
-        → 0x4000 ≤ channel → channel < 0x5000 → length bytes < 2 ^ 16
+        → 0x4000 ≤ channel → channel < 0x8000 → length bytes < 2 ^ 16
         → turn_frame_of (channel_data channel bytes ++ rest)
         ≡ Frame.Message (length (channel_data channel bytes)) }
     ensures begun { (channel : ℕ) (bytes : List ℕ) (n : ℕ)
-        → 0x4000 ≤ channel → channel < 0x5000 → length bytes < 2 ^ 16
+        → 0x4000 ≤ channel → channel < 0x8000 → length bytes < 2 ^ 16
         → n < length (channel_data channel bytes)
         → IsPartBy turn_frame_of (channel_data channel bytes) n }
+    ensures refused { (bytes : List ℕ) → (turn_frame_of bytes ≡ Frame.NotStun)
+        ↔ NeverBegins BeginsWithTurnHeader bytes }
+    ensures cut { (items : List (List ℕ)) (rest : List ℕ)
+        → AllByRecursion IsTurnItem items → IsLeftOver turn_frame_of rest
+        → cut_of turn_frame_of (concat items ++ rest)
+        ≡ record { messages = items; rest = rest } }
+    ensures fed { (bytes more : List ℕ) → cut_of turn_frame_of (bytes ++ more)
+        ≡ cut_with_more turn_frame_of (cut_of turn_frame_of bytes) more }
 {}

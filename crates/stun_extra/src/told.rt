@@ -9,14 +9,14 @@ pub(crate) struct Told {
 }
 
 impl Told {
-    /// No type was returned.
+    /// Creates a record in which no type was returned.
     pub(crate) fn none() -> Told
         ensures { (kind : ℕ) → is_told result.words kind ≡ false }
     {
         Told { words: [0; 512] }
     }
 
-    /// Whether a type was returned.
+    /// Returns `true` if a type was returned.
     pub(crate) fn has(&self, kind: u16) -> bool
         requires { kind < 2 ^ 15 }
         ensures { result ≡ is_told self.now.words kind }

@@ -10,10 +10,10 @@ pub const ALLOCATE: u16 = 0x003;
 /// The number of the method Refresh.
 pub const REFRESH: u16 = 0x004;
 
-/// The number of the method Send, of indications alone.
+/// The number of the method Send, which only indications have.
 pub const SEND: u16 = 0x006;
 
-/// The number of the method Data, of indications alone.
+/// The number of the method Data, which only indications have.
 pub const DATA: u16 = 0x007;
 
 /// The number of the method CreatePermission.
@@ -23,15 +23,26 @@ pub const CREATE_PERMISSION: u16 = 0x008;
 pub const CHANNEL_BIND: u16 = 0x009;
 
 /// A method of TURN (RFC 8656, section 17).
+///
+/// # Examples
+///
+/// ```
+/// use seatcrane_stun::extra::turn::TurnMethod;
+/// use seatcrane_stun::types::message::BINDING;
+///
+/// assert_eq!(TurnMethod::Allocate.method().value(), 3);
+/// assert_eq!(TurnMethod::of(TurnMethod::Refresh.method()), Some(TurnMethod::Refresh));
+/// assert_eq!(TurnMethod::of(BINDING), None);
+/// ```
 #[derive(Clone, Copy, Debug, PartialEq, Eq)]
 pub enum TurnMethod {
-    /// A client asks for an allocation.
+    /// A client requests an allocation.
     Allocate,
-    /// A client asks the server to keep its allocation, or to end it.
+    /// A client refreshes its allocation, or deletes it.
     Refresh,
     /// A client sends data to a peer through the server.
     Send,
-    /// A server passes on the data of a peer.
+    /// A server passes the data of a peer on to the client.
     Data,
     /// A client permits a peer to send.
     CreatePermission,
@@ -40,7 +51,7 @@ pub enum TurnMethod {
 }
 
 impl TurnMethod {
-    /// The number of the method.
+    /// Returns the number of the method.
     pub fn number(self) -> u16
         ensures { result ≡ method_number self }
     {
@@ -54,7 +65,7 @@ impl TurnMethod {
         }
     }
 
-    /// The method, as a message has it.
+    /// Returns the method, as a message has it.
     pub fn method(self) -> Method
         ensures { result ≡ method_number self }
     {
@@ -64,7 +75,7 @@ impl TurnMethod {
         }
     }
 
-    /// The method of TURN that a method is, or `None` if it is none of TURN.
+    /// Returns the method of TURN that a message's method is, or `None` if it is not one of TURN.
     pub fn of(method: Method) -> Option<TurnMethod>
         ensures { result ≡ turn_method_of method }
     {

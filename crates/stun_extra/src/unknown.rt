@@ -1,5 +1,5 @@
-//! Types of attributes that must be understood and are not known (RFC 8489, sections 6.3.1 and
-//! 14.13).
+//! Attributes that a receiver must understand and does not know (RFC 8489, sections 6.3.1 to 6.3.4
+//! and 14.13).
 ghost use Rattle.std.specs.Prelude.{◌≡◌, ◌<◌, ◌^◌, ◌↔◌, IsTrue, length};
 ghost use Rattle.std.specs.Iterator.{YieldsFirst, item_count};
 ghost use Rattle.stun_extra.specs.Unknown.{HasUnknown, is_known, unknown_types};
@@ -19,11 +19,13 @@ pub use attribute::UnknownAttributes;
 /// The type of UNKNOWN-ATTRIBUTES (RFC 8489, section 18.3).
 pub const UNKNOWN_ATTRIBUTES: AttributeType = AttributeType(0x000A);
 
-/// The types below 0x8000 of a message's visible attributes that a caller does not know. Such types
-/// must be understood (RFC 8489, section 14). Each comes once, in the order of the message.
-/// Contracts see the list of those that are left.
+/// An iterator over the types of a message's visible attributes that a receiver must understand,
+/// which are those below 0x8000 (RFC 8489, section 14), and does not know. Each type occurs once,
+/// in the order of the message.
 ///
 /// It does not allocate: it has 4 KiB of its own, a bit for each such type.
+///
+/// Contracts: they see the list of the types that are left.
 #[derive(Debug, Drop)]
 pub struct UnknownTypes<'a> {
     left: MessageAttributesIter<'a>,
@@ -41,11 +43,12 @@ impl<'a> Model for UnknownTypes<'a> {
     ghost view = { λ it. left_to_tell it.known.now it.told.words it.left };
 }
 
-/// The types of a message's visible attributes that must be understood and are not among these.
+/// Returns the types of the visible attributes that a receiver must understand (those below
+/// 0x8000), but that are not in `known`. Each type occurs once, in the order of the message.
 ///
-/// A server refuses a request that has one, with the error 420 and the attribute
-/// `UnknownAttributes`. An agent drops an indication or a response that has one (RFC 8489, sections
-/// 6.3.1 to 6.3.4).
+/// A server refuses a request that has one with the error 420 and the attribute
+/// [`UnknownAttributes`]. An indication that has one is dropped, and a response that has one ends
+/// its request as failed (RFC 8489, sections 6.3.1 to 6.3.4).
 pub fn unknown_types<'a>(message: &Message<'a>, known: &'a [AttributeType]) -> UnknownTypes<'a>
     ensures types { result ≡ unknown_types known.now message.now }
     ensures few { length result < 2 ^ 14 }
@@ -57,22 +60,23 @@ pub fn unknown_types<'a>(message: &Message<'a>, known: &'a [AttributeType]) -> U
     }
 }
 
-/// Whether a type is in a list.
+/// Returns `true` if a type is in a list.
 fn is_known(known: &[AttributeType], kind: AttributeType) -> bool
     ensures { result ≡ is_known known.now kind.0 }
 {
     known.iter().any(|one| one.value() == kind.value())
 }
 
-/// Whether a message has a visible attribute that must be understood and whose type is not among
-/// these. An indication that has one is dropped (RFC 8489, section 6.3.2).
+/// Returns `true` if a message has a visible attribute that a receiver must understand, but whose
+/// type is not in `known`. Drop an indication that has one (RFC 8489, section 6.3.2).
 pub fn has_unknown(message: &Message<'_>, known: &[AttributeType]) -> bool
     ensures { IsTrue result ↔ HasUnknown known.now message.now }
 {
     unknown_types(message, known).next().is_some()
 }
 
-/// Whether the iterator should return a type: it must be understood, is not known and is new.
+/// Returns `true` if the iterator should return a type: one that the receiver must understand and
+/// does not know, and that is new.
 fn is_new(known: &[AttributeType], told: &Told, kind: AttributeType) -> bool
     ensures { result ≡ is_new known.now told.now.words kind.0 }
 {

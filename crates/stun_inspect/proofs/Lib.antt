@@ -1,5 +1,6 @@
 -- Lemmas of the program.
 mod DecodeLemmas
+mod InputLemmas
 mod LineLemmas
 mod RunLemmas
 mod TellingLemmas

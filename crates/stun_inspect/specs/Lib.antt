@@ -16,3 +16,5 @@ pub mod Verdict
 pub mod Input
 -- where the offset at the front of a dump's row ends
 pub mod Dump
+-- definitions of private functions
+pub mod code

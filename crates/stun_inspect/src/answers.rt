@@ -12,8 +12,9 @@ ghost use Rattle.stun_inspect.specs.Verify.{PrintsVerdictAndNotes};
 use crate::command::{Command, User, Who};
 use crate::decode::describe;
 use crate::digits::bad_input;
-use crate::each::{Decoding, Verifying, tell_input};
+use crate::each::{Decoding, Verifying, tell_capture, tell_input};
 use crate::failure::{Failure, INPUT_LIMIT, Wanted};
+use crate::input::{Input, begin};
 use crate::layout::{is_raw, within_limit};
 use crate::notes::notes_on;
 use crate::usage::{HELP, VERSION};
@@ -21,7 +22,7 @@ use crate::value::push_security_bits;
 use crate::verdict::{line, verdict_on};
 use std::alloc::{AllocError, Allocator};
 use std::io::Write;
-use stun_cli::input::{CountedRead, read_to_end};
+use stun_cli::input::{CountedRead, read_to_end, read_up_to};
 use stun_cli::output::{line_of, write_text};
 use stun_cli::status::Status;
 use stun_cli::verdict::refusal_line;
@@ -89,8 +90,12 @@ fn decode_input<R: CountedRead, W: Write, A: Allocator + Copy>(
         is_raw input ≡ true
         → PrintsDecoded input status (W.contents writer.old) (W.contents writer.new))) }
 {
-    let input = read_to_end(alloc, reader, INPUT_LIMIT)?;
-    decode_all(alloc, input.as_slice(), writer)
+    match begin(alloc, reader)? {
+        Input::Capture(capture, begun) => {
+            tell_capture(alloc, &Decoding, capture, begun, reader, writer)
+        }
+        Input::Bytes(input) => decode_all(alloc, input.as_slice(), writer),
+    }
 }
 
 /// Prints each attribute of each message that an input has.
@@ -109,7 +114,8 @@ fn decode_all<W: Write, A: Allocator + Copy>(
     tell_input(alloc, &Decoding, input, writer)
 }
 
-/// Prints whether the digest of each message that the reader has verifies.
+/// Prints whether the digest of each message that the reader has verifies. The password `-` means
+/// its first line.
 fn verify_input<R: CountedRead, W: Write, A: Allocator + Copy>(
     alloc: A,
     who: Who<'_>,
@@ -122,26 +128,35 @@ fn verify_input<R: CountedRead, W: Write, A: Allocator + Copy>(
         status
         (W.contents writer.old) (W.contents writer.new))) }
 {
-    let input = read_to_end(alloc, reader, INPUT_LIMIT)?;
-    let found = password_of(who.password, input.as_slice())?;
-    let (password, rest) = found;
-    verify_all(alloc, who.user, password, rest, writer)
+    let line = password_line(alloc, who.password, reader)?;
+    let found = password_of(who.password, line.as_slice())?;
+    let (password, _) = found;
+    verify_reader(alloc, who.user, password, reader, writer)
 }
 
-/// Prints whether the digest of each message that an input has verifies.
-fn verify_all<W: Write, A: Allocator + Copy>(
+/// Prints whether the digest of each message that the reader has verifies for a user, or under a
+/// password alone.
+fn verify_reader<R: CountedRead, W: Write, A: Allocator + Copy>(
     alloc: A,
     user: Option<User<'_>>,
     password: &str,
-    input: &[u8],
+    reader: &mut R,
     writer: &mut W,
 ) -> Result<Status, Failure>
-    ensures { is_raw input.now ≡ true → IfOk result (λ status.
-        PrintsVerdictAndNotes (verdict_of input.now (keys_for user.entry password.now)) status
-        (W.contents writer.old) (W.contents writer.new)) }
+    ensures { IfSome (R.remaining reader.old) (λ input. IfOk result (λ status.
+        is_raw input ≡ true
+        → PrintsVerdictAndNotes (verdict_of input (keys_for user.entry password.now)) status
+        (W.contents writer.old) (W.contents writer.new))) }
 {
     let credentials = credentials_of(alloc, user, password)?;
-    verify_each(alloc, user, &credentials, input, writer)
+    match begin(alloc, reader)? {
+        Input::Capture(capture, begun) => {
+            let credentials = &credentials;
+            let teller = Verifying { user, credentials };
+            tell_capture(alloc, &teller, capture, begun, reader, writer)
+        }
+        Input::Bytes(input) => verify_each(alloc, user, &credentials, input.as_slice(), writer),
+    }
 }
 
 /// Prints whether the digest of each message that an input has verifies under these credentials.
@@ -175,8 +190,7 @@ pub fn verify_file<R: CountedRead, F: CountedRead, W: Write, A: Allocator + Copy
     let given = password_input(alloc, who.password, reader)?;
     let found = password_of(who.password, given.as_slice())?;
     let (password, _) = found;
-    let input = read_to_end(alloc, file, INPUT_LIMIT)?;
-    verify_all(alloc, who.user, password, input.as_slice(), writer)
+    verify_reader(alloc, who.user, password, file, writer)
 }
 
 /// Prints the long-term key of a user.
@@ -259,6 +273,37 @@ fn credentials_of<A: Allocator + Copy>(
             Ok(MessageIntegrityCredentials::LongTerm(key))
         }
     }
+}
+
+/// If the word is `-`, the first line of the input, which is read up to its end. Else no bytes, and
+/// nothing is read.
+fn password_line<R: CountedRead, A: Allocator + Copy>(
+    alloc: A,
+    word: &str,
+    reader: &mut R,
+) -> Result<Vec<u8, A>, Failure>
+    ensures { word.now ≢ codes "-" → reader.new ≡ reader.old }
+{
+    if word == "-" {
+        read_line(alloc, reader)
+    } else {
+        Ok(Vec::new(alloc))
+    }
+}
+
+/// The first line of the input, with its end.
+fn read_line<R: CountedRead, A: Allocator + Copy>(
+    alloc: A,
+    reader: &mut R,
+) -> Result<Vec<u8, A>, Failure> {
+    let mut line = Vec::new(alloc);
+    for count in 0..INPUT_LIMIT {
+        line = read_up_to(reader, line, count + 1)?;
+        if line.len() <= count || line.last() == Some(&b'\n') {
+            return Ok(line);
+        }
+    }
+    Err(Failure::NoEnd)
 }
 
 /// If the word is `-`, the input whose first line is the password. Else no bytes, and nothing is

@@ -5,13 +5,16 @@ use crate::answers::{decode, verify};
 use crate::command::User;
 use crate::digits::bad_input;
 use crate::failure::{Failure, Wanted};
+use crate::frames::{ChannelData, Part, Read, cut_of, part_of, read_of};
 use crate::layout::{Spelled, is_raw, message_of, read_text};
 use crate::tally::{Tally, Unread};
+use crate::value::push_digits;
 use captures::capture::{Capture, Packet, Step};
 use captures::internet::{Carried, Datagram};
 use captures::link::carried;
 use std::alloc::{AllocError, Allocator};
 use std::io::Write;
+use stun_cli::input::{CountedRead, read_up_to};
 use stun_cli::output::write_text;
 use stun_cli::status::Status;
 use stun_types::message::MessageIntegrityCredentials;
@@ -25,6 +28,15 @@ pub trait Teller {
         message: &[u8],
         writer: &mut W,
     ) -> Result<Status, Failure>;
+
+    /// Tells ChannelData, after a line of its own.
+    fn tell_channel<W: Write, A: Allocator + Copy>(
+        &self,
+        alloc: A,
+        heading: &str,
+        data: ChannelData<'_>,
+        writer: &mut W,
+    ) -> Result<(), Failure>;
 }
 
 /// Prints the attributes of a message.
@@ -39,6 +51,22 @@ impl Teller for Decoding {
         writer: &mut W,
     ) -> Result<Status, Failure> {
         decode(alloc, message, writer)
+    }
+
+    fn tell_channel<W: Write, A: Allocator + Copy>(
+        &self,
+        alloc: A,
+        heading: &str,
+        data: ChannelData<'_>,
+        writer: &mut W,
+    ) -> Result<(), Failure> {
+        let ChannelData { channel, bytes } = data;
+        let length = bytes.len();
+        let mut text = format!(in alloc; "{heading}{:<28} 0x{channel:04x}\n", "channel")?;
+        write!(text, "{:<28} {length} bytes  ", "data")?;
+        push_digits(&mut text, bytes)?;
+        text.push_str("\n\n")?;
+        Ok(write_text(writer, text.as_bytes())?)
     }
 }
 
@@ -58,19 +86,28 @@ impl<'a, B: Allocator> Teller for Verifying<'a, B> {
     ) -> Result<Status, Failure> {
         verify(alloc, message, self.user, self.credentials, writer)
     }
+
+    /// There is nothing to verify.
+    fn tell_channel<W: Write, A: Allocator + Copy>(
+        &self,
+        _alloc: A,
+        _heading: &str,
+        _data: ChannelData<'_>,
+        _writer: &mut W,
+    ) -> Result<(), Failure> {
+        Ok(())
+    }
 }
 
-/// Tells each message of an input.
+/// Tells each message of a text.
 pub fn tell_input<T: Teller, W: Write, A: Allocator + Copy>(
     alloc: A,
     teller: &T,
     input: &[u8],
     writer: &mut W,
 ) -> Result<Status, Failure> {
-    match Capture::open(alloc, input) {
-        Some(Ok(capture)) => return tell_capture(alloc, teller, capture, input.len(), writer),
-        Some(Err(failure)) => return Err(Failure::from(failure)),
-        None => {}
+    if let [0x1F, 0x8B, ..] = input {
+        return Err(Failure::Gzip);
     }
     let spelled = read_text(alloc, input)?;
     match spelled.as_slice() {
@@ -139,28 +176,42 @@ fn line_heading<A: Allocator + Copy>(
     format!(in alloc; "message {number}, line {line}\n")
 }
 
-/// Tells the messages of a capture of this many bytes. Fails if the capture cannot be read further
-/// at a place, after it has told the messages before that place.
-fn tell_capture<T: Teller, W: Write, A: Allocator + Copy>(
+/// Tells the messages of a capture, of whose first record these bytes were read already. It is read
+/// record by record. Fails if the capture cannot be read further at a place, after it has told the
+/// messages before that place.
+pub fn tell_capture<T: Teller, R: CountedRead, W: Write, A: Allocator + Copy>(
     alloc: A,
     teller: &T,
-    capture: Capture<'_, A>,
-    length: usize,
+    capture: Capture<A>,
+    begun: Vec<u8, A>,
+    reader: &mut R,
     writer: &mut W,
 ) -> Result<Status, Failure> {
     let mut capture = capture;
+    let mut record = begun;
     let mut tally = Tally::NONE;
     let mut damage = None;
-    for _record in 0..length {
-        match capture.step() {
-            Ok(Step::Packet(packet)) => tell_packet(alloc, teller, packet, &mut tally, writer)?,
-            Ok(Step::Other) => {}
-            Ok(Step::End) => break,
+    for _record in 0..u64::MAX {
+        record = read_up_to(reader, record, capture.front_length())?;
+        if record.is_empty() {
+            break;
+        }
+        match capture.record_length(record.as_slice()) {
+            Ok(length) => record = read_up_to(reader, record, length)?,
             Err(failure) => {
                 damage = Some(failure);
                 break;
             }
         }
+        match capture.step(record.as_slice()) {
+            Ok(Step::Packet(packet)) => tell_packet(alloc, teller, packet, &mut tally, writer)?,
+            Ok(Step::Other) => {}
+            Err(failure) => {
+                damage = Some(failure);
+                break;
+            }
+        }
+        record.clear();
     }
     let ending = tally.ending_of_capture(alloc)?;
     write_text(writer, ending.as_bytes())?;
@@ -170,7 +221,7 @@ fn tell_capture<T: Teller, W: Write, A: Allocator + Copy>(
     }
 }
 
-/// Tells the message of a packet, or counts what the packet has in its place.
+/// Tells what a packet has, or counts it.
 fn tell_packet<T: Teller, W: Write, A: Allocator + Copy>(
     alloc: A,
     teller: &T,
@@ -179,18 +230,17 @@ fn tell_packet<T: Teller, W: Write, A: Allocator + Copy>(
     writer: &mut W,
 ) -> Result<(), Failure> {
     let why = match carried(packet.link, packet.bytes) {
-        Some(Carried::Udp(datagram)) if is_raw(datagram.payload) => {
-            let heading = packet_heading(alloc, tally.next(), &packet, &datagram)?;
-            return tell_after(
-                alloc,
-                teller,
-                heading.as_str(),
-                datagram.payload,
-                tally,
-                writer,
-            );
+        Some(Carried::Udp(datagram)) => {
+            return tell_datagram(alloc, teller, &packet, &datagram, tally, writer);
         }
-        Some(Carried::Udp(_)) => return Ok(tally.count_other()),
+        Some(Carried::Tcp(segment)) => match read_of(segment.payload) {
+            Read::Whole => return tell_segment(alloc, teller, &packet, &segment, tally, writer),
+            Read::Begun => {
+                tell_segment(alloc, teller, &packet, &segment, tally, writer)?;
+                Unread::Begun
+            }
+            Read::Nothing => return Ok(tally.count_without_udp()),
+        },
         Some(Carried::Other) => return Ok(tally.count_without_udp()),
         Some(Carried::Fragment) => Unread::Fragment,
         Some(Carried::Cut) => Unread::Cut,
@@ -200,24 +250,90 @@ fn tell_packet<T: Teller, W: Write, A: Allocator + Copy>(
     Ok(())
 }
 
-/// The line before a packet's message.
-fn packet_heading<A: Allocator + Copy>(
+/// Tells what a datagram has, or counts it as other UDP.
+fn tell_datagram<T: Teller, W: Write, A: Allocator + Copy>(
     alloc: A,
-    number: usize,
+    teller: &T,
     packet: &Packet<'_>,
     datagram: &Datagram<'_>,
+    tally: &mut Tally,
+    writer: &mut W,
+) -> Result<(), Failure> {
+    match part_of(datagram.payload) {
+        Some(part) => {
+            let way = way_of(alloc, packet, datagram, "")?;
+            tell_part(alloc, teller, way.as_str(), part, tally, writer)
+        }
+        None => Ok(tally.count_other()),
+    }
+}
+
+/// Tells the whole parts of a segment of TCP.
+fn tell_segment<T: Teller, W: Write, A: Allocator + Copy>(
+    alloc: A,
+    teller: &T,
+    packet: &Packet<'_>,
+    segment: &Datagram<'_>,
+    tally: &mut Tally,
+    writer: &mut W,
+) -> Result<(), Failure> {
+    let way = way_of(alloc, packet, segment, ", TCP")?;
+    let mut rest = segment.payload;
+    for _part in 0..segment.payload.len() {
+        let Some(cut) = cut_of(rest) else {
+            break;
+        };
+        tell_part(alloc, teller, way.as_str(), cut.part, tally, writer)?;
+        rest = cut.rest;
+    }
+    Ok(())
+}
+
+/// Tells a part of what came on this way. What a channel carries is told too, if it is a message.
+fn tell_part<T: Teller, W: Write, A: Allocator + Copy>(
+    alloc: A,
+    teller: &T,
+    way: &str,
+    part: Part<'_>,
+    tally: &mut Tally,
+    writer: &mut W,
+) -> Result<(), Failure> {
+    let number = tally.next();
+    match part {
+        Part::Message(message) => {
+            let heading = format!(in alloc; "message {number}, {way}\n")?;
+            tell_after(alloc, teller, heading.as_str(), message, tally, writer)
+        }
+        Part::Channel(data) if is_raw(data.bytes) => {
+            let channel = data.channel;
+            let heading = format!(in alloc; "message {number}, {way}, channel 0x{channel:04x}\n")?;
+            tell_after(alloc, teller, heading.as_str(), data.bytes, tally, writer)
+        }
+        Part::Channel(data) => {
+            tally.count_channel();
+            let heading = format!(in alloc; "channel data, {way}\n")?;
+            teller.tell_channel(alloc, heading.as_str(), data, writer)
+        }
+    }
+}
+
+/// From where to where a packet went, and when.
+fn way_of<A: Allocator + Copy>(
+    alloc: A,
+    packet: &Packet<'_>,
+    datagram: &Datagram<'_>,
+    protocol: &str,
 ) -> Result<String<A>, AllocError> {
-    let of_capture = packet.number;
-    let mut heading = format!(in alloc; "message {number}, packet {of_capture}, ")?;
+    let number = packet.number;
+    let mut way = format!(in alloc; "packet {number}, ")?;
     if let Some(moment) = packet.moment {
-        write!(heading, "{moment}, ")?;
+        write!(way, "{moment}, ")?;
     }
     let (from, to) = (datagram.from, datagram.to);
-    write!(heading, "{from} to {to}")?;
+    write!(way, "{from} to {to}{protocol}")?;
     if datagram.is_cut {
         let place = packet.place;
-        write!(heading, ", cut, at byte {place}")?;
+        write!(way, ", cut, at byte {place}")?;
     }
-    heading.push('\n')?;
-    Ok(heading)
+    Ok(way)
 }

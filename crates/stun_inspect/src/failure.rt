@@ -18,6 +18,8 @@ pub enum Failure {
     File,
     /// The input does not end within 67108864 bytes and 1048576 reads.
     NoEnd,
+    /// The input is compressed by gzip.
+    Gzip,
     /// The input is none that the command reads.
     Input(BadInput),
     /// The capture cannot be read further.
@@ -103,6 +105,11 @@ impl fmt::Display for Failure {
             Failure::File => f.write_str("the file cannot be opened"),
             Failure::NoEnd => {
                 f.write_str("the input does not end within 67108864 bytes and 1048576 reads")
+            }
+            Failure::Gzip => {
+                f.write_str(
+                    "the input is compressed with gzip: decompress it first, as gunzip does",
+                )
             }
             Failure::Capture(damage) => write!(f, "{damage}"),
             Failure::Input(bad) => {

@@ -3,6 +3,7 @@
 
 ghost use Rattle.std.specs.Prelude.{◌≡◌, ◌≢◌};
 
+mod algorithms;
 mod answers;
 mod command;
 mod decode;
@@ -11,7 +12,9 @@ mod dump;
 mod each;
 mod failure;
 mod fingerprint;
+mod frames;
 mod further_value;
+mod input;
 mod layout;
 mod lines;
 mod notes;
@@ -26,7 +29,7 @@ use answers::{run_command, verify_file};
 use command::{Asked, Command, asked_of};
 use failure::Failure;
 use std::alloc::Allocator;
-use std::io::{ErrorKind, Write};
+use std::io::{BufReader, ErrorKind, Write};
 use std::process::ExitCode;
 use std::rt::Files;
 use std::{fs, io};
@@ -71,10 +74,14 @@ fn run_asked<F: Files, R: CountedRead, W: Write, A: Allocator + Copy>(
     let Some(path) = asked.file else {
         return run_command(alloc, asked.command, reader, writer);
     };
-    let mut file = match fs::open(files, path) {
-        Ok(file) => Counted::new(file),
+    let file = match fs::open(files, path) {
+        Ok(file) => file,
         Err(error) if error.kind() == ErrorKind::OutOfMemory => return Err(Failure::Memory),
         Err(_) => return Err(Failure::File),
+    };
+    let mut file = match BufReader::new(alloc, file) {
+        Ok(buffered) => Counted::new(buffered),
+        Err(_) => return Err(Failure::Memory),
     };
     match asked.command {
         Command::Verify(who) => verify_file(alloc, who, reader, &mut file, writer),

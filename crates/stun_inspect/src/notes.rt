@@ -2,11 +2,11 @@
 
 use crate::command::User;
 use std::alloc::{AllocError, Allocator};
-use stun_types::attribute::{Realm, Userhash, Username};
-use stun_types::message::Message;
+use stun_types::attribute::{AttributeType, Realm, Userhash, Username};
+use stun_types::message::{Message, StunParseError};
 
-/// A line for a visible USERNAME and one for a visible REALM, if it is not the user's. A line for a
-/// visible USERHASH tells whether it is the user's.
+/// A line for a visible USERNAME and one for a visible REALM, if it is not the user's or is
+/// malformed. A line for a visible USERHASH tells whether it is the user's.
 ///
 /// There is no line for a password alone, and none if the bytes are no message. Fails if an
 /// allocation fails.
@@ -22,22 +22,79 @@ pub fn notes_on<A: Allocator>(
     let Ok(message) = Message::from_bytes(bytes) else {
         return Ok(notes);
     };
-    if let Ok(username) = message.attribute::<Username>() {
-        if username.username() != name {
-            notes.push_str("USERNAME is another name\n")?;
-        }
-    }
-    if let Ok(userhash) = message.attribute::<Userhash>() {
-        if *userhash.hash() == Userhash::compute(name, realm) {
-            notes.push_str("USERHASH is that of the name and the realm\n")?;
-        } else {
-            notes.push_str("USERHASH is another hash\n")?;
-        }
-    }
-    if let Ok(attribute) = message.attribute::<Realm>() {
-        if attribute.realm() != realm {
-            notes.push_str("REALM is another realm\n")?;
-        }
-    }
+    push_username(&mut notes, &message, name)?;
+    push_userhash(&mut notes, &message, name, realm)?;
+    push_realm(&mut notes, &message, realm)?;
     Ok(notes)
+}
+
+/// Appends the line on USERNAME.
+fn push_username<A: Allocator>(
+    notes: &mut String<A>,
+    message: &Message<'_>,
+    name: &str,
+) -> Result<(), AllocError> {
+    match message.attribute::<Username>() {
+        Ok(username) if username.username() == name => Ok(()),
+        Ok(_) => notes.push_str("USERNAME is another name\n"),
+        Err(StunParseError::InvalidAttributeData) => {
+            notes.push_str("USERNAME ")?;
+            notes.push_str(fault_of(message, AttributeType::USERNAME, MORE_THAN_A_NAME))
+        }
+        Err(_) => Ok(()),
+    }
+}
+
+/// Appends the line on USERHASH.
+fn push_userhash<A: Allocator>(
+    notes: &mut String<A>,
+    message: &Message<'_>,
+    name: &str,
+    realm: &str,
+) -> Result<(), AllocError> {
+    match message.attribute::<Userhash>() {
+        Ok(userhash) if *userhash.hash() == Userhash::compute(name, realm) => {
+            notes.push_str("USERHASH is that of the name and the realm\n")
+        }
+        Ok(_) => notes.push_str("USERHASH is another hash\n"),
+        Err(StunParseError::InvalidAttributeData) => {
+            notes.push_str("USERHASH does not have 32 bytes\n")
+        }
+        Err(_) => Ok(()),
+    }
+}
+
+/// Appends the line on REALM.
+fn push_realm<A: Allocator>(
+    notes: &mut String<A>,
+    message: &Message<'_>,
+    realm: &str,
+) -> Result<(), AllocError> {
+    match message.attribute::<Realm>() {
+        Ok(attribute) if attribute.realm() == realm => Ok(()),
+        Ok(_) => notes.push_str("REALM is another realm\n"),
+        Err(StunParseError::InvalidAttributeData) => {
+            notes.push_str("REALM ")?;
+            notes.push_str(fault_of(message, AttributeType::REALM, MORE_THAN_A_TEXT))
+        }
+        Err(_) => Ok(()),
+    }
+}
+
+/// What a USERNAME is that is too long (RFC 8489, section 14.3).
+const MORE_THAN_A_NAME: &str = "has more than 513 bytes\n";
+
+/// What a REALM is that is too long (RFC 8489, section 14.9).
+const MORE_THAN_A_TEXT: &str = "has more than 763 bytes\n";
+
+/// Why the first visible attribute of a type is malformed, whose value is a text: it is not UTF-8,
+/// or it is too long.
+fn fault_of(message: &Message<'_>, kind: AttributeType, long: &'static str) -> &'static str {
+    let found = message
+        .iter_attributes()
+        .find(|found| found.1.get_type() == kind);
+    match found {
+        Some((_, attribute)) if str::from_utf8(attribute.value()).is_err() => "is not UTF-8\n",
+        _ => long,
+    }
 }

@@ -41,6 +41,12 @@ pub enum Form {
     Transport,
     /// What names a reserved port (RFC 8656, section 18.10).
     Token,
+    /// The 20 bytes of an HMAC-SHA1 (section 14.5).
+    Sha1,
+    /// The 16 to 32 bytes of an HMAC-SHA256, a multiple of 4 (section 14.6).
+    Sha256,
+    /// The 32 bytes of a hash (section 14.4).
+    Userhash,
     /// Bytes.
     Bytes,
 }
@@ -71,7 +77,7 @@ fn required(number: u16) -> Option<Registered> {
         0x0001 => entry("MAPPED-ADDRESS", Form::Address),
         0x0003 => entry("CHANGE-REQUEST", Form::Bytes),
         0x0006 => entry("USERNAME", Form::Text),
-        0x0008 => entry("MESSAGE-INTEGRITY", Form::Bytes),
+        0x0008 => entry("MESSAGE-INTEGRITY", Form::Sha1),
         0x0009 => entry("ERROR-CODE", Form::Error),
         0x000A => entry("UNKNOWN-ATTRIBUTES", Form::Types),
         0x000C => entry("CHANNEL-NUMBER", Form::Channel),
@@ -86,9 +92,9 @@ fn required(number: u16) -> Option<Registered> {
         0x0019 => entry("REQUESTED-TRANSPORT", Form::Transport),
         0x001A => entry("DONT-FRAGMENT", Form::Flag),
         0x001B => entry("ACCESS-TOKEN", Form::Bytes),
-        0x001C => entry("MESSAGE-INTEGRITY-SHA256", Form::Bytes),
+        0x001C => entry("MESSAGE-INTEGRITY-SHA256", Form::Sha256),
         0x001D => entry("PASSWORD-ALGORITHM", Form::Algorithm),
-        0x001E => entry("USERHASH", Form::Bytes),
+        0x001E => entry("USERHASH", Form::Userhash),
         0x0020 => entry("XOR-MAPPED-ADDRESS", Form::XorAddress),
         0x0022 => entry("RESERVATION-TOKEN", Form::Token),
         0x0024 => entry("PRIORITY", Form::Priority),
@@ -96,6 +102,23 @@ fn required(number: u16) -> Option<Registered> {
         0x0026 => entry("PADDING", Form::Bytes),
         0x0027 => entry("RESPONSE-PORT", Form::Bytes),
         0x002A => entry("CONNECTION-ID", Form::Bytes),
+        _ => reserved(number),
+    }
+}
+
+/// The attributes that older RFCs had, whose types the registry keeps reserved (RFC 8489, section
+/// 18.3; RFC 5766, section 14.9; RFC 3489, section 11.2).
+fn reserved(number: u16) -> Option<Registered> {
+    match number {
+        0x0000 | 0x000E | 0x000F => entry("reserved", Form::Bytes),
+        0x0002 => entry("RESPONSE-ADDRESS (reserved)", Form::Address),
+        0x0004 => entry("SOURCE-ADDRESS (reserved)", Form::Address),
+        0x0005 => entry("CHANGED-ADDRESS (reserved)", Form::Address),
+        0x0007 => entry("PASSWORD (reserved)", Form::Text),
+        0x000B => entry("REFLECTED-FROM (reserved)", Form::Address),
+        0x0010 => entry("BANDWIDTH (reserved)", Form::Bytes),
+        0x0011 => entry("reserved", Form::Bytes),
+        0x0021 => entry("TIMER-VAL (reserved)", Form::Bytes),
         _ => None,
     }
 }

@@ -12,6 +12,8 @@ pub enum Unread {
     Fragment,
     /// Its headers were not captured whole.
     Cut,
+    /// It is a segment of TCP with the front of a message.
+    Begun,
 }
 
 /// Packets that are not read for one reason.
@@ -62,7 +64,10 @@ pub struct Tally {
     /// Datagrams, or parts of a text, without a message.
     others: usize,
     without_udp: usize,
+    /// ChannelData that carries no message.
+    channels: usize,
     fragments: Missed,
+    begun: Missed,
     cut: Missed,
     links: Missed,
     /// The type of the first link that is not read.
@@ -75,7 +80,9 @@ impl Tally {
         bad: 0,
         others: 0,
         without_udp: 0,
+        channels: 0,
         fragments: Missed::NONE,
+        begun: Missed::NONE,
         cut: Missed::NONE,
         links: Missed::NONE,
         link: 0,
@@ -104,11 +111,16 @@ impl Tally {
         self.without_udp = self.without_udp.saturating_add(1);
     }
 
+    pub fn count_channel(&mut self) {
+        self.channels = self.channels.saturating_add(1);
+    }
+
     /// Counts a packet that is not read.
     pub fn count_unread(&mut self, why: Unread, packet: usize, place: usize) {
         match why {
             Unread::Fragment => self.fragments.count(packet, place),
             Unread::Cut => self.cut.count(packet, place),
+            Unread::Begun => self.begun.count(packet, place),
             Unread::Link(link) => {
                 if self.links.count == 0 {
                     self.link = link;
@@ -141,7 +153,13 @@ impl Tally {
         let (messages, others, without_udp) = (self.messages, self.others, self.without_udp);
         let mut text = format!(in alloc; "messages: {messages}, other UDP: {others}, ")?;
         write!(text, "no UDP: {without_udp}\n")?;
+        if self.channels > 0 {
+            let channels = self.channels;
+            write!(text, "channel data: {channels}\n")?;
+        }
         self.fragments.push(&mut text, "fragments")?;
+        self.begun
+            .push(&mut text, "segments of TCP that end within a message")?;
         self.cut.push(&mut text, "with headers that are cut")?;
         let link = self.link;
         let why = format!(in alloc; "of another link, of type {link}")?;

@@ -1,5 +1,6 @@
 //! The values of attributes as text.
 
+use crate::algorithms::{push_algorithm, push_algorithms};
 use crate::further_value::{
     push_channel, push_domain, push_even_port, push_family, push_flag, push_lifetime,
     push_plain_address, push_priority, push_software, push_tie_breaker, push_token, push_transport,
@@ -9,10 +10,7 @@ use crate::registry::{Form, error_name};
 use std::alloc::{AllocError, Allocator};
 use std::net::SocketAddr;
 use stun_auth::auth::NonceSecurityBits;
-use stun_types::attribute::{
-    AttributeType, ErrorCode, PasswordAlgorithm, PasswordAlgorithmValue, PasswordAlgorithms,
-    RawAttribute,
-};
+use stun_types::attribute::{AttributeType, ErrorCode, RawAttribute};
 use stun_types::message::TransactionId;
 use stun_types::prelude::AttributeFromRaw;
 
@@ -35,6 +33,9 @@ pub fn push_value<A: Allocator + Copy>(
         Form::Types => push_types(text, value)?,
         Form::Algorithm => push_algorithm(text, value)?,
         Form::Algorithms => push_algorithms(text, value)?,
+        Form::Sha1 | Form::Sha256 | Form::Userhash => {
+            has_length_of(form, value.len()) && push_digits(text, value)?
+        }
         Form::Priority => push_priority(text, value)?,
         Form::TieBreaker => push_tie_breaker(text, value)?,
         Form::Flag => push_flag(text, value)?,
@@ -91,6 +92,15 @@ pub fn push_quoted<A: Allocator + Copy>(
     text.push('"')
 }
 
+/// Whether a value of this length is one of a digest or of a hash.
+fn has_length_of(form: Form, length: usize) -> bool {
+    match form {
+        Form::Sha1 => length == 20,
+        Form::Sha256 => 16 <= length && length <= 32 && length % 4 == 0,
+        _ => length == 32,
+    }
+}
+
 fn push_text<A: Allocator + Copy>(text: &mut String<A>, value: &[u8]) -> Result<bool, AllocError> {
     let Ok(quoted) = str::from_utf8(value) else {
         return Ok(false);
@@ -144,46 +154,5 @@ fn push_error<A: Allocator + Copy>(text: &mut String<A>, value: &[u8]) -> Result
     let name = error_name(code);
     write!(text, "{code} {name}, ")?;
     push_quoted(text, error.reason())?;
-    Ok(true)
-}
-
-fn algorithm_name(algorithm: PasswordAlgorithmValue) -> &'static str {
-    match algorithm {
-        PasswordAlgorithmValue::MD5 => "MD5",
-        PasswordAlgorithmValue::SHA256 => "SHA-256",
-    }
-}
-
-fn push_algorithm<A: Allocator + Copy>(
-    text: &mut String<A>,
-    value: &[u8],
-) -> Result<bool, AllocError> {
-    let raw = RawAttribute::new(AttributeType::PASSWORD_ALGORITHM, value);
-    let Ok(chosen) = PasswordAlgorithm::from_raw(raw) else {
-        return Ok(false);
-    };
-    text.push_str(algorithm_name(chosen.algorithm()))?;
-    Ok(true)
-}
-
-fn push_algorithms<A: Allocator + Copy>(
-    text: &mut String<A>,
-    value: &[u8],
-) -> Result<bool, AllocError> {
-    let raw = RawAttribute::new(AttributeType::PASSWORD_ALGORITHMS, value);
-    let Ok(algorithms) = PasswordAlgorithms::from_raw(raw) else {
-        return Ok(false);
-    };
-    if algorithms.is_empty() {
-        text.push_str("none")?;
-    }
-    for i in 0..algorithms.len() {
-        if let Some(algorithm) = algorithms.get(i) {
-            if i > 0 {
-                text.push_str(", ")?;
-            }
-            text.push_str(algorithm_name(algorithm))?;
-        }
-    }
     Ok(true)
 }

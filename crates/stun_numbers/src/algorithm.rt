@@ -6,7 +6,7 @@ ghost use Rattle.stun_numbers.specs.Algorithms.{algorithm_number, algorithm_numb
 use crate::refusal::Refusal;
 use stun_base::algorithm::IntegrityAlgorithm;
 
-/// The number of an algorithm.
+/// Returns the number of an algorithm.
 pub fn algorithm_number(algorithm: IntegrityAlgorithm) -> u32
     ensures { result ≡ algorithm_number algorithm }
 {
@@ -16,7 +16,11 @@ pub fn algorithm_number(algorithm: IntegrityAlgorithm) -> u32
     }
 }
 
-/// The algorithm of a number, or `BadArgument`.
+/// Returns the algorithm with this number.
+///
+/// # Errors
+///
+/// `BadArgument`: no algorithm has this number.
 pub fn algorithm_numbered(number: u32) -> Result<IntegrityAlgorithm, Refusal>
     ensures ok { IfOk result (λ algorithm. algorithm_numbered number ≡ Some algorithm) }
     ensures err { IfErr result (λ refusal. (algorithm_numbered number ≡ None)

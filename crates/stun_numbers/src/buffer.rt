@@ -1,11 +1,12 @@
-//! The caller's buffer.
+//! The buffer that a caller passes.
 
 ghost use Rattle.std.specs.Prelude.{◌≡◌, ◌≤◌, ◌++◌, length, drop, Ok};
 ghost use Rattle.stun_numbers.specs.Buffers.{buffer_after, length_of, within_room};
 
 use crate::refusal::Refusal;
 
-/// Copies bytes to the front of a buffer that has room for them.
+/// Copies bytes to the front of a buffer, which must have room for them. The rest of the buffer is
+/// unchanged.
 pub fn put(buffer: &mut [u8], bytes: &[u8])
     requires { length bytes.now ≤ length buffer.old }
     ensures { buffer.new ≡ bytes.now ++ drop (length bytes.now) buffer.old }
@@ -13,8 +14,12 @@ pub fn put(buffer: &mut [u8], bytes: &[u8])
     buffer[..bytes.len()].copy_from_slice(bytes);
 }
 
-/// Copies bytes to the front of a buffer and returns their number. A buffer that has fewer bytes
-/// stays as it is.
+/// Copies bytes to the front of a buffer, and returns how many they are. The rest of the buffer is
+/// unchanged.
+///
+/// # Errors
+///
+/// `BufferTooSmall`: the buffer is shorter than the bytes. It is then unchanged.
 pub fn fill(buffer: &mut [u8], bytes: &[u8]) -> Result<usize, Refusal>
     ensures answer { result ≡ length_of (within_room (Ok bytes.now) (length buffer.old)) }
     ensures written { buffer.new ≡ buffer_after

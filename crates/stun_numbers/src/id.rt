@@ -1,4 +1,4 @@
-//! The transaction id that a caller gives.
+//! The transaction ID that a caller passes.
 
 ghost use Rattle.std.specs.Prelude.{◌≡◌, length, IfOk, IfErr};
 ghost use Rattle.byteorder.specs.Endian.{big_number};
@@ -7,10 +7,14 @@ use crate::refusal::Refusal;
 use byteorder::{BigEndian, ByteOrder};
 use stun_base::transaction_id::TransactionId;
 
-/// How many bytes an id has.
+/// The number of bytes of a transaction ID.
 pub const ID_LENGTH: usize = 12;
 
-/// The id in 12 bytes, or `BadArgument` where they are more or fewer.
+/// Creates a transaction ID from its bytes in network order.
+///
+/// # Errors
+///
+/// `BadArgument`: there are more or fewer than 12 bytes.
 pub fn transaction_id(bytes: &[u8]) -> Result<TransactionId, Refusal>
     ensures ok { IfOk result (λ id. (length bytes.now ≡ 12) × (id ≡ big_number 12 bytes.now)) }
     ensures err { IfErr result (λ refusal. ¬ (length bytes.now ≡ 12)

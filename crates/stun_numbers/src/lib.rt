@@ -1,5 +1,5 @@
-//! What both archives for C share: the refusals and their numbers, the numbers of algorithms, and
-//! texts, ids, buffers and messages of a caller.
+//! What the two archives for C share: the errors and their numbers, the numbers of algorithms, and
+//! the texts, transaction IDs, buffers and messages that a caller passes.
 #![tactic(auto)]
 
 pub mod algorithm;

@@ -1,4 +1,4 @@
-//! The message at the front of the caller's buffer.
+//! The message at the front of the buffer that a caller passes.
 
 ghost use Rattle.std.specs.Prelude.{◌≡◌, ◌≤◌, length, take, IfOk, IfErr, OnOk, Some, None};
 ghost use Rattle.stun_types.specs.Writing.{is_set_apart};
@@ -8,7 +8,8 @@ use crate::refusal::Refusal;
 use stun_base::attribute_type::AttributeType;
 use stun_types::message::Message;
 
-/// Whether attributes of this type end a message: the two of integrity, and FINGERPRINT.
+/// Returns `true` for the types that only calls of their own write: MESSAGE-INTEGRITY,
+/// MESSAGE-INTEGRITY-SHA256 and FINGERPRINT.
 pub fn is_set_apart(kind: AttributeType) -> bool
     ensures { result ≡ is_set_apart kind.0 }
 {
@@ -17,7 +18,8 @@ pub fn is_set_apart(kind: AttributeType) -> bool
         || kind == AttributeType::FINGERPRINT
 }
 
-/// Whether the message has an attribute after which no other may be added.
+/// Returns `true` if the message has an attribute after which no attribute may be added:
+/// MESSAGE-INTEGRITY, MESSAGE-INTEGRITY-SHA256 or FINGERPRINT.
 pub fn is_closed(message: &Message<'_>) -> bool
     ensures { result ≡ is_closed message.now }
 {
@@ -27,7 +29,16 @@ pub fn is_closed(message: &Message<'_>) -> bool
         .is_some()
 }
 
-/// The message in the first `count` bytes of the buffer, where an attribute may be added to it.
+/// Parses the message in the first `count` bytes of the buffer, to which an attribute is to be
+/// added.
+///
+/// # Errors
+///
+/// The first of these that applies:
+///
+/// - `BadArgument`: the buffer has fewer than `count` bytes.
+/// - The errors of `Message::from_bytes`.
+/// - `Closed`: the message has an integrity attribute or FINGERPRINT, and nothing may follow it.
 pub fn base_message(buffer: &[u8], count: usize) -> Result<Message<'_>, Refusal>
     ensures ok { IfOk result (λ message. message ≡ take count buffer.now) }
     ensures within { OnOk result (count ≤ length buffer.now) }

@@ -1,4 +1,4 @@
-//! Why a call refuses, and the number that a caller gets for it, as `include/stunp.h` has it.
+//! The errors of the calls for C, and their numbers, as `include/stunp.h` has them.
 
 ghost use Rattle.std.specs.Prelude.{◌≡◌};
 ghost use Rattle.stun_numbers.specs.Refusals.{refusal_number, refusal_of_write};
@@ -6,40 +6,40 @@ ghost use Rattle.stun_numbers.specs.Refusals.{refusal_number, refusal_of_write};
 use std::alloc::AllocError;
 use stun_base::error::{StunParseError, StunWriteError};
 
-/// Why a call refuses. Each has a number below zero.
+/// An error of a call. Each error has a number, which is less than zero.
 #[derive(Debug, Clone, Copy, PartialEq, Eq)]
 pub enum Refusal {
-    /// -1: bytes are missing at the end of the header, of the message or of an attribute.
+    /// -1: bytes are missing at the end of the header, the message or an attribute.
     Truncated,
-    /// -2: the first 20 bytes are no header of STUN.
+    /// -2: the first 20 bytes are not a STUN header.
     NotStun,
-    /// -3: bytes follow the end of the message.
+    /// -3: there are bytes after the end of the message.
     TooLarge,
-    /// -4: the message has no visible integrity attribute.
+    /// -4: no integrity attribute is visible.
     NoIntegrity,
-    /// -5: the integrity attribute that decides has a wrong length.
+    /// -5: the integrity attribute that decides has a length that its type does not allow.
     MalformedIntegrity,
-    /// -6: a digest is not that of the message under the key, or the key to make one is gone.
+    /// -6: the signature is invalid, or the server no longer has a key to sign with.
     IntegrityFailed,
     /// -7: an argument is out of range.
     BadArgument,
     /// -8: a text is not UTF-8.
     NotText,
-    /// -9: a text has more bytes than its attribute may have.
+    /// -9: a text has more bytes than its attribute may hold.
     TextTooLong,
-    /// -10: the buffer has fewer bytes than are to be written.
+    /// -10: the buffer does not have room for what would be written.
     BufferTooSmall,
-    /// -11: attributes of this type are written by a call of their own, or by none.
+    /// -11: this call does not write attributes of this type. Another call does, or none.
     NotAllowed,
-    /// -12: the message has an integrity attribute or FINGERPRINT, so nothing may follow it.
+    /// -12: the message has an integrity attribute or FINGERPRINT, and nothing may follow it.
     Closed,
-    /// -13: the message has an attribute of this type.
+    /// -13: the message has an attribute of this type already.
     AttributeExists,
     /// -14: the message would have more than 65532 bytes after its header.
     MessageTooLong,
-    /// -15: the message has no visible attribute of the type that is read.
+    /// -15: no attribute of the type to parse is visible.
     MissingAttribute,
-    /// -16: the attribute that is read is malformed.
+    /// -16: the attribute to parse is malformed.
     MalformedAttribute,
     /// -17: an allocation failed.
     OutOfMemory,
@@ -47,26 +47,28 @@ pub enum Refusal {
     EmptyHandle,
     /// -19: the handle is full already.
     FullHandle,
-    /// -20: a request of this transaction is outstanding.
+    /// -20: a request with this transaction ID is outstanding.
     AlreadyInProgress,
-    /// -21: this call does not take the message, or not with this address.
+    /// -21: the call does not accept this message or this address.
     ProtocolViolation,
-    /// -22: the message is not sufficiently authenticated (401).
+    /// -22: the message is not sufficiently authenticated, and a server answers 401; or a client
+    /// cannot answer this 401.
     Unauthorized,
-    /// -23: the request is not well-formed (400).
+    /// -23: the request is not well-formed. A server answers 400, or 438 in one case
+    /// (`stunp_state.h`).
     BadRequest,
-    /// -24: the nonce is not the current one (438).
+    /// -24: the nonce is not the current one. A server answers 438.
     StaleNonce,
-    /// -25: a required algorithm or feature is not supported.
+    /// -25: the server lacks an algorithm or a feature that the client requires.
     UnsupportedFeature,
-    /// -26: a request would be sent again without a wait.
+    /// -26: the timeouts would make several transmissions of a request due at the same time.
     NoWait,
-    /// -27: as many addresses are kept as may be, and this one is not among them.
+    /// -27: the limit on the number of addresses is reached, and this address has no record.
     TooManyAddresses,
 }
 
 impl Refusal {
-    /// The number of the refusal.
+    /// Returns the number of the error.
     pub fn code(self) -> i64
         ensures { result ≡ refusal_number self }
     {
@@ -101,8 +103,8 @@ impl Refusal {
         }
     }
 
-    /// The refusal for an error of writing. Where `is_long`, what is too large is the message, and
-    /// else a text.
+    /// Converts an error of writing. A `TooLarge` is about the message if `is_long` is true, and
+    /// otherwise about a text.
     pub fn of_write(error: StunWriteError, is_long: bool) -> Refusal
         ensures { result ≡ refusal_of_write is_long error }
     {

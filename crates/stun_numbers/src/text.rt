@@ -1,4 +1,4 @@
-//! Bytes of a caller as texts.
+//! Texts that a caller passes as bytes.
 
 ghost use Rattle.std.specs.Prelude.{◌≡◌, true, false, IfOk, IfErr, OnErr};
 ghost use Rattle.std.specs.Str.{is_utf8};
@@ -6,7 +6,11 @@ ghost use Rattle.std.specs.Str.{is_utf8};
 use crate::refusal::Refusal;
 use std::str;
 
-/// The bytes as a text, or `NotText` where they are not UTF-8.
+/// Returns the bytes as a text.
+///
+/// # Errors
+///
+/// `NotText`: the bytes are not UTF-8.
 #[tactic(auto, using(crate::proofs::Texts::is_text, crate::proofs::Texts::is_no_text))]
 pub fn text(bytes: &[u8]) -> Result<&str, Refusal>
     ensures ok { IfOk result (λ text. (is_utf8 bytes.now ≡ true) × (text.now ≡ bytes.now)) }

@@ -61,3 +61,5 @@ pub mod HowLate
 pub mod LateLaw
 -- whatever turns are taken, no transmission of a request comes before its moment in the plan
 pub mod NeverEarly
+-- a request in whatever calls its user makes: each of its steps comes in time
+pub mod AnyCalls

@@ -47,5 +47,9 @@ pub mod PathLemmas
 pub mod MeetingLoopLemmas
 -- after one error of code 438 a request is accepted under the new nonce
 pub mod Renewed
+-- each request and each response is accepted while the nonce lasts, and after it is renewed
+pub mod SessionLemmas
+-- a new client and its server come to the strongest algorithm of both, by messages of any method
+pub mod ContactLemmas
 -- a server with one user, whose hash no other has
 pub mod ExampleLemmas

@@ -19,6 +19,8 @@ pub mod ServedCalls
 pub mod MadeLemmas
 -- each call that a user makes on a server is the call of a run
 pub mod ServerLoopLemmas
+-- the same where the users are in a data base
+pub mod DatabaseLemmas
 -- two messages with one reading are answered alike, alone and in each run
 pub mod AppendedLemmas
 -- a server of some addresses takes each call that concerns one of them, so the run of that address

@@ -18,6 +18,8 @@ pub mod Shards
 pub mod Serving
 -- sentence 1: a server whose calls its user makes one by one
 pub mod ServerLoop
+-- sentence 1: the same where the users are in a data base
+pub mod DatabaseLoop
 -- what signing a message for an address comes to
 pub mod Signing
 -- sentence 2: what a client and a server can agree on (section 9.2)
@@ -38,6 +40,10 @@ pub mod MeetingLoop
 pub mod MeetingExample
 -- a nonce that has expired, and the one that takes its place (sections 9.2.4 and 9.2.5)
 pub mod Renewal
+-- a client and a server that know each other: what they exchange from there on
+pub mod Session
+-- sentence 2, of any method and attributes: a client that is new to a server
+pub mod Contact
 -- sentence 3: the plan of a request, and what disturbs it (sections 6.2.1 and 6.2.2)
 pub mod Schedule
 -- the steps of a driven agent: moments, ids and bytes
@@ -50,6 +56,8 @@ pub mod Examples
 pub mod RunLaws
 -- sentence 3: an agent that its user polls in a loop of their own, on time or late
 pub mod AgentLoop
+-- sentence 3: an agent in whatever loop its user has, call by call
+pub mod AnyLoop
 -- what the steps of a run add to the counters of its agent
 pub mod Counters
 -- a run that stops because an allocation failed, and how it goes on

@@ -1,5 +1,5 @@
-//! Laws of runs: what holds of the definitions alone, and which step of a run one call of a server
-//! is.
+//! Laws of runs: what holds of the definitions alone, and which step of a run a single call of a
+//! server is.
 ghost use Rattle.std.specs.Prelude.{◌≡◌, ◌≤◌, ◌-◌, List, [], Ok, length, ℕ};
 ghost use Rattle.std.specs.declared.net.socket_addr.SocketAddr.{SocketAddr as Address};
 ghost use Rattle.std.specs.Global.{Vec as TheVec};
@@ -20,9 +20,12 @@ ghost use Rattle.stun_auth.specs.Server.{Sight};
 ghost use Rattle.stun_auth.specs.Validation.{answer};
 ghost use Rattle.stun_proto.specs.AgentLoop.{LateLoopsAreBounded, LoopsAreDriven, LoopsExist};
 ghost use Rattle.stun_proto.specs.AgentLoop.{LoopsSendByPlan, LoopsSendByTurns, TurnsAreNeverEarly};
+ghost use Rattle.stun_proto.specs.AnyLoop.{CallsExist, CallsSendInTime};
 ghost use Rattle.stun_proto.specs.Appending.{AgreeingAreAnsweredAlike, ContinuedAreAnsweredAlike};
 ghost use Rattle.stun_proto.specs.Best.{BestIsStrongest};
+ghost use Rattle.stun_proto.specs.DatabaseLoop.{StoredCallsAreServed};
 ghost use Rattle.stun_proto.specs.Examples.{example_request, udp_steps, tcp_steps};
+ghost use Rattle.stun_proto.specs.Contact.{NewClientsAreIntroduced};
 ghost use Rattle.stun_proto.specs.Counters.{RunsCountSteps};
 ghost use Rattle.stun_proto.specs.Honest.{AgreesOn, ShortNamesAreSigned, StrongestIsAgreed};
 ghost use Rattle.stun_proto.specs.MeetingExample.{IsServed, a_meeting, a_server, a_user};
@@ -38,6 +41,7 @@ ghost use Rattle.stun_proto.specs.Schedule.{AreInOrder, plan};
 ghost use Rattle.stun_proto.specs.ServerLoop.{BuiltAreWrittenSo, CallsAreServed};
 ghost use Rattle.stun_proto.specs.ServerLoop.{CallsAreValidated, IsMade, reply_with};
 ghost use Rattle.stun_proto.specs.Serving.{reply_of_answer, reply_of_signing};
+ghost use Rattle.stun_proto.specs.Session.{SessionsGoOn};
 ghost use Rattle.stun_proto.specs.Shards.{ShardsServeAsOne};
 ghost use Rattle.stun_proto.specs.Signing.{written_anew};
 ghost use Rattle.stun_proto.specs.Steps.{Step};
@@ -56,22 +60,23 @@ use stun_base::error::StunWriteError;
 use stun_base::instant::Instant;
 use stun_types::message::{Message, MessageWriteVec};
 
-/// Events have one run at most: its steps and the agent after it are determined, up to every
-/// moment, and from every moment on.
+/// A list of events has at most one run: its steps and the agent after it are determined, up to
+/// every time, and from every time on.
 pub fn runs_are_determined()
     ensures driven { IsDetermined }
     ensures throughout { IsDeterminedThroughout }
 {}
 
-/// Each list of events whose moments do not go back has a run.
+/// Every list of events whose times do not decrease has a run.
 pub fn events_have_runs()
     ensures { EventsHaveRuns }
 {}
 
-/// A run that stopped because an allocation failed goes on where the agent, as it was left, is
-/// driven over the events that are left. This makes exactly the later steps of the whole run and
-/// comes to its agent, so no transmission is made twice. It may stop again, any number of times.
-/// Where no event is left, the agent is already the one that the whole run comes to.
+/// A run that stopped because an allocation failed can be continued: the agent, as it was left, is
+/// driven through the events that are left. This makes exactly the later steps of the whole run and
+/// leaves the same agent, so that no transmission is made twice. The continued run may stop again,
+/// any number of times. If no event is left, the agent is already the one that the whole run
+/// leaves.
 pub fn stopped_runs_go_on()
     ensures left { StoppedRunsGoOn }
     ensures parts { StoppedRunsHaveTheRest }
@@ -79,59 +84,76 @@ pub fn stopped_runs_go_on()
     ensures complete { StoppedRunsEnd }
 {}
 
-/// The steps of a run and the counters of its agent tell the same: of requests that timed out or
-/// were cancelled, of indications and responses sent, and of bytes sent, retransmissions among them
-/// (RFC 8489, section 6.2). Whoever keeps the steps can do without counters.
+/// The steps of a run and the counters of its agent agree on the requests that timed out or were
+/// canceled, on the indications and responses that were sent, and on the bytes that were sent,
+/// retransmissions included (RFC 8489, section 6.2). So a program that stores the steps needs no
+/// counters.
 pub fn runs_count_steps()
     ensures { RunsCountSteps }
 {}
 
-/// Let anybody drive an agent in this way, and poll it at the moments that it names. Then a request
-/// that one event asks for and that is undisturbed is sent by its plan. It times out once, as far
-/// as the run goes.
+/// If an agent is driven in this way, and is polled at the times that it returns, then a request
+/// that one event sends, and that is undisturbed, is sent by its plan. It times out once, as far as
+/// the run goes.
 pub fn runs_send_by_plan()
     ensures { (until : ℕ) (a b : Agent) (events : List (ℕ × TheEvent)) (steps : List Step)
         → until ≤ last_moment → IsAscending a.transactions → AreInOrder until 0 events
         → IsDriven until a events steps b → SendsByPlan until (requester a) events steps }
 {}
 
-/// The same of ids that come again: each request that the agent accepts and that is undisturbed
-/// goes by its plan up to its end. Where no later event asks for its id, these are all steps that
-/// the id has from there on.
+/// Like `runs_send_by_plan`, but for transaction IDs that occur again: each request that the agent
+/// accepts, and that is undisturbed, follows its plan up to its end. If no later event sends a
+/// request with its ID, these are all the steps with this ID from then on.
 pub fn runs_keep_plans()
     ensures { (until : ℕ) (a b : Agent) (events : List (ℕ × TheEvent)) (steps : List Step)
         → until ≤ last_moment → IsAscending a.transactions → AreInOrder until 0 events
         → IsDriven until a events steps b → KeepPlans until a events steps }
 {}
 
-/// Let an agent begin with no request outstanding, and let a user poll it on time in a loop
-/// (`Loop`): no turn comes later than `poll` said. Then it makes the steps of `drive` with the same
-/// events. So the third sentence holds of it (RFC 8489, section 6.2.1). For any events at moments
-/// that do not go back there is a loop, on time or late.
+/// If an agent starts with no outstanding request, and its user polls it on time in a loop
+/// (`Loop`), so that no turn comes later than `poll` returned, then it makes the steps that `drive`
+/// makes with the same events. So the third sentence holds of it (RFC 8489, section 6.2.1). For any
+/// events at times that do not decrease there is a loop, on time or late.
 pub fn loops_are_driven()
     ensures driven { LoopsAreDriven }
     ensures plans { LoopsSendByPlan }
     ensures exist { LoopsExist }
 {}
 
-/// An agent in such a loop that is late, by however much, and a request at which no event is aimed:
+/// A request in such a loop that is late, by however much, and that no event disturbs:
 ///
-/// - Up to its end it is sent at the first turn at which its timeout has passed since it was sent
-///   before. It is sent at no other turn, and at most as often as its plan says.
-/// - It times out at the first turn at which the final wait has passed since then.
-/// - No step comes before its moment in the plan.
-/// - Where each turn is at most so late, transmission k, counted from 0, is at most k times as
-///   late. The time-out is late at most once more than the last transmission.
+/// - Up to its end it is sent at the first turn at which its timeout has passed since the
+///   transmission before. It is sent at no other turn, and at most as often as its plan says.
+/// - It times out at the first turn at which the final wait has passed since the last transmission.
+/// - No step comes before its time in the plan.
+/// - If no turn is later than some limit, transmission k, counted from 0, is late by at most k
+///   times that limit. The timeout is late by at most one limit more than the last transmission.
 pub fn late_loops_send_by_turns()
     ensures turns { LoopsSendByTurns }
     ensures never_early { TurnsAreNeverEarly }
     ensures bounded { LateLoopsAreBounded }
 {}
 
-/// The plan of one request, spelled out. With the default settings, over UDP: a transmission at 0,
-/// 500, 1500, 3500, 7500, 15500 and 31500 ms, and its time-out at 39500 ms. Over TCP: one
-/// transmission, and the time-out at the same moment (RFC 8489, sections 6.2.1 and 6.2.2). A new
-/// agent that is asked this request and nothing else meets the premise of `runs_send_by_plan`.
+/// An agent in whatever loop you have (`Calls`): any calls, in any order, each at a time of its own
+/// that is not before the one of the call before. Among them are events that no poll follows,
+/// `poll_transmit` that is not called until it returns `None`, and calls that change no request. Let
+/// no deadline be more than `late` nanoseconds ago at any of these calls.
+///
+/// Then a request that is undisturbed is sent again only once its timeout since the transmission
+/// before has passed, and at most `late` after that. It is sent at most as often as its settings
+/// allow, and times out once the final wait has passed, at most `late` after that. So transmission
+/// k, counted from 0, is never before its time in the plan, and at most k times `late` after it. If
+/// one of these steps is missing at the end, the last call was at most `late` after the time of that
+/// step. Whatever is called at times that do not go back is such a loop, for some `late`.
+pub fn any_loop_sends_in_time()
+    ensures in_time { CallsSendInTime }
+    ensures exist { CallsExist }
+{}
+
+/// The plan of one request, spelled out. With the default settings, over UDP, it is sent at 0, 500,
+/// 1500, 3500, 7500, 15500 and 31500 ms, and times out at 39500 ms. Over TCP it is sent once, and
+/// times out at the same time (RFC 8489, sections 6.2.1 and 6.2.2). A new agent that sends this
+/// request and nothing else meets the premise of `runs_send_by_plan`.
 pub fn plan_of_a_request()
     ensures udp { (to : Address) → plan Udp 0 default_settings 7 to example_request ≡ udp_steps to }
     ensures tcp { (to : Address) → plan Tcp 0 default_settings 7 to example_request ≡ tcp_steps to }
@@ -139,7 +161,7 @@ pub fn plan_of_a_request()
         → IsAskedOnce (requester (new_agent transport here)) 7 0 example_request to [] [] }
 {}
 
-/// The answer to one request or indication is `Validated` if and only if the message is accepted
+/// The reply to one request or indication is `Validated` if and only if the message is accepted
 /// (RFC 8489, section 9.2.4).
 pub fn one_call_validates()
     ensures { (s : Sight) (now : ℕ) (words : List ℕ) (r : Reading)
@@ -148,11 +170,12 @@ pub fn one_call_validates()
     stun_auth::laws::accepted_messages_are_validated();
 }
 
-/// Calls that a user makes on one server, one by one, are a run of `serve`. They are calls as
-/// `ServerCall` has them: no user is handed in (`validate_incoming_message_of`), and there is no
-/// `forget_expired_within`. Each is as the clauses of the server's own call say (`IsMade`), from
-/// the server that the one before left. They have the replies of the run, and leave its server. So
-/// the first sentence holds of them (RFC 8489, section 9.2.4).
+/// The calls that a program makes on one server, one by one, are a run of `serve`. The calls are
+/// those that `ServerCall` has, so that no user is passed with a message
+/// (`validate_incoming_message_of`), and there is no `forget_expired_within`. Each call does what
+/// the clauses of the server's own call say (`IsMade`), to the server that the call before left.
+/// The calls return what the run returns, and leave the server that it leaves. So the first
+/// sentence holds of them (RFC 8489, section 9.2.4).
 pub fn calls_are_a_run()
     ensures served { CallsAreServed }
     ensures validated { CallsAreValidated }
@@ -161,9 +184,25 @@ pub fn calls_are_a_run()
     auth_laws::accepted_messages_are_validated();
 }
 
+/// A server whose users are in a data base makes a run of `serve` too: of the server that has all
+/// users of the data base. For each message its user looks up the one whom `named_user` returns, or
+/// the client of the address for signing, and passes that user, by a password or by stored keys
+/// (`validate_incoming_message_of`, `sign_outgoing_message_of`). The data base may change between
+/// any two calls. A step of `forget_expired_within` is a list of calls of `forget`, one for each
+/// address that it forgets. So the first sentence holds of these calls (RFC 8489, section 9.2.4).
+///
+/// Each call is as the clauses of the server's own call say (`IsMadeOf`), from the server that the
+/// one before left.
+pub fn stored_calls_are_a_run()
+    ensures { StoredCallsAreServed }
+{
+    auth_laws::accepted_messages_are_validated();
+    auth_laws::the_named_user_is_enough();
+}
+
 /// One call of `validate_incoming_message` is the call `Validate` of a run (`IsMade`), with the
-/// sixteen words that its source has next. Where an allocation failed it is no call of the run, and
-/// the server is as before.
+/// next sixteen numbers of its source. If an allocation failed, it is not a call of the run, and
+/// the server is unchanged.
 pub fn a_validation_is_made<A: Allocator + Copy, R: Rng>(
     server: &mut LongTermServerAuth<A>,
     message: &Message<'_>,
@@ -183,8 +222,8 @@ pub fn a_validation_is_made<A: Allocator + Copy, R: Rng>(
 }
 
 /// One call of `sign_outgoing_message` is the call `Sign` of a run (`IsMade`). The message is in a
-/// vector, and `serve` writes it anew as it is (clause `plain` of `calls_are_a_run`). Where an
-/// allocation failed it is no call of the run, and the server is as before.
+/// vector, and `serve` writes it again as it is (clause `plain` of `calls_are_a_run`). If an
+/// allocation failed, it is not a call of the run, and the server is unchanged.
 pub fn a_signing_is_made<A: Allocator + Copy>(
     server: &mut LongTermServerAuth<A>,
     writer: MessageWriteVec<A>,
@@ -202,19 +241,19 @@ pub fn a_signing_is_made<A: Allocator + Copy>(
     server.sign_outgoing_message(writer, to)
 }
 
-/// What a client and a server can agree on is the strongest algorithm that both support. There is
-/// none exactly where they share none, or where the client must send a hash of its name and the
-/// server takes none.
+/// What a client and a server can agree on is the strongest algorithm that both support. They can
+/// agree on none if and only if they share none, or if the client must send a hash of its user name
+/// and the server does not allow that.
 pub fn best_is_strongest()
     ensures { BestIsStrongest }
 {}
 
-/// Let two messages have the same bytes up to the end of the integrity attribute that decides in
-/// both, but for the length field. Then they get the same reply and leave the same server, with the
-/// same place of their address. So do two runs, in which one is in the place of the other. So
-/// nobody changes what a server makes of a signed request by appending to it, with one exception. A
-/// MESSAGE-INTEGRITY-SHA256 that is put after a MESSAGE-INTEGRITY has the digest that decides (RFC
-/// 8489, sections 14.5 to 14.7).
+/// If two messages have the same bytes up to the end of the integrity attribute that decides in
+/// both, except for the length field, they get the same reply and leave the same server, with the
+/// same record of their address. The same holds of two runs that differ only in which of the two
+/// they contain. So an attacker who appends to a signed request does not change what the server
+/// makes of it, with one exception: a MESSAGE-INTEGRITY-SHA256 that is put after a
+/// MESSAGE-INTEGRITY has the digest that decides (RFC 8489, sections 14.5 to 14.7).
 pub fn appending_changes_no_reply()
     ensures agreeing { AgreeingAreAnsweredAlike }
     ensures appended { ContinuedAreAnsweredAlike }
@@ -223,20 +262,20 @@ pub fn appending_changes_no_reply()
     auth_laws::what_follows_integrity_is_not_read();
 }
 
-/// Addresses can be dealt out to any number of servers that start alike. Each server takes the
-/// calls of its addresses, and all calls that concern every address (users, settings, forgetting).
-/// Each address then gets the replies that one server that takes all calls would give it. The same
-/// is kept for it.
+/// Addresses can be divided among any number of servers that start alike. Each server gets the
+/// calls of its own addresses, and all calls that concern every address (users, settings,
+/// forgetting). Then each address gets the replies that a single server with all the calls would
+/// give it, and has the same record.
 pub fn shards_serve_as_one()
     ensures { ShardsServeAsOne }
 {}
 
-/// Let a client be ready, and let no signing be refused (`IsHonest`). Where the two can agree on an
-/// algorithm (`best_is_strongest`), the client is accepted with its second request, by that
-/// algorithm. Both sides then know each other. Else the client gives up and keeps nothing (RFC
-/// 8489, section 9.2).
+/// If a client is ready, and every message can be signed (`IsHonest`), and if the two can agree on
+/// an algorithm (`best_is_strongest`), then the second request of the client is accepted, with that
+/// algorithm, and both sides know each other. If they cannot agree, the client gives up and stores
+/// nothing (RFC 8489, section 9.2).
 ///
-/// This is a law over the steps of a meeting, which are computed over the bytes of its messages.
+/// The law is about the steps of a meeting, which are computed over the bytes of its messages.
 pub fn strongest_is_agreed()
     ensures { StrongestIsAgreed }
 {
@@ -246,11 +285,11 @@ pub fn strongest_is_agreed()
     auth_laws::sides_add_by_attribute();
 }
 
-/// Let the users of a client and a server make their calls one by one, in order, each on what the
-/// other has sent (`HaveMet`). Then the two are in a meeting as `negotiate` has it, of Binding
-/// messages without other attributes. They come to the same outcome, and both sides are left the
-/// same. So an honest client and its server agree as `strongest_is_agreed` says (RFC 8489, section
-/// 9.2).
+/// If the programs of a client and a server make their calls one by one, in order, each on what the
+/// other has sent (`HaveMet`), then the two are in a meeting as `negotiate` has it, of Binding
+/// messages without other attributes. They have the same outcome, and both sides are left as
+/// `negotiate` leaves them. So an honest client and its server agree as `strongest_is_agreed` says
+/// (RFC 8489, section 9.2).
 pub fn calls_are_a_meeting()
     ensures negotiated { MeetingsAreNegotiated }
     ensures strongest { MeetingsAgree }
@@ -258,8 +297,9 @@ pub fn calls_are_a_meeting()
     strongest_is_agreed();
 }
 
-/// No signing of the meeting of a ready client (`IsReady`) is refused where realm and user name fit
-/// their attributes. These hold 763 and 513 bytes (RFC 8489, sections 14.3 and 14.9).
+/// Every message in the meeting of a ready client (`IsReady`) can be signed if the realm and the
+/// user name fit into their attributes, which hold 763 and 513 bytes (RFC 8489, sections 14.3 and
+/// 14.9).
 pub fn short_names_are_signed()
     ensures { ShortNamesAreSigned }
 {
@@ -270,9 +310,9 @@ pub fn short_names_are_signed()
     auth_laws::sides_sign_with_room();
 }
 
-/// One meeting: a client of one user that must hash the name (USERHASH, RFC 8489, section 14.4),
+/// One meeting: a client whose user name must be sent as a hash (USERHASH, RFC 8489, section 14.4),
 /// and a server that has this user alone. Both support HMAC-SHA1 and HMAC-SHA256. Whatever the
-/// client's address is, and whatever random numbers are drawn:
+/// address of the client is, and whatever the random numbers are:
 ///
 /// - The client meets the premise of the second sentence.
 /// - The meeting ends `Validated` with HMAC-SHA256.
@@ -294,23 +334,65 @@ pub fn a_hashed_name_is_validated()
     auth_laws::sides_add_by_attribute();
 }
 
-/// An authenticated client sends a request after its nonce has ended. The server refuses it with
-/// `StaleNonce`, or accepts it if the nonce that is current by then is the old one, drawn again. If
-/// it is refused, the client reads one error of code 438 that the server signed. Its next request
-/// is then accepted while the nonce of that error is current (RFC 8489, sections 9.2.4 and 9.2.5).
+/// An authenticated client sends a request after its nonce has expired. The server refuses it with
+/// `StaleNonce`, or accepts it if the nonce that is current by then is the old one, made again by
+/// chance. If the request is refused, the client reads one error of code 438 that the server
+/// signed. Its next request is then accepted while the nonce of that error is current (RFC 8489,
+/// sections 9.2.4 and 9.2.5).
 ///
-/// - The messages are of any method. They have any attributes of their own but those that signing
-///   adds.
-/// - Between the messages users and settings stay.
-/// - Before the request other messages of the client's address may be read at any moment. One of
+/// - The messages are of any method. They have any attributes of their own except those that
+///   signing adds.
+/// - Users and settings do not change between the messages.
+/// - Before the request, other messages of the client's address may be read at any time. One of
 ///   them may have made the nonce that is current. After the request they are read while that nonce
 ///   is current.
-/// - If no call removes the client at its address, expired nonces may be forgotten at any moment.
-/// - If such calls come too, a place without a client is forgotten. So before the request expired
-///   nonces are forgotten up to the end of the client's nonce. After it they are forgotten up to
-///   the end of the new one.
+/// - If no call removes the client at its address, expired nonces may be forgotten at any time.
+/// - If such calls come too, a record without a client is forgotten. So before the request, expired
+///   nonces are forgotten up to the end of the client's nonce, and after it up to the end of the
+///   new one.
 pub fn nonce_is_renewed()
     ensures { NonceIsRenewed }
+{
+    auth_laws::nonces_ask_for_what_is_supported();
+    auth_laws::signed_messages_are_read();
+    auth_laws::built_messages_can_be_signed();
+    auth_laws::sides_add_by_attribute();
+}
+
+/// From the time when a client and its server know each other, each request that the client signs
+/// is accepted while the nonce lasts, and each response that the server signs is accepted by the
+/// client (RFC 8489, sections 9.2.4 and 9.2.5). The law holds for any list of such exchanges, with
+/// any number of renewals of the nonce (`nonce_is_renewed`) between them.
+///
+/// - Requests and responses are of any method, and have any attributes except those that signing
+///   adds. A response is a success, or an error with any code except 438.
+/// - Users and settings stay. Messages from the client's address may be read in between until the
+///   nonce expires, and any calls may be made for other addresses.
+/// - A request is accepted even if the client was removed before. A response is accepted if the
+///   server still knows the client at its address when it signs the response.
+pub fn sessions_go_on()
+    ensures { SessionsGoOn }
+{
+    auth_laws::nonces_ask_for_what_is_supported();
+    auth_laws::signed_messages_are_read();
+    auth_laws::built_messages_can_be_signed();
+    auth_laws::sides_add_by_attribute();
+}
+
+/// A client that is new to a server sends a request without credentials, and the server answers it
+/// with a challenge. Then the client sends the request again, and the server accepts it by the
+/// strongest algorithm that both support. The client accepts the success, and both know each other
+/// (RFC 8489, sections 9.2.3 to 9.2.5), so `sessions_go_on` speaks of what follows. If they can
+/// agree on no algorithm (`best_is_strongest`), the client gives up and stores nothing.
+///
+/// - The messages are of any method, and have any attributes except those that signing adds.
+/// - The client has the credentials of a registered user, no two registered users share a hash, and
+///   the server has no record of the client's address.
+/// - Until the challenge is signed only calls for other addresses come in between. After it users,
+///   settings and the nonce stay, and the second request arrives before the nonce expires.
+/// - The server still knows the client when it signs the success.
+pub fn new_clients_are_introduced()
+    ensures { NewClientsAreIntroduced }
 {
     auth_laws::nonces_ask_for_what_is_supported();
     auth_laws::signed_messages_are_read();

@@ -1,9 +1,9 @@
-//! STUN (RFC 8489) without IO. Message bytes, addresses, times and random numbers go in. What to
-//! send, how long to wait and who signed come out. No call reads a socket, a clock or a random
-//! source, and each function is proved to meet its contract.
+//! STUN (RFC 8489) without I/O: message bytes, addresses, times and random numbers go in, and what
+//! to send, how long to wait and who signed come out. No call reads a socket, a clock or a random
+//! number generator, and each function is proved to meet its contract.
 //!
-//! This crate is the front door: it has the crates below under one name, and `replay` beside them.
-//! `replay` runs a server, a meeting of a client and a server, or an agent over a list of calls. It
+//! This is the crate to import. It has the crates below under one name, and `replay` beside them,
+//! which runs a server, a meeting of a client and a server, or an agent over a list of calls, and
 //! returns what they did.
 //!
 //! ```text
@@ -17,30 +17,30 @@
 //!      |                             v                    v
 //!      +---- Transmit --- agent::StunAgent        Message::builder_success, builder_error
 //!                           |        ^                    |
-//!              WaitUntil(moment)     |                    +--- signed bytes ---> socket
+//!              WaitUntil(time)       |                    +--- signed bytes ---> socket
 //!                           v        |
 //!                           clock ---+   poll_transmit, poll
 //! ```
 //!
-//! The smallest program: is this message signed with this password?
+//! The smallest program checks whether a message is signed with a password:
 //!
 //! ```text
-//! let message = Message::from_bytes(&bytes)?;                  // or why the bytes are no message
+//! let message = Message::from_bytes(&bytes)?;                  // or why they are not a message
 //! let user = ShortTermCredentials::new(password);
-//! let algorithm = message.validate_integrity(&user.into())?;   // Sha1 or Sha256, or a refusal
+//! let algorithm = message.validate_integrity(&user.into())?;   // Sha1 or Sha256, or an error
 //! ```
 //!
-//! A request, from the first transmission to its answer or its end:
+//! A request, from the first transmission until it is answered or ends:
 //!
 //! ```text
 //! let mut agent = StunAgent::builder(alloc, TransportType::Udp, local).build();
 //! socket.send(agent.send_request(request, server, now)?);
-//! while let Some(again) = agent.poll_transmit(now) {       // at each time: what is due
+//! while let Some(again) = agent.poll_transmit(now) {       // whenever one is due
 //!     socket.send(again)
 //! }
 //! match agent.poll(now) {
-//!     StunAgentPollRet::WaitUntil(until) => .. ,           // until then, or until bytes come
-//!     StunAgentPollRet::TransactionTimedOut(id) => .. ,    // no answer came
+//!     StunAgentPollRet::WaitUntil(until) => .. ,           // until then, or until bytes arrive
+//!     StunAgentPollRet::TransactionTimedOut(id) => .. ,    // no response arrived
 //!     StunAgentPollRet::TransactionCancelled(id) => .. ,
 //! }
 //! ```
@@ -48,12 +48,12 @@
 //! | Path | What it has |
 //! |---|---|
 //! | `types` | messages, attributes, writers, credentials, digests (the crate `stun_types`) |
-//! | `agent` | requests, when they are sent again, and when they end |
+//! | `agent` | requests: when they are retransmitted, and when they end |
 //! | `auth` | who signed: short-term, long-term client, long-term server |
 //! | `stats` | what an agent has counted |
 //! | `replay` | whole runs: `serve`, `negotiate`, `drive` |
-//! | `laws` | what holds of all runs, as calls that do nothing, or make one call, and promise it |
-//! | `Instant` | a moment, in nanoseconds since a start of the caller's |
+//! | `laws` | what holds of all runs, each law as a function that does nothing or makes one call |
+//! | `Instant` | a time, in nanoseconds since a start that the caller chooses |
 #![tactic(auto)]
 
 pub mod derives;

@@ -1,4 +1,4 @@
-//! Runs: calls that are made in their order, with what each of them returns.
+//! Whole runs: each function makes a series of calls in a fixed order and returns their results.
 
 mod apply;
 mod call;

@@ -1,6 +1,6 @@
 //! What the exports do with a server's authenticator (RFC 8489, section 9.2.4).
 
-ghost use Rattle.std.specs.Prelude.{◌≡◌, ◌≤◌, ◌<◌, ◌+◌, ◌^◌, ⊤, nat_lt, true, false};
+ghost use Rattle.std.specs.Prelude.{◌≡◌, ◌≤◌, ◌<◌, ◌+◌, ◌-◌, ◌^◌, ⊤, nat_lt, true, false};
 ghost use Rattle.std.specs.Prelude.{length, take, Some, None, Ok, Err, IfOk, IfErr, OnErr, OnOk};
 ghost use Rattle.stun_auth.specs.Forgetting.{after_forgetting, without_place};
 ghost use Rattle.stun_auth.specs.ForgettingSteps.{after_step, next_address};
@@ -150,11 +150,12 @@ pub fn forget(server: &mut LongTermServerAuth<Global>, at: &Address) -> Result<(
     Ok(())
 }
 
-/// Forgets each address without a client whose nonce expired before a time.
-pub fn forget_expired(server: &mut LongTermServerAuth<Global>, now: u64)
-    ensures { server.new ≡ after_forgetting server.old now }
+/// Forgets each address without a client whose nonce expired more than an age ago. On a clock that
+/// is younger than the age it forgets nobody.
+pub fn forget_expired(server: &mut LongTermServerAuth<Global>, now: u64, age: u64)
+    ensures { server.new ≡ after_forgetting server.old (now - age) }
 {
-    server.forget_expired(Instant::from_nanos(now));
+    server.forget_expired(Instant::from_nanos(now.saturating_sub(age)));
 }
 
 /// Forgets what `forget_expired` does, at no more than `most` addresses from one on. Returns
@@ -162,17 +163,19 @@ pub fn forget_expired(server: &mut LongTermServerAuth<Global>, now: u64)
 pub fn forget_expired_within(
     server: &mut LongTermServerAuth<Global>,
     now: u64,
+    age: u64,
     from: &mut Address,
     most: usize,
 ) -> Result<u32, Refusal>
     ensures answer { result ≡ at_start (start_told from.old) (step_answer server.old most) }
     ensures state { server.new ≡ after_start (start_told from.old) server.old
-        (λ start. after_step server.old now start most) }
+        (λ start. after_step server.old (now - age) start most) }
     ensures from { from.new ≡ after_start (start_told from.old) from.old
         (λ start. start_for (next_address server.old start most)) }
 {
     let start = from.start()?;
-    let next = server.forget_expired_within(Instant::from_nanos(now), start, most);
+    let expired = Instant::from_nanos(now.saturating_sub(age));
+    let next = server.forget_expired_within(expired, start, most);
     *from = Address::of_start(next);
     Ok(u32::from(next.is_some()))
 }

@@ -10,11 +10,12 @@ use stun_cli::input::{CountedRead, read_to_end};
 use stun_cli::output::write_text;
 use stun_cli::status::Status;
 
-/// Reads a message as hexadecimal digits, and prints whether its integrity verifies, in one line.
-/// The one word is the password, whose bytes are the key (RFC 8489, section 9.1.1).
+/// Reads a message as hexadecimal digits, and prints in one line whether it is signed with the
+/// password that is the only argument. The bytes of the password are the key (RFC 8489, section
+/// 9.1.1).
 ///
-/// Returns `Failed` if a read, a write or an allocation fails, or if the end does not come within
-/// 1048576 reads. A beginning of the line may then be printed, but never the whole.
+/// Returns `Failed` if a read, a write or an allocation fails, or if the input does not end within
+/// 1048576 reads. A beginning of the line may be printed then, but never all of it.
 #[tactic(auto, using(crate::proofs::VerdictLines::nothing_printed))]
 pub fn check<R: CountedRead, W: Write, A: Allocator + Copy>(
     alloc: A,

@@ -1,4 +1,4 @@
-//! The bytes that hexadecimal digits spell.
+//! Bytes that are written as hexadecimal digits.
 ghost use Rattle.std.specs.Prelude.{◌≡◌, IfOk, option_map};
 ghost use Rattle.stun_tool.specs.Input.{digits_of, bytes_read};
 
@@ -17,9 +17,12 @@ fn digits<A: Allocator>(alloc: A, input: &[u8]) -> Result<Vec<u8, A>, AllocError
         .collect(alloc)
 }
 
-/// The bytes that the input spells: two hexadecimal digits of either case for each, and white space
-/// anywhere. `None` if there is another byte, or an odd number of digits. Fails if an allocation
-/// fails.
+/// Parses bytes that are written as hexadecimal digits, two of either case for each byte, with
+/// white space anywhere. Returns `None` if there is another character, or an odd number of digits.
+///
+/// # Errors
+///
+/// `Memory`: an allocation failed.
 pub fn read_digits<A: Allocator + Copy>(
     alloc: A,
     input: &[u8],

@@ -1,4 +1,4 @@
-//! The program: each command is a function over its words, a reader and a writer.
+//! The program. Each command is a function of its arguments, a reader and a writer.
 #![tactic(auto)]
 
 ghost use Rattle.std.specs.Prelude.{◌≡◌, ◌≢◌, ◌≤◌, ◌+◌, ◌↔◌, length, IfSome, IfNone};

@@ -1,9 +1,9 @@
-//! The names that are printed, those of the variants.
+//! The names that are printed, which are those of the variants.
 
 use stun_proto::auth::{LongTermClientAuthErrorReason, LongTermServerAuthErrorReason};
 use stun_types::message::{IntegrityAlgorithm, StunWriteError};
 
-/// The name of an algorithm.
+/// Returns the name of an algorithm.
 pub fn algorithm_name(algorithm: IntegrityAlgorithm) -> &'static str {
     match algorithm {
         IntegrityAlgorithm::Sha1 => "Sha1",
@@ -11,7 +11,7 @@ pub fn algorithm_name(algorithm: IntegrityAlgorithm) -> &'static str {
     }
 }
 
-/// The name of a server's reason.
+/// Returns the name of a reason of a server.
 pub fn server_reason_name(reason: LongTermServerAuthErrorReason) -> &'static str {
     match reason {
         LongTermServerAuthErrorReason::Unauthorized => "Unauthorized",
@@ -23,7 +23,7 @@ pub fn server_reason_name(reason: LongTermServerAuthErrorReason) -> &'static str
     }
 }
 
-/// The name of a client's reason.
+/// Returns the name of a reason of a client.
 pub fn client_reason_name(reason: LongTermClientAuthErrorReason) -> &'static str {
     match reason {
         LongTermClientAuthErrorReason::Unauthorized => "Unauthorized",
@@ -33,7 +33,7 @@ pub fn client_reason_name(reason: LongTermClientAuthErrorReason) -> &'static str
     }
 }
 
-/// The name of an error of writing.
+/// Returns the name of an error of writing.
 pub fn error_name(error: StunWriteError) -> &'static str {
     match error {
         StunWriteError::NotAllowed => "NotAllowed",

@@ -24,7 +24,7 @@ const PASSWORD: &str = "pass";
 /// The realm of the server.
 const REALM: &str = "realm";
 
-/// What a side supports.
+/// The settings of a side.
 #[derive(Clone, Copy, Debug, PartialEq, Eq)]
 pub struct Side {
     /// The algorithm that is added first.
@@ -35,18 +35,19 @@ pub struct Side {
     feature: Feature,
 }
 
-/// Prints how a new client and a new server of one user agree (RFC 8489, section 9.2). No other
-/// call is made between theirs. Both requests are read at moment 0, and all random numbers are 0.
+/// Prints how a new client and a new server with one user agree (RFC 8489, section 9.2). They make
+/// no other calls. Both requests are read at time 0, and all random numbers are 0.
 ///
-/// The words are those of the client, and then the same of the server:
+/// The arguments are first those of the client, and then those of the server:
 ///
-/// - its algorithms: `sha1`, `sha256`, or both with a comma, in the order of adding;
-/// - whether users are named by a hash: `auto`, `required` or `disabled`.
+/// - the algorithms of the side: `sha1`, `sha256`, or both with a comma between them, in the order
+///   in which they are added;
+/// - whether a client sends a hash in place of its user name: `auto`, `required` or `disabled`.
 ///
-/// A good answer is `validated` and the algorithm, or `already validated` if the first request is
-/// accepted. A refusal is `refused` and the reason for which a side gives up.
+/// If the sides agree, the line is `validated` and the algorithm, or `already validated` if the
+/// first request is accepted. Otherwise it is `refused` and the reason for which a side gives up.
 ///
-/// Returns `NotJudged` for other words, and prints nothing. Returns `Failed` if a write or an
+/// Returns `NotJudged` for other arguments, and prints nothing. Returns `Failed` if a write or an
 /// allocation fails, and prints nothing more. It reads nothing.
 pub fn negotiate<R: CountedRead, W: Write, A: Allocator + Copy>(
     alloc: A,

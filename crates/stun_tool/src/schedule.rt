@@ -22,7 +22,7 @@ use stun_types::prelude::MessageWrite;
 /// The greatest number of transmissions that the command takes.
 const MOST_TRANSMISSIONS: u64 = 1000;
 
-/// When a request is sent again and given up, and the response that comes, if one does.
+/// When a request is sent again and when it times out, and the response that arrives, if one does.
 #[derive(Clone, Copy, Debug, PartialEq, Eq)]
 pub struct Settings {
     transport: TransportType,
@@ -33,7 +33,7 @@ pub struct Settings {
     response: Option<Response>,
 }
 
-/// When a response comes, and from where.
+/// When a response arrives, and from where.
 #[derive(Clone, Copy, Debug, PartialEq, Eq)]
 pub struct Response {
     at: Instant,
@@ -41,23 +41,24 @@ pub struct Response {
 }
 
 /// Prints when a Binding request is sent, and when it times out (RFC 8489, sections 6.2.1 and
-/// 6.2.2). Its id is 1, and it goes at moment 0 from 10.0.0.1:12345 to 10.0.0.2:3478. There is a
-/// line `sent MS` for each transmission, and last `timed out MS`, in whole milliseconds rounded
-/// down.
+/// 6.2.2). The request has transaction ID 1, and is sent at time 0 from 10.0.0.1:12345 to
+/// 10.0.0.2:3478. There is a line `sent MS` for each transmission, and a last line `timed out MS`,
+/// in whole milliseconds rounded down.
 ///
-/// The words are these, with times in milliseconds:
+/// These are the arguments, with times in milliseconds:
 ///
 /// - the transport, `udp` or `tcp`;
 /// - the wait after the first transmission;
-/// - the longest wait between two, or `-` for no limit;
-/// - how many transmissions there are, at most 1000;
-/// - the wait after the last one.
+/// - the longest wait between two transmissions, or `-` for no limit;
+/// - the number of transmissions, at most 1000;
+/// - the wait after the last transmission.
 ///
-/// Then may come `answer`, a moment up to `Instant::MAX`, and an IPv4 address with a port. At that
-/// moment a success response with id 1 comes from there. If it ends the request, there is a line
-/// `received MS` for it, and nothing after that. Else there is a line `ignored MS` in its place.
+/// They may be followed by `answer`, a time up to `Instant::MAX`, and an IPv4 address with a port.
+/// At that time a success response with transaction ID 1 arrives from there. If it ends the
+/// request, there is a line `received MS` for it, and nothing after that. Otherwise the line is
+/// `ignored MS`.
 ///
-/// Returns `NotJudged` for other words, and prints nothing. Returns `Failed` if a write or an
+/// Returns `NotJudged` for other arguments, and prints nothing. Returns `Failed` if a write or an
 /// allocation fails, and prints nothing more. It reads nothing.
 pub fn schedule<R: CountedRead, W: Write>(
     alloc: Global,

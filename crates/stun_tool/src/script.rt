@@ -1,4 +1,4 @@
-//! The script of `serve`: a call of a server in each line that is not empty.
+//! The script of `serve`, which has a call of a server in each line that is not empty.
 
 use crate::words::{address, algorithm, feature, moment, number};
 use hex::FromHexError;
@@ -7,17 +7,22 @@ use std::time::Duration;
 use stun_cli::failure::Failure;
 use stun_proto::replay::ServerCall;
 
-/// What a script reads as.
+/// The result of parsing a script.
 #[derive(Debug, Drop)]
 pub enum Script {
-    /// The calls of its lines.
+    /// The calls of the lines.
     Calls(Vec<ServerCall>),
-    /// The number of its first line that is no call, counted from 1; empty lines count.
+    /// The number of the first line that is not a call. The first line has the number 1, and empty
+    /// lines count.
     WrongLine(usize),
 }
 
-/// Reads a script. Its lines end with a line feed or the end of the input, and empty ones are
-/// skipped. Fails if an allocation fails.
+/// Parses a script. A line ends with a line feed or with the end of the input, and empty lines are
+/// skipped.
+///
+/// # Errors
+///
+/// `Memory`: an allocation failed.
 pub fn read_script(alloc: Global, script: &[u8]) -> Result<Script, Failure> {
     let mut calls = Vec::new(alloc);
     let mut number: usize = 0;

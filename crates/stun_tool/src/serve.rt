@@ -15,15 +15,15 @@ use stun_proto::auth::LongTermServerAuth;
 use stun_proto::replay;
 use stun_proto::replay::{ServerCall, ServerReply};
 
-/// Runs a script of calls at a new long-term server, and prints a line for each reply (RFC 8489,
-/// section 9.2.4). The one word is the realm.
+/// Runs a script of calls at a new long-term server, whose realm is the only argument, and prints a
+/// line for each reply (RFC 8489, section 9.2.4).
 ///
-/// If a line is no call, only `wrong line N` is printed, for the first such line. Nothing is run,
-/// and it returns `Bad`. Refusals by the server are good answers.
+/// If a line is not a call, only `wrong line N` is printed, for the first such line. No call is
+/// made then, and the result is `Bad`. Refusals by the server are good results.
 ///
-/// Returns `NotJudged` for other words, and prints nothing. Returns `Failed` if a read, a write or
-/// an allocation fails, or if the end does not come within 1048576 reads. It then prints nothing
-/// more.
+/// Returns `NotJudged` for other arguments, and prints nothing. Returns `Failed` if a read, a write
+/// or an allocation fails, or if the input does not end within 1048576 reads. It then prints
+/// nothing more.
 pub fn serve<R: CountedRead, W: Write>(
     alloc: Global,
     words: &[String],

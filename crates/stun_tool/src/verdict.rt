@@ -1,4 +1,4 @@
-//! What `check` says of an input.
+//! The verdict of `check` on an input.
 ghost use Rattle.std.specs.Prelude.{◌≡◌, Contains, IfOk};
 ghost use Rattle.stun_tool.specs.Verdict.{verdict_under, verdict_of_input, check_line};
 ghost use Rattle.stun_tool.specs.Verdict.{printed_lines};
@@ -9,7 +9,7 @@ use stun_cli::failure::Failure;
 use stun_cli::verdict::{Verdict, refusal_line, verdict_without_digest};
 use stun_types::message::{IntegrityAlgorithm, Message};
 
-/// The line that is printed for a verdict.
+/// Returns the line that is printed for a verdict.
 pub fn line(verdict: Verdict) -> &'static str
     ensures { result.now ≡ check_line verdict }
 {
@@ -38,7 +38,8 @@ fn verdict_on(bytes: &[u8], password: &[u8]) -> Verdict
     }
 }
 
-/// The verdict on an input of hexadecimal digits under a password. Its line is one of nine.
+/// Returns the verdict on an input of hexadecimal digits under a password. Nine lines are possible
+/// for it.
 pub fn verdict_on_input<A: Allocator + Copy>(
     alloc: A,
     input: &[u8],

@@ -1,4 +1,4 @@
-//! The meaning of single words, of a command or of a script.
+//! The meaning of single words, which are arguments of a command or parts of a script.
 
 use std::net::{SocketAddr, SocketAddrV4};
 use stun_proto::Instant;
@@ -8,7 +8,8 @@ use stun_types::message::IntegrityAlgorithm;
 /// The nanoseconds of a millisecond.
 const NANOS_PER_MILLI: u64 = 1_000_000;
 
-/// The number that decimal digits spell, if it has no more than 64 bits.
+/// Parses a decimal number. Returns `None` for other characters than digits, or if the number does
+/// not fit in 64 bits.
 pub fn number(word: &str) -> Option<u64> {
     if word.bytes().all(|byte| byte.is_ascii_digit()) {
         word.parse::<u64>().ok()
@@ -17,7 +18,7 @@ pub fn number(word: &str) -> Option<u64> {
     }
 }
 
-/// The algorithm `sha1` or `sha256`.
+/// Parses an algorithm: `sha1` or `sha256`.
 pub fn algorithm(word: &str) -> Option<IntegrityAlgorithm> {
     match word {
         "sha1" => Some(IntegrityAlgorithm::Sha1),
@@ -26,7 +27,8 @@ pub fn algorithm(word: &str) -> Option<IntegrityAlgorithm> {
     }
 }
 
-/// Whether users are named by a hash: `auto`, `required` or `disabled`.
+/// Parses whether a client sends a hash in place of its user name: `auto`, `required` or
+/// `disabled`.
 pub fn feature(word: &str) -> Option<Feature> {
     match word {
         "auto" => Some(Feature::Auto),
@@ -36,7 +38,7 @@ pub fn feature(word: &str) -> Option<Feature> {
     }
 }
 
-/// An IPv4 address and a port, both without leading zeros.
+/// Parses an IPv4 address and a port, both without leading zeros.
 pub fn address(word: &str) -> Option<SocketAddr> {
     let (_, port) = word.split_once(':')?;
     if port.len() > 1 && port.starts_with('0') {
@@ -46,7 +48,7 @@ pub fn address(word: &str) -> Option<SocketAddr> {
     Some(SocketAddr::V4(address))
 }
 
-/// A moment in whole milliseconds, up to `Instant::MAX`.
+/// Parses a time in whole milliseconds, up to `Instant::MAX`.
 pub fn moment(word: &str) -> Option<Instant> {
     let nanos = number(word)?.checked_mul(NANOS_PER_MILLI)?;
     Some(Instant::from_nanos(nanos))

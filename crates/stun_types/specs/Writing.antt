@@ -100,6 +100,13 @@ attribute_refusal message room kind n =
     else (if has_kind kind (walk message) then Some (AttributeExists (record { 0 = kind }))
     else size_refusal message room n))
 
+-- why an attribute is refused whose type may be in the message already, the first reason that holds
+abbrev pub another_refusal : List ℕ → ℕ → ℕ → ℕ → Option StunWriteError
+another_refusal message room kind n =
+    if is_set_apart kind then Some NotAllowed
+    else (if has_integrity message then Some MessageIntegrityExists
+    else size_refusal message room n)
+
 -- why an integrity attribute is refused, the first reason that holds
 abbrev pub signing_refusal : List ℕ → ℕ → IntegrityAlgorithm → Option StunWriteError
 signing_refusal message room algorithm =

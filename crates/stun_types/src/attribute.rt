@@ -1,4 +1,4 @@
-//! Attributes of a message: type, value and padding.
+//! Attributes of a message: their types, their values and their padding.
 
 ghost use Rattle.std.specs.Prelude.{◌≡◌, ◌+◌, ◌-◌, ◌^◌, ◌<◌, ◌≤◌, ◌++◌, ℕ, List, drop, length};
 ghost use Rattle.std.specs.Prelude.{min, true, false, OnSome, IfSome, IfNone, Some, refl, ⊤};
@@ -40,8 +40,8 @@ pub use userhash::Userhash;
 pub use username::Username;
 pub use xor_mapped_address::XorMappedAddress;
 
-/// The number of bytes of an attribute's header: its type and the length of its value (RFC 8489,
-/// section 14).
+/// The number of bytes of the header of an attribute, which consists of its type and the length of
+/// its value (RFC 8489, section 14).
 pub const ATTRIBUTE_HEADER_LENGTH: usize = 4;
 
 /// How many zeros pad a value of so many bytes up to a multiple of 4.
@@ -51,8 +51,8 @@ pub(crate) fn padding_length(value_length: usize) -> usize
     (4 - value_length % 4) % 4
 }
 
-/// The number of bytes of an attribute whose value has so many, with its header and its padding. It
-/// is at most `usize::MAX`.
+/// Returns the number of bytes of an attribute whose value has `value_length` bytes, with its
+/// header and its padding. The result is at most `usize::MAX`.
 pub fn attribute_length(value_length: usize) -> usize
     ensures { result ≡ min (attribute_length value_length) (2 ^ 64 - 1) }
 {
@@ -61,7 +61,7 @@ pub fn attribute_length(value_length: usize) -> usize
         .saturating_add(ATTRIBUTE_HEADER_LENGTH)
 }
 
-/// An attribute of a message whose value is not read: its type and its value, borrowed.
+/// An attribute whose value is not parsed: its type and its value, which is borrowed.
 #[derive(Debug, Drop)]
 pub struct RawAttribute<'a> {
     kind: AttributeType,
@@ -79,7 +79,7 @@ impl<'a> Model for RawAttribute<'a> {
     ghost invariant = { λ attribute. attribute.kind.0 < 2 ^ 16 };
 }
 
-/// It does not allocate and never fails.
+/// Copies the reference. This does not allocate and never fails.
 impl<'a> Clone for RawAttribute<'a> {
     ghost is_clone = { λ it copy. copy ≡ it };
 
@@ -93,7 +93,7 @@ impl<'a> Clone for RawAttribute<'a> {
     }
 }
 
-/// Attributes are equal if and only if type and value are.
+/// Attributes are equal if and only if their types and their values are.
 impl<'a> PartialEq for RawAttribute<'a> {
     ghost eq = { same_attribute };
 
@@ -108,7 +108,11 @@ impl<'a> Eq for RawAttribute<'a> {
     ghost laws = { same_attribute_equivalence };
 }
 
-/// An attribute that can be written.
+/// An attribute that can be written to a message.
+///
+/// The four calls must agree with each other: `write_into` appends exactly the attribute whose type
+/// is `get_type` and whose value has `length` bytes. Otherwise what follows the attribute in the
+/// message would be read as something else.
 pub trait Attribute {
     // The type of the attribute.
     ghost kind: { Self → ℕ };
@@ -119,24 +123,27 @@ pub trait Attribute {
     // What holds of each attribute of this Rust type.
     ghost is_well_formed: { Self → Type 0 };
 
-    /// The type of the attribute.
+    /// Returns the type of the attribute.
     fn get_type(&self) -> AttributeType
         ensures { result.0 ≡ kind self.now };
 
-    /// The number of bytes of its value, without padding. It is at most `usize::MAX`.
+    /// Returns the number of bytes of the value, without padding. The result is at most
+    /// `usize::MAX`.
     fn length(&self) -> usize
         ensures length { result ≡ min (length (value self.now)) (2 ^ 64 - 1) }
         ensures well_formed { is_well_formed self.now };
 
-    /// The number of bytes of the attribute, with its header and padding. It is at most
-    /// `usize::MAX`.
+    /// Returns the number of bytes of the attribute, with its header and its padding. The result is
+    /// at most `usize::MAX`.
     fn padded_len(&self) -> usize
         ensures { result ≡ min (attribute_length (length (value self.now))) (2 ^ 64 - 1) }
     {
         attribute_length(self.length())
     }
 
-    /// Appends the attribute with its header and padding.
+    /// Appends the attribute: its type and the length of its value, two bytes each in network
+    /// order, its value, and zeros up to a multiple of 4 bytes. The writer must have these bytes
+    /// reserved.
     fn write_into<W: MessageWrite>(&self, writer: &mut W)
         requires fits { length (value self.now) ≤ max_length }
         requires reserved { attribute_length (length (value self.now)) ≤ W.reserved writer.old }
@@ -156,13 +163,15 @@ pub trait AttributeStaticType {
     // The number of the type.
     ghost static_kind: { ℕ };
 
-    /// `TYPE` as a call: its clause gives contracts the number, which a constant cannot. An impl of
-    /// a type with a lifetime repeats the clause.
+    /// Returns `TYPE`.
+    ///
+    /// Contracts: this gives the number of the type, which a constant cannot. An impl of a type
+    /// with a lifetime repeats the clause.
     fn static_type() -> AttributeType
         ensures { result.0 ≡ static_kind };
 }
 
-/// An attribute that can be read from its raw form.
+/// An attribute that can be parsed from its raw form.
 pub trait AttributeFromRaw<'a>: Attribute + Sized {
     ghost use Rattle.std.specs.Prelude.{◌≡◌, Option, Some};
     ghost use Rattle.stun_types.specs.Attribute.{TypedValue};
@@ -171,8 +180,11 @@ pub trait AttributeFromRaw<'a>: Attribute + Sized {
     // The attribute that a type and a value are, if they are well formed.
     ghost reading: { TypedValue → Option Self };
 
-    /// Reads the attribute. Fails with `InvalidAttributeData` if the type is another or the value
-    /// is malformed.
+    /// Parses the attribute.
+    ///
+    /// # Errors
+    ///
+    /// `InvalidAttributeData`: the attribute has another type, or its value is malformed.
     fn from_raw(raw: RawAttribute<'a>) -> Result<Self, StunParseError>
         ensures { result ≡ attribute_answer (reading raw.entry) };
 
@@ -182,7 +194,7 @@ pub trait AttributeFromRaw<'a>: Attribute + Sized {
 }
 
 impl<'a> RawAttribute<'a> {
-    /// The attribute of this type and value.
+    /// Creates an attribute from its type and its value.
     pub fn new(kind: AttributeType, value: &'a [u8]) -> RawAttribute<'a>
         ensures kind { result.kind ≡ kind.0 }
         ensures value { result.value ≡ value.now }
@@ -209,28 +221,28 @@ impl<'a> RawAttribute<'a> {
         Some(RawAttribute::new(kind, &bytes[ATTRIBUTE_HEADER_LENGTH..][..length]))
     }
 
-    /// The type.
+    /// Returns the type of the attribute.
     pub fn get_type(&self) -> AttributeType
         ensures { result.0 ≡ self.now.kind }
     {
         self.kind
     }
 
-    /// The value.
+    /// Returns the value of the attribute.
     pub fn value(&self) -> &'a [u8]
         ensures { result.now ≡ self.now.value }
     {
         self.value
     }
 
-    /// The number of bytes of the value.
+    /// Returns the number of bytes of the value.
     pub fn length(&self) -> usize
         ensures { result ≡ length self.now.value }
     {
         self.value.len()
     }
 
-    /// The number of bytes of the attribute in a message, with its header and its padding.
+    /// Returns the number of bytes of the attribute in a message, with its header and its padding.
     pub fn padded_len(&self) -> usize
         ensures { result ≡ attribute_length (length self.now.value) }
     {

@@ -1,3 +1,3 @@
-//! Bytes that are borrowed or owned, and values that hold bytes.
+//! Bytes that are borrowed or owned, and values that contain bytes.
 
 pub use stun_base::data::{Data, OwnedBytes};

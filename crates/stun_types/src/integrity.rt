@@ -1,4 +1,4 @@
-//! The check of message integrity (RFC 8489, sections 14.5, 14.6 and 9.2.4).
+//! The verification of messages (RFC 8489, sections 14.5, 14.6 and 9.2.4).
 
 ghost use Rattle.byteorder.specs.Endian.{big_bytes};
 ghost use Rattle.std.specs.Prelude.{◌≡◌, ◌++◌, take, ◌+◌, ◌-◌, ◌^◌, ◌<◌, ◌≤◌, List};
@@ -56,10 +56,11 @@ fn integrity_algorithm(attribute: &RawAttribute<'_>) -> IntegrityAlgorithm
     }
 }
 
-/// The algorithm of the attribute whose digest decides whether these bytes of a message verify:
-/// that of the first visible MESSAGE-INTEGRITY-SHA256, or without one that of the first visible
-/// MESSAGE-INTEGRITY (RFC 8489, sections 14.5 and 14.6). It looks at no value, and does not
-/// allocate.
+/// Returns the algorithm of the attribute that decides whether these bytes of a message are signed:
+/// HMAC-SHA256 if MESSAGE-INTEGRITY-SHA256 is visible, otherwise HMAC-SHA1 if MESSAGE-INTEGRITY is
+/// visible, and otherwise `None` (RFC 8489, sections 14.5 and 14.6).
+///
+/// The value of the attribute is not read. This does not allocate.
 pub fn deciding_algorithm(bytes: &[u8]) -> Option<IntegrityAlgorithm>
     ensures { result ≡ deciding_algorithm bytes.now }
 {
@@ -191,8 +192,8 @@ fn is_prepared_digest<A: Allocator>(
 }
 
 impl RawAttribute<'_> {
-    /// Whether it is a MESSAGE-INTEGRITY or MESSAGE-INTEGRITY-SHA256 whose value has a length of
-    /// its type (RFC 8489, sections 14.5 and 14.6).
+    /// Returns `true` for a MESSAGE-INTEGRITY or MESSAGE-INTEGRITY-SHA256 whose value has a length
+    /// that its type allows (RFC 8489, sections 14.5 and 14.6).
     pub fn is_integrity(&self) -> bool
         ensures { result ≡ is_integrity self.now }
     {
@@ -204,12 +205,13 @@ impl RawAttribute<'_> {
 }
 
 impl<'a> Message<'a> {
-    /// The attribute whose digest decides whether the message verifies, with the place of its first
-    /// byte in the message. It is the first visible MESSAGE-INTEGRITY-SHA256, or without one the
-    /// first visible MESSAGE-INTEGRITY (RFC 8489, sections 14.5 and 14.6). Its value may have any
-    /// length. It does not allocate.
+    /// Returns the attribute that decides whether the message is signed, with its offset: the
+    /// position of its first byte in the message. It is the first visible MESSAGE-INTEGRITY-SHA256,
+    /// or the first visible MESSAGE-INTEGRITY if there is none (RFC 8489, sections 14.5 and 14.6).
+    /// Its value may have any length.
     ///
-    /// `validate_integrity_at` and `validate_integrity_prepared` take what it returns.
+    /// Pass the result to `validate_integrity_at` or `validate_integrity_prepared`, to verify the
+    /// message with several keys. This does not allocate.
     pub fn deciding_attribute(&self) -> Option<(usize, RawAttribute<'a>)>
         ensures { result ≡ deciding self.now }
     {
@@ -218,10 +220,22 @@ impl<'a> Message<'a> {
         Some((place, RawAttribute::at(bytes, place)?))
     }
 
-    /// Verifies the digest of the message under the key of these credentials, and returns its
-    /// algorithm. The key is the password of a short-term credential, or the long-term key for the
-    /// algorithm of the deciding attribute. It is made only if a digest is compared. It does not
-    /// allocate, and fails as `validate_integrity_with_key` does.
+    /// Verifies the signature of the message with these credentials, and returns the algorithm that
+    /// it was signed with.
+    ///
+    /// If MESSAGE-INTEGRITY-SHA256 is visible, only that attribute is checked. Otherwise
+    /// MESSAGE-INTEGRITY is checked. The key is the password, or the long-term key for the
+    /// algorithm of that attribute, which is derived only if a digest is compared. This does not
+    /// allocate.
+    ///
+    /// # Errors
+    ///
+    /// The first of these that applies:
+    ///
+    /// - `Parse(MissingAttribute)`, of MESSAGE-INTEGRITY: neither attribute is visible.
+    /// - `Parse(InvalidAttributeData)`: the attribute to check has a length that is not allowed.
+    /// - `IntegrityFailed`: the signature is invalid. An HMAC-SHA256 that is cut short counts as
+    ///   invalid.
     pub fn validate_integrity<A: Allocator>(
         &self,
         credentials: &MessageIntegrityCredentials<A>,
@@ -241,14 +255,15 @@ impl<'a> Message<'a> {
         Ok(algorithm)
     }
 
-    /// Verifies the digest of the message under a key, and returns its algorithm. It does not
-    /// allocate, and compares digests without an early exit (`stun_base::compare`).
+    /// Like `validate_integrity`, with a key. Digests are compared without an early exit
+    /// (`stun_base::compare`).
     ///
-    /// MESSAGE-INTEGRITY-SHA256 decides if it is visible, and else MESSAGE-INTEGRITY. If neither is
-    /// visible it fails with `MissingAttribute` of MESSAGE-INTEGRITY. If the deciding one has a
-    /// wrong length it fails with `InvalidAttributeData`. If its value is another digest, or one
-    /// that is cut short, it fails with `IntegrityFailed`. The algorithm is that of the digest, not
-    /// of the key: it is `Sha1` for a message whose HMAC-SHA1 verifies, however the key was made.
+    /// The returned algorithm is that of the signature, however the key was made: it is `Sha1` for
+    /// a message whose HMAC-SHA1 is valid under the key.
+    ///
+    /// # Errors
+    ///
+    /// The errors of `validate_integrity`, in the same order.
     pub fn validate_integrity_with_key<A: Allocator>(
         &self,
         key: &IntegrityKey<A>,
@@ -261,7 +276,12 @@ impl<'a> Message<'a> {
         self.validate_integrity_with_key_bytes(key.as_bytes())
     }
 
-    /// The same under the bytes of a key, of any length. It does not allocate.
+    /// Like `validate_integrity_with_key`, with the bytes of a key, which may have any length. This
+    /// does not allocate.
+    ///
+    /// # Errors
+    ///
+    /// The errors of `validate_integrity`, in the same order.
     pub fn validate_integrity_with_key_bytes(
         &self,
         key: &[u8],
@@ -278,8 +298,12 @@ impl<'a> Message<'a> {
         Ok(integrity_algorithm(&attribute))
     }
 
-    /// The same under a prepared key. If it is prepared for the algorithm of the digest, two blocks
-    /// fewer are hashed. It does not allocate.
+    /// Like `validate_integrity_with_key`, with a prepared key. If the key was prepared for the
+    /// algorithm of the signature, the digest hashes two blocks fewer. This does not allocate.
+    ///
+    /// # Errors
+    ///
+    /// The errors of `validate_integrity`, in the same order.
     pub fn validate_integrity_with_prepared_key<A: Allocator>(
         &self,
         key: &PreparedKey<A>,
@@ -296,9 +320,15 @@ impl<'a> Message<'a> {
         Ok(integrity_algorithm(&attribute))
     }
 
-    /// The same as `validate_integrity_with_key`, for a deciding attribute that is already known.
-    /// Place and attribute are those that `deciding_attribute` returns for this message. It does
-    /// not walk the attributes, so one walk is enough for many keys. It does not allocate.
+    /// Like `validate_integrity_with_key`, for a deciding attribute that is known already. The
+    /// attributes are not searched again, so that one search is enough for many keys.
+    ///
+    /// `place` and `attribute` must be the offset and the attribute that `deciding_attribute`
+    /// returned for this message. This does not allocate.
+    ///
+    /// # Errors
+    ///
+    /// The errors of `validate_integrity`, in the same order, but for `Parse(MissingAttribute)`.
     pub fn validate_integrity_at<A: Allocator>(
         &self,
         place: usize,
@@ -318,8 +348,14 @@ impl<'a> Message<'a> {
         Ok(integrity_algorithm(attribute))
     }
 
-    /// The same as `validate_integrity_at`, under a prepared key. Place and attribute are those
-    /// that `deciding_attribute` returns for this message.
+    /// Like `validate_integrity_at`, with a prepared key.
+    ///
+    /// `place` and `attribute` must be the offset and the attribute that `deciding_attribute`
+    /// returned for this message. This does not allocate.
+    ///
+    /// # Errors
+    ///
+    /// The errors of `validate_integrity`, in the same order, but for `Parse(MissingAttribute)`.
     pub fn validate_integrity_prepared<A: Allocator>(
         &self,
         place: usize,

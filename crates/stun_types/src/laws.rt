@@ -1,6 +1,6 @@
 //! Laws of messages, which the crates above use.
 //!
-//! A law is a function whose contract is the law. It does nothing, or makes one call.
+//! Each law is a function whose contract is the law. The function does nothing, or makes one call.
 ghost use Rattle.std.specs.Prelude.{◌≡◌, ℕ, false, Some, ◌≤◌, ◌<◌, ◌^◌};
 ghost use Rattle.std.specs.Prelude.{List, [], ◌∷◌, ◌++◌, length, take, slice_index};
 ghost use Rattle.stun_base.specs.Algorithm.{digest_length};
@@ -22,8 +22,8 @@ ghost use Rattle.stun_types.specs.Writing.{length_with, with_attribute, with_int
 
 use stun_base::algorithm::IntegrityAlgorithm;
 
-/// A message is a header and its attributes, spelled one after the other. No others are found in
-/// it, and each list of attributes has a message.
+/// Every message consists of a header and its attributes, spelled one after the other. A reader
+/// finds these attributes and no others, and every list of attributes has a message.
 pub fn message_is_spelled_attributes()
     ensures found { (bytes : List ℕ)
         → ((i : ℕ) → slice_index bytes i < 2 ^ 8) → SpellsWhatIsFound bytes }
@@ -33,8 +33,8 @@ pub fn message_is_spelled_attributes()
         → FindsWhatIsWritten message_type transaction_id attributes }
 {}
 
-/// At most one attribute of each of these types is visible: the two integrity attributes and
-/// FINGERPRINT. So the first visible one is the last.
+/// At most one MESSAGE-INTEGRITY, one MESSAGE-INTEGRITY-SHA256 and one FINGERPRINT are visible in a
+/// message, so that the first visible one is also the last.
 pub fn each_hiding_attribute_counts_once()
     ensures integrity { (bytes : List ℕ) → length (of_kind MESSAGE_INTEGRITY (visible bytes)) ≤ 1 }
     ensures integrity_sha256 { (bytes : List ℕ)
@@ -42,9 +42,9 @@ pub fn each_hiding_attribute_counts_once()
     ensures fingerprint { (bytes : List ℕ) → length (of_kind FINGERPRINT (visible bytes)) ≤ 1 }
 {}
 
-/// The message of a builder is open and has no attributes. In an open message with one attribute
-/// more, a reader finds the attributes from before, and that one after them. Such a message is open
-/// again unless that one is an integrity attribute.
+/// A message that a builder started is open and has no attributes. After an attribute was added to
+/// an open message, a reader finds the attributes from before, and the new one after them. The
+/// message is open again unless the new one is an integrity attribute or FINGERPRINT.
 pub fn writing_adds_one_attribute()
     ensures begun { (message_type transaction_id : ℕ) → message_type < 2 ^ 14
         → IsOpen (spelled_message message_type transaction_id [])
@@ -62,7 +62,8 @@ pub fn writing_adds_one_attribute()
         ≡ spelled_message message_type transaction_id (attributes ++ attribute ∷ []) }
 {}
 
-/// A signed message verifies. It has its integrity attribute, and no other attribute more.
+/// The signature of a message that was signed is valid, and the only new attribute of the message
+/// is its integrity attribute.
 pub fn signed_message_stands()
     ensures stands { (message : List ℕ) (algorithm : IntegrityAlgorithm) (key : List ℕ)
         → IsOpen message → length_with message (digest_length algorithm) ≤ max_length
@@ -77,9 +78,9 @@ pub fn signed_message_stands()
         (integrity_attribute message algorithm key) }
 {}
 
-/// The bytes after the deciding attribute do not change the verdict, nor does the length field.
-/// Messages with the same deciding attribute at the same place, and the same bytes before it but
-/// for the length, have the same verdict.
+/// The bytes after the deciding attribute do not change the verdict, nor does the length field: two
+/// messages that have the same deciding attribute at the same offset, and before it the same bytes
+/// except for the length field, have the same verdict.
 pub fn tail_does_not_count()
     ensures { (keys : IntegrityAlgorithm → List ℕ) (bytes others : List ℕ) (m : Member)
         → deciding bytes ≡ Some m → deciding others ≡ Some m
@@ -87,9 +88,10 @@ pub fn tail_does_not_count()
         → verified_by keys bytes ≡ verified_by keys others }
 {}
 
-/// What follows the deciding attribute is hidden, but for FINGERPRINT. Two messages that agree up
-/// to it have the same type, id, verdict, and visible attributes besides FINGERPRINT. They agree
-/// whatever follows it, unless a stronger one does.
+/// What follows the deciding attribute is hidden, except FINGERPRINT. Two messages that agree up to
+/// the end of that attribute have the same type, the same transaction ID, the same verdict, and the
+/// same visible attributes apart from FINGERPRINT. They agree in this way whatever follows, unless
+/// a stronger integrity attribute follows.
 pub fn what_follows_integrity_is_hidden()
     ensures header { (bytes others : List ℕ) → AgreeUpToIntegrity bytes others
         → (type_field bytes ≡ type_field others)

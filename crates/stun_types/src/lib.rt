@@ -1,4 +1,4 @@
-//! Messages of STUN (RFC 8489) and their attributes.
+//! STUN messages (RFC 8489) and their attributes.
 #![tactic(auto)]
 
 pub mod attribute;

@@ -1,4 +1,4 @@
-//! Messages: read from bytes, or begun in a writer.
+//! Messages: parsing and inspecting them, and starting new ones in a writer.
 
 ghost use Rattle.std.specs.Prelude.{◌≡◌, ◌+◌, ◌^◌, ◌<◌, ◌↔◌, ◌≤◌, length, [], IsTrue, IsOk, IfOk};
 ghost use Rattle.std.specs.Prelude.{OnOk, IfErr, IsErrOf, IsOkUnless, MatchOption, Some, None, ⊤};
@@ -41,7 +41,9 @@ pub use stun_base::message_type::{BINDING, MessageClass, MessageType, Method};
 pub use stun_base::prepared_key::PreparedKey;
 pub use stun_base::transaction_id::TransactionId;
 
-/// A message. It borrows its bytes. Contracts see its bytes.
+/// A parsed STUN message. It borrows its bytes.
+///
+/// Contracts: the value is the list of its bytes.
 #[derive(Debug, Drop)]
 pub struct Message<'a> {
     header: MessageHeader,
@@ -59,7 +61,7 @@ impl<'a> Model for Message<'a> {
     ghost invariant = { λ message. IsRead message.header message.bytes.now };
 }
 
-/// It does not allocate and never fails.
+/// Copies the reference. This does not allocate and never fails.
 impl<'a> Clone for Message<'a> {
     ghost is_clone = { λ it copy. copy ≡ it };
 
@@ -89,11 +91,21 @@ impl<'a> Eq for Message<'a> {
 }
 
 impl<'a> Message<'a> {
-    /// The message that these bytes are (RFC 8489, sections 5 and 14). It does not allocate.
+    /// Parses a message (RFC 8489, sections 5 and 14).
     ///
-    /// It fails with the first of these that holds: the errors of `MessageHeader::from_bytes`;
-    /// `Truncated` for fewer bytes than the header states; `TooLarge` for more; `Truncated` if an
-    /// attribute or its padding goes past the end. The values of attributes are not read.
+    /// The bytes must be exactly one message. The values of the attributes are not parsed yet. This
+    /// does not allocate.
+    ///
+    /// # Errors
+    ///
+    /// The first of these that applies:
+    ///
+    /// - `Truncated`: there are fewer than 20 bytes.
+    /// - `NotStun`: they do not start with a STUN header, as `MessageHeader::from_bytes` defines
+    ///   it.
+    /// - `Truncated`: there are fewer bytes than the header states.
+    /// - `TooLarge`: there are more bytes than the header states.
+    /// - `Truncated`: an attribute or its padding extends past the end of the message.
     pub fn from_bytes(bytes: &'a [u8]) -> Result<Message<'a>, StunParseError>
         ensures ok { IsOk result ↔ IsMessage bytes.now }
         ensures value { IfOk result (λ message. message ≡ bytes.now) }
@@ -118,9 +130,14 @@ impl<'a> Message<'a> {
         Ok(Message { header, bytes })
     }
 
-    /// A message without attributes, in an empty writer. It fails with `TooSmall` if the writer has
-    /// no room for the 20 bytes of a header, then with `OutOfMemory` if an allocation fails. If it
-    /// fails the writer is dropped.
+    /// Starts a message without attributes in `writer`, which must be empty.
+    ///
+    /// # Errors
+    ///
+    /// The first of these that applies. The writer is then dropped.
+    ///
+    /// - `TooSmall`: the writer has room for fewer than 20 bytes.
+    /// - `OutOfMemory`: an allocation failed.
     pub fn builder<W: MessageWrite>(
         message_type: MessageType,
         id: TransactionId,
@@ -145,7 +162,11 @@ impl<'a> Message<'a> {
         Ok(writer)
     }
 
-    /// A request without attributes, in an empty writer. It fails as `builder` does.
+    /// Starts a request with this transaction ID in `writer`, which must be empty.
+    ///
+    /// # Errors
+    ///
+    /// The errors of `builder`.
     pub fn builder_request<W: MessageWrite>(
         method: Method,
         id: TransactionId,
@@ -170,7 +191,11 @@ impl<'a> Message<'a> {
         )
     }
 
-    /// An indication without attributes, in an empty writer. It fails as `builder` does.
+    /// Starts an indication with this transaction ID in `writer`, which must be empty.
+    ///
+    /// # Errors
+    ///
+    /// The errors of `builder`.
     pub fn builder_indication<W: MessageWrite>(
         method: Method,
         id: TransactionId,
@@ -195,8 +220,12 @@ impl<'a> Message<'a> {
         )
     }
 
-    /// A success response to a message, with its method and id and without attributes, in an empty
-    /// writer. It fails as `builder` does.
+    /// Starts a success response to `message`, with the same method and transaction ID, in
+    /// `writer`, which must be empty.
+    ///
+    /// # Errors
+    ///
+    /// The errors of `builder`.
     pub fn builder_success<W: MessageWrite>(
         message: &Message<'_>,
         writer: W,
@@ -220,8 +249,12 @@ impl<'a> Message<'a> {
         )
     }
 
-    /// An error response to a message, with its method and id and without attributes, in an empty
-    /// writer. It fails as `builder` does.
+    /// Starts an error response to `message`, with the same method and transaction ID, in `writer`,
+    /// which must be empty.
+    ///
+    /// # Errors
+    ///
+    /// The errors of `builder`.
     pub fn builder_error<W: MessageWrite>(
         message: &Message<'_>,
         writer: W,
@@ -245,7 +278,7 @@ impl<'a> Message<'a> {
         )
     }
 
-    /// The bytes of the message.
+    /// Returns the bytes of the message.
     pub fn as_bytes(&self) -> &'a [u8]
         ensures bytes { result.now ≡ self.now }
         ensures message { IsMessage result.now }
@@ -254,52 +287,53 @@ impl<'a> Message<'a> {
         self.bytes
     }
 
-    /// The type of the message.
+    /// Returns the type of the message, which combines its class and its method.
     pub fn get_type(&self) -> MessageType
         ensures { result ≡ type_field self.now }
     {
         self.header.get_type()
     }
 
-    /// The class of the message.
+    /// Returns the class of the message.
     pub fn class(&self) -> MessageClass
         ensures { result ≡ class_in self.now }
     {
         self.get_type().class()
     }
 
-    /// The method of the message.
+    /// Returns the method of the message.
     pub fn method(&self) -> Method
         ensures { result ≡ method_of (type_field self.now) }
     {
         self.get_type().method()
     }
 
-    /// The id of the message's transaction.
+    /// Returns the transaction ID of the message.
     pub fn transaction_id(&self) -> TransactionId
         ensures { result ≡ transaction_id_field self.now }
     {
         self.header.transaction_id()
     }
 
-    /// Whether the message has this class.
+    /// Returns `true` if the message has this class.
     pub fn has_class(&self, class: MessageClass) -> bool
         ensures { IsTrue result ↔ (class_in self.now ≡ class) }
     {
         self.class() == class
     }
 
-    /// Whether the message is a response.
+    /// Returns `true` if the message is a response, either a success or an error.
     pub fn is_response(&self) -> bool
         ensures { IsTrue result ↔ IsResponse (class_in self.now) }
     {
         self.class().is_response()
     }
 
-    /// The visible attributes in their order, each with the place of its first byte in the message.
+    /// Returns an iterator over the visible attributes in their order, each with its offset: the
+    /// position of its first byte in the message.
     ///
     /// After MESSAGE-INTEGRITY only MESSAGE-INTEGRITY-SHA256 and FINGERPRINT are visible, after
-    /// MESSAGE-INTEGRITY-SHA256 only FINGERPRINT, after FINGERPRINT nothing (RFC 8489, sections
+    /// MESSAGE-INTEGRITY-SHA256 only FINGERPRINT, and after FINGERPRINT nothing (RFC 8489, sections
     /// 14.5 to 14.7).
     pub fn iter_attributes(&self) -> MessageAttributesIter<'a>
         ensures visible { result ≡ visible self.now }
@@ -308,13 +342,17 @@ impl<'a> Message<'a> {
         MessageAttributesIter::new(self.as_bytes())
     }
 
-    /// Reads the first visible attribute of its type. It fails with `MissingAttribute` if there is
-    /// none, and with `InvalidAttributeData` if it is malformed.
+    /// Parses the first visible attribute of type `A`.
     ///
-    /// Do not ask by it who signed a message: ask the call that validated the message. A type may
-    /// occur more than once. This call reads the first of a type, and the calls that validate a
-    /// message read the last. A request with two USERNAMEs is validated as the user of the last
-    /// one, and this call returns the first.
+    /// Do not use this call to find out who signed a message. If a type occurs more than once, this
+    /// call returns the first visible one, while the calls that validate a message use the last. So
+    /// the USERNAME that it returns may not be the user who was validated. Ask the authenticator
+    /// that validated the message.
+    ///
+    /// # Errors
+    ///
+    /// - `MissingAttribute`: no attribute of this type is visible.
+    /// - `InvalidAttributeData`: the first one is malformed.
     pub fn attribute<A: AttributeFromRaw<'a> + AttributeStaticType>(
         &self,
     ) -> Result<A, StunParseError>

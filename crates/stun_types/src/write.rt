@@ -1,4 +1,4 @@
-//! Writers of messages.
+//! The writers of messages.
 
 ghost use Rattle.std.specs.Prelude.{◌≡◌, ◌≤◌, ◌<◌, ◌+◌, ◌-◌, ◌↔◌, ℕ, List, ◌++◌};
 ghost use Rattle.std.specs.Prelude.{length, IsErrOf, IsOk, OnOk, IsOkUnless};
@@ -16,11 +16,11 @@ mod vec;
 pub use mut_slice::MessageWriteMutSlice;
 pub use vec::MessageWriteVec;
 
-/// A writer of a message.
+/// A writer that a message is built in.
 ///
-/// Only bytes that were reserved are appended, so only `reserve` can fail.
+/// Only bytes that were reserved are appended, so `reserve` is the only call that can fail.
 pub trait MessageWrite: Drop {
-    /// What the writer becomes at the end. It holds the bytes.
+    /// What `finish` returns. It contains the bytes of the message.
     type Output: OwnedBytes;
 
     // The bytes written so far.
@@ -32,18 +32,24 @@ pub trait MessageWrite: Drop {
     // How many more bytes can be appended without a reservation.
     ghost reserved: { Self → ℕ };
 
-    /// The bytes written so far.
+    /// Returns the bytes written so far.
     fn data(&self) -> &[u8]
         ensures { result.now ≡ bytes self.now };
 
-    /// How many more bytes fit.
+    /// Returns how many more bytes fit.
     fn room(&self) -> usize
         ensures value { result ≡ room self.now }
         ensures reserved { reserved self.now ≤ room self.now };
 
-    /// Reserves so many bytes. It fails with `TooSmall` if they do not fit, then with `OutOfMemory`
-    /// if an allocation fails. It never fails for bytes that are reserved already, and these stay
-    /// reserved. Bytes and room stay as they were.
+    /// Reserves `additional` bytes. This never fails for bytes that are reserved already, and what
+    /// was reserved stays reserved. The bytes and the room are unchanged.
+    ///
+    /// # Errors
+    ///
+    /// The first of these that applies:
+    ///
+    /// - `TooSmall`: the bytes do not fit.
+    /// - `OutOfMemory`: an allocation failed.
     fn reserve(&mut self, additional: usize) -> Result<(), StunWriteError>
         ensures bytes { bytes self.new ≡ bytes self.old }
         ensures room { room self.new ≡ room self.old }
@@ -56,7 +62,7 @@ pub trait MessageWrite: Drop {
         ensures reserved { additional ≤ reserved self.old → IsOk result }
         ensures kept { reserved self.old ≤ reserved self.new };
 
-    /// Appends bytes, which were reserved.
+    /// Appends bytes, which must be reserved.
     fn append(&mut self, tail: &[u8])
         requires { length tail.now ≤ reserved self.old }
         ensures bytes { bytes self.new ≡ bytes self.old ++ tail.now }
@@ -70,7 +76,7 @@ pub trait MessageWrite: Drop {
         ensures room { room self.new ≡ room self.old }
         ensures reserved { reserved self.new ≡ reserved self.old };
 
-    /// Ends the writing.
+    /// Ends the writing, and returns the message.
     fn finish(self) -> Self::Output
         ensures { Self.Output.contents result ≡ bytes self };
 }

@@ -6,10 +6,7 @@ use std::alloc::{AllocError, Allocator};
 use stun_auth::auth::{
     Feature, LongTermClientAuth, LongTermClientAuthErrorReason, LongTermClientValidation,
 };
-use stun_types::message::{
-    IntegrityAlgorithm, Message, MessageHeader, StunParseError, StunWriteError,
-};
-use stun_types::prelude::*;
+use stun_types::message::{IntegrityAlgorithm, Message, StunParseError};
 
 /// What a client answers.
 #[derive(Clone, Copy, Debug, PartialEq, Eq)]
@@ -55,15 +52,4 @@ pub fn told<A: Allocator + Copy>(
         Ok(LongTermClientValidation::Validated(algorithm)) => Answer::Validated(algorithm),
         Err(error) => Answer::Refused(error.reason()),
     })
-}
-
-/// A message in a writer, signed.
-pub fn signed_by<A: Allocator, W: MessageWrite>(
-    client: &mut LongTermClientAuth<A>,
-    writer: W,
-) -> Result<W, StunWriteError> {
-    if MessageHeader::from_bytes(writer.data()).is_err() {
-        return Err(StunWriteError::NotAllowed);
-    }
-    client.sign_outgoing_message(writer)
 }

@@ -7,11 +7,7 @@ use stun_types::message::TransactionId;
 
 pub const REQUEST: [u8; 2] = [0x00, 0x01];
 
-pub const INDICATION: [u8; 2] = [0x00, 0x11];
-
 pub const SUCCESS: [u8; 2] = [0x01, 0x01];
-
-pub const ERROR: [u8; 2] = [0x01, 0x11];
 
 /// An address of 10.0.0.0/24.
 pub fn address(last: u8, port: u16) -> SocketAddr {
@@ -37,14 +33,6 @@ pub fn at(millis: u64) -> Instant {
 pub fn message(kind: [u8; 2], id: u8) -> [u8; 20] {
     [
         kind[0], kind[1], 0, 0, 0x21, 0x12, 0xa4, 0x42, 0, 0, 0, 0, 0, 0, 0, 0, 0, 0, 0, id,
-    ]
-}
-
-/// A success with a mapped address.
-pub fn mapped(id: u8) -> [u8; 32] {
-    [
-        0x01, 0x01, 0, 12, 0x21, 0x12, 0xa4, 0x42, 0, 0, 0, 0, 0, 0, 0, 0, 0, 0, 0, id, 0x00, 0x20,
-        0, 8, 0, 1, 0x11, 0x2b, 0x2b, 0x12, 0xa4, 0x43,
     ]
 }
 

@@ -25,9 +25,6 @@ pub const SHA256: Answer = Ok(IntegrityAlgorithm::Sha256);
 /// Words that draw sixteen letters `A`.
 pub const ZEROS: [u32; 16] = [0; 16];
 
-/// Words that draw sixteen letters `B`.
-pub const ONES: [u32; 16] = [1; 16];
-
 /// A request that the offering server validates.
 pub const FULL_REQUEST: [Part<'static>; 6] = [
     Part::Nonce(FULL_NONCE),
@@ -129,16 +126,6 @@ pub fn signed_challenge<A: Allocator + Copy>(
     server: &mut LongTermServerAuth<A>,
 ) -> Result<Vec<u8>, StunWriteError> {
     signed_bytes(alloc, server, MessageClass::Error, &[Part::Code(401)])
-}
-
-/// A server with HMAC-SHA1 and plain names, whose nonce is current for the first address.
-pub fn plain_server<A: Allocator + Copy>(
-    alloc: Global,
-    heap: A,
-) -> Result<LongTermServerAuth<A>, Fail> {
-    let mut server = sha1_server(heap, Feature::Disabled)?;
-    let _challenged = knocked(alloc, &mut server, address(1), ZEROS)?;
-    Ok(server)
 }
 
 /// A server with both algorithms and hashed names, whose nonce is current for the first address and

@@ -3,7 +3,7 @@
 //!
 //! `cargo build --release -p seatcrane-stun-c` makes `libstunp.a` and `libstunp.so`. What is unsafe
 //! stands in four files. In `border.rs` and `passed.rs` a slice comes as a pointer and a length. In
-//! `handle.rs` a handle keeps a pointer. `memory.rs` asks the program for memory.
+//! `handle.rs` a handle keeps a pointer. `memory.rs` asks the program for memory, or malloc.
 
 extern crate alloc;
 
@@ -15,7 +15,6 @@ mod handle;
 #[allow(dead_code, unused_imports)]
 #[path = "../../src/kit/mod.rs"]
 mod kit;
-#[cfg(feature = "program-memory")]
 mod memory;
 mod passed;
 

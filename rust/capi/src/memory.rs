@@ -1,4 +1,10 @@
-//! Memory by the program's functions, which may refuse.
+//! Memory by the three functions of the program (`include/stunp_state.h`) where it has them, and
+//! otherwise by malloc.
+//!
+//! The library refers to the three weakly. So a program links without them, and where it has them
+//! they are found, whether the program is linked before or after the library, and beside the shared
+//! library too. They are called only if all three are there, so that no block is given back to
+//! another allocator than it came from.
 
 use alloc::alloc::{GlobalAlloc, Layout};
 use core::ffi::c_void;
@@ -10,31 +16,120 @@ struct Allocation {
     at: *mut c_void,
 }
 
-unsafe extern "C" {
-    fn rattle_alloc(length: usize, alignment: usize) -> Allocation;
-    fn rattle_dealloc(at: *mut c_void);
-}
-
-struct Program;
-
-// SAFETY: a block is the program's, as long and as aligned as was asked, until it is given back;
-// the header asks that of its functions.
-unsafe impl GlobalAlloc for Program {
-    unsafe fn alloc(&self, layout: Layout) -> *mut u8 {
-        // SAFETY: as above; no layout that is asked for has a length of 0.
-        let given = unsafe { rattle_alloc(layout.size(), layout.align()) };
-        if given.is_ok {
-            given.at.cast()
+impl Allocation {
+    fn pointer(self) -> *mut u8 {
+        if self.is_ok {
+            self.at.cast()
         } else {
             ptr::null_mut()
         }
     }
+}
+
+/// The functions of the program, each of which may be missing.
+#[repr(C)]
+struct Functions {
+    alloc: Option<unsafe extern "C" fn(usize, usize) -> Allocation>,
+    realloc: Option<unsafe extern "C" fn(*mut c_void, usize, usize, usize) -> Allocation>,
+    dealloc: Option<unsafe extern "C" fn(*mut c_void)>,
+}
+
+// No reference that Rust makes is weak, so the assembler makes the table. The linker or the loader
+// writes the address of each function to it, or null.
+#[cfg(all(unix, not(target_vendor = "apple"), target_pointer_width = "64"))]
+core::arch::global_asm!(
+    ".pushsection .data.rel.ro.functions_of_program,\"aw\",%progbits",
+    ".weak rattle_alloc",
+    ".weak rattle_realloc",
+    ".weak rattle_dealloc",
+    ".balign 8",
+    ".globl functions_of_program",
+    ".hidden functions_of_program",
+    "functions_of_program:",
+    ".8byte rattle_alloc",
+    ".8byte rattle_realloc",
+    ".8byte rattle_dealloc",
+    ".popsection",
+);
+
+#[cfg(all(unix, not(target_vendor = "apple"), target_pointer_width = "64"))]
+unsafe extern "C" {
+    static functions_of_program: Functions;
+}
+
+// Other systems have no weak references of this form: there the library has malloc.
+#[cfg(not(all(unix, not(target_vendor = "apple"), target_pointer_width = "64")))]
+#[allow(non_upper_case_globals)]
+static functions_of_program: Functions = Functions {
+    alloc: None,
+    realloc: None,
+    dealloc: None,
+};
+
+unsafe extern "C" {
+    fn malloc(length: usize) -> *mut c_void;
+    fn realloc(at: *mut c_void, length: usize) -> *mut c_void;
+    fn free(at: *mut c_void);
+}
+
+/// The alignment that malloc keeps, which is more than the library asks for.
+const MALLOC_ALIGNMENT: usize = 2 * size_of::<usize>();
+
+/// The functions of the program, if it has all three.
+#[allow(unused_unsafe)]
+fn functions() -> &'static Functions {
+    const NONE: &Functions = &Functions {
+        alloc: None,
+        realloc: None,
+        dealloc: None,
+    };
+    // SAFETY: nothing writes the table after the program has begun.
+    let found = unsafe { &functions_of_program };
+    match found {
+        Functions {
+            alloc: Some(_),
+            realloc: Some(_),
+            dealloc: Some(_),
+        } => found,
+        _ => NONE,
+    }
+}
+
+struct Memory;
+
+// SAFETY: a block is as long and as aligned as was asked, until it is given back. The header asks
+// that of the program's functions, and malloc keeps it. Each block goes back to where it came from,
+// since `functions` always returns the same. No layout that is asked for has a length of 0.
+unsafe impl GlobalAlloc for Memory {
+    unsafe fn alloc(&self, layout: Layout) -> *mut u8 {
+        match functions().alloc {
+            // SAFETY: as above.
+            Some(alloc) => unsafe { alloc(layout.size(), layout.align()) }.pointer(),
+            None if layout.align() > MALLOC_ALIGNMENT => ptr::null_mut(),
+            // SAFETY: as above.
+            None => unsafe { malloc(layout.size()) }.cast(),
+        }
+    }
+
+    unsafe fn realloc(&self, at: *mut u8, layout: Layout, length: usize) -> *mut u8 {
+        let kept = layout.size().min(length);
+        match functions().realloc {
+            // SAFETY: the block came of `alloc` or of this function.
+            Some(again) => unsafe { again(at.cast(), kept, length, layout.align()) }.pointer(),
+            // SAFETY: the same.
+            None => unsafe { realloc(at.cast(), length) }.cast(),
+        }
+    }
 
     unsafe fn dealloc(&self, at: *mut u8, _layout: Layout) {
-        // SAFETY: the block came of `alloc`.
-        unsafe { rattle_dealloc(at.cast()) }
+        match functions().dealloc {
+            // SAFETY: the block came of `alloc` or of `realloc`.
+            Some(dealloc) => unsafe { dealloc(at.cast()) },
+            // SAFETY: the same.
+            None => unsafe { free(at.cast()) },
+        }
     }
 }
 
 #[global_allocator]
-static MEMORY: Program = Program;
+static MEMORY: Memory = Memory;

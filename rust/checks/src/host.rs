@@ -23,6 +23,9 @@ impl HostRuntime {
     }
 }
 
+pub trait Files {}
+impl Files for HostRuntime {}
+
 pub trait Env {}
 impl Env for HostRuntime {}
 
@@ -44,14 +47,50 @@ impl<T: Abort> Abort for &T {}
 pub mod io {
     pub use std::io::*;
 
+    /// A reader with a buffer.
+    pub struct BufReader<R>(std::io::BufReader<R>);
+
+    impl<R: Read> BufReader<R> {
+        pub fn new<A>(_alloc: A, reader: R) -> Result<Self> {
+            Ok(BufReader(std::io::BufReader::new(reader)))
+        }
+    }
+
+    impl<R: Read> Read for BufReader<R> {
+        fn read(&mut self, bytes: &mut [u8]) -> Result<usize> {
+            self.0.read(bytes)
+        }
+    }
+
+    /// Standard output. Every write is flushed, because `Stdout` keeps the end of a write that
+    /// was cut short, and its error is lost when the process ends.
+    pub struct Out(Stdout);
+
+    impl Write for Out {
+        fn write(&mut self, bytes: &[u8]) -> Result<usize> {
+            let count = self.0.write(bytes)?;
+            self.0.flush()?;
+            Ok(count)
+        }
+
+        fn flush(&mut self) -> Result<()> {
+            self.0.flush()
+        }
+    }
+
     /// Standard output.
-    pub fn writer(_rt: &super::HostRuntime) -> Stdout {
-        stdout()
+    pub fn writer(_rt: &super::HostRuntime) -> Out {
+        Out(stdout())
     }
 }
 
 pub mod fs {
     use super::{Global, HostRuntime, String, io};
+
+    /// A file that is read.
+    pub fn open(_files: &impl super::Files, name: &str) -> io::Result<std::fs::File> {
+        std::fs::File::open(name)
+    }
 
     /// The text of a file.
     pub fn read_to_string(_rt: &HostRuntime, name: &str) -> io::Result<String> {

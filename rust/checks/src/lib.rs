@@ -8,6 +8,8 @@
 
 extern crate alloc;
 
+#[cfg(test)]
+mod api;
 #[path = "../../src/exported/mod.rs"]
 pub mod exported;
 pub mod host;

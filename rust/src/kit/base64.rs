@@ -12,13 +12,13 @@ pub struct Standard;
 /// The alphabet of RFC 4648, section 4, with padding.
 pub const STANDARD: Standard = Standard;
 
-/// The letters are no base64 of whole groups, or their bytes have no room.
+/// The text is not base64 in groups of four characters, or its bytes do not fit.
 #[derive(Clone, Copy, Debug, PartialEq, Eq)]
 pub struct NotDecoded;
 
 impl Standard {
-    /// Writes the bytes that letters spell, and tells how many there are. It takes whole groups of
-    /// four letters and no padding, which is all that the sources read.
+    /// Decodes a text into `bytes`, and returns how many bytes that gave. Only whole groups of four
+    /// characters without padding are decoded, because the sources need no others.
     pub fn decode_slice(self, letters: &[u8], bytes: &mut [u8]) -> Result<usize, NotDecoded> {
         let length = letters.len() / 4 * 3;
         if letters.len() % 4 != 0 || length > bytes.len() {
@@ -35,7 +35,7 @@ impl Standard {
         Ok(length)
     }
 
-    /// Adds the letters of bytes to a text, with padding.
+    /// Appends the base64 of `bytes` to a text, with padding.
     pub fn encode_string<A: Allocator>(
         self,
         bytes: &[u8],
@@ -56,5 +56,49 @@ impl Standard {
             }
         }
         Ok(())
+    }
+}
+
+/// Why letters were not decoded into memory of an allocator.
+#[derive(Clone, Copy, Debug, PartialEq, Eq)]
+pub enum DecodeAllocError {
+    NotDecoded,
+    OutOfMemory,
+}
+
+impl Standard {
+    /// The bytes that letters spell, with padding.
+    pub fn decode<A: Allocator>(
+        self,
+        alloc: A,
+        letters: &[u8],
+    ) -> Result<super::prelude::Vec<u8, A>, DecodeAllocError> {
+        let pads = letters.iter().rev().take(2).take_while(|letter| **letter == b'=').count();
+        let bare = &letters[..letters.len() - pads];
+        let mut bytes = super::prelude::Vec::with_capacity(alloc, bare.len() / 4 * 3 + 3)
+            .map_err(|_| DecodeAllocError::OutOfMemory)?;
+        if letters.len() % 4 != 0 {
+            return Err(DecodeAllocError::NotDecoded);
+        }
+        for group in bare.chunks(4) {
+            let mut bits = 0u32;
+            for place in 0..4 {
+                let six = match group.get(place) {
+                    Some(letter) => LETTERS.iter().zip(0..).find(|(other, _)| *other == letter)
+                        .ok_or(DecodeAllocError::NotDecoded)?.1,
+                    None => 0,
+                };
+                bits = bits << 6 | six;
+            }
+            let count = group.len() - 1;
+            let [_, whole @ ..] = bits.to_be_bytes();
+            if whole[count..].iter().any(|byte| *byte != 0) {
+                return Err(DecodeAllocError::NotDecoded);
+            }
+            for byte in &whole[..count] {
+                bytes.push(*byte).map_err(|_| DecodeAllocError::OutOfMemory)?;
+            }
+        }
+        Ok(bytes)
     }
 }

@@ -1,7 +1,8 @@
 //! Ordered maps and sets whose growth can fail.
 //!
-//! The standard map aborts where memory is refused. So a map here is a list of short sorted rows,
-//! each in memory that was asked for before anything moved. A map of one row is one block.
+//! The standard `BTreeMap` aborts the program if an allocation fails. So a map here is a list of
+//! short sorted rows, and the memory of each row is allocated before any entry moves. A map of one
+//! row is one block.
 
 use super::alloc::{AllocError, AllocFailed, Allocator, Global, Room};
 use ::alloc::vec::Vec;
@@ -9,22 +10,22 @@ use core::borrow::Borrow;
 use core::ops::{Bound, RangeBounds, RangeFrom};
 use core::{fmt, iter, mem};
 
-/// The most entries of a row. Each row has room for so many.
+/// The maximum number of entries of a row. Each row has the capacity for that many.
 const LONGEST: usize = 32;
 
 type Row<K, V> = Vec<(K, V)>;
 
-/// As the standard map, with an allocator that is asked before it grows.
+/// Like the standard `BTreeMap`, but with an allocator that is asked before the map grows.
 pub struct BTreeMap<K: Ord, V, A: Allocator = Global> {
-    // The entries in order: the first row, which is empty where the map is, and the others, which
-    // never are. The first has no memory until it has an entry, and then keeps it.
+    // The entries in order. Only the first row can be empty, and only if the map is. It has no
+    // memory until the first entry is inserted, and keeps its memory from then on.
     first: Row<K, V>,
     others: Vec<Row<K, V>>,
     room: Room<Row<K, V>, A>,
     len: usize,
 }
 
-/// The row of a key and its place there, which it has or would have.
+/// The row of a key and the index in that row, where the key is or would be inserted.
 struct Place {
     row: usize,
     at: usize,
@@ -32,7 +33,7 @@ struct Place {
 }
 
 impl<K: Ord, V, A: Allocator> BTreeMap<K, V, A> {
-    /// No entries. It does not allocate.
+    /// Creates an empty map. This does not allocate.
     pub const fn new(alloc: A) -> Self {
         BTreeMap {
             first: Vec::new(),
@@ -42,12 +43,12 @@ impl<K: Ord, V, A: Allocator> BTreeMap<K, V, A> {
         }
     }
 
-    /// How many entries there are.
+    /// Returns the number of entries.
     pub fn len(&self) -> usize {
         self.len
     }
 
-    /// Whether there is none.
+    /// Returns `true` if the map has no entries.
     pub fn is_empty(&self) -> bool {
         self.len == 0
     }
@@ -70,7 +71,8 @@ impl<K: Ord, V, A: Allocator> BTreeMap<K, V, A> {
         iter::once(&self.first).chain(&self.others)
     }
 
-    /// A key that is greater than all has its place at the end of the last row.
+    /// Finds the place of a key. That of a key which is greater than all others is at the end of
+    /// the last row.
     fn place<Q: Ord + ?Sized>(&self, key: &Q) -> Place
     where
         K: Borrow<Q>,
@@ -94,7 +96,7 @@ impl<K: Ord, V, A: Allocator> BTreeMap<K, V, A> {
         }
     }
 
-    /// The value of a key.
+    /// Returns a reference to the value of a key.
     pub fn get<Q: Ord + ?Sized>(&self, key: &Q) -> Option<&V>
     where
         K: Borrow<Q>,
@@ -103,7 +105,7 @@ impl<K: Ord, V, A: Allocator> BTreeMap<K, V, A> {
         is_taken.then(|| &self.row(row)[at].1)
     }
 
-    /// The value of a key, to be changed.
+    /// Returns a mutable reference to the value of a key.
     pub fn get_mut<Q: Ord + ?Sized>(&mut self, key: &Q) -> Option<&mut V>
     where
         K: Borrow<Q>,
@@ -112,7 +114,7 @@ impl<K: Ord, V, A: Allocator> BTreeMap<K, V, A> {
         is_taken.then(|| &mut self.row_mut(row)[at].1)
     }
 
-    /// Whether a key is there.
+    /// Returns `true` if the map has this key.
     pub fn contains_key<Q: Ord + ?Sized>(&self, key: &Q) -> bool
     where
         K: Borrow<Q>,
@@ -120,8 +122,8 @@ impl<K: Ord, V, A: Allocator> BTreeMap<K, V, A> {
         self.place(key).is_taken
     }
 
-    /// Puts a value under a key and tells the one before; a key that is there stays. Where memory
-    /// is refused, both come back.
+    /// Inserts a value and returns the previous value of its key, which is not replaced itself. If
+    /// an allocation fails, the error returns key and value.
     pub fn insert(&mut self, key: K, value: V) -> Result<Option<V>, AllocFailed<(K, V)>> {
         let Place { row, at, is_taken } = self.place(&key);
         if is_taken {
@@ -137,7 +139,8 @@ impl<K: Ord, V, A: Allocator> BTreeMap<K, V, A> {
         Ok(None)
     }
 
-    /// Makes room at a place, and tells where it is then. Where memory is refused, no entry moves.
+    /// Makes room for an entry at a place, and returns where that place is afterward. If an
+    /// allocation fails, no entry moves.
     fn make_room(&mut self, row: usize, at: usize) -> Result<(usize, usize), AllocError> {
         if self.first.capacity() == 0 {
             self.first = self.new_row()?;
@@ -152,7 +155,7 @@ impl<K: Ord, V, A: Allocator> BTreeMap<K, V, A> {
             self.room.change(places, reserve)?;
         }
         let mut next = self.new_row()?;
-        // A last row that was filled in ascending order stays full.
+        // If the keys are inserted in ascending order, the last row is left full.
         let is_last = row == others && at == LONGEST;
         let middle = if is_last { LONGEST } else { LONGEST / 2 };
         next.extend(self.row_mut(row).drain(middle..));
@@ -184,7 +187,8 @@ impl<K: Ord, V, A: Allocator> BTreeMap<K, V, A> {
         }
     }
 
-    /// Leaves a row without entries, or the next one where this one has room for it and more.
+    /// Merges the next row into this one if both together have at most half a row of entries. If
+    /// this row is empty, it is removed, or gets the entries of the next row.
     fn tidy(&mut self, row: usize) {
         let next = self.others.get(row).map_or(LONGEST, Vec::len);
         if self.row(row).len() + next <= LONGEST / 2 || self.row(row).is_empty() && next < LONGEST {
@@ -206,7 +210,7 @@ impl<K: Ord, V, A: Allocator> BTreeMap<K, V, A> {
         }
     }
 
-    /// Takes out the entry of a key. It does not allocate.
+    /// Removes a key and returns its entry. This does not allocate.
     pub fn remove_entry<Q: Ord + ?Sized>(&mut self, key: &Q) -> Option<(K, V)>
     where
         K: Borrow<Q>,
@@ -221,7 +225,7 @@ impl<K: Ord, V, A: Allocator> BTreeMap<K, V, A> {
         Some(entry)
     }
 
-    /// Takes out the value of a key. It does not allocate.
+    /// Removes a key and returns its value. This does not allocate.
     pub fn remove<Q: Ord + ?Sized>(&mut self, key: &Q) -> Option<V>
     where
         K: Borrow<Q>,
@@ -229,7 +233,8 @@ impl<K: Ord, V, A: Allocator> BTreeMap<K, V, A> {
         self.remove_entry(key).map(|(_, value)| value)
     }
 
-    /// Keeps the entries that meet a condition, which sees them in order. It does not allocate.
+    /// Retains only the entries for which `condition` returns `true`. It is called in the order of
+    /// the keys. This does not allocate.
     pub fn retain(&mut self, mut condition: impl FnMut(&K, &mut V) -> bool) {
         for row in iter::once(&mut self.first).chain(&mut self.others) {
             row.retain_mut(|(key, value)| condition(key, value));
@@ -240,12 +245,12 @@ impl<K: Ord, V, A: Allocator> BTreeMap<K, V, A> {
         }
     }
 
-    /// The entries in order.
+    /// Returns an iterator over the entries, in the order of their keys.
     pub fn iter(&self) -> impl Iterator<Item = (&K, &V)> {
         self.rows().flatten().map(|(key, value)| (key, value))
     }
 
-    /// The entries whose keys lie in a range, in order.
+    /// Returns an iterator over the entries whose keys are in a range, in the order of their keys.
     pub fn range(&self, range: impl RangeBounds<K>) -> impl Iterator<Item = (&K, &V)> {
         let (key, is_past) = match range.start_bound() {
             Bound::Included(key) => (Some(key), false),
@@ -276,35 +281,36 @@ impl<K: Ord + fmt::Debug, V: fmt::Debug, A: Allocator> fmt::Debug for BTreeMap<K
     }
 }
 
-/// As the standard set, with an allocator that is asked before it grows.
+/// Like the standard `BTreeSet`, but with an allocator that is asked before the set grows.
 pub struct BTreeSet<K: Ord, A: Allocator = Global> {
     map: BTreeMap<K, (), A>,
 }
 
 impl<K: Ord, A: Allocator> BTreeSet<K, A> {
-    /// No items. It does not allocate.
+    /// Creates an empty set. This does not allocate.
     pub const fn new(alloc: A) -> Self {
         BTreeSet {
             map: BTreeMap::new(alloc),
         }
     }
 
-    /// How many items there are.
+    /// Returns the number of items.
     pub fn len(&self) -> usize {
         self.map.len()
     }
 
-    /// Whether there is none.
+    /// Returns `true` if the set has no items.
     pub fn is_empty(&self) -> bool {
         self.map.is_empty()
     }
 
-    /// Whether an item is there.
+    /// Returns `true` if the set contains this item.
     pub fn contains(&self, item: &K) -> bool {
         self.map.contains_key(item)
     }
 
-    /// Adds an item and tells whether it is new, or hands it back where memory is refused.
+    /// Inserts an item and returns `true` if it is new. If an allocation fails, the error returns
+    /// the item.
     pub fn insert(&mut self, item: K) -> Result<bool, AllocFailed<K>> {
         match self.map.insert(item, ()) {
             Ok(before) => Ok(before.is_none()),
@@ -312,17 +318,18 @@ impl<K: Ord, A: Allocator> BTreeSet<K, A> {
         }
     }
 
-    /// Takes out an item, and tells whether it was there. It does not allocate.
+    /// Removes an item and returns `true` if the set contained it. This does not allocate.
     pub fn remove(&mut self, item: &K) -> bool {
         self.map.remove(item).is_some()
     }
 
-    /// The items in order.
+    /// Returns an iterator over the items in their order.
     pub fn iter(&self) -> impl Iterator<Item = &K> {
         self.map.iter().map(|(item, ())| item)
     }
 
-    /// The items that are not less than one, in order.
+    /// Returns an iterator over the items that are not less than the start of `range`, in their
+    /// order.
     pub fn range(&self, range: RangeFrom<K>) -> impl Iterator<Item = &K> {
         self.map.range(range).map(|(item, ())| item)
     }

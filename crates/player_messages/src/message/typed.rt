@@ -77,10 +77,10 @@ fn values(
         } else {
             last.saturating_sub(at)
         };
-        if let Some(value) = list.get(place)
-            && values.push(value).is_err()
-        {
-            return Err(Trouble::Memory);
+        if let Some(value) = list.get(place) {
+            if values.push(value).is_err() {
+                return Err(Trouble::Memory);
+            }
         }
     }
     Ok(values)

@@ -14,7 +14,12 @@ use std::net::SocketAddr;
 use std::time::Duration;
 use stun_base::transport::TransportType;
 
-/// A builder of an agent, seen as the agent that it builds. No call allocates.
+/// Configures and builds a `StunAgent`. None of its calls allocates.
+///
+/// By default the agent may send to any address, uses the timeouts of `RequestRto::default()`, and
+/// keeps no statistics.
+///
+/// Contracts: they see the agent that the builder builds.
 #[derive(Drop)]
 #[derive_where(Debug)]
 pub struct StunAgentBuilder<A: Allocator = Global> {
@@ -46,8 +51,10 @@ impl<A: Allocator> Model for StunAgentBuilder<A> {
 }
 
 impl<A: Allocator + Copy> StunAgentBuilder<A> {
-    /// Sets the fixed peer: the one address that the agent sends to. It does not restrict whose
-    /// messages are accepted.
+    /// Restricts sending to a single remote address.
+    ///
+    /// Sending to any other address then fails with `ProtocolViolation`. Receiving is not
+    /// restricted.
     pub fn remote_addr(mut self, addr: SocketAddr) -> Self
         ensures { result ≡ record self { remote_addr = Some addr } }
     {
@@ -55,9 +62,19 @@ impl<A: Allocator + Copy> StunAgentBuilder<A> {
         self
     }
 
-    /// Sets when requests are sent again and when they end: the wait after the first transmission,
-    /// the longest wait between two, how many transmissions there are over UDP, and the wait after
-    /// the last one.
+    /// Sets the retransmission timeouts.
+    ///
+    /// - `initial` is the wait after the first transmission (RTO in RFC 8489, section 6.2.1). Each
+    ///   further wait is twice the one before.
+    /// - `max` is an upper bound on those waits.
+    /// - `retransmits` is the number of transmissions over UDP, the first one included (Rc in the
+    ///   RFC). 0 counts as 1.
+    /// - `final_wait` is how long to wait for a response after the last transmission.
+    ///
+    /// Over TCP a request is sent once, and the agent waits for the response as long as it would
+    /// over UDP in total.
+    ///
+    /// If `initial` or `max` is zero, all transmissions are due at the same time.
     pub fn request_retransmits(
         mut self,
         initial: Duration,
@@ -83,7 +100,7 @@ impl<A: Allocator + Copy> StunAgentBuilder<A> {
         self
     }
 
-    /// Sets whether the agent keeps statistics.
+    /// Sets whether the agent keeps statistics. The default is `false`.
     pub fn stats(mut self, stats: bool) -> Self
         ensures { result ≡ record self { statistics = statistics_if stats } }
     {
@@ -91,7 +108,7 @@ impl<A: Allocator + Copy> StunAgentBuilder<A> {
         self
     }
 
-    /// The agent.
+    /// Builds the agent.
     pub fn build(self) -> StunAgent<A>
         ensures { result ≡ self }
     {

@@ -1,4 +1,4 @@
-//! Ends and retransmissions.
+//! Polling: which requests have ended, and which are due to be sent again.
 ghost use Rattle.std.specs.Prelude.{◌≡◌, ◌+◌, ◌≤◌, ◌<◌, length, None};
 ghost use Rattle.std.specs.Prelude.{IfSome, IsSomeAnd, IfOk, OnOk, OnErr};
 ghost use Rattle.std.specs.Borrow.{sem};
@@ -11,9 +11,9 @@ ghost use Rattle.stun_agent.specs.Transactions.{IsNamed, AreKept, next_awaited, 
 ghost use Rattle.stun_agent.specs.code.Transactions.{contents};
 
 use crate::agent::{StunAgent, StunAgentPollRet};
+use crate::calls::poll::reads::{Reads, Uncounted};
 use crate::calls::transmit::Transmit;
 use crate::error::NoRoom;
-use crate::state::deadlines::Reads;
 use crate::stats::counting;
 use std::alloc::Allocator;
 use std::marker::Brand;
@@ -21,16 +21,24 @@ use std::sync::ledger::{Blank, Ledger};
 use stun_base::instant::Instant;
 use stun_base::transaction_id::TransactionId;
 
+pub(crate) mod reads;
+
 impl<A: Allocator + Copy> StunAgent<A> {
     ghost use Rattle.stun_agent.specs.AgentLends.{ends_as, ends_if_ok_as};
 
-    /// Ends at most one request, or returns when to poll again.
+    /// Ends at most one request, or returns how long to wait.
     ///
-    /// It ends the request of the least id among those that are cancelled or whose last wait is
-    /// over. If there is none, it returns the next time that a request awaits: not before `now`,
-    /// and at most an hour after it. Poll again at that time, after an end, and after each other
-    /// call. Does not allocate. `poll_counted`, which it calls, bounds how often it reads
-    /// deadlines.
+    /// If several requests are over, each call reports one of them, the one with the least
+    /// transaction ID, so call again at once after an end. A request is over if it was canceled or
+    /// its last wait has passed. `WaitUntil` is the next time at which a request is due to be sent
+    /// again or to end, but never before `now` and at most one hour after it. Poll again at that
+    /// time, and after every other call that can change the agent.
+    ///
+    /// Call `poll_transmit` first, until it returns `None`, because only `poll_transmit` advances
+    /// the retransmission timers. Once a retransmission is due, `poll` does not wait: it returns
+    /// `now`.
+    ///
+    /// Does not allocate. `poll_counted` bounds the number of deadlines that this call reads.
     pub fn poll(&mut self, now: Instant) -> StunAgentPollRet
         ensures answer { result ≡ poll_answer now self.old }
         ensures after { self.new ≡ after_poll now self.old }
@@ -38,7 +46,7 @@ impl<A: Allocator + Copy> StunAgent<A> {
         self.poll_from::<Brand>(now, Blank::new(1))
     }
 
-    /// As `poll_counted`, with a count of its own.
+    /// Like `poll_counted`, but discards the count.
     fn poll_from<L: Ledger>(&mut self, now: Instant, blank: Blank) -> StunAgentPollRet
         requires { IsUnused blank.name blank.parts L.name L.parts }
         ensures answer { result ≡ poll_answer now self.old }
@@ -48,11 +56,16 @@ impl<A: Allocator + Copy> StunAgent<A> {
         answer
     }
 
-    /// As `poll`, which is this call with a blank of its own. It also returns how often it read the
-    /// deadlines of requests. That is at most once more than there are requests that are cancelled
-    /// or await at most `now`, and at most 195 times.
+    /// Like `poll`, but also returns the number of deadlines that it read.
     ///
-    /// The count takes no bytes, and contracts alone see it.
+    /// That number is at most the number of requests that are canceled or whose next deadline is
+    /// at or before `now`, and at most 194. A read gives the transaction ID of a deadline. The
+    /// times of deadlines can be looked at without a read.
+    ///
+    /// The count takes no memory, and no program can read it.
+    ///
+    /// Contracts: they see the count as a number. `poll` is this call under a ledger of its own.
+    #[doc(hidden)]
     pub fn poll_counted<L: Ledger>(
         &mut self,
         now: Instant,
@@ -61,10 +74,11 @@ impl<A: Allocator + Copy> StunAgent<A> {
         requires { IsUnused blank.name blank.parts L.name L.parts }
         ensures answer { result.0 ≡ poll_answer now self.old }
         ensures after { self.new ≡ after_poll now self.old }
-        ensures work { result.1 ≤ early_requests self.old.transport now self.old.transactions + 1 }
+        ensures work { result.1 ≤ early_requests self.old.transport now self.old.transactions }
         ensures path { result.1 ≤ most_reads }
     {
-        let (over, until, reads) = self.outstanding.find_over::<L>(now, blank);
+        let mut reads = Reads::<L>::new(blank);
+        let (over, until) = self.outstanding.find_over(now, &mut reads);
         let Some((id, repeats)) = over else {
             return (StunAgentPollRet::WaitUntil(until), reads);
         };
@@ -77,8 +91,9 @@ impl<A: Allocator + Copy> StunAgent<A> {
         }
     }
 
-    /// The next time that a request awaits, to be sent again or to end, if there is any. Cancelled
-    /// requests do not count. Does not allocate.
+    /// Returns the earliest time at which a request is due to be sent again or to end, if there is
+    /// any. Cancelled requests do not count, because they end at the next `poll`. Does not
+    /// allocate.
     pub fn next_awaited(&self) -> Option<Instant>
         ensures least { result ≡ next_awaited self.now.transport self.now.transactions }
         ensures kept { AreKept self.now.transactions }
@@ -86,10 +101,14 @@ impl<A: Allocator + Copy> StunAgent<A> {
         self.outstanding.next_awaited()
     }
 
-    /// Returns the bytes of at most one request that is due to be sent again (borrowed from the
-    /// agent). Of the requests that are still sent again and whose timeout has passed, it is the
-    /// one of the least id. Call it again until it returns `None`. Does not allocate and copies
-    /// nothing.
+    /// Returns the next retransmission that is due, if there is one.
+    ///
+    /// Each call returns one request at most, the one with the least transaction ID among those
+    /// that are due, so call until it returns `None`. When many requests are due at once, you may
+    /// send some of them, read from your socket, and continue: no retransmission is lost.
+    ///
+    /// The bytes are borrowed from the agent and are not copied, and the call does not allocate.
+    /// The first transmission of a request comes from `send_request` and is not returned here.
     pub fn poll_transmit(&mut self, now: Instant) -> Option<Transmit<&[u8]>>
         ensures* after { sem 𝓛 (ends_as A.row A.Allocator self.entry
             (after_poll_transmit now self.old)) }
@@ -113,8 +132,8 @@ impl<A: Allocator + Copy> StunAgent<A> {
         })
     }
 
-    /// As `poll_transmit`, if the bytes fit into `room`. If they do not, it fails with `NoRoom`:
-    /// the agent is unchanged, and no transmission is lost.
+    /// Like `poll_transmit`, but fails with `NoRoom` if the bytes do not fit into `room`. The agent
+    /// is then unchanged, so no transmission is lost.
     pub fn poll_transmit_within(
         &mut self,
         now: Instant,
@@ -148,14 +167,15 @@ impl<A: Allocator + Copy> StunAgent<A> {
         }))
     }
 
-    /// What `poll_transmit` would return at this time; the agent stays unchanged. It is for a
-    /// caller that must know the length before it takes the bytes, as for a buffer of its own. Does
-    /// not allocate and copies nothing.
+    /// Returns what `poll_transmit` would return at this time, and leaves the agent unchanged.
+    ///
+    /// Use it if you have to know the length of the bytes before you call `poll_transmit`, for
+    /// example to prepare a buffer. Does not allocate, and copies nothing.
     pub fn next_transmit(&self, now: Instant) -> Option<Transmit<&[u8]>>
         ensures sent { option_map lent_datagram result
             ≡ option_map (λ e. datagram_of self.now e.1) (sent_by_poll now self.now) }
     {
-        let request = self.outstanding.next_sent(now)?;
+        let request = self.outstanding.next_sent(now, Uncounted::new())?;
         Some(Transmit {
             data: request.bytes(),
             transport: self.outstanding.transport(),
@@ -164,8 +184,9 @@ impl<A: Allocator + Copy> StunAgent<A> {
         })
     }
 
-    /// As `Outstanding::pass_due_slots`, and counts the request that is to be sent again; returns
-    /// its id. If its bytes do not fit into the room, nothing changes.
+    /// Like `Outstanding::pass_due_slots`, but returns only the transaction ID of the request to
+    /// send again, and counts it in the statistics. If its bytes do not fit into the room, the call
+    /// fails, and nothing changes.
     fn pass_and_count(
         &mut self,
         now: Instant,
@@ -184,7 +205,8 @@ impl<A: Allocator + Copy> StunAgent<A> {
             (λ e. r < length e.1.bytes))) }
         ensures same { OnErr result (self.new ≡ self.old) }
     {
-        let Some((id, length)) = self.outstanding.pass_due_slots(now, room)? else {
+        let leave = Uncounted::new();
+        let Some((id, length)) = self.outstanding.pass_due_slots(now, room, leave)? else {
             return Ok(None);
         };
         counting::count_sent_again(&mut self.stats, length);

@@ -1,4 +1,4 @@
-//! Receiving: a response ends its request, and the sender is marked as validated.
+//! Receiving messages: a response ends its request, and the sender becomes a validated peer.
 ghost use Rattle.std.specs.Prelude.{◌≡◌, ◌||◌, length, not, IsTrue};
 ghost use Rattle.std.specs.Prelude.{IsOk, IfOk, OnOk, OnErr, Some, None};
 ghost use Rattle.std.specs.Option.{is_some};
@@ -15,16 +15,19 @@ use stun_base::message_type::MessageClass;
 use stun_types::message::Message;
 
 impl<A: Allocator + Copy> StunAgent<A> {
-    /// Whether the address is marked as validated: by an accepted message from it, or by
-    /// `validated_peer`.
+    /// Returns `true` if the agent has accepted a message from this address, or if `validated_peer`
+    /// was called for it, and the address has not been forgotten since.
     pub fn is_validated_peer(&self, addr: SocketAddr) -> bool
         ensures { result ≡ is_peer addr self.now.peers }
     {
         self.peers.contains(&addr)
     }
 
-    /// Marks an address as validated. This does not restrict whose messages are accepted. If an
-    /// allocation fails, the agent is unchanged. No allocation if the address is already marked.
+    /// Adds an address to the validated peers, as if a message from it had been accepted.
+    ///
+    /// This does not affect which messages the agent accepts. If the address is one of the
+    /// validated peers already, the call does not allocate. If an allocation fails, the agent is
+    /// unchanged.
     pub fn validated_peer(&mut self, addr: SocketAddr) -> Result<(), AllocError>
         ensures ok { OnOk result (self.new ≡ with_validated addr self.old) }
         ensures err { OnErr result (self.new ≡ self.old) }
@@ -34,40 +37,45 @@ impl<A: Allocator + Copy> StunAgent<A> {
         Ok(())
     }
 
-    /// How many addresses are marked as validated, so that a caller can limit them. It reads a
-    /// stored number, and does not allocate.
+    /// Returns the number of validated peers, in constant time, so that you can limit it. Does not
+    /// allocate.
     pub fn validated_peer_count(&self) -> usize
         ensures { result ≡ length self.now.peers }
     {
         self.peers.len()
     }
 
-    /// Removes the mark from an address, whoever set it. Other addresses, requests and statistics
-    /// stay unchanged. A request to it stays outstanding, and its response marks the address again.
-    /// Does not allocate.
+    /// Removes an address from the validated peers. Does not allocate.
+    ///
+    /// Requests to that address stay outstanding. When the next message from it is accepted, the
+    /// address is added again.
     pub fn forget_validated_peer(&mut self, addr: SocketAddr)
         ensures { self.new ≡ without_validated addr self.old }
     {
         self.peers.remove(&addr);
     }
 
-    /// Hands in a message from an address, and returns whether it is accepted.
+    /// Processes a message that arrived from `from`, and returns whether the agent accepts it. Drop
+    /// a message that is not accepted.
     ///
-    /// A response is accepted if a request of its transaction is outstanding and was sent to the
-    /// very address that the response comes from. The request ends, and the address is marked as
-    /// validated. For another response it returns `false`, and nothing changes. A request or an
-    /// indication is accepted, and its address is marked.
+    /// - A response is accepted if it answers an outstanding request that was sent to exactly this
+    ///   address. That request ends.
+    /// - Any other response is not accepted, and changes nothing.
+    /// - A request or an indication is always accepted. The agent does not answer it.
     ///
-    /// Ask the authenticator first: the agent checks no digest. Otherwise a forged response can end
-    /// a request. Its sender needs the id of the request, which is in the clear, and must send from
-    /// the address that was asked.
+    /// The source of an accepted message becomes a validated peer, and stays one until you call
+    /// `forget_validated_peer`. So limit the number of addresses whose messages you pass to the
+    /// agent, or forget those that you no longer need.
     ///
-    /// If an allocation fails, the agent is unchanged: the address is not marked, and a response's
-    /// request stays outstanding. No allocation if the address is already marked, or the message is
-    /// not accepted.
+    /// The call allocates only if it accepts the message and its source is not a validated peer
+    /// yet. If that allocation fails, the agent is unchanged, and the request that a response
+    /// answers stays outstanding.
     ///
-    /// An address stays marked until `forget_validated_peer`. Limit from how many addresses you
-    /// hand in messages, or forget those that you are done with.
+    /// # Security
+    ///
+    /// Ask the authenticator first. The agent does not verify the signature, so an attacker who can
+    /// send from the server's address and knows the transaction ID, which is sent in the clear,
+    /// could end your request with a forged response.
     pub fn handle_stun_message(
         &mut self,
         msg: &Message<'_>,
@@ -82,8 +90,11 @@ impl<A: Allocator + Copy> StunAgent<A> {
         self.receive(msg, from, None)
     }
 
-    /// As `handle_stun_message`, at a time. A response counts a round trip if `poll_transmit` has
-    /// passed no timeout of its request. Over TCP it never passes one.
+    /// Like `handle_stun_message`, but also measures the round-trip time.
+    ///
+    /// A round trip is measured only if the response arrives before the first retransmission of its
+    /// request, sent or suppressed. After that it is unclear which transmission was answered. Over
+    /// TCP there are no retransmissions, so every round trip is measured.
     pub fn handle_stun_message_with_time(
         &mut self,
         msg: &Message<'_>,
@@ -99,7 +110,7 @@ impl<A: Allocator + Copy> StunAgent<A> {
         self.receive(msg, from, Some(now))
     }
 
-    /// Receives a message, at a time if one is given.
+    /// Processes a message. A response measures a round trip if the time is known.
     fn receive(
         &mut self,
         msg: &Message<'_>,
@@ -129,7 +140,8 @@ impl<A: Allocator + Copy> StunAgent<A> {
         }
     }
 
-    /// Accepts a response if it answers an outstanding request that was sent to its sender.
+    /// Processes a response, and accepts it if it answers an outstanding request that was sent to
+    /// its sender.
     fn receive_response(
         &mut self,
         msg: &Message<'_>,

@@ -1,4 +1,4 @@
-//! The handles by which a user reads a request, cancels it or sets its timeouts.
+//! Handles to an outstanding request: to read it, to cancel it, and to set its timeouts.
 ghost use Rattle.std.specs.Prelude.{◌≡◌, IfSome, Ok};
 ghost use Rattle.std.specs.Borrow.{sem};
 ghost use Rattle.std.specs.Duration.{as_nanos, max_nanos};
@@ -18,7 +18,7 @@ use std::time::Duration;
 use stun_base::algorithm::IntegrityAlgorithm;
 use stun_base::transaction_id::TransactionId;
 
-/// An outstanding request.
+/// An outstanding request, returned by `StunAgent::request_transaction`.
 #[derive(Drop)]
 #[derive_where(Debug)]
 pub struct StunRequest<'a, A: Allocator = Global> {
@@ -27,8 +27,10 @@ pub struct StunRequest<'a, A: Allocator = Global> {
     integrity: Option<IntegrityAlgorithm>,
 }
 
-/// An outstanding request that can be changed. Its peer and its integrity can still be read once it
-/// has ended.
+/// A mutable handle to an outstanding request, returned by `StunAgent::mut_request_transaction`.
+///
+/// If the request ends while you hold the handle, the calls that change it have no effect. The peer
+/// address and the algorithm can still be read.
 #[derive(Drop)]
 #[derive_where(Debug)]
 pub struct StunRequestMut<'a, A: Allocator = Global> {
@@ -39,7 +41,8 @@ pub struct StunRequestMut<'a, A: Allocator = Global> {
 }
 
 impl<A: Allocator + Copy> StunAgent<A> {
-    /// The request of a transaction, while it is outstanding. Does not allocate.
+    /// Returns the outstanding request with this transaction ID, if there is one. Does not
+    /// allocate.
     pub fn request_transaction(&self, id: TransactionId) -> Option<StunRequest<'_, A>>
         ensures request { option_map (λ r. (r.peer_address, r.integrity)) result
             ≡ option_map peer_and_integrity (at id self.now.transactions) }
@@ -53,7 +56,8 @@ impl<A: Allocator + Copy> StunAgent<A> {
         })
     }
 
-    /// The request of a transaction, to be changed, while it is outstanding. Does not allocate.
+    /// Returns a handle with which to cancel the outstanding request with this transaction ID, or
+    /// to change its timeouts, if there is such a request. Does not allocate.
     pub fn mut_request_transaction(&mut self, id: TransactionId) -> Option<StunRequestMut<'_, A>>
         ensures* lends { sem 𝓛 (rests A.row A.Allocator self.entry result) }
         ensures request { option_map (λ r. (r.peer_address, r.integrity)) result
@@ -71,7 +75,8 @@ impl<A: Allocator + Copy> StunAgent<A> {
         })
     }
 
-    /// The address that a request was sent to, and the algorithm of its integrity.
+    /// Returns the address that a request was sent to, and the algorithm of its integrity
+    /// attribute.
     fn peer_of(&self, id: TransactionId) -> Option<(SocketAddr, Option<IntegrityAlgorithm>)>
         ensures { result ≡ option_map peer_and_integrity (at id self.now.transactions) }
     {
@@ -79,7 +84,7 @@ impl<A: Allocator + Copy> StunAgent<A> {
         Some((request.to(), request.integrity()))
     }
 
-    /// Changes a request, if it is outstanding.
+    /// Applies a change to a request if it is outstanding.
     fn change(&mut self, id: TransactionId, change: Change)
         ensures { self.new ≡ with_transactions self.old
             (with_change_at (changed_transaction change) id self.old.transactions) }
@@ -89,22 +94,22 @@ impl<A: Allocator + Copy> StunAgent<A> {
 }
 
 impl<'a, A: Allocator + Copy> StunRequest<'a, A> {
-    /// The address that the request was sent to.
+    /// Returns the address that the request was sent to.
     pub fn peer_address(&self) -> SocketAddr
         ensures { result ≡ self.now.peer_address }
     {
         self.peer_address
     }
 
-    /// The algorithm that the request was signed with when it was sent: that of the integrity
-    /// attribute that decides.
+    /// Returns the algorithm of the request's integrity attribute, or `None` if it has none. If it
+    /// has both attributes, this is HMAC-SHA256.
     pub fn integrity(&self) -> Option<IntegrityAlgorithm>
         ensures { result ≡ self.now.integrity }
     {
         self.integrity
     }
 
-    /// The agent that sent the request.
+    /// Returns the agent that sent the request.
     pub fn agent(&self) -> &StunAgent<A>
         ensures { result.now ≡ self.now.agent.now }
     {
@@ -112,7 +117,7 @@ impl<'a, A: Allocator + Copy> StunRequest<'a, A> {
     }
 }
 
-/// Does not allocate.
+/// Copies the handle. Does not allocate.
 impl<'a, A: Allocator> Clone for StunRequest<'a, A> {
     ghost use Rattle.std.specs.Prelude.{◌≡◌, ⊤};
 
@@ -130,29 +135,30 @@ impl<'a, A: Allocator> Clone for StunRequest<'a, A> {
 }
 
 impl<'a, A: Allocator + Copy> StunRequestMut<'a, A> {
-    /// The address that the request was sent to.
+    /// Returns the address that the request was sent to.
     pub fn peer_address(&self) -> SocketAddr
         ensures { result ≡ self.now.peer_address }
     {
         self.peer_address
     }
 
-    /// The algorithm that the request was signed with when it was sent: that of the integrity
-    /// attribute that decides.
+    /// Returns the algorithm of the request's integrity attribute, or `None` if it has none. If it
+    /// has both attributes, this is HMAC-SHA256.
     pub fn integrity(&self) -> Option<IntegrityAlgorithm>
         ensures { result ≡ self.now.integrity }
     {
         self.integrity
     }
 
-    /// The agent that sent the request.
+    /// Returns the agent that sent the request.
     pub fn agent(&self) -> &StunAgent<A>
         ensures { result.now ≡ self.now.agent.now }
     {
         self.agent
     }
 
-    /// The agent that sent the request, to be changed. It may end the request.
+    /// Returns a mutable reference to the agent that sent the request. Calls on the agent may end
+    /// the request.
     pub fn mut_agent(&mut self) -> &mut StunAgent<A>
         ensures* lends { sem 𝓛 (lends_agent A.row A.Allocator self.entry result) }
         ensures value { result.now ≡ self.old.agent.now }
@@ -160,9 +166,13 @@ impl<'a, A: Allocator + Copy> StunRequestMut<'a, A> {
         self.agent
     }
 
-    /// Stops the retransmissions of the request. It stays outstanding until its last wait is over,
-    /// and then ends as cancelled. Does not allocate, and does nothing if the request is no longer
-    /// outstanding.
+    /// Stops retransmitting the request, but still waits for its response.
+    ///
+    /// The request ends at the time at which it would otherwise have timed out, and `poll` then
+    /// reports it as canceled. An ICE agent uses this when a check has become pointless but its
+    /// answer is still welcome.
+    ///
+    /// Does nothing if the request is no longer outstanding. Does not allocate.
     pub fn cancel_retransmissions(&mut self)
         ensures { StaysWith self.old self.new
             (with_change_at without_retransmissions self.old.id self.old.agent.now.transactions) }
@@ -170,9 +180,13 @@ impl<'a, A: Allocator + Copy> StunRequestMut<'a, A> {
         self.agent.change(self.id, Change::Silence);
     }
 
-    /// Stops the retransmissions of the request, and ends it at the next `poll` that reaches it. A
-    /// response that comes before is still accepted. Does not allocate, and does nothing if the
-    /// request is no longer outstanding.
+    /// Cancels the request: it is not retransmitted, and a following `poll` reports it as
+    /// canceled.
+    ///
+    /// Until that poll the request is still outstanding: its transaction ID cannot be reused, and a
+    /// response that arrives earlier is accepted.
+    ///
+    /// Does nothing if the request is no longer outstanding. Does not allocate.
     pub fn cancel(&mut self)
         ensures { StaysWith self.old self.new
             (with_change_at with_cancellation self.old.id self.old.agent.now.transactions) }
@@ -180,10 +194,14 @@ impl<'a, A: Allocator + Copy> StunRequestMut<'a, A> {
         self.agent.change(self.id, Change::Cancel);
     }
 
-    /// Replaces the timeouts of the request: the wait after the first transmission, how many
-    /// transmissions there are over UDP, and the wait after the last one. Waits between
-    /// transmissions have no maximum. The timeouts that have passed, and the time of the last one,
-    /// stay. Does not allocate, and does nothing if the request is no longer outstanding.
+    /// Replaces the timeouts of this request: the wait after the first transmission, the number of
+    /// transmissions over UDP, and the wait after the last one.
+    ///
+    /// Timeouts that have already passed still count, and the current wait still starts at the last
+    /// of them. The waits between transmissions have no upper bound, even if the builder set one:
+    /// use `configure_timeout_with_max` to set it.
+    ///
+    /// Does nothing if the request is no longer outstanding. Does not allocate.
     pub fn configure_timeout(
         &mut self,
         initial: Duration,
@@ -202,7 +220,7 @@ impl<'a, A: Allocator + Copy> StunRequestMut<'a, A> {
         self.configure_timeout_with_max(initial, retransmits, last_retransmit, Duration::MAX);
     }
 
-    /// As `configure_timeout`, with the longest wait between two transmissions.
+    /// Like `configure_timeout`, with `max` as an upper bound on the waits between transmissions.
     pub fn configure_timeout_with_max(
         &mut self,
         initial: Duration,

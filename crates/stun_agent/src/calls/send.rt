@@ -1,4 +1,4 @@
-//! Sending: what is to be sent, and what is kept of a request.
+//! Sending messages, and storing requests.
 ghost use Rattle.std.specs.Prelude.{◌≡◌, Some, None, Ok, Err, IsOk, IfOk, IfErr};
 ghost use Rattle.std.specs.Prelude.{OnOk, OnErr, IsErrOf, IsOkUnless, MatchOption};
 ghost use Rattle.std.specs.Borrow.{sem};
@@ -28,10 +28,15 @@ use stun_types::message::deciding_algorithm;
 impl<A: Allocator + Copy> StunAgent<A> {
     ghost use Rattle.stun_agent.specs.AgentLends.{ends_if_ok_as};
 
-    /// Wraps bytes that are not a STUN message in a `Transmit`. Nothing is counted.
+    /// Wraps bytes that are not STUN, such as media, in a `Transmit`.
     ///
-    /// Fails with `ProtocolViolation` if the agent has a fixed peer and `to` is another address.
+    /// The agent stores nothing and counts nothing.
+    ///
+    /// # Errors
+    ///
     /// The bytes are then dropped.
+    ///
+    /// - `ProtocolViolation`: the agent has a fixed remote address and `to` is a different one.
     pub fn send_data<T: OwnedBytes + Drop>(
         &self,
         bytes: T,
@@ -45,7 +50,7 @@ impl<A: Allocator + Copy> StunAgent<A> {
         Ok(Transmit::new(bytes, self.outstanding.transport(), self.local_addr, to))
     }
 
-    /// Refuses every address but the fixed peer, if there is one.
+    /// Fails for every address but the fixed remote address, if there is one.
     fn check_address(&self, to: SocketAddr) -> Result<(), StunError>
         ensures { MatchOption (address_refusal self.now to) (result ≡ Ok tt)
             (λ error. result ≡ Err error) }
@@ -62,15 +67,19 @@ impl<A: Allocator + Copy> StunAgent<A> {
         }
     }
 
-    /// Wraps an indication or a response in a `Transmit`, and counts it if statistics are kept.
+    /// Wraps a response or an indication in a `Transmit`, and counts it in the statistics.
     ///
-    /// The errors, in the order in which they are looked for:
-    /// - `ParseError` if the bytes do not begin with a header;
-    /// - `ProtocolViolation` for a request;
-    /// - `ProtocolViolation` if the agent has a fixed peer and `to` is another address.
+    /// The agent does not store the message, because nothing answers it, and the call does not
+    /// allocate. To send a request, call `send_request`. The time is not used: it is an argument
+    /// because the Rust crate has it.
     ///
-    /// After an error the agent is unchanged, and the message is dropped. Does not allocate. The
-    /// time is not used: the Rust crate's call has it.
+    /// # Errors
+    ///
+    /// The first of these that applies. The agent is then unchanged, and the message is dropped.
+    ///
+    /// - `ParseError`: the bytes do not start with a STUN header.
+    /// - `ProtocolViolation`: the message is a request.
+    /// - `ProtocolViolation`: the agent has a fixed remote address and `to` is a different one.
     pub fn send<T: OwnedBytes + Drop>(
         &mut self,
         msg: T,
@@ -90,17 +99,28 @@ impl<A: Allocator + Copy> StunAgent<A> {
         Ok(Transmit::new(msg, self.outstanding.transport(), self.local_addr, to))
     }
 
-    /// Stores a request, and returns its bytes for sending (borrowed from the agent).
+    /// Stores a request, starts its retransmission timer, and returns the bytes to send now, which
+    /// are borrowed from the agent.
     ///
-    /// The agent awaits its response from `now` on: `poll_transmit` sends it again, and `poll` ends
-    /// it. The errors, in the order in which they are looked for:
-    /// - `ParseError` if the bytes do not begin with a header;
-    /// - `ProtocolViolation` for another class;
-    /// - `ProtocolViolation` if the agent has a fixed peer and `to` is another address;
-    /// - `AlreadyInProgress` if a request of its transaction is outstanding;
-    /// - `OutOfMemory` if the bytes cannot be stored.
+    /// The request stays outstanding until one of these happens:
     ///
-    /// After an error the agent is unchanged, and the message is dropped.
+    /// - `handle_stun_message` or `handle_stun_message_with_time` accepts its response;
+    /// - `poll` reports that it timed out or was canceled.
+    ///
+    /// Until then `poll_transmit` returns the same bytes again each time a retransmission is due.
+    ///
+    /// Each request needs a new, unpredictable transaction ID. This includes the signed request
+    /// that answers a 401 or a 438: build it from scratch.
+    ///
+    /// # Errors
+    ///
+    /// The first of these that applies. The agent is then unchanged, and the message is dropped.
+    ///
+    /// - `ParseError`: the bytes do not start with a STUN header.
+    /// - `ProtocolViolation`: the message is not a request.
+    /// - `ProtocolViolation`: the agent has a fixed remote address and `to` is a different one.
+    /// - `AlreadyInProgress`: a request with this transaction ID is outstanding.
+    /// - `OutOfMemory`: the request could not be stored.
     pub fn send_request<T: OwnedBytes + Drop>(
         &mut self,
         msg: T,
@@ -126,7 +146,8 @@ impl<A: Allocator + Copy> StunAgent<A> {
         })
     }
 
-    /// Stores and counts a request, and returns its id. If it fails, nothing changes.
+    /// Stores and counts a request, and returns its transaction ID. If the call fails, the agent is
+    /// unchanged.
     fn keep_request(
         &mut self,
         bytes: &[u8],
@@ -149,7 +170,7 @@ impl<A: Allocator + Copy> StunAgent<A> {
         Ok(id)
     }
 
-    /// The class of an indication or response that may be sent.
+    /// Returns the class of a message, if it is an indication or a response that may be sent.
     fn class_to_send(&self, bytes: &[u8], to: SocketAddr) -> Result<MessageClass, StunError>
         ensures accepted { OnOk result (sending_refusal self.now bytes.now to ≡ None) }
         ensures class { IfOk result (λ class. class ≡ class_in bytes.now) }
@@ -161,7 +182,7 @@ impl<A: Allocator + Copy> StunAgent<A> {
         Ok(class)
     }
 
-    /// The id of a request that may be sent.
+    /// Returns the transaction ID of a message, if it is a request that may be sent.
     fn id_to_ask(&self, bytes: &[u8], to: SocketAddr) -> Result<TransactionId, StunError>
         ensures answer { MatchOption (request_refusal self.now bytes.now to)
             (result ≡ Ok (transaction_id_field bytes.now)) (λ error. result ≡ Err error) }
@@ -181,7 +202,7 @@ impl<A: Allocator + Copy> StunAgent<A> {
     }
 }
 
-/// The class of an indication or response. A request is refused.
+/// Returns the class of an indication or a response. Fails for a request.
 fn class_of_answerless(bytes: &[u8]) -> Result<MessageClass, StunError>
     ensures { MatchOption (class_refusal bytes.now) (result ≡ Ok (class_in bytes.now))
         (λ error. result ≡ Err error) }

@@ -1,4 +1,4 @@
-//! Bytes for the caller to send.
+//! Data to send.
 ghost use Rattle.std.specs.Prelude.{◌≡◌, length, IsOk, IfOk, Ok, Some};
 ghost use Rattle.stun_base.specs.Data.{IsOwned};
 
@@ -8,23 +8,26 @@ use std::net::SocketAddr;
 use stun_base::data::{Data, OwnedBytes};
 use stun_base::transport::TransportType;
 
-/// Bytes for the caller to send, by this transport, between these addresses.
+/// Bytes to send, with the transport to send them over and the addresses to send them from and to.
+///
+/// The calls of `StunAgent` that send return it. Sending is up to you, because an agent has no
+/// sockets.
 #[derive(Debug, Drop)]
 pub struct Transmit<T: OwnedBytes> {
-    /// The bytes, borrowed or owned.
+    /// The bytes to send, borrowed or owned.
     pub data: T,
-    /// The transport that carries them.
+    /// The transport to send them over.
     pub transport: TransportType,
-    /// The address that sends them.
+    /// The address to send them from.
     pub from: SocketAddr,
-    /// The address that they are sent to.
+    /// The address to send them to.
     pub to: SocketAddr,
 }
 
 impl<T: OwnedBytes> Transmit<T> {
     ghost use Rattle.stun_agent.specs.Datagrams.{parts};
 
-    /// Makes it of its four parts.
+    /// Creates a `Transmit` from its four parts.
     pub fn new(data: T, transport: TransportType, from: SocketAddr, to: SocketAddr) -> Self
         ensures { parts result ≡ («data», transport, from, to) }
     {
@@ -36,7 +39,7 @@ impl<T: OwnedBytes> Transmit<T> {
         }
     }
 
-    /// Replaces the data by what a closure makes of it. Transport and addresses stay.
+    /// Converts the data by a closure. The transport and the addresses stay as they are.
     pub fn reinterpret_data<O: OwnedBytes, F: FnOnce(T) -> O>(self, f: F) -> Transmit<O>
         requires { F.pre f (parts self).0 }
         ensures made { F.post f (parts self).0 (parts result).0 }
@@ -57,9 +60,10 @@ impl<T: OwnedBytes> Transmit<T> {
 impl<'a, A: Allocator> Transmit<Data<'a, A>> {
     ghost use Rattle.stun_agent.specs.Datagrams.{parts, datagram};
 
-    /// The same with owned bytes. Owned bytes move unchanged and do not allocate. Borrowed bytes
-    /// are copied into memory from `alloc`. It fails only if this allocation fails, and then drops
-    /// all.
+    /// Converts the bytes to owned ones.
+    ///
+    /// Borrowed bytes are copied into memory from `alloc`. Owned bytes are moved, which does not
+    /// allocate. The call fails only if its allocation fails, and the `Transmit` is then dropped.
     pub fn into_owned<'b>(self, alloc: A) -> Result<Transmit<Data<'b, A>>, AllocError>
         ensures same { IfOk result (λ owned. datagram owned ≡ datagram self.entry) }
         ensures owned { IfOk result (λ owned. IsOwned (parts owned).0) }
@@ -76,7 +80,8 @@ impl<'a, A: Allocator> Transmit<Data<'a, A>> {
     }
 }
 
-/// Reads as `Transmit(UDP: 10.0.0.1:3478 -> 10.0.0.2:3478 of 20 bytes)`.
+/// Displays everything but the bytes, for example as
+/// `Transmit(UDP: 10.0.0.1:3478 -> 10.0.0.2:3478 of 20 bytes)`.
 impl<T: OwnedBytes> fmt::Display for Transmit<T> {
     ghost use Rattle.stun_agent.specs.Datagrams.{text_of_datagram};
 

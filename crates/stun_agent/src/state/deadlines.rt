@@ -1,17 +1,16 @@
 //! The deadlines of outstanding requests, in a tree for each kind.
-ghost use Rattle.std.specs.Prelude.{◌≡◌, [], ◌∷◌, ◌+◌, ◌<◌, ◌≤◌, codes};
-ghost use Rattle.std.specs.Prelude.{Some, IsSomeAnd, IsPermutation};
-ghost use Rattle.std.specs.Fmt.{WritesOnOk};
+ghost use Rattle.std.specs.Prelude.{◌≡◌, [], ◌∷◌, ◌+◌, ◌≤◌, IsSomeAnd, IsPermutation};
 ghost use Rattle.stun_agent.specs.Deadlines.{most_reads, IsUnused};
 ghost use Rattle.stun_agent.specs.code.Deadlines.{earliest, has_come, early, lesser};
 ghost use Rattle.stun_agent.specs.code.Deadlines.{least_due, least_ended, first_awaited};
 ghost use Rattle.stun_agent.specs.code.Deadlines.{entries_at, IsReplaced};
 
-use crate::state::deadline_tree::{DeadlineTree, Entry};
+use crate::calls::poll::reads::{Reads, Uncounted};
+use crate::state::deadline_set::DeadlineTree;
+use crate::state::deadline_tree::changes::Entry;
 use std::alloc::{Allocator, Global};
-use std::fmt;
 use std::marker::{Brand, Model};
-use std::sync::ledger::{Blank, Book, Ledger, Share};
+use std::sync::ledger::{Blank, Ledger};
 use stun_base::instant::Instant;
 use stun_base::transaction_id::TransactionId;
 
@@ -22,11 +21,11 @@ pub(crate) enum DeadlineKind {
     Slot,
     /// It is to end, after its last wait.
     End,
-    /// It is cancelled, and ends at the next poll that reaches it.
+    /// It is canceled, and ends at the next poll that reaches it.
     Cancelled,
 }
 
-/// The time that a request awaits. A cancelled one awaits time zero.
+/// The time that a request awaits. A canceled one awaits time zero.
 #[derive(Clone, Copy, Debug, PartialEq, Eq)]
 pub(crate) struct Deadline {
     pub(crate) id: TransactionId,
@@ -126,25 +125,21 @@ impl<A: Allocator> DeadlineIndex<A> {
         }
     }
 
-    /// The least id among those whose end has come, the first time that is awaited, and how often
-    /// the index was read for both. The index itself counts once, with the first deadline of each
-    /// tree, and so does each node that was read.
+    /// Returns the least id among those whose end has come, and the first time that is awaited.
+    /// Counts the deadlines that it reads; the first times of the trees do not count.
     pub(crate) fn find_ended<L: Ledger>(
         &self,
         now: Instant,
-        blank: Blank,
-    ) -> (Option<TransactionId>, Option<Instant>, Reads<L>)
-        requires { IsUnused blank.name blank.parts L.name L.parts }
+        reads: &mut Reads<L>,
+    ) -> (Option<TransactionId>, Option<Instant>)
         ensures ended { result.0 ≡ least_ended now self.now }
         ensures first { result.1 ≡ earliest self.now }
-        ensures work { result.2 ≤ early now self.now + 1 }
-        ensures path { result.2 ≤ most_reads }
+        ensures work { reads.new ≤ reads.old + early now self.now }
+        ensures path { reads.new ≤ reads.old + most_reads }
     {
-        let mut reads = Reads::<L>::new(blank);
-        reads.tick();
-        let ended = self.ends.least_come(now, &None, &mut reads);
-        let cancelled = self.cancelled.least_come(now, &None, &mut reads);
-        (least(ended, cancelled), self.earliest(), reads)
+        let ended = self.ends.least_come(now, &None, reads);
+        let cancelled = self.cancelled.least_come(now, &None, reads);
+        (least(ended, cancelled), self.earliest())
     }
 
     /// The least id, after `last`, of a request whose timeout is due.
@@ -152,10 +147,11 @@ impl<A: Allocator> DeadlineIndex<A> {
         &self,
         now: Instant,
         last: &Option<TransactionId>,
+        leave: Uncounted,
     ) -> Option<TransactionId>
         ensures { result ≡ least_due now last.now self.now }
     {
-        self.least_due_from::<Brand>(now, last, Blank::new(1))
+        self.least_due_from::<Brand>(now, last, leave, Blank::new(1))
     }
 
     /// As `least_due`, with a count of its own.
@@ -163,12 +159,13 @@ impl<A: Allocator> DeadlineIndex<A> {
         &self,
         now: Instant,
         last: &Option<TransactionId>,
+        leave: Uncounted,
         blank: Blank,
     ) -> Option<TransactionId>
         requires { IsUnused blank.name blank.parts L.name L.parts }
         ensures { result ≡ least_due now last.now self.now }
     {
-        let mut reads = Reads::<L>::new(blank);
+        let mut reads = leave.begin::<L>(blank);
         self.slots.least_come(now, last, &mut reads)
     }
 
@@ -199,51 +196,5 @@ fn least(one: Option<TransactionId>, other: Option<TransactionId>) -> Option<Tra
         (Some(one), Some(other)) => Some(one.min(other)),
         (Some(one), None) => Some(one),
         (None, other) => other,
-    }
-}
-
-/// How often an index of deadlines was read. The index itself counts once, with the first deadline
-/// of each tree, and so does each node that was read. It takes no bytes, and only reading raises
-/// it.
-#[derive(Drop)]
-pub struct Reads<L: Ledger> {
-    book: Book<L>,
-    share: Share<L>,
-}
-
-impl<L: Ledger> Model for Reads<L> {
-    ghost use Rattle.std.specs.Prelude.{ℕ, ◌<◌};
-
-    ghost Value = { ℕ };
-
-    ghost view = { λ s. s.book.total };
-
-    ghost invariant = { λ s. 0 < s.share.parts };
-}
-
-impl<L: Ledger> fmt::Debug for Reads<L> {
-    ghost debug_output = { λ _. Some (codes "Reads") };
-
-    fn fmt<W: fmt::Write>(&self, f: &mut fmt::Formatter<W>) -> fmt::Result
-        ensures { WritesOnOk W.write_str_gives f.old result (codes "Reads") f.new }
-    {
-        f.write_str("Reads")
-    }
-}
-
-impl<L: Ledger> Reads<L> {
-    /// A count at zero, of a ledger that nobody has used.
-    fn new(blank: Blank) -> Self
-        requires { IsUnused blank.name blank.parts L.name L.parts }
-        ensures { result ≡ 0 }
-    {
-        let (book, share) = blank.open();
-        Reads { book, share }
-    }
-
-    pub(crate) fn tick(&mut self)
-        ensures { self.new ≡ self.old + 1 }
-    {
-        self.book.add(&mut self.share, 1);
     }
 }

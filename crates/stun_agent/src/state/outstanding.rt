@@ -2,21 +2,22 @@
 ghost use Rattle.std.specs.Prelude.{◌≡◌, ◌+◌, ◌≤◌, ◌<◌, [], length, Some, None};
 ghost use Rattle.std.specs.Prelude.{IfSome, IsSomeAnd, IfOk, OnOk, OnErr};
 ghost use Rattle.std.specs.Option.{option_map, option_copied};
-ghost use Rattle.stun_agent.specs.Deadlines.{early_requests, most_reads, IsUnused};
+ghost use Rattle.stun_agent.specs.Deadlines.{early_requests, most_reads};
 ghost use Rattle.stun_agent.specs.Transactions.{AreKept, at, with, without, with_change_at};
 ghost use Rattle.stun_agent.specs.Transactions.{first_over, wake_up, next_awaited};
 ghost use Rattle.stun_agent.specs.Transactions.{next_sent, after_slots, IsNamed};
 ghost use Rattle.stun_agent.specs.code.Transactions.{contents, id_and_repeats, changed_transaction};
 
+use crate::calls::poll::reads::{Reads, Uncounted};
 use crate::error::NoRoom;
-use crate::state::deadline_tree::Entry;
-use crate::state::deadlines::{DeadlineIndex, Reads};
+use crate::state::deadline_tree::changes::Entry;
+use crate::state::deadlines::DeadlineIndex;
 use crate::state::transaction::{Change, Transaction};
 use crate::state::transactions::{self, Transactions};
 use std::alloc::{AllocError, Allocator, Global};
 use std::collections::BTreeMap;
 use std::marker::Model;
-use std::sync::ledger::{Blank, Ledger};
+use std::sync::ledger::Ledger;
 use std::time::Duration;
 use stun_base::instant::Instant;
 use stun_base::transaction_id::TransactionId;
@@ -104,30 +105,25 @@ impl<A: Allocator + Copy> Outstanding<A> {
         Some(request)
     }
 
-    /// Returns the id of the request that is to end, and whether it was still sent again; when to
-    /// poll again, if none ends; and how often deadlines were read. Deadlines alone decide the
-    /// first two.
+    /// Returns the id of the request that is to end, and whether it was still sent again; and when
+    /// to poll again, if none ends. Deadlines alone decide both. Counts those that it reads.
     pub(crate) fn find_over<L: Ledger>(
         &self,
         now: Instant,
-        blank: Blank,
-    ) -> (Option<(TransactionId, bool)>, Instant, Reads<L>)
-        requires { IsUnused blank.name blank.parts L.name L.parts }
+        reads: &mut Reads<L>,
+    ) -> (Option<(TransactionId, bool)>, Instant)
         ensures over { result.0 ≡ option_map id_and_repeats
             (first_over self.now.transport now self.now.requests) }
         ensures until { first_over self.now.transport now self.now.requests ≡ None
             → result.1 ≡ wake_up self.now.transport now self.now.requests }
-        ensures work { result.2 ≤ early_requests self.now.transport now self.now.requests + 1 }
-        ensures path { result.2 ≤ most_reads }
+        ensures work { reads.new ≤ reads.old
+            + early_requests self.now.transport now self.now.requests }
+        ensures path { reads.new ≤ reads.old + most_reads }
     {
-        let (ended, first, reads) = self.deadlines.find_ended::<L>(now, blank);
+        let (ended, first) = self.deadlines.find_ended(now, reads);
         let longest = now + Duration::from_secs(LONGEST_WAIT_SECONDS);
         let until = now.max(transactions::sooner(first, longest));
-        (
-            transactions::with_repeats(&self.requests, ended),
-            until,
-            reads,
-        )
+        (transactions::with_repeats(&self.requests, ended), until)
     }
 
     /// The next time that a request awaits. Cancelled requests do not count.
@@ -145,6 +141,7 @@ impl<A: Allocator + Copy> Outstanding<A> {
         &mut self,
         now: Instant,
         room: Option<usize>,
+        leave: Uncounted,
     ) -> Result<Option<(TransactionId, usize)>, NoRoom>
         ensures sent { IfOk result (λ sent. sent ≡ option_map (λ e. (e.0, length e.1.bytes))
             (next_sent self.old.transport now self.old.requests)) }
@@ -170,12 +167,18 @@ impl<A: Allocator + Copy> Outstanding<A> {
         if !self.deadlines.has_come(now) {
             return Ok(None);
         }
-        self.check_room(now, room)?;
-        Ok(transactions::pass_slots(&mut self.requests, &mut self.deadlines, self.transport, now))
+        self.check_room(now, room, leave)?;
+        Ok(transactions::pass_slots(
+            &mut self.requests,
+            &mut self.deadlines,
+            self.transport,
+            now,
+            leave,
+        ))
     }
 
     /// Fails if `pass_due_slots` would send more bytes than there is room for.
-    fn check_room(&self, now: Instant, room: Option<usize>) -> Result<(), NoRoom>
+    fn check_room(&self, now: Instant, room: Option<usize>, leave: Uncounted) -> Result<(), NoRoom>
         ensures ok { OnOk result (IfSome room (λ r.
             IfSome (next_sent self.now.transport now self.now.requests)
             (λ e. length e.1.bytes ≤ r))) }
@@ -186,7 +189,7 @@ impl<A: Allocator + Copy> Outstanding<A> {
         let Some(room) = room else {
             return Ok(());
         };
-        let Some(next) = self.next_sent(now) else {
+        let Some(next) = self.next_sent(now, leave) else {
             return Ok(());
         };
         if room < next.bytes().len() {
@@ -196,7 +199,7 @@ impl<A: Allocator + Copy> Outstanding<A> {
     }
 
     /// The request that `pass_due_slots` would send again.
-    pub(crate) fn next_sent(&self, now: Instant) -> Option<&Transaction<A>>
+    pub(crate) fn next_sent(&self, now: Instant, leave: Uncounted) -> Option<&Transaction<A>>
         ensures { option_copied result ≡ option_map (λ e. e.1)
             (next_sent self.now.transport now self.now.requests) }
     {
@@ -204,7 +207,7 @@ impl<A: Allocator + Copy> Outstanding<A> {
             return None;
         }
         let mut last = None;
-        while let Some(id) = self.deadlines.least_due(now, &last) {
+        while let Some(id) = self.deadlines.least_due(now, &last, leave) {
             let request = self.requests.get(&id)?;
             if request.sending().repeats() {
                 return Some(request);

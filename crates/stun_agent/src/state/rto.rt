@@ -1,4 +1,4 @@
-//! When a request is sent again, and when it ends.
+//! The timeouts of a request: when it is sent again, and when it ends.
 ghost use Rattle.std.specs.Prelude.{◌≡◌, ◌≤◌, ◌*◌, ◌^◌};
 ghost use Rattle.std.specs.Duration.{as_nanos, max_nanos};
 ghost use Rattle.stun_agent.specs.Timing.{settings_of, default_settings, timeout, slots};
@@ -10,16 +10,17 @@ use stun_base::transport::TransportType;
 /// After so many doublings even one nanosecond is past the longest `Duration`.
 const DOUBLINGS: u32 = 94;
 
-/// When a request is sent again, and when it ends (RFC 8489, sections 6.2.1 and 6.2.2).
+/// The timeouts of a request: when it is sent again, and when it ends (RFC 8489, sections 6.2.1 and
+/// 6.2.2).
 #[derive(Clone, Copy, Debug, PartialEq, Eq)]
 pub struct RequestRto {
-    /// The wait after the first transmission (RTO in section 6.2.1). Each further wait is twice as
-    /// long.
+    /// The wait after the first transmission (RTO in section 6.2.1). Each further wait is twice the
+    /// one before.
     pub initial: Duration,
-    /// No wait between transmissions is longer.
+    /// An upper bound on the waits between transmissions.
     pub max: Duration,
-    /// How many times the request is sent over UDP, the first time included (Rc in section 6.2.1).
-    /// 0 counts as 1.
+    /// The number of transmissions over UDP, the first one included (Rc in section 6.2.1). 0 counts
+    /// as 1.
     pub retransmits: u32,
     /// The wait after the last transmission over UDP (Rm times RTO in section 6.2.1).
     pub last_retransmit: Duration,
@@ -40,7 +41,8 @@ impl Default for RequestRto {
 }
 
 impl RequestRto {
-    /// How many times the request is sent again: never over TCP, which loses nothing.
+    /// Returns how many times the request is sent again. Over TCP this is 0, because TCP loses
+    /// nothing.
     pub fn slots(&self, transport: TransportType) -> u32
         ensures { result ≡ slots transport (settings_of self.now) }
     {
@@ -50,15 +52,15 @@ impl RequestRto {
         }
     }
 
-    /// The wait after transmission `i`, counted from 0: `initial * 2^i`, but at most `max`.
+    /// Returns the wait after transmission `i`, counted from 0: `initial * 2^i`, but at most `max`.
     pub fn timeout(&self, i: u32) -> Duration
         ensures { as_nanos result ≡ timeout (settings_of self.now) i }
     {
         Duration::from_nanos_u128(self.timeout_nanos(i))
     }
 
-    /// The wait from the last transmission to the end. Over TCP it is as long as all waits over UDP
-    /// together, but at most `Duration::MAX`.
+    /// Returns the wait from the last transmission to the end. Over TCP it is as long as all waits
+    /// over UDP together, but at most `Duration::MAX`.
     pub fn final_wait(&self, transport: TransportType) -> Duration
         ensures { as_nanos result ≡ final_wait transport (settings_of self.now) }
     {
@@ -71,7 +73,7 @@ impl RequestRto {
         }
     }
 
-    /// How many times it is sent again over UDP.
+    /// Returns how many times the request is sent again over UDP.
     fn repetitions(&self) -> u32
         ensures { result ≡ repetitions (settings_of self.now) }
     {
@@ -92,7 +94,8 @@ impl RequestRto {
         }
     }
 
-    /// From transmission `DOUBLINGS` on all timeouts are equal, so a short loop adds them up.
+    /// Returns the sum of the waits between transmissions. From transmission `DOUBLINGS` on all of
+    /// them are equal, so a short loop adds them up.
     fn sum_of_timeouts(&self) -> u128
         ensures value { result ≡ sum_of_timeouts (settings_of self.now)
             (repetitions (settings_of self.now)) }

@@ -43,7 +43,7 @@ impl Sending {
         matches!(&self, Sending::Cancelled)
     }
 
-    /// The state after its retransmissions are cancelled.
+    /// The state after its retransmissions are canceled.
     fn silenced(self) -> Sending
         ensures { result ≡ after_silence self }
     {
@@ -60,7 +60,7 @@ impl Sending {
 pub(crate) enum Change {
     /// It is sent no more, and its response is awaited.
     Silence,
-    /// It ends, as cancelled, at the next poll that reaches it.
+    /// It ends, as canceled, at the next poll that reaches it.
     Cancel,
     /// It has other timeouts.
     Configure(RequestRto),

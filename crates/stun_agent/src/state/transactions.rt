@@ -9,6 +9,7 @@ ghost use Rattle.stun_agent.specs.Transactions.{next_sent, after_slot, after_slo
 ghost use Rattle.stun_agent.specs.code.Transactions.{contents, length_sent};
 ghost use Rattle.stun_agent.specs.code.Transactions.{changed_transaction, deadlines_around};
 
+use crate::calls::poll::reads::Uncounted;
 use crate::state::deadlines::{Deadline, DeadlineIndex};
 use crate::state::transaction::{Change, Transaction};
 use std::alloc::Allocator;
@@ -53,6 +54,7 @@ pub(crate) fn pass_slots<A: Allocator>(
     deadlines: &mut DeadlineIndex<A>,
     transport: TransportType,
     now: Instant,
+    leave: Uncounted,
 ) -> Option<(TransactionId, usize)>
     requires index { IsDeadlineIndexOf transport all.old.entries deadlines.old }
     requires ascending { IsAscending all.old.entries }
@@ -65,7 +67,7 @@ pub(crate) fn pass_slots<A: Allocator>(
     ensures index { IsDeadlineIndexOf transport all.new.entries deadlines.new }
 {
     let mut last = None;
-    while let Some(id) = deadlines.least_due(now, &last) {
+    while let Some(id) = deadlines.least_due(now, &last, leave) {
         if let Some(length) = pass_slot(all, deadlines, transport, now, id) {
             return Some((id, length));
         }

@@ -1,4 +1,4 @@
-//! Counts for an agent, if it keeps statistics.
+//! Counting for an agent, if it keeps statistics.
 ghost use Rattle.std.specs.Prelude.{◌≡◌, if◌then◌else◌};
 ghost use Rattle.std.specs.Option.{option_map};
 ghost use Rattle.stun_agent.specs.Agent.{sending_tally};
@@ -10,7 +10,7 @@ ghost use Rattle.stun_agent.specs.Statistics.{request_cancelled};
 use crate::stats::StunAgentStats;
 use stun_base::message_type::MessageClass;
 
-/// Counts a message of a class and so many bytes that is sent for the first time.
+/// Counts a message that is sent for the first time, by its class and its number of bytes.
 pub(crate) fn count_sent(stats: &mut Option<StunAgentStats>, class: MessageClass, bytes: usize)
     ensures { stats.new ≡ option_map (statistics_after (sending_tally class bytes)) stats.old }
 {
@@ -35,7 +35,7 @@ pub(crate) fn count_sent_again(stats: &mut Option<StunAgentStats>, bytes: usize)
     stats.count_request_sent_again(bytes as u64);
 }
 
-/// Counts a request of so many bytes that is received.
+/// Counts a request that is received, and its number of bytes.
 pub(crate) fn count_request_received(stats: &mut Option<StunAgentStats>, bytes: usize)
     ensures { stats.new ≡ option_map (statistics_after (request_received bytes)) stats.old }
 {
@@ -45,7 +45,7 @@ pub(crate) fn count_request_received(stats: &mut Option<StunAgentStats>, bytes: 
     stats.count_request_received(bytes as u64);
 }
 
-/// Counts an indication of so many bytes that is received.
+/// Counts an indication that is received, and its number of bytes.
 pub(crate) fn count_indication_received(stats: &mut Option<StunAgentStats>, bytes: usize)
     ensures { stats.new ≡ option_map (statistics_after (indication_received bytes)) stats.old }
 {
@@ -55,7 +55,8 @@ pub(crate) fn count_indication_received(stats: &mut Option<StunAgentStats>, byte
     stats.count_indication_received(bytes as u64);
 }
 
-/// Counts a response of so many bytes to an outstanding request, and its round trip if it is known.
+/// Counts a response to an outstanding request, its number of bytes, and its round trip if that is
+/// known.
 pub(crate) fn count_response_received(
     stats: &mut Option<StunAgentStats>,
     bytes: usize,
@@ -70,8 +71,8 @@ pub(crate) fn count_response_received(
     stats.count_response_received(bytes as u64, round_trip);
 }
 
-/// Counts the end of a request without a response: a time-out if it was still sent again, and else
-/// a cancellation.
+/// Counts the end of a request without a response: a timeout if it was still sent again, and a
+/// cancellation otherwise.
 pub(crate) fn count_end(stats: &mut Option<StunAgentStats>, repeats: bool)
     ensures { stats.new
         ≡ option_map (statistics_after (if repeats then request_timed_out else request_cancelled))

@@ -4,15 +4,12 @@ use Rattle.std.specs.Prelude.{◌≡◌, ℕ, List, [], if◌then◌else◌, Opt
 use Rattle.std.specs.FinMap as map
 use Rattle.std.specs.String.{string_bytes}
 use Rattle.std.specs.declared.net.socket_addr.SocketAddr.{SocketAddr}
-use Rattle.std.specs.declared.result.Result.{Result}
 use Rattle.std.specs.declared.result.Result.TheVariants.{Ok, Err}
 use Rattle.stun_auth.specs.declared.feature.Feature.{Feature}
-use Rattle.stun_auth.specs.declared.server.reason.VerdictRefusal.{VerdictRefusal}
 use Rattle.stun_auth.specs.declared.server.reason.LongTermServerValidation.TheVariants.{Validated}
 use Rattle.stun_auth.specs.declared.server.validation.Judgement.{Judgement}
 use Rattle.stun_auth.specs.declared.server.validation.Judgement.TheVariants.{Refused, Known, New}
 use Rattle.stun_auth.specs.declared.server.validation.Renewal.{Renewal}
-use Rattle.stun_auth.specs.declared.server.verdict.Accepted.{Accepted}
 use Rattle.stun_auth.specs.code.Places.{client_seen}
 use Rattle.stun_auth.specs.Feature.{is_possible}
 use Rattle.stun_auth.specs.Places.{PlacesSeen, with_change}
@@ -24,11 +21,6 @@ use Rattle.stun_auth.specs.Nonces.{nonce_of}
 use Rattle.stun_auth.specs.Server.{has_current_nonce, verdict}
 use Rattle.stun_auth.specs.Validation.{Answer, ServerSeen, answer_to, with_accepted}
 use Rattle.stun_base.specs.Moments.{moment_after}
-
--- a verdict as the code gives it
-abbrev pub verdict_seen : Result Accepted VerdictRefusal → Result ClientSeen VerdictRefusal
-verdict_seen (Ok a) = Ok (record { name = a.name.now; algorithm = a.algorithm })
-verdict_seen (Err refusal) = Err refusal
 
 -- the name that a message gives, whether that user is registered or not
 abbrev pub name_by : Option (List ℕ) → Option (List ℕ) → Registered → Feature → Option (List ℕ)

@@ -6,39 +6,40 @@ use stun_base::algorithm::IntegrityAlgorithm;
 use stun_base::error::ValidateError;
 use thiserror::Error;
 
-/// What a client returns for a message that it does not refuse.
+/// The result of a client for a message that it does not refuse.
 #[derive(Clone, Copy, Debug, PartialEq, Eq)]
 pub enum LongTermClientValidation {
-    /// Sign the request and send it again, under a new transaction id. Hand the message to the
-    /// agent too, so that the request that it answers ends.
+    /// Sign the request and send it again, with a new transaction ID. Pass the message to the agent
+    /// too, so that the request that it answers ends.
     ///
-    /// The algorithm is there if the message itself verifies under the key that was kept before it.
+    /// The algorithm is present if the message itself is signed, and its signature verifies under
+    /// the key that the client had before.
     ResendRequest(Option<IntegrityAlgorithm>),
-    /// The message's digest, of this algorithm, verifies under the kept key.
+    /// The message is accepted: its signature, of this algorithm, verifies under the client's key.
     Validated(IntegrityAlgorithm),
 }
 
 /// Why a client refuses a message (RFC 8489, section 9.2.5).
 #[derive(Clone, Copy, Debug, PartialEq, Eq, Error)]
 pub enum LongTermClientAuthErrorReason {
-    /// A challenge that the client cannot answer: realm, nonce, credentials or a list of algorithms
-    /// are missing. Or it is the one that the client is answering already.
+    /// The client cannot answer this challenge, because realm, nonce, credentials or a list of
+    /// algorithms is missing. Or it has answered it already, which usually means a wrong password.
     #[error("The message is not sufficiently authenticated")]
     Unauthorized,
-    /// No digest verifies under the kept key, or there is no key yet.
+    /// The signature is missing or does not verify under the client's key, or there is no key yet.
     #[error("The message failed integrity checks")]
     IntegrityFailed,
-    /// A challenge without a supported algorithm, or one that does not allow hashed user names
-    /// where they are required.
+    /// The challenge has no algorithm that the client supports, or does not allow hashed user names
+    /// although they are required.
     #[error("A required feature is not supported")]
     UnsupportedFeature,
-    /// An allocation failed, for what the client was to keep of a challenge.
+    /// An allocation failed, for what the client stores of a challenge.
     #[error("Out of memory")]
     OutOfMemory,
 }
 
-/// Kept from the Rust crate: no call here uses it. The reason is `IntegrityFailed`, whatever the
-/// error is.
+/// Present because the Rust crate has it. No call of this crate uses it. The reason is
+/// `IntegrityFailed`, whatever the error is.
 impl From<ValidateError> for LongTermClientAuthErrorReason {
     ghost use Rattle.std.specs.Prelude.{◌≡◌};
     ghost use Rattle.stun_auth.specs.declared.client.answer.LongTermClientAuthErrorReason.TheVariants.{IntegrityFailed};
@@ -50,9 +51,9 @@ impl From<ValidateError> for LongTermClientAuthErrorReason {
     }
 }
 
-/// A refusal of a message by a client.
+/// The error of a client that refuses a message.
 ///
-/// Contracts see its reason.
+/// Contracts: they see its reason.
 #[derive(Clone, Copy, Debug, PartialEq, Eq, Error)]
 #[error("{reason}")]
 pub struct LongTermClientAuthError {
@@ -77,14 +78,15 @@ impl LongTermClientAuthError {
         LongTermClientAuthError { reason }
     }
 
-    /// Why the message was refused.
+    /// Returns why the message was refused.
     pub fn reason(&self) -> LongTermClientAuthErrorReason
         ensures { result ≡ self.now }
     {
         self.reason
     }
 
-    /// Always `None`: no digest is known of a message that is refused.
+    /// Returns `None` always, because nothing is known of the signature of a message that is
+    /// refused.
     pub fn integrity(&self) -> Option<IntegrityAlgorithm>
         ensures { result ≡ None }
     {

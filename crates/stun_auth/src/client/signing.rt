@@ -167,11 +167,11 @@ fn is_request<W: MessageWrite>(writer: &W) -> bool
 }
 
 impl<A: Allocator> LongTermClientAuth<A> {
-    /// The algorithm of the integrity attribute that signing would add now. `None` before a first
-    /// challenge, where it adds nothing.
+    /// Returns the algorithm that the next message would be signed with, or `None` if the client
+    /// has not accepted a challenge yet and would not sign.
     ///
-    /// Ask it after each `ResendRequest`, if HMAC-SHA1 is not to be used (see
-    /// `set_supported_integrity`).
+    /// Call it after each `ResendRequest` to notice a downgrade to HMAC-SHA1 before you sign (see
+    /// `LongTermClientAuth`).
     pub fn signing_algorithm(&self) -> Option<IntegrityAlgorithm>
         ensures value { result ≡ signing_algorithm self.now.state }
         ensures added { (request : Bool)
@@ -184,8 +184,8 @@ impl<A: Allocator> LongTermClientAuth<A> {
         }
     }
 
-    /// How many bytes `sign_outgoing_message` adds to a request, at most 2^64 - 1. It is 0 before a
-    /// first challenge.
+    /// Returns the number of bytes that `sign_outgoing_message` adds to a request, at most 2^64 -
+    /// 1. It is 0 if the client has not accepted a challenge yet.
     pub fn message_signature_bytes(&self) -> usize
         ensures { result ≡ min (growth (client_additions true self.now.state)) (2 ^ 64 - 1) }
     {
@@ -195,26 +195,26 @@ impl<A: Allocator> LongTermClientAuth<A> {
         }
     }
 
-    /// Adds to a message what the kept challenge asks for, and the integrity attribute under its
-    /// key (RFC 8489, section 9.2.5).
+    /// Signs a message for the server, as the accepted challenge asks for (RFC 8489, section
+    /// 9.2.5).
     ///
-    /// Before a first challenge the message stays as it is. Else it gets, in this order:
+    /// If the client has not accepted a challenge yet, the message is unchanged. Otherwise these
+    /// attributes are added, in this order:
     ///
-    /// - in a request: NONCE, REALM, and USERNAME or USERHASH;
-    /// - where the server sent a list: PASSWORD-ALGORITHMS, which repeats it;
-    /// - where the server sent a list, or the digest is HMAC-SHA256: PASSWORD-ALGORITHM;
+    /// - to a request, NONCE, REALM, and USERNAME or USERHASH;
+    /// - PASSWORD-ALGORITHMS, which repeats the server's list, if it sent one;
+    /// - PASSWORD-ALGORITHM, if the server sent a list or the algorithm is HMAC-SHA256;
     /// - MESSAGE-INTEGRITY or MESSAGE-INTEGRITY-SHA256.
     ///
-    /// The writer must hold a message without FINGERPRINT. The errors are those of the attributes,
-    /// in their order:
+    /// The writer must hold a message without FINGERPRINT. The attributes are added one after
+    /// another, and the first error decides. It drops the writer. The client is unchanged in any
+    /// case.
     ///
-    /// - `MessageIntegrityExists` or `AttributeExists`: the message has integrity, or one of them,
-    ///   already.
-    /// - `TooLarge`: the message gets too long, or the user name has more than 513 bytes.
+    /// - `MessageIntegrityExists`, `AttributeExists`: the message has a signature, or this
+    ///   attribute, already.
+    /// - `TooLarge`: the message would be too long, or the user name has more than 513 bytes.
     /// - `TooSmall`: the writer has no room.
     /// - `OutOfMemory`: an allocation failed.
-    ///
-    /// A failure drops the writer. The client stays as it was, in any case.
     pub fn sign_outgoing_message<W: MessageWrite>(&mut self, writer: W) -> Result<W, StunWriteError>
         requires { BeginsWithHeader (W.bytes writer) }
         ensures answer { let additions = client_additions
@@ -264,14 +264,14 @@ impl<A: Allocator> LongTermClientAuth<A> {
         Ok(writer)
     }
 
-    /// Signs a message that the caller knows to be signable. The message is the one that
-    /// `sign_outgoing_message` gives.
+    /// Like `sign_outgoing_message`, for a message that you know to be signable, which it signs in
+    /// the same way.
     ///
     /// A signable message has no integrity attribute, no FINGERPRINT, and none of the attributes
     /// that signing adds. Its writer and its length field have room for what is added. The user
     /// name has at most 513 bytes.
     ///
-    /// Fails if an allocation fails. The client stays as it was, in any case.
+    /// Fails if an allocation fails. The client is unchanged in any case.
     pub fn sign_outgoing_message_unchecked<W: MessageWrite>(
         &mut self,
         writer: W,

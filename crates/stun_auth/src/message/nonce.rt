@@ -1,4 +1,4 @@
-//! Nonces of a server and the security bits that they carry (RFC 8489, section 9.2).
+//! The nonces of a server, and the security bits that they carry (RFC 8489, section 9.2).
 ghost use Rattle.std.specs.Prelude.{◌≡◌, ◌++◌, List, ℕ, Some, None, map, IfOk, OnOk};
 ghost use Rattle.std.specs.String.{string_bytes};
 ghost use Rattle.stun_base.specs.Words.{next_words, after_words};
@@ -16,7 +16,7 @@ use std::alloc::{AllocError, Allocator};
 use std::marker::Model;
 use stun_base::algorithm::IntegrityAlgorithm;
 
-/// What a nonce that carries security bits begins with, the nonce cookie (RFC 8489, section 9.2).
+/// The nonce cookie, with which a nonce begins that carries security bits (RFC 8489, section 9.2).
 pub const LONG_TERM_RFC8489_NONCE_COOKIE: &str = "obMatJos2";
 
 /// How many bytes the cookie and the four letters after it have.
@@ -28,10 +28,13 @@ const PASSWORD_ALGORITHMS: u8 = 0x80;
 /// The bit of the first byte that allows hashed user names (section 18.1).
 const USERNAME_ANONYMITY: u8 = 0x40;
 
-/// The 24 security bits of a nonce, as three bytes in their order (RFC 8489, sections 9.2 and
-/// 18.1).
+/// The 24 security bits of a nonce (RFC 8489, sections 9.2 and 18.1), with which a server announces
+/// what it supports.
 ///
-/// Contracts see the three bytes.
+/// A nonce that has them begins with the cookie `obMatJos2`, followed by the bits as four
+/// characters of base64.
+///
+/// Contracts: they see the three bytes.
 #[derive(Clone, Copy, Debug, Default, PartialEq, Eq, Hash)]
 pub struct NonceSecurityBits {
     bytes: [u8; 3],
@@ -51,23 +54,23 @@ impl NonceSecurityBits {
     ghost use Rattle.std.specs.Prelude.{Some};
     ghost use Rattle.stun_auth.specs.Nonces.{first_has, with_first_bit, spelled_bits};
 
-    /// The security bits that are these three bytes.
+    /// Creates the security bits from three bytes, in the order in which a nonce contains them.
     pub fn from_bytes(bytes: [u8; 3]) -> NonceSecurityBits
         ensures { result ≡ bytes }
     {
         NonceSecurityBits { bytes }
     }
 
-    /// The three bytes, the one with both assigned bits first.
+    /// Returns the security bits as three bytes. The first has both assigned bits.
     pub fn bytes(&self) -> [u8; 3]
         ensures { result ≡ self.now }
     {
         self.bytes
     }
 
-    /// The security bits of a nonce: its four letters after the cookie, as base64 of three bytes
-    /// (RFC 8489, section 9.2). `None` where it does not begin with the cookie, or where the
-    /// letters are no base64.
+    /// Returns the security bits of a nonce, or `None` if it has none: it does not begin with the
+    /// cookie, or the four characters after the cookie are not base64 of three bytes (RFC 8489,
+    /// section 9.2).
     #[tactic(auto, unfolding(crate::specs::Nonces::security_bits))]
     pub fn from_nonce(nonce: &str) -> Option<NonceSecurityBits>
         ensures { result ≡ security_bits nonce.now }
@@ -83,8 +86,8 @@ impl NonceSecurityBits {
         }
     }
 
-    /// What a nonce with these bits begins with, 13 bytes: the cookie, and the bits as four letters
-    /// of base64. Fails if an allocation fails.
+    /// Returns the 13 bytes with which a nonce with these bits begins: the cookie, and the bits as
+    /// four characters of base64. Fails if an allocation fails.
     #[tactic(auto, unfolding(crate::specs::Nonces::spelled_bits))]
     pub fn as_string<A: Allocator>(&self, alloc: A) -> Result<String<A>, AllocError>
         ensures { IfOk result (λ text. string_bytes text ≡ spelled_bits self.now) }
@@ -95,14 +98,14 @@ impl NonceSecurityBits {
         Ok(text)
     }
 
-    /// Whether clients are to choose a password algorithm (RFC 8489, section 18.1).
+    /// Returns true if the client is to choose among password algorithms (RFC 8489, section 18.1).
     pub fn password_algorithms(&self) -> bool
         ensures { result ≡ first_has 0x80 (Some self.now) }
     {
         self.bytes[0] & PASSWORD_ALGORITHMS != 0
     }
 
-    /// Sets whether clients are to choose a password algorithm.
+    /// Sets whether the client is to choose among password algorithms.
     pub fn set_password_algorithms(&mut self, enabled: bool)
         ensures { self.new ≡ with_first_bit 0x80 enabled self.old }
     {
@@ -113,14 +116,14 @@ impl NonceSecurityBits {
         }
     }
 
-    /// Whether user names may be sent as their hash (RFC 8489, section 18.1).
+    /// Returns true if the user name may be sent as a hash (RFC 8489, section 18.1).
     pub fn username_anonymity(&self) -> bool
         ensures { result ≡ first_has 0x40 (Some self.now) }
     {
         self.bytes[0] & USERNAME_ANONYMITY != 0
     }
 
-    /// Sets whether user names may be sent as their hash.
+    /// Sets whether the user name may be sent as a hash.
     pub fn set_username_anonymity(&mut self, enabled: bool)
         ensures { self.new ≡ with_first_bit 0x40 enabled self.old }
     {
@@ -201,7 +204,7 @@ fn security_byte(algorithms: AlgorithmSet, feature: Feature) -> u8
 }
 
 /// The nonce that is made of sixteen random words.
-fn nonce_of_words<A: Allocator + Copy>(
+pub(crate) fn nonce_of_words<A: Allocator + Copy>(
     alloc: A,
     algorithms: AlgorithmSet,
     feature: Feature,

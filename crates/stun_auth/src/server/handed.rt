@@ -1,5 +1,5 @@
-//! Judging a message by a user whom the caller looks up elsewhere, such as in a data base (RFC
-//! 8489, section 9.2.4). The first step tells whom a message names, and the second judges it.
+//! Judging a message with a user whom the caller looks up elsewhere, for example in a database (RFC
+//! 8489, section 9.2.4). The first step returns whom a message names, and the second judges it.
 //!
 //! ```text
 //! let Some(named) = server.named_user(&message, from) else { .. validate_incoming_message .. };
@@ -65,19 +65,18 @@ fn named_in<'a>(reading: &MessageReading<'a, '_>, feature: Feature) -> Option<Na
 }
 
 impl<A: Allocator + Copy> LongTermServerAuth<A> {
-    /// Whom to look up before a message from an address is judged: the user under whose key its
-    /// digest is to verify.
+    /// Returns the user whose key a message will be verified with, so that you can look that user
+    /// up before the message is judged.
     ///
-    /// - Of a request or an indication, the user that its last visible USERHASH names. Where it has
-    ///   none, the user of its last visible USERNAME. `None` for a USERHASH where hashes are not
-    ///   taken (`Feature::Disabled`).
-    /// - Of a response, the client of the address.
+    /// - For a request or an indication, this is the user whom `named_in` returns.
+    /// - For a response, it is the client of the address.
     ///
-    /// On `None` nobody is meant, and the verdict is the same whoever the users are: call
-    /// `validate_incoming_message`.
+    /// `None` means that the verdict does not depend on the users. Call `validate_incoming_message`
+    /// in that case.
     ///
-    /// It does not know whether the user is registered, and looks at no digest and no nonce.
-    /// Whoever sends can name anyone, so bound how often you look up. It does not allocate.
+    /// It checks neither the signature nor the nonce, and does not know whether the user is
+    /// registered. Anybody can send any name, so limit how often you look one up. It does not
+    /// allocate.
     pub fn named_user<'a>(
         &'a self,
         message: &Message<'a>,
@@ -96,12 +95,29 @@ impl<A: Allocator + Copy> LongTermServerAuth<A> {
         }
     }
 
-    /// A user with this password, to be handed in with a message. The keys are made at the server's
-    /// realm, one for each algorithm that the server supports now (RFC 8489, section 9.2.2).
+    /// Returns the user whom a request or an indication names: by the hash in its last visible
+    /// USERHASH, or if it has none by the name in its last visible USERNAME.
     ///
-    /// Names are compared byte by byte, so a message that spells the name otherwise is refused. The
-    /// user may be kept and handed in again. Prepare it anew once the supported algorithms have
-    /// changed. The server stays as it is.
+    /// Returns `None` if it has neither, or if it has a USERHASH while the server does not accept
+    /// hashes (`Feature::Disabled`), even if it also has a USERNAME. The verdict of `judge` then
+    /// does not depend on the users.
+    ///
+    /// It checks neither the signature nor the nonce, so an attacker can name anybody. Nor does it
+    /// look at the class, or whether such a user is registered. It does not allocate.
+    pub fn named_in<'a>(&self, message: &Message<'a>) -> Option<NamedUser<'a>>
+        ensures { option_map named_seen result ≡ named_in (reading_of message.now).userhash
+            (reading_of message.now).username self.now.feature }
+    {
+        named_in(&MessageReading::of(message), self.feature)
+    }
+
+    /// Makes the keys of a user who is not registered with this server: one for each algorithm that
+    /// the server supports now, at the server's realm (RFC 8489, section 9.2.2). Pass the result
+    /// along with a message.
+    ///
+    /// Names are compared byte by byte, so a message that spells the name differently is refused.
+    /// You may keep the user and pass it again, until you change the supported algorithms. The
+    /// server is unchanged.
     ///
     /// Fails if an allocation fails.
     pub fn prepare_user(
@@ -118,15 +134,15 @@ impl<A: Allocator + Copy> LongTermServerAuth<A> {
         Ok(LongTermServerUser { registry })
     }
 
-    /// A user with keys that were stored in place of a password, to be handed in with a message.
+    /// Like `prepare_user`, with stored keys in place of a password.
     ///
-    /// Clients make their keys at the realm that the server sends, so these must be made at that
-    /// realm. The user has those of them whose algorithms the server supports now. The user is then
-    /// judged and signed for as with the password that they were made
-    /// of (law `stored_keys_are_as_their_password`).
+    /// Clients derive their keys for the realm that the server sends, so these must have been made
+    /// for that realm. The user has those of them whose algorithms the server supports now, and is
+    /// judged and signed for as with the password that they were made from.
     ///
-    /// The user may be kept, as that of `prepare_user`. The server stays as it is. Fails if an
-    /// allocation fails.
+    /// Contracts: law `stored_keys_are_as_their_password`.
+    ///
+    /// Fails if an allocation fails.
     pub fn prepare_user_with_keys(
         &self,
         name: String<A>,
@@ -139,19 +155,18 @@ impl<A: Allocator + Copy> LongTermServerAuth<A> {
         Ok(LongTermServerUser { registry })
     }
 
-    /// Judges a message as `validate_incoming_message` does on a server that has just this user. It
-    /// returns the same answer, and keeps the same record and the same nonce from the same random
-    /// numbers. The server's own users are not looked at. They stay as they are, and so does the
-    /// user handed in.
+    /// Judges a message like `validate_incoming_message` does on a server whose only user is
+    /// `user`. It returns the same verdict, stores the same record, and makes the same nonce of the
+    /// same random numbers. The server's own users are ignored, and they and `user` are unchanged.
     ///
-    /// Hand in the user whom `named_user` returned. The answer is then that of a server that has
-    /// all users (law `the_named_user_is_enough`). Where your data base has no such user, call
-    /// `validate_incoming_message` on a server without users: it gives that answer.
+    /// Pass the user whom `named_user` returned: the verdict is then that of a server that has all
+    /// users (law `the_named_user_is_enough`). If your database has no such user, call
+    /// `validate_incoming_message` on a server without users, which gives that verdict.
     ///
-    /// On `Validated` this user is the client of the address. Hand the same user in where the
-    /// answer is signed.
+    /// On `Validated` this user is the client of the address. Pass the same user when you sign the
+    /// response.
     ///
-    /// Fails as `validate_incoming_message` does, `OutOfMemory` included.
+    /// Fails like `validate_incoming_message`, `OutOfMemory` included.
     pub fn validate_incoming_message_of<R: Rng>(
         &mut self,
         message: &Message<'_>,
@@ -188,13 +203,13 @@ impl<A: Allocator + Copy> LongTermServerAuth<A> {
         answer
     }
 
-    /// Signs a message as `sign_outgoing_message` does on a server that has just this user. The
-    /// server's own users are not looked at. They stay as they are, and so does the user handed in.
+    /// Signs a message like `sign_outgoing_message` does on a server whose only user is `user`. The
+    /// server's own users are ignored, and they and `user` are unchanged.
     ///
-    /// Where the address has a client, the digest is under this user's key. Where the user is not
-    /// that client, it fails with `IntegrityFailed`. Other errors are those of
-    /// `sign_outgoing_message`. `message_signature_bytes` tells how many bytes are added, whoever
-    /// the users are.
+    /// If the address has a client, the message is signed with the key of `user`. If `user` is not
+    /// that client, or has no key for its algorithm, the call fails with `IntegrityFailed`. It
+    /// fails otherwise like `sign_outgoing_message`. `message_signature_bytes` returns how many
+    /// bytes are added, whoever the users are.
     pub fn sign_outgoing_message_of<W: MessageWrite>(
         &mut self,
         writer: W,

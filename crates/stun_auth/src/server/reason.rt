@@ -8,47 +8,49 @@ use stun_base::algorithm::IntegrityAlgorithm;
 use stun_base::error::ValidateError;
 use thiserror::Error;
 
-/// What a server returns for a message that it accepts.
+/// The result of a server for a message that it accepts.
 #[derive(Clone, Copy, Debug, PartialEq, Eq)]
 pub enum LongTermServerValidation {
-    /// Of a request or an indication, the algorithm that both sides agreed on: the digest verifies
-    /// under the key for it. Of a response, the algorithm whose digest verifies.
+    /// The message is accepted. For a request or an indication this is the algorithm that both
+    /// sides agreed on: the signature verifies under the key for it. For a response it is the
+    /// algorithm of the valid signature.
     Validated(IntegrityAlgorithm),
 }
 
 /// Why a server refuses a message (RFC 8489, section 9.2.4).
 #[derive(Clone, Copy, Debug, PartialEq, Eq, Error)]
 pub enum LongTermServerAuthErrorReason {
-    /// Answer 401, which challenges the client. One of these holds:
+    /// Answer 401, which challenges the client. One of these applies:
     ///
-    /// - No well-formed integrity attribute is visible.
-    /// - The security bits of the message's nonce differ from those of the current one.
-    /// - The user it names is not registered, or is named by a USERHASH where hashes are not taken.
+    /// - There is no well-formed integrity attribute.
+    /// - The nonce of the message is not the current one, and its security bits differ.
+    /// - The user is not registered, or is named by a USERHASH while the server does not accept
+    ///   hashes.
     /// - The user has no key for the algorithm.
-    /// - The digest does not verify.
+    /// - The signature does not verify.
     #[error("The message is not sufficiently authenticated")]
     Unauthorized,
-    /// The digest of a response does not verify under the key of the address's client, or there is
-    /// no client.
+    /// The signature of a response does not verify under the key of the address's client, or the
+    /// address has no client. Drop the response.
     #[error("The message failed integrity checks")]
     IntegrityFailed,
-    /// Kept from the Rust crate: no call of a server returns it.
+    /// Present because the Rust crate has it. No call of a server returns it.
     #[error("A required feature is not supported")]
     UnsupportedFeature,
-    /// Answer 400, or 438 where the address had no nonce before. The realm, the nonce or the name
-    /// is missing, or the algorithms do not agree with those that were offered.
+    /// Answer 400, or 438 if the address had no nonce before. REALM, NONCE or the user name is
+    /// missing, or the algorithms disagree with those that the address was offered.
     #[error("The request message is not well-formed")]
     BadRequest,
     /// Answer 438. The nonce is not the current one of the address.
     #[error("The request presented with an out of date nonce.")]
     StaleNonce,
-    /// An allocation failed.
+    /// An allocation failed. Drop the message.
     #[error("Out of memory")]
     OutOfMemory,
 }
 
-/// Kept from the Rust crate: no call here uses it. The reason is `IntegrityFailed`, whatever the
-/// error is.
+/// Present because the Rust crate has it. No call of this crate uses it. The reason is
+/// `IntegrityFailed`, whatever the error is.
 impl From<ValidateError> for LongTermServerAuthErrorReason {
     ghost use Rattle.std.specs.Prelude.{◌≡◌};
     ghost use Rattle.stun_auth.specs.declared.server.reason.LongTermServerAuthErrorReason.TheVariants.{IntegrityFailed};
@@ -60,9 +62,9 @@ impl From<ValidateError> for LongTermServerAuthErrorReason {
     }
 }
 
-/// A refusal of a message by a server.
+/// The error of a server that refuses a message.
 ///
-/// Contracts see its reason.
+/// Contracts: they see its reason.
 #[derive(Clone, Copy, Debug, PartialEq, Eq, Error)]
 #[error("{reason}")]
 pub struct LongTermServerAuthError {
@@ -87,14 +89,15 @@ impl LongTermServerAuthError {
         LongTermServerAuthError { reason }
     }
 
-    /// Why the message was refused.
+    /// Returns why the message was refused.
     pub fn reason(&self) -> LongTermServerAuthErrorReason
         ensures { result ≡ self.now }
     {
         self.reason
     }
 
-    /// Always `None`: no digest is known of a message that is refused.
+    /// Returns `None` always, because nothing is known of the signature of a message that is
+    /// refused.
     pub fn integrity(&self) -> Option<IntegrityAlgorithm>
         ensures { result ≡ None }
     {
@@ -102,17 +105,25 @@ impl LongTermServerAuthError {
     }
 }
 
-/// Why a server refuses a message, apart from a failed allocation.
-#[derive(Clone, Copy, Debug, PartialEq, Eq)]
-pub(crate) enum VerdictRefusal {
+/// Why a server refuses a message under a given nonce (RFC 8489, section 9.2.4). No allocation can
+/// fail there.
+#[derive(Clone, Copy, Debug, PartialEq, Eq, Error)]
+pub enum VerdictRefusal {
+    /// Answer 401, for one of the causes of `LongTermServerAuthErrorReason::Unauthorized`.
+    #[error("The message is not sufficiently authenticated")]
     Unauthorized,
+    /// Answer 400, or 438 if the message has another nonce. REALM, NONCE or the user name is
+    /// missing, or the algorithms disagree with those that the server supports.
+    #[error("The request message is not well-formed")]
     BadRequest,
+    /// Answer 438. The message has another nonce.
+    #[error("The request presented with an out of date nonce.")]
     StaleNonce,
 }
 
 impl VerdictRefusal {
-    /// The reason that the call returns.
-    pub(crate) fn reason(self) -> LongTermServerAuthErrorReason
+    /// Returns the reason that `validate_incoming_message` gives for this refusal.
+    pub fn reason(self) -> LongTermServerAuthErrorReason
         ensures { result ≡ server_reason self }
     {
         match self {

@@ -11,12 +11,14 @@ ghost use Rattle.std.specs.String.{string_bytes, string_cmp};
 ghost use Rattle.stun_auth.specs.Algorithms.{contains};
 ghost use Rattle.stun_auth.specs.Handed.{just};
 ghost use Rattle.stun_auth.specs.Registered.{key_at, key_if, name_with_hash};
-ghost use Rattle.stun_auth.specs.Registered.{new_registered, with_user, without_user};
+ghost use Rattle.stun_auth.specs.Registered.{new_registered, with_user, with_user_by_keys};
+ghost use Rattle.stun_auth.specs.Registered.{without_user};
 ghost use Rattle.stun_auth.specs.code.UserSecret.{secret_seen};
 ghost use Rattle.stun_auth.specs.code.Users.{AllHaveKeys, secrets_seen};
 
 use crate::algorithm_set::AlgorithmSet;
 use crate::server::name_index::NameIndex;
+use crate::server::stored_keys::StoredKeys;
 use crate::server::user_secret::UserSecret;
 use std::alloc::{AllocError, Allocator};
 use std::collections::BTreeMap;
@@ -208,6 +210,18 @@ impl<A: Allocator + Copy> Registry<A> {
     {
         let (name, password) = credentials.into_parts();
         self.insert(name, UserSecret::Password(password))
+    }
+
+    /// Adds a user with stored keys, or gives a registered one these keys.
+    pub(crate) fn add_user_with_keys(
+        &mut self,
+        name: String<A>,
+        keys: StoredKeys,
+    ) -> Result<(), AllocError>
+        ensures ok { OnOk result (self.new ≡ with_user_by_keys self.old (string_bytes name) keys) }
+        ensures err { OnErr result (self.new ≡ self.old) }
+    {
+        self.insert(name, UserSecret::Keys(keys))
     }
 
     fn insert(&mut self, name: String<A>, secret: UserSecret<A>) -> Result<(), AllocError>

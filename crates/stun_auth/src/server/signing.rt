@@ -40,11 +40,12 @@ fn is_response<W: MessageWrite>(writer: &W) -> bool
 }
 
 impl<A: Allocator + Copy> LongTermServerAuth<A> {
-    /// How many bytes `sign_outgoing_message` adds to a message to an address, at most 2^64 - 1. It
-    /// is 0 where the address has no nonce.
+    /// Returns the number of bytes that `sign_outgoing_message` adds to a message to an address, at
+    /// most 2^64 - 1, or 0 if no nonce was made for the address.
     ///
-    /// `is_request` is true for a request or an indication, and false for a response. It does not
-    /// look whether signing would fail, because the client's user is gone or the realm is too long.
+    /// `is_request` is true for a request or an indication, and false for a response. The call does
+    /// not look whether signing would fail, for example because the client's user was removed or
+    /// the realm is too long.
     pub fn message_signature_bytes(&self, to: SocketAddr, is_request: bool) -> usize
         ensures { result ≡ min (server_growth (sight self.now to) (not is_request)) (2 ^ 64 - 1) }
     {
@@ -54,32 +55,36 @@ impl<A: Allocator + Copy> LongTermServerAuth<A> {
         }
     }
 
-    /// Adds to a message what its receiver needs to know, and the integrity attribute of the
-    /// address's client (RFC 8489, section 9.2.4). Sign each response but a 400, which goes out as
-    /// it is.
+    /// Signs a message to a client: adds the challenge, and the signature if the address has a
+    /// client (RFC 8489, section 9.2.4).
     ///
-    /// Where no nonce was made for the address, the message stays as it is. Else it gets, in this
-    /// order:
+    /// If no nonce was made for the address, the message is unchanged. Otherwise these attributes
+    /// are added, in this order:
     ///
-    /// - in a response: NONCE and REALM;
-    /// - in a response to an address without a client: PASSWORD-ALGORITHMS, which lists the
-    ///   supported algorithms. They are then the ones offered to the address.
-    /// - to a client whose algorithm is HMAC-SHA256: PASSWORD-ALGORITHM;
-    /// - to a client: MESSAGE-INTEGRITY or MESSAGE-INTEGRITY-SHA256, under the key that the user
-    ///   has now.
+    /// - to a response, NONCE and REALM;
+    /// - to a response to an address without a client, PASSWORD-ALGORITHMS, which lists the
+    ///   supported algorithms. They are then the ones that this address was offered, so send what
+    ///   you sign;
+    /// - PASSWORD-ALGORITHM, if the client uses HMAC-SHA256;
+    /// - MESSAGE-INTEGRITY or MESSAGE-INTEGRITY-SHA256, if the address has a client, under the key
+    ///   that the user has now.
     ///
-    /// The writer must hold a message without FINGERPRINT. The errors are those of the attributes,
-    /// in their order:
+    /// Sign every response to a message that was `Validated`, whatever its error code: a client
+    /// drops an unsigned response to a signed request, and waits until its request times out. Pass
+    /// the 401 and the 438 of a refused request to this call too, because they need the nonce and
+    /// the realm. Only the 400 of a request that failed authentication, which was refused with
+    /// `BadRequest`, goes out as it is.
     ///
-    /// - `MessageIntegrityExists` or `AttributeExists`: the message has integrity, or one of them,
-    ///   already.
-    /// - `TooLarge`: the message gets too long, or the realm has more than 763 bytes.
+    /// The writer must hold a message without FINGERPRINT. The attributes are added one after
+    /// another, and the first error decides. It drops the writer and leaves the server unchanged.
+    ///
+    /// - `MessageIntegrityExists`, `AttributeExists`: the message has a signature, or this
+    ///   attribute, already.
+    /// - `TooLarge`: the message would be too long, or the realm has more than 763 bytes.
     /// - `TooSmall`: the writer has no room.
-    /// - `IntegrityFailed`: the client's user is no longer registered, or has no key for the
-    ///   algorithm.
+    /// - `IntegrityFailed`: the client's user was removed, or has no key for the algorithm any
+    ///   more.
     /// - `OutOfMemory`: an allocation failed.
-    ///
-    /// A failure drops the writer and leaves the server as it was.
     pub fn sign_outgoing_message<W: MessageWrite>(
         &mut self,
         writer: W,
@@ -118,14 +123,14 @@ impl<A: Allocator + Copy> LongTermServerAuth<A> {
         Ok(writer)
     }
 
-    /// Signs a message that the caller knows to be signable. The message is the one that
-    /// `sign_outgoing_message` gives.
+    /// Like `sign_outgoing_message`, for a message that you know to be signable, which it signs in
+    /// the same way.
     ///
     /// A signable message has no integrity attribute, no FINGERPRINT, and none of the attributes
     /// that signing adds. Its writer and its length field have room for what is added. The realm
     /// has at most 763 bytes, and the client's user is still registered and has the key.
     ///
-    /// Fails if an allocation fails; the server is then as it was.
+    /// Fails if an allocation fails. The server is then unchanged.
     pub fn sign_outgoing_message_unchecked<W: MessageWrite>(
         &mut self,
         writer: W,
@@ -216,7 +221,7 @@ impl<A: Allocator + Copy> LongTermServerAuth<A> {
             (page_in W.bytes W.room writer.new) (W.reserved writer.new) }
     {
         if is_response {
-            self.add_challenge(writer, place.nonce.as_str())?;
+            self.add_nonce_and_realm(writer, place.nonce.as_str())?;
             self.add_algorithms(writer, &place.client, true)
         } else {
             self.add_algorithms(writer, &place.client, false)
@@ -251,7 +256,7 @@ impl<A: Allocator + Copy> LongTermServerAuth<A> {
     }
 
     /// Adds nonce and realm.
-    fn add_challenge<W: MessageWrite>(
+    pub(crate) fn add_nonce_and_realm<W: MessageWrite>(
         &self,
         writer: &mut W,
         nonce: &str,
@@ -267,7 +272,7 @@ impl<A: Allocator + Copy> LongTermServerAuth<A> {
     }
 
     /// Adds the supported algorithms.
-    fn add_offer<W: MessageWrite>(&self, writer: &mut W) -> Result<(), StunWriteError>
+    pub(crate) fn add_offer<W: MessageWrite>(&self, writer: &mut W) -> Result<(), StunWriteError>
         requires { 20 ≤ length (W.bytes writer.old) }
         ensures header { 20 ≤ length (W.bytes writer.new) }
         ensures added { IsAdded (offer true self.now.registered)

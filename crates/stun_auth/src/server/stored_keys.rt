@@ -9,12 +9,12 @@ use std::fmt;
 use stun_base::algorithm::IntegrityAlgorithm;
 use stun_base::key::IntegrityKey;
 
-/// The keys of a user that a data base stores in place of the password. Each is a hash of
+/// The keys of a user that a database stores in place of the password. Each is a hash of
 /// `username:realm:password`, as `long_term_key` makes it (RFC 8489, section 9.2.2). `None` means
-/// that a key is not stored, and the user has no key for that algorithm.
+/// that the key is not stored, and that the user has no key for that algorithm.
 ///
-/// Whoever has a key can sign as that user: keep it as secret as a password. `Debug` shows none of
-/// it.
+/// Whoever has a key can sign as that user, so keep it as secret as a password. `Debug` shows
+/// nothing of it.
 #[derive(Clone, Copy)]
 pub struct StoredKeys {
     /// The key for HMAC-SHA1: the MD5 hash (section 9.2.2), as `md5_key_from_utf8` makes it.

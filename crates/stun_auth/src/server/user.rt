@@ -1,4 +1,4 @@
-//! A user who is handed in with a message, for a server that looks its users up elsewhere.
+//! A user who is passed along with a message, for a server that looks up its users elsewhere.
 
 ghost use Rattle.std.specs.Prelude.{Some, codes};
 ghost use Rattle.std.specs.Fmt.{WritesOnOk, WritesStyledOnOk};
@@ -8,12 +8,13 @@ use std::alloc::{Allocator, Global};
 use std::fmt;
 use std::marker::Model;
 
-/// A user to be handed in with a message, with a key for each algorithm that the server supports.
-/// `LongTermServerAuth::prepare_user` makes one of a password, and `prepare_user_with_keys` of
-/// stored keys.
+/// A user who is passed along with a message, with a key for each algorithm that the server
+/// supports. `LongTermServerAuth::prepare_user` makes one from a password, and
+/// `prepare_user_with_keys` from stored keys.
 ///
-/// Contracts see this user, and the realm and the algorithms that the server had then. `Debug`
-/// shows nothing of what it holds.
+/// `Debug` shows nothing of the contents.
+///
+/// Contracts: they see this user, and the realm and the algorithms that the server had then.
 #[derive(Drop)]
 pub struct LongTermServerUser<A: Allocator = Global> {
     pub(crate) registry: Registry<A>,

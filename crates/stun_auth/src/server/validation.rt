@@ -1,4 +1,4 @@
-//! How a server judges the messages that come to it (RFC 8489, section 9.2.4).
+//! How a server judges the messages that arrive (RFC 8489, section 9.2.4).
 
 ghost use Rattle.std.specs.Prelude.{◌≡◌, ◌↔◌, ⊤, true, IsTrue, Option, None, Some, IfOk};
 ghost use Rattle.std.specs.Prelude.{IsOk, IfNone, Ok, if◌then◌else◌, option_and_then};
@@ -24,12 +24,13 @@ use crate::limited_text::LimitedText;
 use crate::message::nonce::make_nonce;
 use crate::message::reading::MessageReading;
 use crate::server::LongTermServerAuth;
+use crate::server::accepted::Accepted;
 use crate::server::places::{Place, ValidatedUser};
 use crate::server::reason::{
     LongTermServerAuthError, LongTermServerAuthErrorReason, LongTermServerValidation,
     VerdictRefusal, refused,
 };
-use crate::server::verdict::{Accepted, verdict};
+use crate::server::verdict::verdict;
 use rand_core::Rng;
 use std::alloc::{AllocError, Allocator};
 use std::net::SocketAddr;
@@ -119,26 +120,29 @@ fn offered_at<A: Allocator>(place: Option<&Place<A>>) -> Option<AlgorithmSet>
 }
 
 /// Whether the place keeps this client already.
-fn is_known<A: Allocator>(place: Option<&Place<A>>, accepted: Accepted<'_>) -> bool
+fn is_known<A: Allocator>(place: Option<&Place<A>>, accepted: &Accepted<'_, A>) -> bool
     ensures { IsTrue result ↔ (option_and_then (λ (p : PlaceSeen). p.client)
         (option_map place_seen (option_copied place.entry))
-        ≡ Some (record { name = accepted.entry.name.now; algorithm = accepted.entry.algorithm })) }
+        ≡ Some accepted.now.client) }
 {
     match place {
-        Some(place) => place.has_client(accepted.name, accepted.algorithm),
+        Some(place) => place.has_client(accepted.name(), accepted.algorithm()),
         None => false,
     }
 }
 
 impl<A: Allocator + Copy> LongTermServerAuth<A> {
-    /// The algorithm of a message's digest, if it verifies under the key that a registered user has
-    /// for `algorithm`. `None` where it does not, and where there is no such user or key.
+    /// Checks the signature of a message with the key that a registered user has for `algorithm`,
+    /// and returns the algorithm of the signature if it verifies. Returns `None` if it does not, or
+    /// if there is no such user or key.
     ///
-    /// The digest is the one that `validate_incoming_message` looks at, whichever algorithm the key
-    /// is for. Use this to check a user's key, or to learn who could have signed a message.
+    /// It checks the integrity attribute that `validate_incoming_message` checks, whichever
+    /// algorithm the key is for. Use it to check a user's key, or to find out who could have signed
+    /// a message.
     ///
-    /// It is no verdict: it reads no nonce, realm, name or algorithm of the message, so a message
-    /// that is sent again verifies again. It shows no key, changes nothing and does not allocate.
+    /// This is not authentication: nonce, realm, name and algorithms of the message are not
+    /// checked, so a recorded message verifies again. The call shows no key, changes nothing and
+    /// does not allocate.
     pub fn user_verifies(
         &self,
         name: &str,
@@ -154,36 +158,39 @@ impl<A: Allocator + Copy> LongTermServerAuth<A> {
         }
     }
 
-    /// Judges a message that came from an address (RFC 8489, section 9.2.4).
+    /// Judges a message that arrived from an address (RFC 8489, section 9.2.4).
     ///
-    /// A response is `Validated` if its digest verifies under the key of the address's client. Else
-    /// it is refused by `IntegrityFailed`.
+    /// A response is `Validated` if its signature verifies under the key of the address's client.
+    /// Otherwise the error is `IntegrityFailed`: drop it.
     ///
-    /// A request or an indication is `Validated` with an algorithm if and only if all of these
-    /// hold:
+    /// A request or an indication is `Validated` with an algorithm if and only if
     ///
-    /// - It has a realm. Which one is not compared.
-    /// - Its nonce is the one current for the address.
-    /// - Its algorithms agree with those that were offered to the address.
-    /// - It names a registered user, who has a key for that algorithm.
-    /// - Its digest verifies under that key.
+    /// - it has a REALM, whose value is not compared;
+    /// - its NONCE is the current one of the address;
+    /// - its algorithms agree with those that the address was offered;
+    /// - it names a registered user, who has a key for the agreed algorithm;
+    /// - its signature verifies under that key.
     ///
-    /// That user is then the address's client. Else it is refused by the first of these that holds:
+    /// The user is then the client of the address. Otherwise it is refused with the first of these
+    /// that applies:
     ///
-    /// - `Unauthorized` (401): no well-formed integrity attribute is visible.
-    /// - `BadRequest` (400): it lacks realm, nonce or name, or its algorithms do not agree.
-    /// - `StaleNonce` (438): it has another nonce than the current one. `Unauthorized` instead, if
-    ///   the security bits of the two nonces differ.
-    /// - `Unauthorized` (401): the user is not registered, has no key for the algorithm, or the
-    ///   digest does not verify.
+    /// - `Unauthorized` (answer 401): there is no well-formed integrity attribute.
+    /// - `BadRequest` (400): REALM, NONCE or the user name is missing, or the algorithms disagree
+    ///   with the offer. Answer 438 in place of 400 if the address had no nonce before this call
+    ///   and has one after it: its record was lost, and the client repeats an old offer.
+    /// - `StaleNonce` (438): the nonce is not the current one. If its security bits differ too, the
+    ///   refusal is `Unauthorized` (401).
+    /// - `Unauthorized` (401): the user is not registered or has no key for the algorithm, or the
+    ///   signature does not verify.
     ///
-    /// A nonce is current until it expires, that moment included. Where the address has no current
-    /// one, sixteen random numbers are drawn and a nonce is made of them. That is done for a
-    /// message without integrity, and for one with all of realm, nonce and name.
+    /// A nonce is current until it expires, that time included. If the address has no current
+    /// nonce, a new one is made, from sixteen random numbers. This happens for a message without an
+    /// integrity attribute, and for one that has REALM, NONCE and a user name.
     ///
-    /// `OutOfMemory` means that an allocation failed. It can come only where a nonce is made or
-    /// another client kept. The record of the address is then as it was, but random numbers may
-    /// have been drawn.
+    /// `OutOfMemory` means that an allocation failed, and can occur only when a nonce must be made
+    /// or a new client stored. The record of the address is then unchanged, but random numbers may
+    /// have been read. Random numbers are read only to make a nonce, which everybody can see: never
+    /// use them again.
     pub fn validate_incoming_message<R: Rng>(
         &mut self,
         message: &Message<'_>,
@@ -252,7 +259,7 @@ impl<A: Allocator + Copy> LongTermServerAuth<A> {
         let Ok(renewal) = self.renewal(place, now, rng) else {
             return Err(LongTermServerAuthErrorReason::OutOfMemory);
         };
-        let Ok(judged) = self.judge(&reading, place, &renewal) else {
+        let Ok(judged) = self.judge_at(&reading, place, &renewal) else {
             return Err(LongTermServerAuthErrorReason::OutOfMemory);
         };
         self.commit(from, renewal, judged)
@@ -313,7 +320,7 @@ impl<A: Allocator + Copy> LongTermServerAuth<A> {
 
     /// Judges a message under the address's record, or under the new nonce if one was made. It
     /// allocates only for another client's name.
-    fn judge(
+    fn judge_at(
         &self,
         reading: &MessageReading<'_, '_>,
         place: Option<&Place<A>>,
@@ -333,10 +340,10 @@ impl<A: Allocator + Copy> LongTermServerAuth<A> {
         match verdict(&self.registry, self.feature, reading, nonce, offered) {
             Err(refusal) => Ok(Judgement::Refused(refusal)),
             Ok(accepted) => {
-                if is_known(place, accepted) {
-                    return Ok(Judgement::Known(accepted.algorithm));
+                if is_known(place, &accepted) {
+                    return Ok(Judgement::Known(accepted.algorithm()));
                 }
-                let client = ValidatedUser::new(self.alloc, accepted.name, accepted.algorithm)?;
+                let client = ValidatedUser::new(self.alloc, accepted.name(), accepted.algorithm())?;
                 Ok(Judgement::New(client))
             }
         }

@@ -1,12 +1,13 @@
 //! Whom a server accepts, and why it refuses all others (RFC 8489, section 9.2.4).
 
-ghost use Rattle.std.specs.Prelude.{◌≡◌, Option, None, Some, map};
+ghost use Rattle.std.specs.Prelude.{◌≡◌, Option, None, Some, IfOk, map};
 ghost use Rattle.std.specs.Option.{option_copied};
 ghost use Rattle.std.specs.Str.{bytes_eq};
 ghost use Rattle.stun_auth.specs.Algorithms.{has as is_among, offered_list, same_list};
+ghost use Rattle.stun_auth.specs.Judged.{HasVerifyingKey, client_judged};
 ghost use Rattle.stun_auth.specs.Nonces.{security_bits};
 ghost use Rattle.stun_auth.specs.Server.{agreement, bits_differ, nonce_refusal, verdict};
-ghost use Rattle.stun_auth.specs.code.Judging.{verdict_seen, name_in};
+ghost use Rattle.stun_auth.specs.code.Judging.{name_in};
 ghost use Rattle.stun_auth.specs.code.ReadingSeen.{reading_seen};
 ghost use Rattle.stun_types.specs.PasswordAlgorithms.{integrity_of};
 
@@ -14,19 +15,13 @@ use crate::algorithm_set::AlgorithmSet;
 use crate::feature::Feature;
 use crate::message::nonce::{NonceSecurityBits, asks_for_algorithms};
 use crate::message::reading::MessageReading;
+use crate::server::accepted::Accepted;
 use crate::server::reason::VerdictRefusal;
 use crate::server::registry::Registry;
 use std::alloc::Allocator;
 use stun_base::algorithm::IntegrityAlgorithm;
 use stun_base::compare::is_same_text;
 use stun_types::attribute::{PasswordAlgorithmValue, PasswordAlgorithms};
-
-/// The user who is accepted, and the agreed algorithm.
-#[derive(Clone, Copy)]
-pub(crate) struct Accepted<'a> {
-    pub(crate) name: &'a str,
-    pub(crate) algorithm: IntegrityAlgorithm,
-}
 
 /// The password algorithms that were offered, the strongest first.
 fn offered_values(offered: Option<AlgorithmSet>) -> &'static [PasswordAlgorithmValue]
@@ -129,7 +124,7 @@ fn name_in<'a, A: Allocator + Copy>(
 }
 
 /// Whether a nonce is the current one. It looks at each byte, wherever they differ.
-fn is_same_nonce(theirs: &str, ours: &str) -> bool
+pub(crate) fn is_same_nonce(theirs: &str, ours: &str) -> bool
     ensures { result ≡ bytes_eq theirs.now ours.now }
 {
     is_same_text(theirs.as_bytes(), ours.as_bytes())
@@ -144,9 +139,10 @@ pub(crate) fn verdict<'a, A: Allocator + Copy>(
     reading: &MessageReading<'a, '_>,
     nonce: &str,
     offered: Option<AlgorithmSet>,
-) -> Result<Accepted<'a>, VerdictRefusal>
-    ensures { verdict_seen result ≡ verdict registry.now feature nonce.now offered
+) -> Result<Accepted<'a, A>, VerdictRefusal>
+    ensures verdict { client_judged result ≡ verdict registry.now feature nonce.now offered
         (reading_seen reading.now) }
+    ensures key { IfOk result (HasVerifyingKey registry.now (reading_seen reading.now)) }
 {
     if !reading.has_integrity {
         return Err(VerdictRefusal::Unauthorized);
@@ -170,7 +166,7 @@ pub(crate) fn verdict<'a, A: Allocator + Copy>(
         return Err(VerdictRefusal::Unauthorized);
     };
     match reading.verified_under(key) {
-        Some(_) => Ok(Accepted { name, algorithm }),
+        Some(_) => Ok(Accepted::new(name, algorithm, key)),
         None => Err(VerdictRefusal::Unauthorized),
     }
 }

@@ -1,13 +1,14 @@
-//! Comparison without an early exit, for digests, nonces and other bytes that a peer may guess.
+//! Comparison without an early exit, for digests, nonces and other bytes that an attacker may
+//! guess.
 
 ghost use Rattle.std.specs.Prelude.{◌≡◌, ◌↔◌, IsTrue};
 
-/// Whether two texts are the same bytes. It does not allocate.
+/// Returns `true` if two texts have the same bytes. This does not allocate.
 ///
-/// Texts of different lengths are compared by their lengths alone. Of two texts of one length every
-/// byte is read, wherever they differ. So the work does not grow with the number of bytes that
-/// agree. That is how the code is written. It is neither proved nor promised to take the same time
-/// for all texts of a length. That depends on the compiler and the processor too.
+/// Texts of different lengths are compared by their lengths alone. If the lengths are equal, every
+/// byte is read, wherever the texts differ, so that the work does not depend on the number of bytes
+/// that agree. That is how the code is written. Whether it takes the same time for all texts of a
+/// length also depends on the compiler and the processor, and is neither proved nor promised.
 pub fn is_same_text(one: &[u8], other: &[u8]) -> bool
     ensures { IsTrue result ↔ (one.now ≡ other.now) }
 {

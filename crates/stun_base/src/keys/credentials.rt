@@ -1,4 +1,4 @@
-//! Credentials (RFC 8489, section 9), and the keys that are made of them.
+//! Credentials (RFC 8489, section 9), and the keys that are derived from them.
 
 ghost use Rattle.std.specs.Prelude.{◌≡◌, ◌≤◌, length, IfOk, IsOk, Some, codes, string_bytes};
 ghost use Rattle.std.specs.Cmp.{partial_equiv_from_equiv};
@@ -15,8 +15,10 @@ use std::marker::Model;
 
 /// The password of a short-term credential (RFC 8489, section 9.1).
 ///
-/// The text is used as it is. The caller prepares it by OpaqueString (RFC 8265, section 4.2).
-/// Contracts see the bytes of the password. `Debug` shows none of them.
+/// The text is used as it is: to prepare it with OpaqueString (RFC 8265, section 4.2) is up to the
+/// caller. `Debug` shows none of it.
+///
+/// Contracts: the value is the list of the password's bytes.
 #[derive(Drop)]
 pub struct ShortTermCredentials<A: Allocator = Global> {
     password: String<A>,
@@ -31,14 +33,14 @@ impl<A: Allocator> Model for ShortTermCredentials<A> {
 }
 
 impl<A: Allocator> ShortTermCredentials<A> {
-    /// The credentials of this password. They keep the text and its allocator.
+    /// Creates the credentials from a password, which they take over with its allocator.
     pub fn new(password: String<A>) -> Self
         ensures { result ≡ string_bytes password }
     {
         ShortTermCredentials { password }
     }
 
-    /// The password. Its bytes are the key of either digest, whatever their number.
+    /// Returns the password. Its bytes are the key for both algorithms, however many they are.
     pub fn password(&self) -> &str
         ensures { result.now ≡ self.now }
     {
@@ -47,9 +49,13 @@ impl<A: Allocator> ShortTermCredentials<A> {
 }
 
 impl<A: Allocator + Copy> ShortTermCredentials<A> {
-    /// The key of these credentials: the password's bytes (RFC 8489, section 9.1.1).
+    /// Returns the key, which consists of the bytes of the password (RFC 8489, section 9.1.1). Up
+    /// to 32 bytes are stored in the key itself, and a longer key is allocated by the allocator of
+    /// the password.
     ///
-    /// Up to 32 bytes are in the key itself; a longer key is allocated by the password's allocator.
+    /// # Errors
+    ///
+    /// `AllocError`: the password has more than 32 bytes, and the allocation failed.
     pub fn make_key(&self) -> Result<IntegrityKey<A>, AllocError>
         ensures key { IfOk result (λ key. key ≡ self.now) }
         ensures succeeds_inline { length self.now ≤ 32 → IsOk result }
@@ -58,7 +64,7 @@ impl<A: Allocator + Copy> ShortTermCredentials<A> {
     }
 }
 
-/// The same password, in memory of the same allocator.
+/// Copies the password, into memory of the same allocator.
 impl<A: Allocator + Copy> Clone for ShortTermCredentials<A> {
     ghost is_clone = { λ credentials copy. copy ≡ credentials };
 
@@ -82,7 +88,7 @@ impl<A: Allocator> fmt::Debug for ShortTermCredentials<A> {
     }
 }
 
-/// Credentials are equal if and only if their passwords are.
+/// Credentials are equal if and only if their passwords have the same bytes.
 impl<A: Allocator> PartialEq for ShortTermCredentials<A> {
     ghost eq = { same_text };
 
@@ -97,10 +103,12 @@ impl<A: Allocator> Eq for ShortTermCredentials<A> {
     ghost laws = { same_text_equivalence };
 }
 
-/// The name and password of a user (RFC 8489, section 9.2).
+/// The name and the password of a user (RFC 8489, section 9.2).
 ///
-/// The texts are used as they are. The caller prepares them by OpaqueString (RFC 8265, section
-/// 4.2). Contracts see the bytes of both. `Debug` shows none of them.
+/// The texts are used as they are: to prepare them with OpaqueString (RFC 8265, section 4.2) is up
+/// to the caller. `Debug` shows none of them.
+///
+/// Contracts: the value is a record of the bytes of both.
 #[derive(Drop)]
 pub struct LongTermCredentials<A: Allocator = Global> {
     username: String<A>,
@@ -120,7 +128,8 @@ impl<A: Allocator> Model for LongTermCredentials<A> {
 }
 
 impl<A: Allocator> LongTermCredentials<A> {
-    /// The credentials of this user. They keep both texts and their allocators.
+    /// Creates the credentials from a user name and a password, which they take over with their
+    /// allocators.
     pub fn new(username: String<A>, password: String<A>) -> Self
         ensures { result ≡ record {
           username = string_bytes username;
@@ -130,21 +139,21 @@ impl<A: Allocator> LongTermCredentials<A> {
         LongTermCredentials { username, password }
     }
 
-    /// The user's name.
+    /// Returns the user name.
     pub fn username(&self) -> &str
         ensures { result.now ≡ self.now.username }
     {
         self.username.as_str()
     }
 
-    /// The user's password.
+    /// Returns the password.
     pub fn password(&self) -> &str
         ensures { result.now ≡ self.now.password }
     {
         self.password.as_str()
     }
 
-    /// The name and the password, with their allocators.
+    /// Returns the user name and the password, with their allocators.
     pub fn into_parts(self) -> (String<A>, String<A>)
         ensures username { string_bytes result.0 ≡ self.username }
         ensures password { string_bytes result.1 ≡ self.password }
@@ -155,10 +164,14 @@ impl<A: Allocator> LongTermCredentials<A> {
 }
 
 impl<A: Allocator + Copy> LongTermCredentials<A> {
-    /// The credentials of this user at a realm. Keys are made of them without an allocation.
+    /// Combines the credentials with a realm. Keys can be derived from the result without an
+    /// allocation.
     ///
-    /// Name and password are copied, each by its own allocator. It fails only if an allocation
-    /// fails.
+    /// The user name and the password are copied, each into memory of its own allocator.
+    ///
+    /// # Errors
+    ///
+    /// `AllocError`: an allocation failed.
     pub fn to_key(&self, realm: String<A>) -> Result<LongTermKeyCredentials<A>, AllocError>
         ensures { IfOk result (λ key. key ≡ record {
           username = self.now.username;
@@ -183,7 +196,7 @@ fn copied<A: Allocator + Copy>(text: &String<A>) -> Result<String<A>, AllocError
     String::from_str(*text.allocator(), text.as_str())
 }
 
-/// The same name and password, in memory of the same allocators.
+/// Copies the user name and the password, into memory of the same allocators.
 impl<A: Allocator + Copy> Clone for LongTermCredentials<A> {
     ghost is_clone = { λ credentials copy. copy ≡ credentials };
 
@@ -209,7 +222,7 @@ impl<A: Allocator> fmt::Debug for LongTermCredentials<A> {
     }
 }
 
-/// Credentials are equal if and only if name and password are.
+/// Credentials are equal if and only if their names and their passwords have the same bytes.
 impl<A: Allocator> PartialEq for LongTermCredentials<A> {
     ghost eq = { same_user };
 
@@ -224,10 +237,12 @@ impl<A: Allocator> Eq for LongTermCredentials<A> {
     ghost laws = { same_user_equivalence };
 }
 
-/// The name and password of a user at a realm, of which a long-term key is made (RFC 8489, section
-/// 9.2.2).
+/// The name and the password of a user in a realm, from which long-term keys are derived (RFC 8489,
+/// section 9.2.2). `LongTermCredentials::to_key` returns them.
 ///
-/// Contracts see the bytes of the three texts. `Debug` shows none of them.
+/// `Debug` shows none of the three texts.
+///
+/// Contracts: the value is a record of their bytes.
 #[derive(Drop)]
 pub struct LongTermKeyCredentials<A: Allocator = Global> {
     username: String<A>,
@@ -249,30 +264,30 @@ impl<A: Allocator> Model for LongTermKeyCredentials<A> {
 }
 
 impl<A: Allocator> LongTermKeyCredentials<A> {
-    /// The user's name.
+    /// Returns the user name.
     pub fn username(&self) -> &str
         ensures { result.now ≡ self.now.username }
     {
         self.username.as_str()
     }
 
-    /// The realm.
+    /// Returns the realm.
     pub fn realm(&self) -> &str
         ensures { result.now ≡ self.now.realm }
     {
         self.realm.as_str()
     }
 
-    /// The user's password.
+    /// Returns the password.
     pub fn password(&self) -> &str
         ensures { result.now ≡ self.now.password }
     {
         self.password.as_str()
     }
 
-    /// The key for this algorithm: the hash of `username:realm:password` (RFC 8489, sections 9.2.2
-    /// and 18.5.1). It has 16 bytes of MD5 for HMAC-SHA1, and 32 of SHA-256 for HMAC-SHA256. It
-    /// does not allocate.
+    /// Derives the key for this algorithm: the hash of `username:realm:password` (RFC 8489,
+    /// sections 9.2.2 and 18.5.1). The key is the MD5 hash, 16 bytes, for HMAC-SHA1, and the
+    /// SHA-256 hash, 32 bytes, for HMAC-SHA256. This does not allocate.
     pub fn make_key(&self, algorithm: IntegrityAlgorithm) -> IntegrityKey<A>
         ensures { result ≡ long_term_key_of self.now algorithm }
     {
@@ -285,7 +300,7 @@ impl<A: Allocator> LongTermKeyCredentials<A> {
     }
 }
 
-/// The same texts, in memory of the same allocators.
+/// Copies the texts, into memory of the same allocators.
 impl<A: Allocator + Copy> Clone for LongTermKeyCredentials<A> {
     ghost is_clone = { λ credentials copy. copy ≡ credentials };
 
@@ -316,23 +331,23 @@ impl<A: Allocator> fmt::Debug for LongTermKeyCredentials<A> {
     }
 }
 
-/// The credentials that protect a message, of either kind (RFC 8489, section 9).
+/// The credentials that a message is signed or verified with (RFC 8489, section 9).
 ///
-/// They have one key for each algorithm: the password's bytes, or the long-term key. `Debug` shows
-/// their kind alone.
+/// They have one key for each algorithm: the bytes of the password, or a long-term key. `Debug`
+/// shows only which kind they are.
 #[derive(Drop)]
 pub enum MessageIntegrityCredentials<A: Allocator = Global> {
-    /// A password alone (section 9.1).
+    /// A password without a user (RFC 8489, section 9.1).
     ShortTerm(ShortTermCredentials<A>),
-    /// A user at a realm (section 9.2).
+    /// A user in a realm (RFC 8489, section 9.2).
     LongTerm(LongTermKeyCredentials<A>),
 }
 
 impl<A: Allocator> MessageIntegrityCredentials<A> {
     ghost use Rattle.stun_base.specs.Keys.OfCredentials.{keys_of};
 
-    /// The key for this algorithm: the password's bytes, borrowed, or the long-term key. It does
-    /// not allocate.
+    /// Returns the key for this algorithm: the bytes of the password, which are borrowed, or the
+    /// long-term key. This does not allocate.
     pub fn key(&self, algorithm: IntegrityAlgorithm) -> CredentialsKey<'_, A>
         ensures { result ≡ keys_of self.now algorithm }
     {
@@ -393,9 +408,10 @@ impl<A: Allocator> fmt::Debug for MessageIntegrityCredentials<A> {
     }
 }
 
-/// The key of credentials for one algorithm. It borrows a password, or holds a long-term key.
+/// The key that credentials have for one algorithm. It borrows a password, or contains a long-term
+/// key. `Debug` shows none of its bytes.
 ///
-/// Contracts see it as the key's bytes. `Debug` shows none of them.
+/// Contracts: the value is the list of the key's bytes.
 #[derive(Drop)]
 pub struct CredentialsKey<'a, A: Allocator = Global> {
     bytes: CredentialsKeyBytes<'a, A>,
@@ -418,7 +434,7 @@ impl<'a, A: Allocator> Model for CredentialsKey<'a, A> {
 }
 
 impl<'a, A: Allocator> CredentialsKey<'a, A> {
-    /// The bytes of the key.
+    /// Returns the bytes of the key.
     pub fn as_bytes(&self) -> &[u8]
         ensures { result.now ≡ self.now }
     {

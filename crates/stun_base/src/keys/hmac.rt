@@ -116,6 +116,18 @@ impl<H: HashFunction> BegunHmac<H> {
         }
     }
 
+    /// Hashers that have been fed the same.
+    pub(crate) fn copy(&self) -> Self
+        ensures { (key : List ℕ) →
+            IsBegun H.holds H.digest key self.now.inner self.now.outer →
+            IsBegun H.holds H.digest key result.inner result.outer }
+    {
+        BegunHmac {
+            inner: self.inner.copy(),
+            outer: self.outer.copy(),
+        }
+    }
+
     /// HMAC of the pieces, in their order as one text, under the key of these hashers.
     #[tactic(auto, unfolding(crate::specs::Hmac::hmac))]
     pub(crate) fn digest(&self, pieces: &[&[u8]]) -> H::Digest
@@ -132,16 +144,16 @@ impl<H: HashFunction> BegunHmac<H> {
     }
 }
 
-/// HMAC-SHA1 (RFC 2104) of the pieces in their order, as one text. Key and text may have any
-/// length. It does not allocate.
+/// Computes the HMAC-SHA1 (RFC 2104) of the pieces, taken one after the other as one text. The key
+/// and the text may have any length. This does not allocate.
 pub fn hmac_sha1(key: &[u8], pieces: &[&[u8]]) -> [u8; SHA1_LENGTH]
     ensures { result ≡ spec.hmac sha1 key.now (concat (map (λ piece. piece.now) pieces.now)) }
 {
     hmac::<Sha1>(key, pieces)
 }
 
-/// HMAC-SHA256 (RFC 2104) of the pieces in their order, as one text. Key and text may have any
-/// length. It does not allocate.
+/// Computes the HMAC-SHA256 (RFC 2104) of the pieces, taken one after the other as one text. The
+/// key and the text may have any length. This does not allocate.
 pub fn hmac_sha256(key: &[u8], pieces: &[&[u8]]) -> [u8; SHA256_LENGTH]
     ensures { result ≡ spec.hmac sha256 key.now (concat (map (λ piece. piece.now) pieces.now)) }
 {

@@ -1,4 +1,5 @@
-//! Keys of message integrity (RFC 8489, sections 9.1.1 and 9.2.2), and hashes of user names (14.4).
+//! Keys of message integrity (RFC 8489, sections 9.1.1 and 9.2.2), and hashes of user names
+//! (section 14.4).
 
 ghost use Rattle.std.specs.Prelude.{◌≡◌, ◌≤◌, ◌↔◌, [], length, true, IfOk};
 ghost use Rattle.std.specs.Prelude.{IsOk, Some, IfSome, IsSome, codes};
@@ -20,9 +21,12 @@ use std::marker::Model;
 /// The most bytes of a key that is kept without an allocation.
 const INLINE_LENGTH: usize = 32;
 
-/// The key of a digest. Up to 32 bytes are in the value itself.
+/// A key that messages are signed and verified with. Up to 32 bytes are stored in the key itself,
+/// and a longer key is allocated.
 ///
-/// Contracts see a key as its bytes. `Debug` shows none of them.
+/// `Debug` shows none of its bytes.
+///
+/// Contracts: the value is the list of its bytes.
 #[derive(Drop)]
 pub struct IntegrityKey<A: Allocator = Global> {
     bytes: KeyBytes<A>,
@@ -47,8 +51,12 @@ impl<A: Allocator> Model for IntegrityKey<A> {
 }
 
 impl<A: Allocator> IntegrityKey<A> {
-    /// A key of these bytes. Up to 32 bytes are in the key itself; more are allocated by `alloc`.
-    /// It fails only if this allocation fails.
+    /// Creates a key from its bytes. Up to 32 bytes are stored in the key itself, and a longer key
+    /// is allocated by `alloc`.
+    ///
+    /// # Errors
+    ///
+    /// `AllocError`: there are more than 32 bytes, and the allocation failed.
     pub fn from_bytes(alloc: A, bytes: &[u8]) -> Result<Self, AllocError>
         ensures ok { IfOk result (λ key. key ≡ bytes.now) }
         ensures succeeds_inline { length bytes.now ≤ 32 → IsOk result }
@@ -60,7 +68,7 @@ impl<A: Allocator> IntegrityKey<A> {
         Ok(IntegrityKey { bytes })
     }
 
-    /// The bytes of the key.
+    /// Returns the bytes of the key.
     pub fn as_bytes(&self) -> &[u8]
         ensures { result.now ≡ self.now }
     {
@@ -71,8 +79,8 @@ impl<A: Allocator> IntegrityKey<A> {
     }
 }
 
-/// The same bytes. Up to 32 are copied without an allocation, more are allocated by the same
-/// allocator.
+/// Copies the bytes. Up to 32 bytes are copied without an allocation; more are allocated by the
+/// same allocator.
 impl<A: Allocator + Copy> Clone for IntegrityKey<A> {
     ghost is_clone = { λ key copy. copy ≡ key };
 
@@ -180,13 +188,13 @@ fn digest_of_utf8<H: HashFunction>(
     }
 }
 
-/// The long-term key of a user at a realm: the hash of `username:realm:password` (RFC 8489,
-/// sections 9.2.2 and 18.5.1). It has 16 bytes of MD5 for HMAC-SHA1, and 32 of SHA-256 for
-/// HMAC-SHA256. The texts are used as they are. The caller prepares them by OpaqueString (RFC 8265,
-/// section 4.2).
+/// Derives the long-term key of a user in a realm: the hash of `username:realm:password` (RFC 8489,
+/// sections 9.2.2 and 18.5.1). The key is the MD5 hash, 16 bytes, for HMAC-SHA1, and the SHA-256
+/// hash, 32 bytes, for HMAC-SHA256.
 ///
-/// It does not allocate: `alloc` is dropped. It only names the allocator of longer keys of this
-/// type.
+/// The texts are used as they are: to prepare them with OpaqueString (RFC 8265, section 4.2) is up
+/// to the caller. This does not allocate. `alloc` is dropped, and only names the allocator type of
+/// the key.
 pub fn long_term_key<A: Allocator>(
     alloc: A,
     algorithm: IntegrityAlgorithm,
@@ -227,9 +235,12 @@ pub(crate) fn hashed_key<A: Allocator>(
     }
 }
 
-/// The long-term key for HMAC-SHA1 of texts that come as bytes: MD5 of `username:realm:password`
-/// (RFC 8489, section 9.2.2). It is `None` if one of them is not UTF-8. They are used as they are.
-/// It does not allocate.
+/// Derives the long-term key for HMAC-SHA1 from texts that are given as bytes: the MD5 hash of
+/// `username:realm:password` (RFC 8489, section 9.2.2). Returns `None` if one of the texts is not
+/// UTF-8.
+///
+/// The texts are used as they are: to prepare them with OpaqueString (RFC 8265, section 4.2) is up
+/// to the caller. This does not allocate.
 pub fn md5_key_from_utf8(username: &[u8], realm: &[u8], password: &[u8]) -> Option<[u8; 16]>
     ensures key { IfSome result (λ key. key
         ≡ spec.long_term_key IntegrityAlgorithm.Sha1 username.now realm.now password.now) }
@@ -238,9 +249,12 @@ pub fn md5_key_from_utf8(username: &[u8], realm: &[u8], password: &[u8]) -> Opti
     digest_of_utf8::<Md5>(username, realm, password)
 }
 
-/// The long-term key for HMAC-SHA256 of texts that come as bytes: SHA-256 of
-/// `username:realm:password` (RFC 8489, section 18.5.1). It is `None` if one of them is not UTF-8.
-/// They are used as they are. It does not allocate.
+/// Derives the long-term key for HMAC-SHA256 from texts that are given as bytes: the SHA-256 hash
+/// of `username:realm:password` (RFC 8489, section 18.5.1). Returns `None` if one of the texts is
+/// not UTF-8.
+///
+/// The texts are used as they are: to prepare them with OpaqueString (RFC 8265, section 4.2) is up
+/// to the caller. This does not allocate.
 pub fn sha256_key_from_utf8(username: &[u8], realm: &[u8], password: &[u8]) -> Option<[u8; 32]>
     ensures key { IfSome result (λ key. key
         ≡ spec.long_term_key IntegrityAlgorithm.Sha256 username.now realm.now password.now) }
@@ -249,9 +263,11 @@ pub fn sha256_key_from_utf8(username: &[u8], realm: &[u8], password: &[u8]) -> O
     digest_of_utf8::<Sha256>(username, realm, password)
 }
 
-/// The hash that names a user at a realm: SHA-256 of `username:realm` (RFC 8489, section 14.4).
-/// Both texts are used as they are. The caller prepares them by OpaqueString (RFC 8265, section
-/// 4.2). It does not allocate.
+/// Computes the hash that USERHASH has in place of a user name: SHA-256 of `username:realm` (RFC
+/// 8489, section 14.4).
+///
+/// The texts are used as they are: to prepare them with OpaqueString (RFC 8265, section 4.2) is up
+/// to the caller. This does not allocate.
 pub fn userhash(username: &str, realm: &str) -> [u8; 32]
     ensures { result ≡ spec.userhash_of username.now realm.now }
 {

@@ -1,7 +1,7 @@
-//! A key for many digests: the part of HMAC that comes before the text is done once (RFC 2104,
-//! section 4).
+//! Keys that are prepared for many digests: the part of HMAC that comes before the text is computed
+//! once (RFC 2104, section 4).
 
-ghost use Rattle.std.specs.Prelude.{◌≡◌, Some, codes, map};
+ghost use Rattle.std.specs.Prelude.{◌≡◌, ◌≤◌, Some, codes, length, map};
 ghost use Rattle.std.specs.List.{concat};
 ghost use Rattle.std.specs.Fmt.{WritesOnOk, WritesStyledOnOk};
 ghost use Rattle.sha1.specs.Sha1.{sha1};
@@ -13,16 +13,20 @@ use crate::keys::hmac::{BegunHmac, SHA1_LENGTH, SHA256_LENGTH, hmac_sha1, hmac_s
 use crate::keys::key::IntegrityKey;
 use sha1::Sha1;
 use sha2::Sha256;
-use std::alloc::{Allocator, Global};
+use std::alloc::{AllocError, Allocator, Global};
 use std::fmt;
 use std::marker::Model;
 
-/// A key, and for one algorithm the part of HMAC that comes before the text (RFC 2104, section 4).
-/// A digest of that algorithm hashes two blocks fewer than under the key alone. One of the other
-/// algorithm hashes as many. It has about 200 bytes more than the key, and is not allocated.
+/// A key for which, for one algorithm, the part of HMAC that comes before the text has been
+/// computed (RFC 2104, section 4).
 ///
-/// Contracts see the bytes of the key. No clause counts the blocks. All that it holds is as secret
-/// as the key, and `Debug` shows none of it.
+/// A digest with that algorithm hashes two blocks fewer than a digest with the key alone, as the
+/// code is written; this is not proved. With the other algorithm the key works too, at the usual
+/// cost. A prepared key is about 200 bytes larger than its key, and preparing does not allocate.
+///
+/// Everything in it is as secret as the key, and `Debug` shows none of it.
+///
+/// Contracts: the value is the list of the key's bytes.
 #[derive(Drop)]
 pub struct PreparedKey<A: Allocator = Global> {
     key: IntegrityKey<A>,
@@ -48,7 +52,7 @@ impl<A: Allocator> Model for PreparedKey<A> {
 }
 
 impl<A: Allocator> PreparedKey<A> {
-    /// The key, prepared for digests of an algorithm. It does not allocate.
+    /// Prepares a key for digests with an algorithm. This does not allocate.
     pub fn new(key: IntegrityKey<A>, algorithm: IntegrityAlgorithm) -> Self
         ensures { result ≡ key }
     {
@@ -59,15 +63,15 @@ impl<A: Allocator> PreparedKey<A> {
         PreparedKey { key, begun }
     }
 
-    /// The key.
+    /// Returns the key that was prepared.
     pub fn key(&self) -> &IntegrityKey<A>
         ensures { result.now ≡ self.now }
     {
         &self.key
     }
 
-    /// HMAC-SHA1 of the pieces in their order, as one text: the same as by `hmac::hmac_sha1`. It
-    /// does not allocate.
+    /// Computes the HMAC-SHA1 of the pieces, taken one after the other as one text. The result is
+    /// that of `hmac::hmac_sha1`. This does not allocate.
     pub fn hmac_sha1(&self, pieces: &[&[u8]]) -> [u8; SHA1_LENGTH]
         ensures { result ≡ hmac sha1 self.now (concat (map (λ piece. piece.now) pieces.now)) }
     {
@@ -77,8 +81,8 @@ impl<A: Allocator> PreparedKey<A> {
         }
     }
 
-    /// HMAC-SHA256 of the pieces in their order, as one text: the same as by `hmac::hmac_sha256`.
-    /// It does not allocate.
+    /// Computes the HMAC-SHA256 of the pieces, taken one after the other as one text. The result is
+    /// that of `hmac::hmac_sha256`. This does not allocate.
     pub fn hmac_sha256(&self, pieces: &[&[u8]]) -> [u8; SHA256_LENGTH]
         ensures { result ≡ hmac sha256 self.now (concat (map (λ piece. piece.now) pieces.now)) }
     {
@@ -86,6 +90,23 @@ impl<A: Allocator> PreparedKey<A> {
             Begun::Sha1(_) => hmac_sha256(self.key.as_bytes(), pieces),
             Begun::Sha256(begun) => begun.digest(pieces),
         }
+    }
+}
+
+/// Copies the key with what was prepared, so that no block is hashed again. A key of up to 32 bytes
+/// is copied without an allocation; a longer one is allocated by the same allocator.
+impl<A: Allocator + Copy> Clone for PreparedKey<A> {
+    ghost is_clone = { λ prepared copy. copy ≡ prepared };
+
+    ghost is_infallible = { λ prepared. length prepared ≤ 32 };
+
+    fn clone(&self) -> Result<Self, AllocError> {
+        let key = self.key.clone()?;
+        let begun = match &self.begun {
+            Begun::Sha1(begun) => Begun::Sha1(begun.copy()),
+            Begun::Sha256(begun) => Begun::Sha256(begun.copy()),
+        };
+        Ok(PreparedKey { key, begun })
     }
 }
 

@@ -11,8 +11,9 @@ use std::simd::prelude::*;
 const LONGEST: usize = 64;
 
 /// Up to 64 bytes in one block. It is quicker to hash or test them at once than piece by piece.
+/// Zeros fill the block, so that the test can read all of it.
 ///
-/// Contracts see them as a list. Zeros fill the block, so that the test can read all of it.
+/// Contracts: the value is the list of the bytes.
 #[derive(Drop)]
 pub(crate) struct ShortText {
     block: [u8; LONGEST],

@@ -1,4 +1,4 @@
-//! The type of an attribute, and the registered types that this library reads or writes.
+//! The types of attributes, and the registered types that this library reads or writes.
 
 ghost use Rattle.std.specs.Prelude.{◌≡◌, Some};
 ghost use Rattle.stun_base.specs.AttributeText.{type_text};
@@ -7,44 +7,44 @@ use std::fmt;
 
 /// The type of an attribute (RFC 8489, section 14): a number of 16 bits.
 ///
-/// An attribute of a type below 0x8000 must be understood; one from 0x8000 on may be ignored. The
-/// number is public, so that a constant of another crate can be written `AttributeType(0x8000)`.
-/// Its text is the number in hexadecimal, as `0x0008`.
+/// A receiver must understand an attribute whose type is less than 0x8000, and may ignore any
+/// other. The number is public, so that other crates can write constants such as
+/// `AttributeType(0x8000)`. The type is displayed in hexadecimal, for example as `0x0008`.
 #[derive(Debug, Clone, Copy, PartialEq, Eq, Hash)]
 pub struct AttributeType(pub u16);
 
 impl AttributeType {
     /// USERNAME (RFC 8489, section 14.3).
     pub const USERNAME: AttributeType = AttributeType(0x0006);
-    /// MESSAGE-INTEGRITY (section 14.5).
+    /// MESSAGE-INTEGRITY (RFC 8489, section 14.5).
     pub const MESSAGE_INTEGRITY: AttributeType = AttributeType(0x0008);
-    /// ERROR-CODE (section 14.8).
+    /// ERROR-CODE (RFC 8489, section 14.8).
     pub const ERROR_CODE: AttributeType = AttributeType(0x0009);
-    /// REALM (section 14.9).
+    /// REALM (RFC 8489, section 14.9).
     pub const REALM: AttributeType = AttributeType(0x0014);
-    /// NONCE (section 14.10).
+    /// NONCE (RFC 8489, section 14.10).
     pub const NONCE: AttributeType = AttributeType(0x0015);
-    /// MESSAGE-INTEGRITY-SHA256 (section 14.6).
+    /// MESSAGE-INTEGRITY-SHA256 (RFC 8489, section 14.6).
     pub const MESSAGE_INTEGRITY_SHA256: AttributeType = AttributeType(0x001C);
-    /// PASSWORD-ALGORITHM (section 14.12).
+    /// PASSWORD-ALGORITHM (RFC 8489, section 14.12).
     pub const PASSWORD_ALGORITHM: AttributeType = AttributeType(0x001D);
-    /// USERHASH (section 14.4).
+    /// USERHASH (RFC 8489, section 14.4).
     pub const USERHASH: AttributeType = AttributeType(0x001E);
-    /// XOR-MAPPED-ADDRESS (section 14.2).
+    /// XOR-MAPPED-ADDRESS (RFC 8489, section 14.2).
     pub const XOR_MAPPED_ADDRESS: AttributeType = AttributeType(0x0020);
-    /// PASSWORD-ALGORITHMS (section 14.11).
+    /// PASSWORD-ALGORITHMS (RFC 8489, section 14.11).
     pub const PASSWORD_ALGORITHMS: AttributeType = AttributeType(0x8002);
-    /// FINGERPRINT (section 14.7).
+    /// FINGERPRINT (RFC 8489, section 14.7).
     pub const FINGERPRINT: AttributeType = AttributeType(0x8028);
 
-    /// The type of this number. Each number of 16 bits is one.
+    /// Creates a type from its number. Every number of 16 bits is a type.
     pub const fn new(number: u16) -> AttributeType
         ensures { result.0 ≡ number }
     {
         AttributeType(number)
     }
 
-    /// The number.
+    /// Returns the type as a number.
     pub const fn value(self) -> u16
         ensures { result ≡ self.0 }
     {

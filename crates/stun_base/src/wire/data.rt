@@ -1,17 +1,17 @@
-//! Values that hold bytes.
+//! Values that contain bytes.
 
 ghost use Rattle.std.specs.Prelude.{◌≡◌, ℕ, List, IfOk, IsOk, Ok};
 
 use std::alloc::{AllocError, Allocator, Global};
 
-/// A value that holds bytes of its own or borrows them.
+/// A value that contains bytes, its own or borrowed ones.
 ///
-/// Two calls on one value return the same bytes.
+/// Two calls of `bytes` on the same value return the same bytes.
 pub trait OwnedBytes {
     // The bytes of the value.
     ghost contents: { Self → List ℕ };
 
-    /// The bytes.
+    /// Returns the bytes.
     fn bytes(&self) -> &[u8]
         ensures { result.now ≡ contents self.now };
 }
@@ -66,10 +66,14 @@ impl<'a, A: Allocator> OwnedBytes for Data<'a, A> {
 impl<'a, A: Allocator> Data<'a, A> {
     ghost use Rattle.stun_base.specs.Data.{data_bytes, IsOwned};
 
-    /// The same bytes, owned.
+    /// Converts the value into owned bytes, which can outlive `'a`.
     ///
-    /// Owned bytes are moved, with their own allocator; that does not allocate. Borrowed bytes are
-    /// copied into memory of `alloc`. It fails only if this allocation fails.
+    /// Owned bytes are moved and stay with their own allocator, without an allocation. Borrowed
+    /// bytes are copied into memory of `alloc`.
+    ///
+    /// # Errors
+    ///
+    /// `AllocError`: the bytes were borrowed, and the allocation failed.
     pub fn into_owned<'b>(self, alloc: A) -> Result<Data<'b, A>, AllocError>
         ensures bytes { IfOk result (λ owned. data_bytes owned ≡ data_bytes self.entry) }
         ensures owned { IfOk result (λ owned. IsOwned owned) }

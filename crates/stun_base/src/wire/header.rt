@@ -12,12 +12,13 @@ use std::marker::Model;
 /// The number of bytes of a header.
 pub const HEADER_LENGTH: usize = 20;
 
-/// The magic cookie: the four bytes after type and length, in network order (RFC 8489, section 5).
+/// The magic cookie: the four bytes after the type and the length of every message, in network
+/// order (RFC 8489, section 5).
 pub const MAGIC_COOKIE: u32 = 0x2112_A442;
 
-/// The header of a message: its first 20 bytes, without the cookie (RFC 8489, section 5).
+/// The header of a message: its first 20 bytes, without the magic cookie (RFC 8489, section 5).
 ///
-/// Contracts see it as a record of its three fields.
+/// Contracts: the value is a record of the three fields.
 #[derive(Debug, Clone, Copy, PartialEq, Eq)]
 pub struct MessageHeader {
     message_type: MessageType,
@@ -47,11 +48,17 @@ impl Model for MessageHeader {
 }
 
 impl MessageHeader {
-    /// The header that these bytes begin with. The bytes after the first 20 are not read.
+    /// Parses the header at the start of `bytes`. The bytes after the first 20 are ignored.
     ///
-    /// It fails with `Truncated` for fewer than 20 bytes. Then it fails with `NotStun` if the top
-    /// two bits are not zero, the cookie is another, or 4 does not divide the length. It does not
-    /// allocate.
+    /// This does not allocate.
+    ///
+    /// # Errors
+    ///
+    /// The first of these that applies:
+    ///
+    /// - `Truncated`: there are fewer than 20 bytes.
+    /// - `NotStun`: the first two bits are not zero, the magic cookie is wrong, or the length is
+    ///   not a multiple of 4.
     pub fn from_bytes(bytes: &[u8]) -> Result<MessageHeader, StunParseError>
         ensures ok { IsOk result ↔ BeginsWithHeader bytes.now }
         ensures value { IfOk result (λ header. header ≡ header_of bytes.now) }
@@ -79,14 +86,15 @@ impl MessageHeader {
         })
     }
 
-    /// The type of the message.
+    /// Returns the type of the message, which combines its class and its method.
     pub fn get_type(&self) -> MessageType
         ensures { result ≡ self.now.message_type }
     {
         self.message_type
     }
 
-    /// The length field: how many bytes the message has after its header. It is a multiple of 4.
+    /// Returns the number of bytes that follow the header, as its length field states it. It is a
+    /// multiple of 4.
     pub fn data_length(&self) -> u16
         ensures value { result ≡ self.now.data_length }
         ensures aligned { result % 4 ≡ 0 }
@@ -94,7 +102,7 @@ impl MessageHeader {
         self.data_length
     }
 
-    /// The id of the transaction.
+    /// Returns the transaction ID.
     pub fn transaction_id(&self) -> TransactionId
         ensures { result ≡ self.now.transaction_id }
     {

@@ -1,4 +1,4 @@
-//! Times, which the caller passes: no call reads a clock.
+//! Times, which the caller passes, because no call reads a clock.
 
 ghost use Rattle.std.specs.Prelude.{◌≡◌, ◌-◌};
 ghost use Rattle.std.specs.Duration.{as_nanos};
@@ -10,8 +10,10 @@ use std::time::Duration;
 
 /// A time, in whole nanoseconds since a start that the caller chooses.
 ///
-/// Contracts see it as that number, and times are ordered as numbers. A sum stops at
-/// `Instant::MAX`, and a difference at zero, so no call fails.
+/// Arithmetic on times saturates: a sum stops at `Instant::MAX`, and a difference at zero. So no
+/// call overflows.
+///
+/// Contracts: the value is that number, and times are ordered as numbers.
 #[derive(Clone, Copy, Debug, PartialEq, Eq, PartialOrd, Ord, Hash)]
 pub struct Instant {
     nanos: u64,
@@ -28,19 +30,19 @@ impl Model for Instant {
 }
 
 impl Instant {
-    /// The first time.
+    /// The start, at zero nanoseconds.
     pub const ZERO: Instant = Instant { nanos: 0 };
-    /// The last time, 2^64 - 1 nanoseconds after the first.
+    /// The greatest time, 2^64 - 1 nanoseconds after the start.
     pub const MAX: Instant = Instant { nanos: u64::MAX };
 
-    /// The time so many nanoseconds after the first.
+    /// Returns the time that is `nanos` nanoseconds after the start.
     pub fn from_nanos(nanos: u64) -> Instant
         ensures { result ≡ nanos }
     {
         Instant { nanos }
     }
 
-    /// The nanoseconds since the first time.
+    /// Returns the number of nanoseconds since the start.
     pub fn as_nanos(self) -> u64
         ensures { result ≡ self }
     {
@@ -48,7 +50,7 @@ impl Instant {
     }
 }
 
-/// The time `span` later, at most `Instant::MAX`.
+/// The sum stops at `Instant::MAX`.
 impl Add<Duration> for Instant {
     type Output = Instant;
 
@@ -62,7 +64,7 @@ impl Add<Duration> for Instant {
     }
 }
 
-/// The span since an earlier time, and zero since a later one.
+/// The difference is the time elapsed since `earlier`, or zero if `earlier` is the later one.
 impl Sub for Instant {
     type Output = Duration;
 

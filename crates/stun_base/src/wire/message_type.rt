@@ -1,4 +1,4 @@
-//! Class, method and type of a message (RFC 8489, section 5).
+//! The class, the method and the type of a message (RFC 8489, section 5).
 
 ghost use Rattle.std.specs.Prelude.{◌≡◌, ◌<◌, ◌^◌, ◌↔◌, IsTrue, IsSome, IfSome, Some, None};
 ghost use Rattle.stun_base.specs.MessageType.{class_of, method_of, type_number, IsResponse};
@@ -8,18 +8,18 @@ use std::marker::Model;
 /// The class of a message: two bits of its type.
 #[derive(Debug, Clone, Copy, PartialEq, Eq, Hash)]
 pub enum MessageClass {
-    /// A request. A success or an error answers it.
+    /// A request, which is answered by a success or an error response.
     Request,
-    /// An indication. Nothing answers it.
+    /// An indication, which is not answered.
     Indication,
-    /// The response to a request that was carried out.
+    /// The response to a request that succeeded.
     Success,
-    /// The response to a request that was refused.
+    /// The response to a request that failed.
     Error,
 }
 
 impl MessageClass {
-    /// Whether this is a class of responses: success or error.
+    /// Returns `true` for the two classes of responses: success and error.
     pub fn is_response(self) -> bool
         ensures { IsTrue result ↔ IsResponse self }
     {
@@ -27,7 +27,9 @@ impl MessageClass {
     }
 }
 
-/// The method of a message: a number of 12 bits. Contracts see it as that number.
+/// The method of a message: a number of 12 bits.
+///
+/// Contracts: the value is that number.
 #[derive(Debug, Clone, Copy, PartialEq, Eq, Hash)]
 pub struct Method(u16);
 
@@ -43,11 +45,11 @@ impl Model for Method {
     ghost inverse = { λ number. record { 0 = number } };
 }
 
-/// The method of a binding request (RFC 8489, section 18.2).
+/// The Binding method (RFC 8489, section 18.2).
 pub const BINDING: Method = Method(0x001);
 
 impl Method {
-    /// The method of this number, or `None` if it has more than 12 bits.
+    /// Creates a method from a number. Returns `None` if the number does not fit in 12 bits.
     pub fn new(number: u16) -> Option<Method>
         ensures fits { IsSome result ↔ (number < 2 ^ 12) }
         ensures value { IfSome result (λ method. method ≡ number) }
@@ -59,7 +61,7 @@ impl Method {
         }
     }
 
-    /// The number, below 2^12.
+    /// Returns the method as a number, which is less than 2^12.
     pub fn value(self) -> u16
         ensures value { result ≡ self }
         ensures fits { result < 2 ^ 12 }
@@ -70,8 +72,10 @@ impl Method {
 
 /// The type of a message: its class and its method in 14 bits (RFC 8489, section 5).
 ///
-/// Contracts see it as that number. Its bits, from the top, are M11 to M7, C1, M6 to M4, C0 and M3
-/// to M0, of method M and class C.
+/// From the highest bit to the lowest, the number consists of M11 to M7, C1, M6 to M4, C0 and M3 to
+/// M0, where M is the method and C the class.
+///
+/// Contracts: the value is that number.
 #[derive(Debug, Clone, Copy, PartialEq, Eq, Hash)]
 pub struct MessageType(u16);
 
@@ -88,7 +92,7 @@ impl Model for MessageType {
 }
 
 impl MessageType {
-    /// The type of this number, or `None` if it has more than 14 bits.
+    /// Creates a type from a number. Returns `None` if the number does not fit in 14 bits.
     pub(crate) fn from_number(number: u16) -> Option<MessageType>
         ensures fits { IsSome result ↔ (number < 2 ^ 14) }
         ensures value { IfSome result (λ kind. kind ≡ number) }
@@ -100,7 +104,7 @@ impl MessageType {
         }
     }
 
-    /// The type of a class and a method.
+    /// Combines a class and a method into a type.
     pub fn from_class_method(class: MessageClass, method: Method) -> MessageType
         ensures value { result ≡ type_number class method }
         ensures class { class_of result ≡ class }
@@ -116,7 +120,8 @@ impl MessageType {
         MessageType(method % 16 + low * 16 + method / 16 % 8 * 32 + high * 256 + method / 128 * 512)
     }
 
-    /// The number, below 2^14: the first two bytes of a message, in network order.
+    /// Returns the type as a number, which is less than 2^14. A message starts with this number, in
+    /// network order.
     pub fn value(self) -> u16
         ensures value { result ≡ self }
         ensures fits { result < 2 ^ 14 }
@@ -124,7 +129,7 @@ impl MessageType {
         self.0
     }
 
-    /// The class of the message.
+    /// Returns the class of the message.
     pub fn class(self) -> MessageClass
         ensures { result ≡ class_of self }
     {
@@ -136,21 +141,21 @@ impl MessageType {
         }
     }
 
-    /// The method of the message.
+    /// Returns the method of the message.
     pub fn method(self) -> Method
         ensures { result ≡ method_of self }
     {
         Method(self.0 % 16 + self.0 / 32 % 8 * 16 + self.0 / 512 % 32 * 128)
     }
 
-    /// Whether the message has this class.
+    /// Returns `true` if the message has this class.
     pub fn has_class(self, class: MessageClass) -> bool
         ensures { IsTrue result ↔ (class_of self ≡ class) }
     {
         self.class() == class
     }
 
-    /// Whether the message is a response, of either kind.
+    /// Returns `true` if the message is a response, either a success or an error.
     pub fn is_response(self) -> bool
         ensures { IsTrue result ↔ IsResponse (class_of self) }
     {

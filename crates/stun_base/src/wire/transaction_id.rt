@@ -1,4 +1,4 @@
-//! The id of a transaction.
+//! Transaction IDs.
 
 ghost use Rattle.std.specs.Prelude.{◌≡◌, ◌<◌, ◌≤◌, ◌^◌, ◌↔◌, length, IsSome, IfSome, Some};
 ghost use Rattle.stun_base.specs.TransactionId.{value_of_words};
@@ -8,9 +8,13 @@ use byteorder::{BigEndian, ByteOrder};
 use rand_core::Rng;
 use std::marker::Model;
 
-/// The id of a transaction (RFC 8489, section 5): a number of 96 bits.
+/// A transaction ID (RFC 8489, section 5): a number of 96 bits that matches a response to its
+/// request.
 ///
-/// Contracts see it as that number, and ids are ordered as numbers.
+/// An attacker who can guess the ID of an outstanding request can forge a response to it. So IDs
+/// must be unpredictable, and every new request needs a new one.
+///
+/// Contracts: the value is that number, and IDs are ordered as numbers.
 #[derive(Debug, Clone, Copy, PartialEq, Eq, PartialOrd, Ord, Hash)]
 pub struct TransactionId(u128);
 
@@ -29,7 +33,7 @@ impl Model for TransactionId {
 impl TransactionId {
     ghost use Rattle.byteorder.specs.Endian.{big_number};
 
-    /// The id in the first 12 bytes, in network order.
+    /// Creates a transaction ID from the first 12 bytes, in network order.
     pub(crate) fn from_bytes(bytes: &[u8]) -> TransactionId
         requires { 12 ≤ length bytes.now }
         ensures { result ≡ big_number 12 bytes.now }
@@ -37,7 +41,8 @@ impl TransactionId {
         TransactionId(BigEndian::read_uint128(bytes, 12))
     }
 
-    /// The id of this number, or `None` if it has more than 96 bits.
+    /// Creates a transaction ID from a number. Returns `None` if the number does not fit in 96
+    /// bits.
     pub fn from_u128(number: u128) -> Option<TransactionId>
         ensures fits { IsSome result ↔ (number < 2 ^ 96) }
         ensures value { IfSome result (λ id. id ≡ number) }
@@ -49,10 +54,11 @@ impl TransactionId {
         }
     }
 
-    /// A random id: the next three numbers of 32 bits of a source, the first in the highest bits.
+    /// Creates a random transaction ID from the next three numbers of 32 bits of `rng`, the first
+    /// in the highest bits.
     ///
-    /// RFC 8489, section 5, asks for ids that are uniform and cannot be guessed. Pass a source of
-    /// that quality.
+    /// Use a cryptographically secure generator, because an attacker who can predict its numbers
+    /// can predict transaction IDs (RFC 8489, section 5).
     #[tactic(auto, unfolding(crate::specs::Words::next_words, crate::specs::Words::after_words))]
     pub fn generate<R: Rng>(rng: &mut R) -> TransactionId
         ensures value { result ≡ value_of_words (next_words 3 (R.stream rng.old)) }
@@ -64,7 +70,7 @@ impl TransactionId {
         TransactionId((high << 64) + (middle << 32) + low)
     }
 
-    /// The number, below 2^96.
+    /// Returns the transaction ID as a number, which is less than 2^96.
     pub fn as_u128(self) -> u128
         ensures value { result ≡ self }
         ensures fits { result < 2 ^ 96 }

@@ -1,16 +1,16 @@
-//! The transports that carry messages.
+//! The transports of messages.
 
 ghost use Rattle.std.specs.Prelude.{Some};
 ghost use Rattle.stun_base.specs.Transport.{transport_name};
 
 use std::fmt;
 
-/// The transport that carries messages. Its text is `UDP` or `TCP`.
+/// The transport that carries messages. It is displayed as `UDP` or `TCP`.
 #[derive(Clone, Copy, Debug, PartialEq, Eq, Hash)]
 pub enum TransportType {
-    /// Datagrams, which may be lost: requests are sent again (RFC 8489, section 6.2.1).
+    /// Datagrams, which may be lost, so that requests are retransmitted (RFC 8489, section 6.2.1).
     Udp,
-    /// A stream, which loses nothing: requests are sent once (section 6.2.2).
+    /// A stream, which loses nothing, so that requests are sent once (RFC 8489, section 6.2.2).
     Tcp,
 }
 

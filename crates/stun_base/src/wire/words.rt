@@ -8,10 +8,10 @@ use rand_core::utils::NextWord;
 use rand_core::{Rng, utils};
 use std::marker::Model;
 
-/// A source of random numbers that the caller passed: sixteen of 32 bits. It returns them in their
-/// order, and zeros after them.
+/// A source of random numbers that the caller passed: sixteen numbers of 32 bits. It returns them
+/// in their order, and zeros after them.
 ///
-/// Contracts see the numbers that are left.
+/// Contracts: the value is the list of the numbers that are left.
 #[derive(Debug, Drop)]
 pub struct WordSource {
     words: [u32; 16],
@@ -50,7 +50,7 @@ impl Eq for WordSource {
 }
 
 impl WordSource {
-    /// A source of these numbers.
+    /// Creates a source of these numbers.
     pub fn new(words: [u32; 16]) -> Self
         ensures words { result ≡ words }
         ensures count { length result ≡ 16 }
@@ -58,7 +58,7 @@ impl WordSource {
         WordSource { words, taken: 0 }
     }
 
-    /// How many of the sixteen numbers were taken.
+    /// Returns how many of the sixteen numbers have been read.
     pub fn taken(&self) -> usize
         ensures { result + length self.now ≡ 16 }
     {

@@ -9,9 +9,13 @@ use stun_base::error::StunParseError;
 use stun_types::attribute::{AttributeType, RawAttribute};
 use stun_types::prelude::*;
 
-/// ADDITIONAL-ADDRESS-FAMILY (RFC 8656, section 18.11): an Allocate request asks for a second
-/// address of this family, beside one of IPv4. Only IPv6 is allowed. A server refuses IPv4 with 400
-/// (section 7.2), so IPv4 can be read here. Contracts see the family.
+/// ADDITIONAL-ADDRESS-FAMILY (RFC 8656, section 18.11): in an Allocate request, the family of a
+/// second relayed address, beside one of IPv4.
+///
+/// Only IPv6 is allowed. A server answers IPv4 with the error 400 (section 7.2), so IPv4 can be
+/// parsed here.
+///
+/// Contracts: they see the family.
 #[derive(Clone, Copy, Debug, PartialEq, Eq)]
 pub struct AdditionalAddressFamily {
     family: AddressFamily,
@@ -28,14 +32,14 @@ impl Model for AdditionalAddressFamily {
 }
 
 impl AdditionalAddressFamily {
-    /// The attribute of this family.
+    /// Creates the attribute from a family.
     pub fn new(family: AddressFamily) -> Self
         ensures { result ≡ family }
     {
         AdditionalAddressFamily { family }
     }
 
-    /// The family.
+    /// Returns the family.
     pub fn family(&self) -> AddressFamily
         ensures { result ≡ self.now }
     {

@@ -1,4 +1,5 @@
-//! What the attributes share whose value is an address in clear (RFC 8489, section 14.1).
+//! Shared parts of the attributes whose value is an address that is not XORed (RFC 8489, section
+//! 14.1).
 ghost use Rattle.std.specs.Prelude.{◌≡◌, ◌≤◌, ◌+◌, ◌%◌, ◌++◌, ◌∷◌, length};
 ghost use Rattle.std.specs.Net.Socket.{IsPlainSocket, socket_ip, socket_port};
 ghost use Rattle.byteorder.specs.Endian.{big_bytes};
@@ -34,7 +35,7 @@ pub(super) struct Address {
 }
 
 impl Address {
-    /// The address without its flow information and its scope.
+    /// Creates the address from a socket address, without its flow information and its scope.
     pub(super) fn new(addr: SocketAddr) -> Address
         ensures { result ≡ record { ip = socket_ip addr; port = socket_port addr } }
     {
@@ -44,7 +45,7 @@ impl Address {
         }
     }
 
-    /// The address, with no flow information and no scope.
+    /// Returns the socket address, with 0 for flow information and scope.
     pub(super) fn socket(&self) -> SocketAddr
         ensures ip { socket_ip result ≡ self.now.ip }
         ensures port { IsPlainSocket result self.now.port }
@@ -52,7 +53,7 @@ impl Address {
         SocketAddr::new(self.ip, self.port)
     }
 
-    /// The number of bytes of the value.
+    /// Returns the number of bytes of the value.
     pub(super) fn length(&self) -> usize
         ensures value { result ≡ length (address_value self.now) }
         ensures whole { IsAddress self.now }
@@ -65,7 +66,7 @@ impl Address {
     }
 }
 
-/// Appends the attribute of this type whose value is an address.
+/// Appends the attribute with this type whose value is an address.
 pub(super) fn append_address<W: MessageWrite>(
     writer: &mut W,
     kind: AttributeType,
@@ -85,7 +86,7 @@ pub(super) fn append_address<W: MessageWrite>(
     }
 }
 
-/// Appends the attribute of this type whose value is the octets of an address of this family.
+/// Appends the attribute with this type whose value is an address of this family with these octets.
 fn append_octets<W: MessageWrite>(
     writer: &mut W,
     kind: AttributeType,
@@ -110,8 +111,8 @@ fn append_octets<W: MessageWrite>(
     writer.append(octets);
 }
 
-/// The address in a raw attribute of this type. Fails with `InvalidAttributeData` if the type is
-/// another, the family is none, or the octets are not as many as the family has.
+/// Parses the address in a raw attribute with this type. Fails with `InvalidAttributeData` if the
+/// attribute has another type, an unknown family, or not as many octets as the family has.
 pub(super) fn read_address(
     raw: &RawAttribute<'_>,
     kind: AttributeType,
@@ -129,7 +130,7 @@ pub(super) fn read_address(
     }
 }
 
-/// The address of this family, or `None` if there is no such family or not as many octets.
+/// Returns the address of a family, or `None` if there is no such family or not as many octets.
 fn read_ip(family: u8, octets: &[u8]) -> Option<IpAddr>
     ensures { result ≡ ip_of family octets.now }
 {

@@ -14,14 +14,14 @@ pub(super) const LENGTH: usize = 4;
 /// The family of an address (RFC 8489, section 14.1).
 #[derive(Clone, Copy, Debug, PartialEq, Eq)]
 pub enum AddressFamily {
-    /// IPv4, by its number 0x01.
+    /// IPv4, whose number is 0x01.
     Ipv4,
-    /// IPv6, by its number 0x02.
+    /// IPv6, whose number is 0x02.
     Ipv6,
 }
 
 impl AddressFamily {
-    /// The number of the family.
+    /// Returns the number of the family.
     pub fn number(self) -> u8
         ensures { result ≡ family_number self }
     {
@@ -31,7 +31,7 @@ impl AddressFamily {
         }
     }
 
-    /// The family of this number: 1 is IPv4, 2 is IPv6, and any other number is none.
+    /// Returns the family with a number, or `None` if the number is neither 1 (IPv4) nor 2 (IPv6).
     pub fn from_number(number: u8) -> Option<AddressFamily>
         ensures { result ≡ numbered_family number }
     {
@@ -43,16 +43,16 @@ impl AddressFamily {
     }
 }
 
-/// The bytes of a value: the number of the family, and three reserved bytes.
+/// Returns the bytes of a value: the number of the family, and three reserved bytes.
 pub(super) fn family_bytes(family: AddressFamily) -> [u8; 4]
     ensures { result ≡ family_value family }
 {
     [family.number(), 0, 0, 0]
 }
 
-/// The family in an attribute of this type. Fails with `InvalidAttributeData` if the type is
-/// another, the value does not have 4 bytes, or its first byte is no family. The reserved bytes are
-/// ignored.
+/// Parses the family in an attribute with this type. Fails with `InvalidAttributeData` if the
+/// attribute has another type, if its value does not have 4 bytes, or if its first byte is not the
+/// number of a family. The reserved bytes are ignored.
 pub(super) fn read_family(
     raw: &RawAttribute<'_>,
     kind: AttributeType,

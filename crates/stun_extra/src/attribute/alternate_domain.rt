@@ -15,9 +15,11 @@ use stun_base::error::{StunParseError, StunWriteError};
 use stun_types::attribute::{AttributeType, RawAttribute};
 use stun_types::prelude::*;
 
-/// ALTERNATE-DOMAIN (RFC 8489, section 14.16): the domain name of the server of ALTERNATE-SERVER,
-/// which its certificate for TLS names. It has at most 255 bytes. Nothing checks that it is a name
-/// of the DNS. Contracts see its bytes.
+/// ALTERNATE-DOMAIN (RFC 8489, section 14.16): the domain name of the server in ALTERNATE-SERVER,
+/// which its TLS certificate must contain. It has at most 255 bytes. It is not checked to be a
+/// domain name.
+///
+/// Contracts: they see its bytes.
 #[derive(Debug, Drop)]
 pub struct AlternateDomain<'a> {
     text: &'a str,
@@ -45,7 +47,7 @@ impl<'a> Clone for AlternateDomain<'a> {
     }
 }
 
-/// Domains are equal if and only if their bytes are.
+/// Domain names are equal if and only if their bytes are.
 impl<'a> PartialEq for AlternateDomain<'a> {
     ghost eq = { same_text };
 
@@ -61,8 +63,11 @@ impl<'a> Eq for AlternateDomain<'a> {
 }
 
 impl<'a> AlternateDomain<'a> {
-    /// The attribute of this domain. Fails with `TooLarge` if it has more than 255 bytes. It does
-    /// not allocate.
+    /// Creates the attribute from a domain name. It does not allocate.
+    ///
+    /// # Errors
+    ///
+    /// - [`StunWriteError::TooLarge`]: the name has more than 255 bytes.
     pub fn new(text: &'a str) -> Result<Self, StunWriteError>
         ensures ok { IfOk result (λ domain. domain ≡ text.now) }
         ensures only_too_large { IsOkUnless result StunWriteError.TooLarge }
@@ -73,7 +78,7 @@ impl<'a> AlternateDomain<'a> {
         Ok(AlternateDomain { text })
     }
 
-    /// The domain.
+    /// Returns the domain name.
     pub fn domain(&self) -> &'a str
         ensures text { result.now ≡ self.now }
         ensures within_limit { length result.now ≤ DOMAIN_LIMIT }

@@ -12,8 +12,26 @@ use stun_base::error::StunParseError;
 use stun_types::attribute::{AttributeType, RawAttribute};
 use stun_types::prelude::*;
 
-/// ALTERNATE-SERVER (RFC 8489, section 14.15): the server that a client should try. Contracts see
-/// address and port.
+/// ALTERNATE-SERVER (RFC 8489, section 14.15): the server that a client should try instead.
+///
+/// Contracts: they see the address and the port.
+///
+/// # Examples
+///
+/// ```
+/// use seatcrane_stun::extra::attribute::AlternateServer;
+/// use seatcrane_stun::types::message::{Message, StunParseError};
+/// use std::net::SocketAddr;
+///
+/// /// Returns the server that a 300 names.
+/// fn other_server(error: &Message<'_>) -> Result<SocketAddr, StunParseError> {
+///     Ok(error.attribute::<AlternateServer>()?.server())
+/// }
+/// # let error = b"\x01\x11\0\x0c\x21\x12\xa4\x42 any 12 byte\
+/// #               \x80\x23\0\x08\0\x01\x0d\x96\xc0\0\x02\x01";
+/// # let error = Message::from_bytes(error).unwrap();
+/// # assert_eq!(other_server(&error), Ok("192.0.2.1:3478".parse().unwrap()));
+/// ```
 #[derive(Clone, Copy, Debug, PartialEq, Eq)]
 pub struct AlternateServer {
     address: Address,
@@ -30,7 +48,8 @@ impl Model for AlternateServer {
 }
 
 impl AlternateServer {
-    /// The attribute of this address. Flow information and scope of an IPv6 address are not kept.
+    /// Creates the attribute from an address. The flow information and the scope of an IPv6 address
+    /// are left out.
     pub fn new(addr: SocketAddr) -> Self
         ensures { result ≡ record { ip = socket_ip addr; port = socket_port addr } }
     {
@@ -39,7 +58,8 @@ impl AlternateServer {
         }
     }
 
-    /// The address of the server. Flow information and scope of an IPv6 address are 0.
+    /// Returns the address of the server. The flow information and the scope of an IPv6 address are
+    /// 0.
     pub fn server(&self) -> SocketAddr
         ensures ip { socket_ip result ≡ self.now.ip }
         ensures port { IsPlainSocket result self.now.port }

@@ -1,8 +1,8 @@
 //! CHANNEL-NUMBER (RFC 8656, section 18.1).
 ghost use Rattle.std.specs.Prelude.{◌≡◌, ◌≤◌, ◌<◌, ◌↔◌, false, IfOk, IsOkUnless, IsErrOf};
 ghost use Rattle.stun_extra.specs.AttributeTypes.{CHANNEL_NUMBER};
-ghost use Rattle.stun_extra.specs.Turn.{IsChannel, channel_of, channel_of-written};
-ghost use Rattle.stun_extra.specs.Turn.{channel_value, is_channel_number};
+ghost use Rattle.stun_extra.specs.Turn.{IsAnyChannel, channel_of, channel_of-written};
+ghost use Rattle.stun_extra.specs.Turn.{channel_value, is_any_channel_number, is_channel_number};
 
 use byteorder::{BigEndian, ByteOrder};
 use std::marker::Model;
@@ -13,8 +13,24 @@ use stun_types::prelude::*;
 /// The number of bytes of the value: the number, and two that are reserved.
 const LENGTH: usize = 4;
 
-/// CHANNEL-NUMBER (RFC 8656, section 18.1): the number of a channel, 0x4000 to 0x4FFF. Contracts
-/// see the number.
+/// CHANNEL-NUMBER (RFC 8656, section 18.1): the number of a channel.
+///
+/// RFC 8656 has the channels 0x4000 to 0x4FFF, and [`new`](ChannelNumber::new) accepts only these.
+/// All of 0x4000 to 0x7FFF are parsed, because RFC 5766 allowed them, and its clients still bind
+/// them.
+///
+/// Contracts: they see the number.
+///
+/// # Examples
+///
+/// ```
+/// use seatcrane_stun::extra::attribute::ChannelNumber;
+/// use seatcrane_stun::types::message::StunWriteError;
+///
+/// assert_eq!(ChannelNumber::new(0x4000)?.channel(), 0x4000);
+/// assert!(ChannelNumber::new(0x3fff).is_err());
+/// # Ok::<(), StunWriteError>(())
+/// ```
 #[derive(Clone, Copy, Debug, PartialEq, Eq)]
 pub struct ChannelNumber {
     channel: u16,
@@ -22,27 +38,37 @@ pub struct ChannelNumber {
 
 impl Model for ChannelNumber {
     ghost use Rattle.std.specs.Prelude.{ℕ};
-    ghost use Rattle.stun_extra.specs.Turn.{IsChannel};
+    ghost use Rattle.stun_extra.specs.Turn.{IsAnyChannel};
 
     ghost Value = { ℕ };
 
     ghost view = { λ attribute. attribute.channel };
 
-    ghost invariant = { λ attribute. IsChannel attribute.channel };
+    ghost invariant = { λ attribute. IsAnyChannel attribute.channel };
 
     ghost inverse = { λ channel. record { channel = channel } };
 }
 
-/// Whether a number is that of a channel.
+/// Returns `true` if a number is one of a channel of RFC 8656.
 fn is_channel_number(number: u16) -> bool
     ensures { result ≡ is_channel_number number }
 {
     0x4000 <= number && number < 0x5000
 }
 
+/// Returns `true` if a number is one of a channel of RFC 5766.
+fn is_any_channel_number(number: u16) -> bool
+    ensures { result ≡ is_any_channel_number number }
+{
+    0x4000 <= number && number < 0x8000
+}
+
 impl ChannelNumber {
-    /// The attribute of this channel. Fails with `NotAllowed` if the number is not one of 0x4000 to
-    /// 0x4FFF.
+    /// Creates the attribute from the number of a channel.
+    ///
+    /// # Errors
+    ///
+    /// - [`StunWriteError::NotAllowed`]: the number is not one of 0x4000 to 0x4FFF.
     pub fn new(channel: u16) -> Result<Self, StunWriteError>
         ensures ok { IfOk result (λ number. number ≡ channel) }
         ensures only_not_allowed { IsOkUnless result StunWriteError.NotAllowed }
@@ -55,19 +81,19 @@ impl ChannelNumber {
         Ok(ChannelNumber { channel })
     }
 
-    /// The number of the channel.
+    /// Returns the number of the channel, 0x4000 to 0x7FFF.
     pub fn channel(&self) -> u16
         ensures number { result ≡ self.now }
         ensures from { 0x4000 ≤ result }
-        ensures below { result < 0x5000 }
+        ensures below { result < 0x8000 }
     {
         self.channel
     }
 
-    /// The bytes of the value: the number, and two that are reserved.
+    /// Returns the bytes of the value: the number, and two that are reserved.
     fn bytes(&self) -> [u8; LENGTH]
         ensures value { result ≡ channel_value self.now }
-        ensures channel { IsChannel self.now }
+        ensures channel { IsAnyChannel self.now }
     {
         let [high, low] = self.channel.to_be_bytes();
         [high, low, 0, 0]
@@ -91,7 +117,7 @@ impl Attribute for ChannelNumber {
 
     ghost value = { channel_value };
 
-    ghost is_well_formed = { IsChannel };
+    ghost is_well_formed = { IsAnyChannel };
 
     fn get_type(&self) -> AttributeType {
         Self::TYPE
@@ -116,7 +142,7 @@ impl<'a> AttributeFromRaw<'a> for ChannelNumber {
             return Err(StunParseError::InvalidAttributeData);
         }
         let channel = BigEndian::read_u16(raw.value());
-        if !is_channel_number(channel) {
+        if !is_any_channel_number(channel) {
             return Err(StunParseError::InvalidAttributeData);
         }
         Ok(ChannelNumber { channel })

@@ -11,8 +11,30 @@ use stun_base::error::StunParseError;
 use stun_types::attribute::{AttributeType, RawAttribute};
 use stun_types::prelude::*;
 
-/// DATA (RFC 8656, section 18.4): the data of a datagram to or from a peer, borrowed. Contracts see
-/// the bytes.
+/// DATA (RFC 8656, section 18.4): the data of a datagram to or from a peer, borrowed.
+///
+/// Contracts: they see the bytes.
+///
+/// # Examples
+///
+/// ```
+/// use seatcrane_stun::extra::attribute::{Data, XorPeerAddress};
+/// use seatcrane_stun::extra::turn::TurnMethod;
+/// use seatcrane_stun::types::message::*;
+/// use seatcrane_stun::types::prelude::*;
+///
+/// # let id = TransactionId::from(*b"any 12 bytes");
+/// # let peer = "192.0.2.15:9001".parse().unwrap();
+/// let send = MessageType::from_class_method(MessageClass::Indication, TurnMethod::Send.method());
+/// let mut send = Message::builder(send, id, MessageWriteVec::new());
+/// send.add_attribute(&XorPeerAddress::new(peer, id))?;
+/// send.add_attribute(&Data::new(b"media"))?;
+/// let send = send.finish();
+///
+/// let send = Message::from_bytes(&send).unwrap();
+/// assert_eq!(send.attribute::<Data>().unwrap().data(), b"media");
+/// # Ok::<(), StunWriteError>(())
+/// ```
 #[derive(Debug, Drop)]
 pub struct Data<'a> {
     data: &'a [u8],
@@ -53,14 +75,15 @@ impl<'a> Eq for Data<'a> {
 }
 
 impl<'a> Data<'a> {
-    /// The attribute of these bytes. `add_attribute` refuses it if the message would be too long.
+    /// Creates the attribute from bytes. `add_attribute` refuses it if the message would be too
+    /// long.
     pub fn new(data: &'a [u8]) -> Self
         ensures { result ≡ data.now }
     {
         Data { data }
     }
 
-    /// The bytes.
+    /// Returns the bytes.
     pub fn data(&self) -> &'a [u8]
         ensures { result.now ≡ self.now }
     {

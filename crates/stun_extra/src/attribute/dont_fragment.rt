@@ -9,8 +9,8 @@ use stun_base::error::StunParseError;
 use stun_types::attribute::{AttributeType, RawAttribute};
 use stun_types::prelude::*;
 
-/// DONT-FRAGMENT (RFC 8656, section 18.9): asks the server to set the bit DF in what it sends to
-/// the peer. It has no value.
+/// DONT-FRAGMENT (RFC 8656, section 18.9): asks the server to set the DF bit in the datagrams that
+/// it sends to the peer. It has no value.
 #[derive(Clone, Copy, Debug, PartialEq, Eq)]
 pub struct DontFragment;
 

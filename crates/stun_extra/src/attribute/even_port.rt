@@ -11,8 +11,29 @@ use stun_types::prelude::*;
 /// The bit R in the one byte of the value.
 const RESERVE_NEXT: u8 = 0x80;
 
-/// EVEN-PORT (RFC 8656, section 18.7): asks for an even port. The bit R also asks the server to
-/// reserve the next port. Contracts see that bit.
+/// EVEN-PORT (RFC 8656, section 18.7): asks for an even port. Its bit R also asks the server to
+/// reserve the next higher port.
+///
+/// Contracts: they see that bit.
+///
+/// # Examples
+///
+/// ```
+/// use seatcrane_stun::extra::attribute::EvenPort;
+/// use seatcrane_stun::extra::turn::TurnMethod;
+/// use seatcrane_stun::types::message::*;
+/// use seatcrane_stun::types::prelude::*;
+///
+/// # let id = TransactionId::from(*b"any 12 bytes");
+/// let method = TurnMethod::Allocate.method();
+/// let mut message = Message::builder_request_with_id(method, id, MessageWriteVec::new());
+/// message.add_attribute(&EvenPort::new(true))?; // and reserve the next port
+/// let bytes = message.finish();
+///
+/// let message = Message::from_bytes(&bytes).unwrap();
+/// assert_eq!(message.attribute::<EvenPort>().unwrap().requested(), true);
+/// # Ok::<(), StunWriteError>(())
+/// ```
 #[derive(Clone, Copy, Debug, PartialEq, Eq)]
 pub struct EvenPort {
     requested: bool,
@@ -29,14 +50,14 @@ impl Model for EvenPort {
 }
 
 impl EvenPort {
-    /// The attribute, with the bit R if the server should reserve the next port.
+    /// Creates the attribute, with the bit R if the server should reserve the next higher port.
     pub fn new(requested: bool) -> Self
         ensures { result ≡ requested }
     {
         EvenPort { requested }
     }
 
-    /// Whether the server should reserve the next port.
+    /// Returns `true` if the server should reserve the next higher port.
     pub fn requested(&self) -> bool
         ensures { result ≡ self.now }
     {

@@ -10,8 +10,27 @@ use stun_base::error::StunParseError;
 use stun_types::attribute::{AttributeType, RawAttribute};
 use stun_types::prelude::*;
 
-/// ICE-CONTROLLED (RFC 8445, section 16.1): the sender takes the controlled role. The tie-breaker,
-/// a random number of 64 bits, decides a conflict of roles. Contracts see it.
+/// ICE-CONTROLLED (RFC 8445, section 16.1): the sender is in the controlled role. The tie-breaker,
+/// a random number of 64 bits, resolves a role conflict.
+///
+/// Contracts: they see the tie-breaker.
+///
+/// # Examples
+///
+/// ```
+/// use seatcrane_stun::extra::attribute::IceControlled;
+/// use seatcrane_stun::types::message::*;
+/// use seatcrane_stun::types::prelude::*;
+///
+/// # let id = TransactionId::from(*b"any 12 bytes");
+/// let mut message = Message::builder_request_with_id(BINDING, id, MessageWriteVec::new());
+/// message.add_attribute(&IceControlled::new(0x0123_4567_89ab_cdef))?;
+/// let bytes = message.finish();
+///
+/// let message = Message::from_bytes(&bytes).unwrap();
+/// assert_eq!(message.attribute::<IceControlled>().unwrap().tie_breaker(), 0x0123_4567_89ab_cdef);
+/// # Ok::<(), StunWriteError>(())
+/// ```
 #[derive(Clone, Copy, Debug, PartialEq, Eq)]
 pub struct IceControlled {
     tie_breaker: u64,
@@ -28,14 +47,14 @@ impl Model for IceControlled {
 }
 
 impl IceControlled {
-    /// The attribute of this tie-breaker.
+    /// Creates the attribute from a tie-breaker.
     pub fn new(tie_breaker: u64) -> Self
         ensures { result ≡ tie_breaker }
     {
         IceControlled { tie_breaker }
     }
 
-    /// The tie-breaker.
+    /// Returns the tie-breaker.
     pub fn tie_breaker(&self) -> u64
         ensures { result ≡ self.now }
     {

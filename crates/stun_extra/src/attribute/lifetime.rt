@@ -10,8 +10,29 @@ use stun_base::error::StunParseError;
 use stun_types::attribute::{AttributeType, RawAttribute};
 use stun_types::prelude::*;
 
-/// LIFETIME (RFC 8656, section 18.2): the seconds until an allocation expires if it is not
-/// refreshed. Contracts see the number.
+/// LIFETIME (RFC 8656, section 18.2): the number of seconds after which an allocation expires if it
+/// is not refreshed.
+///
+/// Contracts: they see the number.
+///
+/// # Examples
+///
+/// ```
+/// use seatcrane_stun::extra::attribute::Lifetime;
+/// use seatcrane_stun::extra::turn::TurnMethod;
+/// use seatcrane_stun::types::message::*;
+/// use seatcrane_stun::types::prelude::*;
+///
+/// # let id = TransactionId::from(*b"any 12 bytes");
+/// let method = TurnMethod::Refresh.method();
+/// let mut message = Message::builder_request_with_id(method, id, MessageWriteVec::new());
+/// message.add_attribute(&Lifetime::new(0))?; // ends the allocation
+/// let bytes = message.finish();
+///
+/// let message = Message::from_bytes(&bytes).unwrap();
+/// assert_eq!(message.attribute::<Lifetime>().unwrap().seconds(), 0);
+/// # Ok::<(), StunWriteError>(())
+/// ```
 #[derive(Clone, Copy, Debug, PartialEq, Eq)]
 pub struct Lifetime {
     seconds: u32,
@@ -28,14 +49,14 @@ impl Model for Lifetime {
 }
 
 impl Lifetime {
-    /// The attribute of this number of seconds.
+    /// Creates the attribute from a number of seconds.
     pub fn new(seconds: u32) -> Self
         ensures { result ≡ seconds }
     {
         Lifetime { seconds }
     }
 
-    /// The number of seconds.
+    /// Returns the number of seconds.
     pub fn seconds(&self) -> u32
         ensures { result ≡ self.now }
     {

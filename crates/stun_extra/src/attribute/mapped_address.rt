@@ -12,8 +12,27 @@ use stun_base::error::StunParseError;
 use stun_types::attribute::{AttributeType, RawAttribute};
 use stun_types::prelude::*;
 
-/// MAPPED-ADDRESS (RFC 8489, section 14.1): the address that a request came from, in clear.
-/// Contracts see address and port.
+/// MAPPED-ADDRESS (RFC 8489, section 14.1): the address from which a request came, not XORed.
+///
+/// Contracts: they see the address and the port.
+///
+/// # Examples
+///
+/// ```
+/// use seatcrane_stun::extra::attribute::MappedAddress;
+/// use seatcrane_stun::types::message::Message;
+/// use std::net::SocketAddr;
+///
+/// /// Returns the address that a server saw, also that of an old server.
+/// fn mapped(success: &Message<'_>) -> Option<SocketAddr> {
+///     let old = || Some(success.attribute::<MappedAddress>().ok()?.addr());
+///     success.xor_mapped_address().ok().or_else(old)
+/// }
+/// # let success = b"\x01\x01\0\x0c\x21\x12\xa4\x42 any 12 byte\
+/// #                 \0\x01\0\x08\0\x01\x0d\x96\xc0\0\x02\x01";
+/// # let success = Message::from_bytes(success).unwrap();
+/// # assert_eq!(mapped(&success), Some("192.0.2.1:3478".parse().unwrap()));
+/// ```
 #[derive(Clone, Copy, Debug, PartialEq, Eq)]
 pub struct MappedAddress {
     address: Address,
@@ -30,7 +49,8 @@ impl Model for MappedAddress {
 }
 
 impl MappedAddress {
-    /// The attribute of this address. Flow information and scope of an IPv6 address are not kept.
+    /// Creates the attribute from an address. The flow information and the scope of an IPv6 address
+    /// are left out.
     pub fn new(addr: SocketAddr) -> Self
         ensures { result ≡ record { ip = socket_ip addr; port = socket_port addr } }
     {
@@ -39,7 +59,7 @@ impl MappedAddress {
         }
     }
 
-    /// The address. Flow information and scope of an IPv6 address are 0.
+    /// Returns the address. The flow information and the scope of an IPv6 address are 0.
     pub fn addr(&self) -> SocketAddr
         ensures ip { socket_ip result ≡ self.now.ip }
         ensures port { IsPlainSocket result self.now.port }

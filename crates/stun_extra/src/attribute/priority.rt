@@ -11,7 +11,26 @@ use stun_types::attribute::{AttributeType, RawAttribute};
 use stun_types::prelude::*;
 
 /// PRIORITY (RFC 8445, section 16.1): the priority of a peer-reflexive candidate that this check
-/// discovers. Contracts see the number.
+/// may discover.
+///
+/// Contracts: they see the number.
+///
+/// # Examples
+///
+/// ```
+/// use seatcrane_stun::extra::attribute::Priority;
+/// use seatcrane_stun::types::message::*;
+/// use seatcrane_stun::types::prelude::*;
+///
+/// # let id = TransactionId::from(*b"any 12 bytes");
+/// let mut message = Message::builder_request_with_id(BINDING, id, MessageWriteVec::new());
+/// message.add_attribute(&Priority::new(0x6e00_01ff))?;
+/// let bytes = message.finish();
+///
+/// let message = Message::from_bytes(&bytes).unwrap();
+/// assert_eq!(message.attribute::<Priority>().unwrap().priority(), 0x6e00_01ff);
+/// # Ok::<(), StunWriteError>(())
+/// ```
 #[derive(Clone, Copy, Debug, PartialEq, Eq)]
 pub struct Priority {
     priority: u32,
@@ -28,14 +47,14 @@ impl Model for Priority {
 }
 
 impl Priority {
-    /// The attribute of this priority.
+    /// Creates the attribute from a priority.
     pub fn new(priority: u32) -> Self
         ensures { result ≡ priority }
     {
         Priority { priority }
     }
 
-    /// The priority.
+    /// Returns the priority.
     pub fn priority(&self) -> u32
         ensures { result ≡ self.now }
     {

@@ -10,7 +10,29 @@ use stun_types::attribute::{AttributeType, RawAttribute};
 use stun_types::prelude::*;
 
 /// REQUESTED-ADDRESS-FAMILY (RFC 8656, section 18.6): the family of the address that a client asks
-/// a server to allocate. Contracts see the family.
+/// a server to allocate.
+///
+/// Contracts: they see the family.
+///
+/// # Examples
+///
+/// ```
+/// use seatcrane_stun::extra::attribute::{AddressFamily, RequestedAddressFamily};
+/// use seatcrane_stun::extra::turn::TurnMethod;
+/// use seatcrane_stun::types::message::*;
+/// use seatcrane_stun::types::prelude::*;
+///
+/// # let id = TransactionId::from(*b"any 12 bytes");
+/// let method = TurnMethod::Allocate.method();
+/// let mut message = Message::builder_request_with_id(method, id, MessageWriteVec::new());
+/// message.add_attribute(&RequestedAddressFamily::new(AddressFamily::Ipv6))?;
+/// let bytes = message.finish();
+///
+/// let message = Message::from_bytes(&bytes).unwrap();
+/// let family = message.attribute::<RequestedAddressFamily>().unwrap().family();
+/// assert_eq!(family, AddressFamily::Ipv6);
+/// # Ok::<(), StunWriteError>(())
+/// ```
 #[derive(Clone, Copy, Debug, PartialEq, Eq)]
 pub struct RequestedAddressFamily {
     family: AddressFamily,
@@ -27,14 +49,14 @@ impl Model for RequestedAddressFamily {
 }
 
 impl RequestedAddressFamily {
-    /// The attribute of this family.
+    /// Creates the attribute from a family.
     pub fn new(family: AddressFamily) -> Self
         ensures { result ≡ family }
     {
         RequestedAddressFamily { family }
     }
 
-    /// The family.
+    /// Returns the family.
     pub fn family(&self) -> AddressFamily
         ensures { result ≡ self.now }
     {

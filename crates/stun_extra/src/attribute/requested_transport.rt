@@ -11,8 +11,29 @@ use stun_types::prelude::*;
 /// The number of bytes of the value: the protocol, and three that are reserved.
 const LENGTH: usize = 4;
 
-/// REQUESTED-TRANSPORT (RFC 8656, section 18.8): the protocol between the server and peers, by its
-/// number in the header of IP. Contracts see the number.
+/// REQUESTED-TRANSPORT (RFC 8656, section 18.8): the protocol between the server and the peers, as
+/// its number in the IP header.
+///
+/// Contracts: they see the number.
+///
+/// # Examples
+///
+/// ```
+/// use seatcrane_stun::extra::attribute::RequestedTransport;
+/// use seatcrane_stun::extra::turn::TurnMethod;
+/// use seatcrane_stun::types::message::*;
+/// use seatcrane_stun::types::prelude::*;
+///
+/// # let id = TransactionId::from(*b"any 12 bytes");
+/// let method = TurnMethod::Allocate.method();
+/// let mut message = Message::builder_request_with_id(method, id, MessageWriteVec::new());
+/// message.add_attribute(&RequestedTransport::new(RequestedTransport::UDP))?;
+/// let bytes = message.finish();
+///
+/// let message = Message::from_bytes(&bytes).unwrap();
+/// assert_eq!(message.attribute::<RequestedTransport>().unwrap().protocol(), 17);
+/// # Ok::<(), StunWriteError>(())
+/// ```
 #[derive(Clone, Copy, Debug, PartialEq, Eq)]
 pub struct RequestedTransport {
     protocol: u8,
@@ -31,26 +52,26 @@ impl Model for RequestedTransport {
 }
 
 impl RequestedTransport {
-    /// UDP, the protocol of RFC 8656.
+    /// UDP, as RFC 8656 uses it.
     pub const UDP: u8 = 17;
-    /// TCP, the protocol of RFC 6062.
+    /// TCP, as RFC 6062 uses it.
     pub const TCP: u8 = 6;
 
-    /// The attribute of this protocol.
+    /// Creates the attribute from the number of a protocol.
     pub fn new(protocol: u8) -> Self
         ensures { result ≡ protocol }
     {
         RequestedTransport { protocol }
     }
 
-    /// The number of the protocol.
+    /// Returns the number of the protocol.
     pub fn protocol(&self) -> u8
         ensures { result ≡ self.now }
     {
         self.protocol
     }
 
-    /// The bytes of the value: the protocol, and three that are reserved.
+    /// Returns the bytes of the value: the protocol, and three that are reserved.
     fn bytes(&self) -> [u8; LENGTH]
         ensures value { result ≡ transport_value self.now }
         ensures protocol { self.now < 2 ^ 8 }

@@ -11,8 +11,29 @@ use stun_types::prelude::*;
 /// The number of bytes of a token.
 const LENGTH: usize = 8;
 
-/// RESERVATION-TOKEN (RFC 8656, section 18.10): 8 bytes that name a port which a server keeps
-/// reserved. Contracts see its bytes.
+/// RESERVATION-TOKEN (RFC 8656, section 18.10): 8 bytes that name a port which the server has
+/// reserved.
+///
+/// Contracts: they see the bytes.
+///
+/// # Examples
+///
+/// ```
+/// use seatcrane_stun::extra::attribute::ReservationToken;
+/// use seatcrane_stun::extra::turn::TurnMethod;
+/// use seatcrane_stun::types::message::*;
+/// use seatcrane_stun::types::prelude::*;
+///
+/// # let id = TransactionId::from(*b"any 12 bytes");
+/// let method = TurnMethod::Allocate.method();
+/// let mut message = Message::builder_request_with_id(method, id, MessageWriteVec::new());
+/// message.add_attribute(&ReservationToken::new(*b"reserved"))?;
+/// let bytes = message.finish();
+///
+/// let message = Message::from_bytes(&bytes).unwrap();
+/// assert_eq!(message.attribute::<ReservationToken>().unwrap().token(), b"reserved");
+/// # Ok::<(), StunWriteError>(())
+/// ```
 #[derive(Clone, Copy, Debug, PartialEq, Eq)]
 pub struct ReservationToken {
     token: [u8; LENGTH],
@@ -29,14 +50,14 @@ impl Model for ReservationToken {
 }
 
 impl ReservationToken {
-    /// The attribute of this token.
+    /// Creates the attribute from a token.
     pub fn new(token: [u8; 8]) -> Self
         ensures { result ≡ token }
     {
         ReservationToken { token }
     }
 
-    /// The bytes of the token.
+    /// Returns the bytes of the token.
     pub fn token(&self) -> &[u8; 8]
         ensures { result.now ≡ self.now }
     {

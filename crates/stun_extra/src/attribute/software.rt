@@ -15,8 +15,27 @@ use stun_types::attribute::{AttributeType, RawAttribute};
 use stun_types::limits::TEXT_LIMIT;
 use stun_types::prelude::*;
 
-/// SOFTWARE (RFC 8489, section 14.14): the software of the sender, UTF-8 of at most 763 bytes.
-/// Contracts see its bytes.
+/// SOFTWARE (RFC 8489, section 14.14): a description of the software that the sender uses, UTF-8 of
+/// at most 763 bytes.
+///
+/// Contracts: they see its bytes.
+///
+/// # Examples
+///
+/// ```
+/// use seatcrane_stun::extra::attribute::Software;
+/// use seatcrane_stun::types::message::*;
+/// use seatcrane_stun::types::prelude::*;
+///
+/// # let id = TransactionId::from(*b"any 12 bytes");
+/// let mut message = Message::builder_request_with_id(BINDING, id, MessageWriteVec::new());
+/// message.add_attribute(&Software::new("example 1.0")?)?;
+/// let bytes = message.finish();
+///
+/// let message = Message::from_bytes(&bytes).unwrap();
+/// assert_eq!(message.attribute::<Software>().unwrap().software(), "example 1.0");
+/// # Ok::<(), StunWriteError>(())
+/// ```
 #[derive(Debug, Drop)]
 pub struct Software<'a> {
     text: &'a str,
@@ -60,8 +79,11 @@ impl<'a> Eq for Software<'a> {
 }
 
 impl<'a> Software<'a> {
-    /// The attribute of this text. Fails with `TooLarge` if it has more than 763 bytes. It does not
-    /// allocate.
+    /// Creates the attribute from a text. It does not allocate.
+    ///
+    /// # Errors
+    ///
+    /// - [`StunWriteError::TooLarge`]: the text has more than 763 bytes.
     pub fn new(text: &'a str) -> Result<Self, StunWriteError>
         ensures ok { IfOk result (λ software. software ≡ text.now) }
         ensures only_too_large { IsOkUnless result StunWriteError.TooLarge }
@@ -72,7 +94,7 @@ impl<'a> Software<'a> {
         Ok(Software { text })
     }
 
-    /// The text.
+    /// Returns the text.
     pub fn software(&self) -> &'a str
         ensures text { result.now ≡ self.now }
         ensures within_limit { length result.now ≤ TEXT_LIMIT }

@@ -1,4 +1,4 @@
-//! What the attributes share whose value is a text (RFC 8489, sections 14.14 and 14.16).
+//! Shared parts of the attributes whose value is a text (RFC 8489, sections 14.14 and 14.16).
 ghost use Rattle.std.specs.Prelude.{◌≡◌, ◌<◌, ◌↔◌, Some, None, IfOk, IfErr};
 ghost use Rattle.std.specs.Prelude.{OnErr, IsOkUnless, IsErrOf, length};
 ghost use Rattle.stun_types.specs.Text.{short_text, text_of};
@@ -7,7 +7,7 @@ use std::str;
 use stun_base::error::{StunParseError, StunWriteError};
 use stun_types::attribute::{AttributeType, RawAttribute};
 
-/// The text. Fails with `TooLarge` if it has more bytes than the attribute may have.
+/// Returns the text. Fails with `TooLarge` if it has more bytes than the attribute may have.
 pub(super) fn within_limit(text: &str, most: usize) -> Result<&str, StunWriteError>
     ensures ok { IfOk result (λ same. same.now ≡ text.now) }
     ensures only_too_large { IsOkUnless result StunWriteError.TooLarge }
@@ -19,7 +19,7 @@ pub(super) fn within_limit(text: &str, most: usize) -> Result<&str, StunWriteErr
     Ok(text)
 }
 
-/// The bytes as a text. Fails with `InvalidAttributeData` if they are too many or not UTF-8.
+/// Returns bytes as a text. Fails with `InvalidAttributeData` if they are too many or not UTF-8.
 #[tactic(auto, using(stun_types::proofs::ReadingLemmas::short_text_read, stun_types::proofs::ReadingLemmas::short_text_not_read))]
 fn read_short_text(bytes: &[u8], most: usize) -> Result<&str, StunParseError>
     ensures ok { IfOk result (λ text. short_text most bytes.now ≡ Some text.now) }
@@ -35,8 +35,8 @@ fn read_short_text(bytes: &[u8], most: usize) -> Result<&str, StunParseError>
     }
 }
 
-/// The text of a raw attribute of this type. Fails with `InvalidAttributeData` if the type is
-/// another, or the value is too long or not UTF-8.
+/// Parses the text in a raw attribute with this type. Fails with `InvalidAttributeData` if the
+/// attribute has another type, or if its value is too long or not UTF-8.
 pub(super) fn read_text<'a>(
     raw: RawAttribute<'a>,
     kind: AttributeType,

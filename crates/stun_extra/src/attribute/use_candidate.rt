@@ -11,6 +11,23 @@ use stun_types::prelude::*;
 
 /// USE-CANDIDATE (RFC 8445, section 16.1): the controlling agent nominates the candidate pair of
 /// this check. It has no value.
+///
+/// # Examples
+///
+/// ```
+/// use seatcrane_stun::extra::attribute::UseCandidate;
+/// use seatcrane_stun::types::message::*;
+/// use seatcrane_stun::types::prelude::*;
+///
+/// # let id = TransactionId::from(*b"any 12 bytes");
+/// let mut check = Message::builder_request_with_id(BINDING, id, MessageWriteVec::new());
+/// check.add_attribute(&UseCandidate)?; // nominates the pair
+/// let check = check.finish();
+///
+/// let check = Message::from_bytes(&check).unwrap();
+/// assert!(check.attribute::<UseCandidate>().is_ok());
+/// # Ok::<(), StunWriteError>(())
+/// ```
 #[derive(Clone, Copy, Debug, PartialEq, Eq)]
 pub struct UseCandidate;
 

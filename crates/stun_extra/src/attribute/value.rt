@@ -1,4 +1,4 @@
-//! What the attributes share whose values have one form.
+//! Shared parts of the attributes whose values have one form.
 ghost use Rattle.std.specs.Prelude.{◌≡◌, ◌≤◌, ◌+◌, ◌++◌};
 ghost use Rattle.byteorder.specs.Endian.{big_bytes};
 ghost use Rattle.stun_types.specs.Limits.{max_length};
@@ -10,8 +10,8 @@ use stun_base::error::StunParseError;
 use stun_types::attribute::{AttributeType, RawAttribute};
 use stun_types::prelude::*;
 
-/// The number of 32 bits in a raw attribute of this type. Fails with `InvalidAttributeData` if the
-/// type is another or the value does not have 4 bytes.
+/// Parses the number of 32 bits in a raw attribute with this type. Fails with
+/// `InvalidAttributeData` if the attribute has another type or its value does not have 4 bytes.
 pub(super) fn read_u32(raw: &RawAttribute<'_>, kind: AttributeType) -> Result<u32, StunParseError>
     ensures { result ≡ attribute_answer (number_of kind.0 4 raw.now) }
 {
@@ -21,8 +21,8 @@ pub(super) fn read_u32(raw: &RawAttribute<'_>, kind: AttributeType) -> Result<u3
     Ok(BigEndian::read_u32(raw.value()))
 }
 
-/// The number of 64 bits in a raw attribute of this type. Fails with `InvalidAttributeData` if the
-/// type is another or the value does not have 8 bytes.
+/// Parses the number of 64 bits in a raw attribute with this type. Fails with
+/// `InvalidAttributeData` if the attribute has another type or its value does not have 8 bytes.
 pub(super) fn read_u64(raw: &RawAttribute<'_>, kind: AttributeType) -> Result<u64, StunParseError>
     ensures { result ≡ attribute_answer (number_of kind.0 8 raw.now) }
 {
@@ -32,8 +32,8 @@ pub(super) fn read_u64(raw: &RawAttribute<'_>, kind: AttributeType) -> Result<u6
     Ok(BigEndian::read_u64(raw.value()))
 }
 
-/// Reads a raw attribute of this type that has no value. Fails with `InvalidAttributeData` if the
-/// type is another or the value is not empty.
+/// Parses a raw attribute with this type that has no value. Fails with `InvalidAttributeData` if
+/// the attribute has another type or its value is not empty.
 pub(super) fn read_flag(raw: &RawAttribute<'_>, kind: AttributeType) -> Result<(), StunParseError>
     ensures { result ≡ attribute_answer (flag_of kind.0 raw.now) }
 {

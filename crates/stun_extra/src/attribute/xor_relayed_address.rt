@@ -15,7 +15,9 @@ use stun_types::attribute::{AttributeType, RawAttribute, XorMappedAddress};
 use stun_types::prelude::*;
 
 /// XOR-RELAYED-ADDRESS (RFC 8656, section 18.5): the address that a server allocated for a client,
-/// XORed as in XOR-MAPPED-ADDRESS. Contracts see the XORed parts.
+/// XORed as in XOR-MAPPED-ADDRESS.
+///
+/// Contracts: they see the XORed parts.
 #[derive(Clone, Copy, Debug, PartialEq, Eq)]
 pub struct XorRelayedAddress {
     hidden: XorMappedAddress,
@@ -32,8 +34,8 @@ impl Model for XorRelayedAddress {
 }
 
 impl XorRelayedAddress {
-    /// The attribute of this address in a message of this transaction. Flow information and scope
-    /// of an IPv6 address are not kept.
+    /// Creates the attribute from an address, for a message with this transaction ID. The flow
+    /// information and the scope of an IPv6 address are left out.
     pub fn new(addr: SocketAddr, id: TransactionId) -> Self
         ensures { result ≡ xored_address (socket_ip addr) (socket_port addr) id }
     {
@@ -42,8 +44,8 @@ impl XorRelayedAddress {
         }
     }
 
-    /// The address, if the attribute is of a message of this transaction. Flow information and
-    /// scope of an IPv6 address are 0.
+    /// Returns the address, if the attribute is of a message with this transaction ID. The flow
+    /// information and the scope of an IPv6 address are 0.
     pub fn addr(&self, id: TransactionId) -> SocketAddr
         ensures ip { IsHidden id self.now (socket_ip result) }
         ensures port { IsPlainSocket result (xor_port self.now.port) }

@@ -1,5 +1,5 @@
-//! What the attributes share whose value is an address XORed as in XOR-MAPPED-ADDRESS (RFC 8489,
-//! section 14.2).
+//! Shared parts of the attributes whose value is an address that is XORed as in XOR-MAPPED-ADDRESS
+//! (RFC 8489, section 14.2).
 ghost use Rattle.std.specs.Prelude.{◌≡◌, ◌≤◌, ◌+◌, ◌++◌, length};
 ghost use Rattle.stun_types.specs.Attribute.{attribute_length};
 ghost use Rattle.stun_types.specs.Grammar.{spelled_attribute};
@@ -17,8 +17,8 @@ use stun_types::prelude::*;
 /// The most bytes of XOR-MAPPED-ADDRESS with its type and its length.
 const LONGEST: usize = 24;
 
-/// The XORed address in a raw attribute of this type. Fails with `InvalidAttributeData` if the type
-/// is another or the value is malformed.
+/// Parses the XORed address in a raw attribute with this type. Fails with `InvalidAttributeData` if
+/// the attribute has another type or its value is malformed.
 pub(super) fn read_xored(
     raw: &RawAttribute<'_>,
     kind: AttributeType,
@@ -31,7 +31,7 @@ pub(super) fn read_xored(
     XorMappedAddress::from_raw(RawAttribute::new(AttributeType::XOR_MAPPED_ADDRESS, raw.value()))
 }
 
-/// Appends the attribute of this type whose value is that of XOR-MAPPED-ADDRESS.
+/// Appends the attribute with this type whose value is that of XOR-MAPPED-ADDRESS.
 pub(super) fn append_xored<W: MessageWrite>(
     writer: &mut W,
     kind: AttributeType,

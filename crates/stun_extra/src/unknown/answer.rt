@@ -1,5 +1,5 @@
-//! How a server refuses unknown types, and how a client judges a response that has them (RFC 8489,
-//! sections 6.3.1, 6.3.3 and 6.3.4).
+//! Refuses a request with unknown types at a server, and judges a response that has them at a
+//! client (RFC 8489, sections 6.3.1, 6.3.3 and 6.3.4).
 ghost use Rattle.std.specs.Prelude.{◌≡◌, ◌≤◌, ◌<◌, ◌↔◌, [], Ok, None, IfOk, IfSome};
 ghost use Rattle.std.specs.Prelude.{IsErrOf, IsOkUnless, IsSome, IsTrue, length};
 ghost use Rattle.stun_base.specs.Attributes.{ERROR_CODE};
@@ -21,17 +21,22 @@ use stun_types::prelude::*;
 /// The code of the error response to a request with unknown types (RFC 8489, section 14.8).
 pub const UNKNOWN_ATTRIBUTE: u16 = 420;
 
-/// The number of bytes of an ERROR-CODE with this code and its phrase.
+/// The number of bytes of an ERROR-CODE with this code and its reason phrase.
 const ERROR_LENGTH: usize = 28;
 
-/// Writes the answer to a request with unknown attributes into an empty writer (RFC 8489, section
-/// 6.3.1). It is an error response with the code 420 and UNKNOWN-ATTRIBUTES. These are the types of
-/// the visible attributes that must be understood and are not among the known ones. The answer can
-/// be added to and signed.
+/// Writes the error response to a request with unknown attributes into an empty writer: it has the
+/// code 420 and UNKNOWN-ATTRIBUTES (RFC 8489, section 6.3.1). You can add attributes to it and sign
+/// it.
 ///
-/// `Ok(None)` drops the writer: the message is no request, or has no such attribute. Fails with
-/// `TooSmall` if the writer has no room for the answer, else with `OutOfMemory` if an allocation
-/// fails. A failure drops the writer.
+/// Returns `None`, and drops the writer, if the message is not a request, or if it has no visible
+/// attribute that the server must understand and whose type is not in `known`.
+///
+/// # Errors
+///
+/// The first of these that applies. The writer is then dropped.
+///
+/// - [`StunWriteError::TooSmall`]: the writer has no room for the response.
+/// - [`StunWriteError::OutOfMemory`]: an allocation failed.
 pub fn answer_unknown<W: MessageWrite>(
     request: &Message<'_>,
     known: &[AttributeType],
@@ -55,7 +60,7 @@ pub fn answer_unknown<W: MessageWrite>(
     Ok(Some(write_refusal(request, known, writer)?))
 }
 
-/// Writes the answer to a request with unknown types.
+/// Writes the response to a request with unknown types.
 fn write_refusal<W: MessageWrite>(
     request: &Message<'_>,
     known: &[AttributeType],
@@ -98,16 +103,18 @@ fn write_parts<W: MessageWrite>(
     Ok(answer)
 }
 
-/// The number of bytes of that answer.
+/// Returns the number of bytes of that response.
 fn refusal_length(request: &Message<'_>, known: &[AttributeType]) -> usize
     ensures { result ≡ length (refusing_answer known.now request.now) }
 {
     HEADER_LENGTH + ERROR_LENGTH + attribute_length(2 * unknown_count(request, known))
 }
 
-/// Whether a response ends its transaction as failed, whatever else it says (RFC 8489, sections
-/// 6.3.3 and 6.3.4). It has a visible attribute that must be understood and is not among the known
-/// ones, or it is an error response without ERROR-CODE.
+/// Returns `true` if a response ends its request as failed, whatever else it says (RFC 8489,
+/// sections 6.3.3 and 6.3.4).
+///
+/// This is so if it has a visible attribute that the client must understand and whose type is not
+/// in `known`, or if it is an error response without ERROR-CODE.
 pub fn ends_failed(response: &Message<'_>, known: &[AttributeType]) -> bool
     ensures { IsTrue result ↔ EndsFailed known.now response.now }
 {
@@ -117,7 +124,7 @@ pub fn ends_failed(response: &Message<'_>, known: &[AttributeType]) -> bool
     response.has_class(MessageClass::Error) && first_error_code(response).is_none()
 }
 
-/// The first visible ERROR-CODE of a message, with its place.
+/// Returns the first visible ERROR-CODE of a message and its offset.
 fn first_error_code<'a>(message: &Message<'a>) -> Option<(usize, RawAttribute<'a>)>
     ensures { result ≡ first_of ERROR_CODE (visible message.now) }
 {

@@ -19,18 +19,37 @@ use stun_types::prelude::*;
 /// The number of bytes of a type.
 const TYPE_LENGTH: usize = 2;
 
-/// Where the types are.
+/// Where the types come from.
 #[derive(Clone, Copy, Debug)]
 enum Source<'a> {
-    /// Those of a message that must be understood and are not among the known ones.
+    /// The types of a message that a receiver must understand and that are not in a list.
     OfMessage(&'a Message<'a>, &'a [AttributeType]),
-    /// In a message that has the attribute.
+    /// The value of an attribute that was parsed.
     Received(&'a [u8]),
 }
 
-/// UNKNOWN-ATTRIBUTES (RFC 8489, section 14.13): the types of a request that must be understood and
-/// that the server does not know. A server finds them in the request, and a client reads them in
-/// the answer 420. Contracts see the list of types.
+/// UNKNOWN-ATTRIBUTES (RFC 8489, section 14.13): the types of a request's attributes that the
+/// server must understand and does not know. A server finds them in the request, and a client reads
+/// them in the response with the code 420.
+///
+/// Contracts: they see the list of the types.
+///
+/// # Examples
+///
+/// ```
+/// use seatcrane_stun::extra::UnknownAttributes;
+/// use seatcrane_stun::types::attribute::AttributeType;
+/// use seatcrane_stun::types::message::{Message, StunParseError};
+///
+/// /// Returns the types that a server did not understand, from its 420.
+/// fn not_understood(error: &Message<'_>) -> Result<Vec<AttributeType>, StunParseError> {
+///     let unknown = error.attribute::<UnknownAttributes>()?;
+///     Ok((0..unknown.len()).filter_map(|i| unknown.get(i)).collect())
+/// }
+/// # let error = b"\x01\x11\0\x08\x21\x12\xa4\x42 any 12 byte\0\x0a\0\x02\0\x24\0\0";
+/// # let error = Message::from_bytes(error).unwrap();
+/// # assert_eq!(not_understood(&error), Ok(vec![AttributeType::PRIORITY]));
+/// ```
 #[derive(Debug, Drop)]
 pub struct UnknownAttributes<'a> {
     source: Source<'a>,
@@ -49,7 +68,7 @@ impl<'a> Model for UnknownAttributes<'a> {
     ghost invariant = { λ attribute. IsEven attribute.source };
 }
 
-/// The type of this index, counted from 0, or `None` if there are not so many.
+/// Returns the type at an index, counted from 0, or `None` if there are no more types.
 fn type_at(bytes: &[u8], i: usize) -> Option<AttributeType>
     ensures { result ≡ slice_get (types_in bytes.now) i }
 {
@@ -64,7 +83,7 @@ fn bytes_fit(bytes: &[u8])
     ensures { (i : ℕ) → slice_index bytes.now i < 2 ^ 8 }
 {}
 
-/// The number of types of a message that are not known.
+/// Returns the number of types of a message that are not known.
 pub(super) fn unknown_count(message: &Message<'_>, known: &[AttributeType]) -> usize
     ensures value { result ≡ length (unknown_types known.now message.now) }
     ensures few { result < 2 ^ 14 }
@@ -76,7 +95,7 @@ pub(super) fn unknown_count(message: &Message<'_>, known: &[AttributeType]) -> u
     unknown_types(message, known).count()
 }
 
-/// The number of types that bytes spell.
+/// Returns the number of types that bytes spell.
 fn type_count(bytes: &[u8]) -> usize
     ensures value { result ≡ length (types_in bytes.now) }
     ensures fit { AreTypes (types_in bytes.now) }
@@ -85,8 +104,8 @@ fn type_count(bytes: &[u8]) -> usize
 }
 
 impl<'a> UnknownAttributes<'a> {
-    /// The attribute of the types of a message that must be understood and are not among the known
-    /// ones. It does not allocate.
+    /// Creates the attribute from the types of a message that the receiver must understand and that
+    /// are not in `known`, as `unknown_types` returns them. It does not allocate.
     pub fn of(message: &'a Message<'a>, known: &'a [AttributeType]) -> Self
         ensures { result ≡ unknown_types known.now message.now }
     {
@@ -95,7 +114,7 @@ impl<'a> UnknownAttributes<'a> {
         }
     }
 
-    /// Whether there is no such type.
+    /// Returns `true` if it has no type.
     pub fn is_empty(&self) -> bool
         ensures { IsTrue result ↔ (self.now ≡ []) }
     {
@@ -105,7 +124,7 @@ impl<'a> UnknownAttributes<'a> {
         }
     }
 
-    /// The number of types.
+    /// Returns the number of types.
     pub fn len(&self) -> usize
         ensures value { result ≡ length self.now }
         ensures fit { AreTypes self.now }
@@ -116,8 +135,9 @@ impl<'a> UnknownAttributes<'a> {
         }
     }
 
-    /// The type of this index, counted from 0, or `None` if there are not so many. In an attribute
-    /// that was read it is found at once, else by a walk over the message.
+    /// Returns the type at an index, counted from 0, or `None` if there are no more types. In an
+    /// attribute that was parsed this takes constant time. In one that was created by
+    /// [`of`](UnknownAttributes::of) it goes through the message.
     pub fn get(&self, i: usize) -> Option<AttributeType>
         ensures { result ≡ slice_get self.now i }
     {

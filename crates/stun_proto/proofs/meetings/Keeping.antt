@@ -44,7 +44,7 @@ pub record IsKept (users : Registered) (feature : Feature) (bound : ℕ) (remova
   pub lasts : (now : ℕ) → now ≤ bound → now ≤ last_moment → now ≤ p.expires
   pub has_client : removable ≡ false → is_none p.client ≡ false
 
-and_false : (b : Bool) → (b && false) ≡ false
+pub and_false : (b : Bool) → (b && false) ≡ false
 and_false true = refl
 and_false false = refl
 

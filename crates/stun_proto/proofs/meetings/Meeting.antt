@@ -79,7 +79,7 @@ challenge_step s who realm nonce list r credentials reads list_is =
     (taken_up s initial (Some who) (Some realm) (Some nonce) o)) list_is
 
 -- a success under the kept key
-success_step : (s : ClientSettings) (c : Challenge) (r : Reading) (a : IntegrityAlgorithm)
+pub success_step : (s : ClientSettings) (c : Challenge) (r : Reading) (a : IntegrityAlgorithm)
     → IsSuccess a c.key r
     → client_step s (authenticating c) r
     ≡ record { answer = Ok (Read.Validated a); state = authenticated c }
@@ -122,10 +122,10 @@ module _ (say : NoncesAsk) (found : SignedIsRead) (m : Meeting) (who : NameAndPa
   abbrev users : Registered
   users = server.registered
 
-  abbrev nonce : List ℕ
+  abbrev pub nonce : List ℕ
   nonce = nonce_of users.algorithms server.feature m.first.words
 
-  abbrev meant : Option IntegrityAlgorithm
+  abbrev pub meant : Option IntegrityAlgorithm
   meant = best m.settings.supported
       (algorithms_of users.algorithms) m.settings.feature server.feature
 
@@ -138,7 +138,7 @@ module _ (say : NoncesAsk) (found : SignedIsRead) (m : Meeting) (who : NameAndPa
   Comes met = (IsFitting → IsOk met.ending) × (IsOk met.ending → ComesTo m.from who meant met)
 
   -- the place when the nonce is made, when the list is offered, and when the client is accepted
-  abbrev opened : PlaceSeen
+  abbrev pub opened : PlaceSeen
   opened =
       record {
         nonce = nonce;
@@ -147,13 +147,13 @@ module _ (say : NoncesAsk) (found : SignedIsRead) (m : Meeting) (who : NameAndPa
         client = None;
       }
 
-  abbrev offering : PlaceSeen
+  abbrev pub offering : PlaceSeen
   offering = record opened { offered = Some users.algorithms }
 
-  abbrev taken : IntegrityAlgorithm → PlaceSeen
+  abbrev pub taken : IntegrityAlgorithm → PlaceSeen
   taken a = record offering { client = Some (record { name = who.username; algorithm = a }) }
 
-  abbrev seen : PlaceSeen → Sight
+  abbrev pub seen : PlaceSeen → Sight
   seen p =
       record {
         registered = users;
@@ -171,14 +171,14 @@ module _ (say : NoncesAsk) (found : SignedIsRead) (m : Meeting) (who : NameAndPa
   abbrev after_first : Reading → ServerSeen
   after_first r = after_validation server m.from m.first.now m.first.words r
 
-  first_served : (r : Reading) → IsBare r
+  pub first_served : (r : Reading) → IsBare r
       → (answer (sight server m.from) m.first.now m.first.words r ≡ Err Server.Unauthorized)
       × (place_after (sight server m.from) m.first.now m.first.words r ≡ Some opened)
   first_served r bare =
       unprotected (sight server m.from) m.first.now m.first.words r opened first_at bare.response
       bare.protected
 
-  first_sight : (r : Reading) → IsBare r → sight (after_first r) m.from ≡ seen opened
+  pub first_sight : (r : Reading) → IsBare r → sight (after_first r) m.from ≡ seen opened
   first_sight r bare = sight-after_validation server m.from m.first.now m.first.words r
       ∙ ap (λ (o : Option PlaceSeen). record (sight server m.from) { place = o })
       (first_served r bare).1
@@ -196,12 +196,12 @@ module _ (say : NoncesAsk) (found : SignedIsRead) (m : Meeting) (who : NameAndPa
       record v { place = option_map (with_offer v.registered.algorithms) v.place })
       (first_sight r bare)
 
-  abbrev challenge : IntegrityAlgorithm → Challenge
+  abbrev pub challenge : IntegrityAlgorithm → Challenge
   challenge a =
       new_challenge m.settings.feature who users.realm nonce
       (Some (algorithms_of users.algorithms)) a
 
-  challenge_stepped : (r : Reading) → IsFailure UNAUTHORIZED users.realm nonce r
+  pub challenge_stepped : (r : Reading) → IsFailure UNAUTHORIZED users.realm nonce r
       → r.algorithms ≡ Some (algorithms_of users.algorithms)
       → client_step m.settings initial r
       ≡ after_challenge initial None
@@ -219,7 +219,7 @@ module _ (say : NoncesAsk) (found : SignedIsRead) (m : Meeting) (who : NameAndPa
       m.first.words)
 
   -- ---- the second request
-  matched : (a : IntegrityAlgorithm) → contains a users.algorithms ≡ true
+  pub matched : (a : IntegrityAlgorithm) → contains a users.algorithms ≡ true
       → Matches users server.feature offering (challenge a) who
   matched a had = record {
     realm = refl;

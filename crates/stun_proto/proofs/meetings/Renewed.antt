@@ -276,6 +276,15 @@ module _ (say : NoncesAsk) (found : SignedIsRead) (m : Renewal) (who : NameAndPa
           (signing_leaves users server.feature server.expiry m.from fresh end m.may_be_removed
           (at_error m server asking) error_stands)
 
+      -- users and settings are the same after the second request
+      pub users_stay : (next : Page)
+          → (after_request m m.second (at_second m server asking) next).registered ≡ users
+      users_stay next =
+          ap (λ (v : Sight). v.registered)
+          (sight-after_validation (at_second m server asking) m.from m.second.now m.second.words
+          (reading_of next.bytes))
+          ∙ ap (λ (v : Sight). v.registered) second_stands.1
+
       -- ---- the client's new challenge
       abbrev again : Challenge
       again = record c { realm = users.realm; nonce = fresh }

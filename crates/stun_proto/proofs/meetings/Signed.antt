@@ -10,7 +10,7 @@ use Rattle.stun_auth.specs.Additions.{Page}
 use Rattle.stun_auth.specs.Algorithms.{contains, algorithms_of}
 use Rattle.stun_auth.specs.Client.{Challenge, ClientState, initial}
 use Rattle.stun_auth.specs.ClientSigning.{kept_challenge}
-use Rattle.stun_auth.specs.ClientStep.{UNAUTHORIZED, STALE_NONCE, naming_of}
+use Rattle.stun_auth.specs.ClientStep.{UNAUTHORIZED, STALE_NONCE, is_code, naming_of}
 use Rattle.stun_auth.specs.Feature.{is_possible}
 use Rattle.stun_auth.specs.Nonces.{asks_for_algorithms, asks_for_userhash, nonce_of, security_bits}
 use Rattle.stun_base.specs.MessageType.{is_response, is_success}
@@ -22,6 +22,8 @@ use Rattle.stun_auth.specs.Signed.{added_by_server, hashed_name, plain_name}
 use Rattle.stun_auth.specs.Server.{Sight}
 use Rattle.stun_proto.specs.Negotiation.{client_request, failure, server_response, success}
 use Rattle.stun_proto.specs.Renewal.{IsAsked, IsTold}
+use Rattle.stun_proto.specs.Contact.{IsChallenged, IsGranted}
+use Rattle.stun_proto.specs.Session.{IsAnswered}
 
 -- what a server's nonces ask for
 pub record NoncesAsk : Type 0 where
@@ -64,10 +66,16 @@ pub record IsSuccess (a : IntegrityAlgorithm) (key : List ℕ) (r : Reading) : T
   pub success : is_success r.class ≡ true
   pub digest : verified_under r key ≡ Some a
 
+-- a response under a key that does not tell a nonce stale
+pub record IsResponse (a : IntegrityAlgorithm) (key : List ℕ) (r : Reading) : Type 0 where
+  pub not_stale : is_code STALE_NONCE r.error ≡ false
+  pub digest : verified_under r key ≡ Some a
+
 -- what is read of each message of a run
 pub record SignedIsRead : Type 0 where
   pub bare : (id : ℕ) (page : Page) → client_request id initial ≡ Ok page
       → IsBare (reading_of page.bytes)
+  pub any_bare : (page : Page) → IsAsked initial page → IsBare (reading_of page.bytes)
   pub request : (id : ℕ) (state : ClientState) (c : Challenge) (set : AlgorithmSet) (hashes : Bool)
       (name realm : List ℕ) (page : Page)
       → kept_challenge state ≡ Some c → c.algorithms ≡ algorithms_of set
@@ -79,6 +87,15 @@ pub record SignedIsRead : Type 0 where
       → server_response (failure UNAUTHORIZED id) s ≡ Ok page
       → IsFailure UNAUTHORIZED s.registered.realm p.nonce (reading_of page.bytes)
       × ((reading_of page.bytes).algorithms ≡ Some (algorithms_of s.registered.algorithms))
+  pub any_challenge : (s : Sight) (p : PlaceSeen) (page : Page) → s.place ≡ Some p
+      → p.client ≡ None → IsUtf8 s.registered.realm → IsUtf8 p.nonce → IsChallenged s page
+      → IsFailure UNAUTHORIZED s.registered.realm p.nonce (reading_of page.bytes)
+      × ((reading_of page.bytes).algorithms ≡ Some (algorithms_of s.registered.algorithms))
+  pub any_success : (s : Sight) (p : PlaceSeen) (c : ClientSeen) (key : List ℕ) (page : Page)
+      → s.place ≡ Some p → p.client ≡ Some c
+      → key_at s.registered c.name c.algorithm ≡ Some key → IsUtf8 s.registered.realm
+      → IsUtf8 p.nonce
+      → IsGranted s page → IsSuccess c.algorithm key (reading_of page.bytes)
   pub any_request : (state : ClientState) (c : Challenge) (set : AlgorithmSet) (hashes : Bool)
       (name realm : List ℕ) (page : Page)
       → kept_challenge state ≡ Some c → c.algorithms ≡ algorithms_of set
@@ -93,6 +110,11 @@ pub record SignedIsRead : Type 0 where
       → key_at s.registered c.name c.algorithm ≡ Some key → IsUtf8 s.registered.realm
       → IsUtf8 p.nonce
       → server_response (success id) s ≡ Ok page → IsSuccess c.algorithm key (reading_of page.bytes)
+  pub answered : (s : Sight) (p : PlaceSeen) (c : ClientSeen) (key : List ℕ) (page : Page)
+      → s.place ≡ Some p → p.client ≡ Some c
+      → key_at s.registered c.name c.algorithm ≡ Some key → IsUtf8 s.registered.realm
+      → IsUtf8 p.nonce
+      → IsAnswered s page → IsResponse c.algorithm key (reading_of page.bytes)
 
 -- each message of a run can be signed with what is small, and nonces are short
 pub record SigningSucceeds : Type 0 where

@@ -11,7 +11,8 @@ use Rattle.stun_base.specs.MessageType.{class_of, type_number, class_in}
 use Rattle.stun_base.specs.MessageType.{is_response, is_success, is_error}
 use Rattle.stun_base.specs.declared.wire.message_type.MessageClass.{MessageClass}
 use Rattle.stun_base.specs.declared.wire.message_type.MessageClass.TheVariants as Class
-use Rattle.stun_types.specs.ErrorCode.{CodeAndReason, IsError}
+use Rattle.stun_base.specs.Attributes.{ERROR_CODE}
+use Rattle.stun_types.specs.ErrorCode.{CodeAndReason, IsError, error_of}
 use Rattle.stun_types.specs.Grammar.{spelled_message}
 use Rattle.stun_auth.specs.Additions.{Page, added_all}
 use Rattle.stun_auth.specs.declared.algorithm_set.AlgorithmSet.{AlgorithmSet}
@@ -21,9 +22,9 @@ use Rattle.stun_auth.specs.declared.feature.Feature.{Feature}
 use Rattle.stun_auth.specs.Algorithms.{is_sha256, algorithms_of}
 use Rattle.stun_auth.specs.Client.{Challenge, ClientState, Naming, initial}
 use Rattle.stun_auth.specs.ClientSigning.{client_additions, kept_challenge}
-use Rattle.stun_auth.specs.ClientStep.{STALE_NONCE, UNAUTHORIZED, naming_of}
+use Rattle.stun_auth.specs.ClientStep.{STALE_NONCE, UNAUTHORIZED, is_code, naming_of}
 use Rattle.stun_auth.specs.Nonces.{nonce_of}
-use Rattle.stun_auth.specs.Reading.{error_code, reading_of}
+use Rattle.stun_auth.specs.Reading.{error_code, last, reading_of}
 use Rattle.stun_auth.specs.Registered.{key_at}
 use Rattle.stun_auth.specs.Seen.{ClientSeen, PlaceSeen}
 use Rattle.stun_auth.specs.Server.{Sight}
@@ -37,7 +38,9 @@ use Rattle.stun_proto.specs.Negotiation.{client_request, error, failure, request
 use Rattle.stun_proto.specs.Negotiation.{success}
 use Rattle.stun_auth.specs.Additions.{page_of}
 use Rattle.stun_proto.specs.Renewal.{IsAsked, IsTold}
-use Rattle.stun_proto.proofs.meetings.Signed.{IsBare, IsFailure, IsRequest, IsSuccess}
+use Rattle.stun_proto.specs.Contact.{IsChallenged, IsGranted}
+use Rattle.stun_proto.specs.Session.{IsAnswered}
+use Rattle.stun_proto.proofs.meetings.Signed.{IsBare, IsFailure, IsRequest, IsResponse, IsSuccess}
 use Rattle.stun_proto.proofs.meetings.Signed.{SignedIsRead, SigningSucceeds}
 use Rattle.stun_proto.proofs.meetings.Ascii.{from_small}
 
@@ -305,6 +308,66 @@ module _ (laws : SigningLaws) where
         digest = r.digest_verifies (record { algorithm = c.algorithm; key = key }) refl;
       }
 
+  any_bare_read : (page : Page) → IsAsked initial page → IsBare (reading_of page.bytes)
+  any_bare_read page is =
+      let r = laws.read nothing is.message.bytes is.message.room page is.unsigned
+      (record { nonce = tt; realm = tt; username = tt; userhash = tt })
+      (asked_by initial None is.message page refl is.signed) in
+      record {
+        response = ap is_response (r.class_is ∙ is.class_is);
+        protected = r.integrity_is;
+      }
+
+  any_challenge_read : (s : Sight) (p : PlaceSeen) (page : Page) → s.place ≡ Some p
+      → p.client ≡ None → IsUtf8 s.registered.realm → IsUtf8 p.nonce → IsChallenged s page
+      → IsFailure UNAUTHORIZED s.registered.realm p.nonce (reading_of page.bytes)
+      × ((reading_of page.bytes).algorithms ≡ Some (algorithms_of s.registered.algorithms))
+  any_challenge_read s p page place client realm_text nonce_text is =
+      let added = added_without_client true s.registered p.nonce in
+      let done =
+      sym (laws.server s true is.message added (offered s p place client)) ∙ is.signed in
+      let r = laws.read added is.message.bytes is.message.room page is.unsigned
+      (record { nonce = nonce_text; realm = realm_text; username = tt; userhash = tt }) done in (
+        record { error = r.error_is ∙ is.code_is; realm = r.realm_is; nonce = r.nonce_is },
+        r.algorithms_are,
+      )
+
+  any_success_read : (s : Sight) (p : PlaceSeen) (c : ClientSeen) (key : List ℕ) (page : Page)
+      → s.place ≡ Some p → p.client ≡ Some c
+      → key_at s.registered c.name c.algorithm ≡ Some key → IsUtf8 s.registered.realm
+      → IsUtf8 p.nonce
+      → IsGranted s page → IsSuccess c.algorithm key (reading_of page.bytes)
+  any_success_read s p c key page place client found realm_text nonce_text is =
+      let added = added_under_key true s.registered p.nonce c.algorithm key in
+      let done =
+      sym (laws.server s true is.message added (known s p c key place client found)) ∙ is.signed in
+      let r = laws.read added is.message.bytes is.message.room page is.unsigned
+      (record { nonce = nonce_text; realm = realm_text; username = tt; userhash = tt }) done in
+      record {
+        error = r.error_is
+            ∙ ap (λ k. if is_error k
+            then option_map (λ (e : CodeAndReason). e.code) (last error_of ERROR_CODE is.message.bytes)
+            else None) is.class_is;
+        success = ap is_success (r.class_is ∙ is.class_is);
+        digest = r.digest_verifies (record { algorithm = c.algorithm; key = key }) refl;
+      }
+
+  answered_read : (s : Sight) (p : PlaceSeen) (c : ClientSeen) (key : List ℕ) (page : Page)
+      → s.place ≡ Some p → p.client ≡ Some c
+      → key_at s.registered c.name c.algorithm ≡ Some key → IsUtf8 s.registered.realm
+      → IsUtf8 p.nonce
+      → IsAnswered s page → IsResponse c.algorithm key (reading_of page.bytes)
+  answered_read s p c key page place client found realm_text nonce_text is =
+      let added = added_under_key true s.registered p.nonce c.algorithm key in
+      let done =
+      sym (laws.server s true is.message added (known s p c key place client found)) ∙ is.signed in
+      let r = laws.read added is.message.bytes is.message.room page is.unsigned
+      (record { nonce = nonce_text; realm = realm_text; username = tt; userhash = tt }) done in
+      record {
+        not_stale = ap (is_code STALE_NONCE) r.error_is ∙ is.not_stale;
+        digest = r.digest_verifies (record { algorithm = c.algorithm; key = key }) refl;
+      }
+
   pub signed_is_read : SignedIsRead
   signed_is_read =
       record {
@@ -314,6 +377,10 @@ module _ (laws : SigningLaws) where
         challenge = challenge_read;
         stale = stale_read;
         success = success_read;
+        answered = answered_read;
+        any_bare = any_bare_read;
+        any_challenge = any_challenge_read;
+        any_success = any_success_read;
       }
 
   -- ---- nothing is refused in a vector

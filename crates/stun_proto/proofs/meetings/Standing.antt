@@ -174,12 +174,13 @@ module _ (users : Registered) (feature : Feature) (expiry : ℕ) (address : Sock
       calls_leave calls (after_call s call) (λ k d h. leave (suc k) d (omega arith))
       (call_leaves s call (leave 0 call (omega arith)) stands)
 
+  pub signing_sight : (s : ServerSeen) (stands : Stands s)
+      → sight (after_signing s address true) address ≡ seen (Some (place_of stands.0))
+  signing_sight s stands =
+      sight-after_signing s address
+      ∙ ap (λ (v : Sight).
+      record v { place = option_map (with_offer v.registered.algorithms) v.place }) stands.1
+      ∙ ap (λ q. seen (Some q)) (offer_there stands.0)
+
   pub signing_leaves : (s : ServerSeen) → Stands s → Stands (after_signing s address true)
-  signing_leaves s stands = (
-    stands.0,
-    sight-after_signing s address
-        ∙ ap (λ (v : Sight).
-        record v { place = option_map (with_offer v.registered.algorithms) v.place }) stands.1
-        ∙ ap (λ q. seen (Some q)) (offer_there stands.0),
-    stands.2,
-  )
+  signing_leaves s stands = (stands.0, signing_sight s stands, stands.2)

@@ -1,4 +1,4 @@
-//! The calls of a server, and what it replies.
+//! The calls of a server, and its replies.
 
 ghost use Rattle.std.specs.Prelude.{Some};
 ghost use Rattle.std.specs.Fmt.{WritesOnOk, WritesStyledOnOk};
@@ -13,52 +13,54 @@ use stun_base::algorithm::IntegrityAlgorithm;
 use stun_base::error::{StunParseError, StunWriteError};
 use stun_base::instant::Instant;
 
-/// A call of a server. `Debug` shows which call it is and none of its values, whatever options a
-/// formatter has: a password is one.
+/// A call of a server. See [`serve`], which takes a list of calls.
+///
+/// `Debug` reveals which call it is but none of its values, because a password is one of them.
+///
+/// [`serve`]: crate::replay::serve
 #[derive(Drop)]
 #[derive_where(PartialEq, Eq)]
 pub enum ServerCall {
-    /// A message came, and is to be validated.
+    /// Validates a message that arrived.
     Validate {
-        /// The address that it came from.
+        /// The address that the message came from.
         from: SocketAddr,
-        /// The moment at which it came.
+        /// The current time.
         now: Instant,
         /// The bytes of the message.
         message: Vec<u8>,
-        /// The random words of a nonce, where one is made.
+        /// The random numbers to use if a nonce is made.
         words: [u32; 16],
     },
-    /// A message is to be signed for an address: its attributes are written anew, and then what
-    /// signing adds.
+    /// Signs a message: writes its attributes again, and then those that signing adds.
     Sign {
-        /// The address that it goes to.
+        /// The address that the message is for.
         to: SocketAddr,
         /// The bytes of the message.
         message: Vec<u8>,
     },
-    /// A user is added, or a present one gets another password.
+    /// Adds a user, or replaces the password of an existing one.
     AddUser {
         /// The name of the user.
         name: String,
-        /// The password from here on.
+        /// The password of the user.
         password: String,
     },
-    /// The user of this name is removed.
+    /// Removes the user with this name.
     RemoveUser(String),
-    /// This algorithm is supported too.
+    /// Adds a supported algorithm.
     AddIntegrity(IntegrityAlgorithm),
-    /// This algorithm alone is supported.
+    /// Makes this the only supported algorithm.
     SetIntegrity(IntegrityAlgorithm),
-    /// Whether users may be named by a hash is set.
+    /// Sets whether clients may send a hash (USERHASH) in place of the user name.
     SetAnonymous(Feature),
-    /// The client of this address is forgotten.
+    /// Forgets the client of this address, but keeps its nonce.
     RemoveClient(SocketAddr),
-    /// How long nonces last is set.
+    /// Sets how long new nonces are valid.
     SetExpiry(Duration),
-    /// Each address without a client whose nonce ended before this moment is forgotten.
+    /// Removes every record that has no client and whose nonce expired before this time.
     ForgetExpired(Instant),
-    /// All that is kept of this address is forgotten.
+    /// Removes the record of this address.
     Forget(SocketAddr),
 }
 
@@ -88,24 +90,22 @@ impl fmt::Debug for ServerCall {
     }
 }
 
-/// What a server replies to a call.
+/// The reply of a server to a call.
 #[derive(Drop)]
 #[derive_where(Debug, PartialEq, Eq)]
 pub enum ServerReply<A: Allocator = Global> {
-    /// The bytes are no message: the first reason that holds.
+    /// The bytes are not a STUN message, for this reason.
     NotAMessage(StunParseError),
-    /// The message is accepted, with this algorithm.
+    /// The message was validated, with this algorithm.
     Validated(IntegrityAlgorithm),
-    /// The message is refused: the first reason that holds, which is never `OutOfMemory`.
+    /// The message was refused, for this reason, which is never `OutOfMemory`.
     Refused(LongTermServerAuthErrorReason),
-    /// The message as it was signed.
+    /// The signed message.
     Signed(Vec<u8, A>),
-    /// Writing or signing the message is refused: the first reason that holds, which is never
-    /// `OutOfMemory`.
+    /// The message could not be written or signed, for this reason, which is never `OutOfMemory`.
     SignRefused(StunWriteError),
-    /// The call is done.
+    /// The call was made, and has no other result.
     Done,
-    /// Nonces are to last for less than 30 seconds, which a server does not take. Nothing was
-    /// called.
+    /// The call would have set a nonce lifetime of less than 30 seconds, and was not made.
     TooShort,
 }

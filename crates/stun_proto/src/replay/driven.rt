@@ -1,4 +1,4 @@
-//! Driven runs: the events at their moments, and a turn at each moment that a request awaits.
+//! Driven runs: each event at its time, and a turn at each time that a request waits for.
 ghost use Rattle.std.specs.Prelude.{◌+◌, List, IfOk, IfErr, OnOk, OnErr};
 ghost use Rattle.stun_proto.specs.code.Calls.{kept_steps, HasPassed, TakesTurns, TakesWhole};
 ghost use Rattle.stun_proto.specs.Headline.{IsDrivenByPlan};
@@ -16,32 +16,59 @@ use std::alloc::{AllocError, Allocator};
 use stun_agent::agent::StunAgent;
 use stun_base::instant::Instant;
 
-/// Drives an agent by a list of events, each at its moment, and returns what the agent did, in
+/// Drives an agent through a list of events, each at its time, and returns what the agent did, in
 /// order.
 ///
-/// The moments of the events must not go back, and none may be after `until`. The run is this:
+/// The times of the events must not go back, and none may be after `until`. The run goes like this:
 ///
-/// 1. Before an event, each moment below its own that a request awaits has a turn, in order.
-/// 2. Then the event comes, and a turn at its moment.
-/// 3. After the last event, each awaited moment up to `until` has a turn.
+/// 1. Before an event, there is a turn at each earlier time that a request waits for, in order.
+/// 2. Then the event happens, and there is a turn at its time.
+/// 3. After the last event, there is a turn at each time up to `until` that a request waits for.
 ///
-/// Without events nothing happens. A turn at a moment calls `poll_transmit` until it returns
-/// `None`, then `poll` until it returns `WaitUntil`. It begins again while the moment to wait until
-/// is this one. At `Instant::MAX` there is one turn.
+/// Without events nothing happens. A turn calls `poll_transmit` until it returns `None`, and then
+/// `poll` until it returns `WaitUntil`, and starts again as long as the time to wait until is the
+/// time of the turn. At `Instant::MAX` there is one turn.
 ///
-/// Take a request that one event asks for, and that nothing meets up to its end: no response from
-/// its address, no cancellation and no change. It is sent at its first moment and at the sums of
-/// its timeouts from there, and at no other moment. It times out once (RFC 8489, section 6.2.1).
-/// This holds whatever responses other addresses send.
+/// A request is undisturbed if one event asks for it, and if until its end no response to it
+/// arrives from its address, and no call cancels or changes it. It is then sent at the time of its
+/// event and at the sums of its timeouts from there, and at no other time, and times out once (RFC
+/// 8489, section 6.2.1). This holds whatever other addresses send.
 ///
-/// The clause `headline` says so, and that the steps returned are exactly those that this agent
-/// made; `run` says the latter alone, and `plans` the former for ids that come again.
+/// Contracts: the clause `headline` says so, and that the steps returned are exactly those that
+/// this agent made. `run` says the latter alone, and `plans` the former for IDs that are used
+/// again.
 ///
-/// Where an allocation fails, `drive` returns `Stopped`, and the steps are lost. The agent is then
-/// the one after the first `done` events, with the turns at their moments. It has also had the
-/// turns before the next event, or up to `until` where no event is left. Event `done` has not come.
-/// So `drive` with this agent and the events from `done` on makes the rest of the run. No event
-/// comes twice, and none is left out (law `stopped_runs_go_on`).
+/// # Errors
+///
+/// `Stopped` if an allocation fails; the steps are lost. The agent has then had the first `done`
+/// events with their turns, and the turns before the next event, or up to `until` if no event is
+/// left. So to make the rest of the run, call `drive` with this agent and the events from `done`
+/// on: no event happens twice, and none is left out (law `stopped_runs_go_on`).
+///
+/// # Examples
+///
+/// A request that nobody answers:
+///
+/// ```
+/// use seatcrane_stun::replay::proved::agent::StunAgent;
+/// use seatcrane_stun::replay::proved::types::TransportType;
+/// use seatcrane_stun::replay::proved::{Global, Instant, Vec};
+/// use seatcrane_stun::replay::{AgentEvent, AgentStep, drive};
+///
+/// let (local, to) = ("192.0.2.1:4242".parse().unwrap(), "198.51.100.7:3478".parse().unwrap());
+/// let mut agent = StunAgent::builder(Global, TransportType::Udp, local).build();
+/// let request = b"\0\x01\0\0\x21\x12\xa4\x42 any 12 byte";
+/// let bytes = Vec::from_slice(Global, request).unwrap();
+/// let events = [(Instant::ZERO, AgentEvent::SendRequest { bytes, to })];
+///
+/// let steps = drive(Global, &mut agent, &events, Instant::MAX).unwrap();
+/// let times = steps.iter().map(|step| match step {
+///     AgentStep::Transmitted { at, .. } | AgentStep::TimedOut { at, .. } => at.as_nanos(),
+///     _ => unreachable!("nothing else happens"),
+/// });
+/// let half_seconds = times.map(|time| time / 500_000_000);
+/// assert!(half_seconds.eq([0, 1, 3, 7, 15, 31, 63, 79])); // 0, 0.5, 1.5 .. 31.5 and 39.5 s
+/// ```
 pub fn drive<A: Allocator + Copy>(
     alloc: A,
     agent: &mut StunAgent<A>,

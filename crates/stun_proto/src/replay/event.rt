@@ -8,112 +8,119 @@ use stun_base::instant::Instant;
 use stun_base::transaction_id::TransactionId;
 use thiserror::Error;
 
-/// What happens to an agent.
+/// An event in the run of an agent: a call that the agent gets, at a given time.
+///
+/// See [`drive`], which takes a list of events.
+///
+/// [`drive`]: crate::replay::drive
 #[derive(Debug, Drop, PartialEq, Eq)]
 pub enum AgentEvent {
-    /// An indication or a response is to be sent.
+    /// The agent sends an indication or a response.
     Send {
         /// The bytes of the message.
         bytes: Vec<u8>,
-        /// The address that it goes to.
+        /// The address to send it to.
         to: SocketAddr,
     },
-    /// A request is to be sent.
+    /// The agent sends a request.
     SendRequest {
         /// The bytes of the request.
         bytes: Vec<u8>,
-        /// The address that it goes to.
+        /// The address to send it to.
         to: SocketAddr,
     },
-    /// Bytes were received.
+    /// A datagram arrives.
     Receive {
-        /// The bytes.
+        /// The bytes of the datagram.
         bytes: Vec<u8>,
-        /// The address that they came from.
+        /// The address that it comes from.
         from: SocketAddr,
     },
-    /// The request of this transaction is cancelled.
+    /// The request with this transaction ID is canceled.
     Cancel(TransactionId),
-    /// The request of this transaction is not sent again.
+    /// The request with this transaction ID is no longer retransmitted.
     CancelRetransmissions(TransactionId),
-    /// The request of this transaction gets other timeouts.
+    /// The request with this transaction ID gets other timeouts.
     Configure {
-        /// The transaction.
+        /// The transaction ID of the request.
         id: TransactionId,
         /// The wait after the first transmission.
         initial: Duration,
-        /// How many transmissions there are over UDP.
+        /// The number of transmissions over UDP, the first one included.
         retransmits: u32,
         /// The wait after the last transmission.
         last: Duration,
-        /// The longest wait between two transmissions.
+        /// An upper bound on the waits between transmissions.
         max: Duration,
     },
-    /// Marks an address as validated. This does not restrict whose messages are accepted.
+    /// An address is added to the validated peers. This does not affect which messages the agent
+    /// accepts.
     ValidatePeer(SocketAddr),
 }
 
-/// What an agent does, and when.
+/// A step in the run of an agent: what the agent did, and when.
 #[derive(Drop)]
 #[derive_where(Debug, PartialEq, Eq)]
 pub enum AgentStep<A: Allocator = Global> {
-    /// A request is sent, for the first time or again.
+    /// The agent sent a request, for the first time or again.
     Transmitted {
-        /// The moment.
+        /// The time of the step.
         at: Instant,
-        /// The transaction of the request.
+        /// The transaction ID of the request.
         id: TransactionId,
-        /// The address that it goes to.
+        /// The address to send it to.
         to: SocketAddr,
         /// The bytes of the request.
         bytes: Vec<u8, A>,
     },
-    /// An indication or a response is sent.
+    /// The agent sent an indication or a response.
     Sent {
-        /// The moment.
+        /// The time of the step.
         at: Instant,
-        /// The address that it goes to.
+        /// The address to send it to.
         to: SocketAddr,
         /// The bytes of the message.
         bytes: Vec<u8, A>,
     },
-    /// A message was received.
+    /// A message arrived.
     Received {
-        /// The moment.
+        /// The time of the step.
         at: Instant,
-        /// Whether the agent took it: a request or an indication always, a response where it
-        /// answers an outstanding request that went to its sender.
+        /// Whether the agent accepted it. A request or an indication is always accepted, and a
+        /// response if it answers an outstanding request that was sent to its source.
         accepted: bool,
     },
-    /// A call was refused. Bytes that were received and are no message are `ParseError`. It is
-    /// never `OutOfMemory`: where an allocation fails, the run is `Stopped`.
+    /// A call failed. The error is `ParseError` for a datagram that is not a STUN message. It is
+    /// never `OutOfMemory`, because the run is [`Stopped`] if an allocation fails.
     Refused {
-        /// The moment.
+        /// The time of the step.
         at: Instant,
-        /// The first reason that holds.
+        /// The error that the call returned.
         error: StunError,
     },
-    /// A request has ended: no response came in time.
+    /// A request ended because no response arrived in time.
     TimedOut {
-        /// The moment.
+        /// The time of the step.
         at: Instant,
-        /// The transaction of the request.
+        /// The transaction ID of the request.
         id: TransactionId,
     },
-    /// A request has ended after it was cancelled, or its retransmissions were.
+    /// A request ended after it, or its retransmissions, had been canceled.
     Cancelled {
-        /// The moment.
+        /// The time of the step.
         at: Instant,
-        /// The transaction of the request.
+        /// The transaction ID of the request.
         id: TransactionId,
     },
 }
 
-/// An allocation failed in a run.
+/// The error of a run in which an allocation failed.
 #[derive(Clone, Copy, PartialEq, Eq, Debug, Error)]
 #[error("out of memory after {done} complete events or calls")]
 pub struct Stopped {
-    /// How many of the events or calls are complete. Whoever goes on begins at this index. The law
-    /// `stopped_runs_go_on` says that of events this makes the rest of the run.
+    /// The number of events or calls that are complete. To continue the run, start at this index.
+    ///
+    /// Contracts: the law `stopped_runs_go_on` says that the remaining events make exactly the rest
+    /// of the run.
     pub done: usize,
 }

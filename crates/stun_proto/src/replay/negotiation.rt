@@ -1,4 +1,4 @@
-//! A client and a server that meet.
+//! A client and a server that authenticate each other.
 
 ghost use Rattle.std.specs.Prelude.{◌≡◌, ◌≢◌, ◌<◌, IfSome, IsUtf8, Err, length};
 ghost use Rattle.stun_base.specs.Credentials.{NameAndPassword};
@@ -29,27 +29,27 @@ use stun_base::instant::Instant;
 use stun_base::transaction_id::TransactionId;
 use thiserror::Error;
 
-/// What a client and a server come to.
+/// How a client and a server ended their attempt to authenticate each other.
 #[derive(Clone, Copy, Debug, PartialEq, Eq)]
 pub enum Outcome {
-    /// Both sides said so: the server accepted the second request with this algorithm, and the
-    /// client its success.
+    /// Both sides are authenticated: the server validated the second request with this algorithm,
+    /// and the client validated the success response.
     Validated(IntegrityAlgorithm),
-    /// The server accepted the first request with this algorithm already.
+    /// The server validated the first request already, with this algorithm.
     AlreadyValidated(IntegrityAlgorithm),
-    /// The server refused a request.
+    /// The server refused a request, for this reason.
     ServerRefused(LongTermServerAuthErrorReason),
-    /// The client refused a response.
+    /// The client refused a response, for this reason.
     ClientRefused(LongTermClientAuthErrorReason),
 }
 
-/// Why a run came to no outcome.
+/// The reason why a run ended without an [`Outcome`].
 #[derive(Clone, Copy, Debug, PartialEq, Eq, Error)]
 pub enum NegotiateError {
     /// An allocation failed.
     #[error("out of memory")]
     Memory,
-    /// A signing was refused for another reason.
+    /// A message could not be signed, for this reason, which is never `OutOfMemory`.
     #[error(transparent)]
     Write(StunWriteError),
 }
@@ -87,48 +87,76 @@ impl From<Stopped> for NegotiateError {
     }
 }
 
-/// A client and a server meet:
+/// Lets a client and a server authenticate each other, and returns how that ended.
 ///
-/// 1. The client sends a Binding request with the first id. The server reads it at the first
-///    moment.
+/// 1. The client sends a Binding request with the first ID, which the server reads at the first
+///    time.
 /// 2. The server sends a 401, which the client reads.
-/// 3. The client sends a request with the second id. The server reads it at the second moment.
+/// 3. The client sends a request with the second ID, which the server reads at the second time.
 /// 4. The server sends a success, which the client reads.
 ///
-/// All are Binding messages. Before they are signed they have no attributes, but ERROR-CODE in the
-/// 401. Each message is signed by the side that sends it, and read through its bytes. The server
-/// makes the first list of calls just before the client reads the 401. It makes the second list
-/// just before it reads the second request.
+/// All of these are Binding messages. Before they are signed they have no attributes, except
+/// ERROR-CODE in the 401. Each message is signed by the side that sends it, and parsed from its
+/// bytes by the other. The server makes the first list of calls just before the client reads the
+/// 401, and the second list just before it reads the second request itself.
 ///
-/// A ready client is accepted with its second request and with the strongest algorithm that both
-/// sides support. Both sides then know each other. There are two exceptions: the sides share no
-/// algorithm, or the client must send a hash of its name and the server takes none. Then the client
-/// fails with `UnsupportedFeature` and keeps nothing. The server knows no client at its address
-/// (RFC 8489, section 9.2). A client is ready if:
+/// A ready client is validated with its second request, by the strongest algorithm that both sides
+/// support, and both sides then know each other. There are two exceptions: the sides share no
+/// algorithm, or the client must send its user name as a hash and the server does not accept that.
+/// Then the client fails with `UnsupportedFeature` and stores nothing, and the server has no client
+/// at its address (RFC 8489, section 9.2). A client is ready if all of these hold:
 ///
 /// - It is new, and has the name and password of a registered user. No two registered users share a
 ///   USERHASH.
 /// - It comes from an address that is new to the server.
-/// - It asks again while its nonce is current.
-/// - Realm and name have at most 763 and 513 bytes.
-/// - The calls between the steps are those of other addresses alone. None is on users or settings,
-///   and none is a `ForgetExpired`, which concerns every address.
+/// - Its second request arrives while its nonce is current.
+/// - The realm has at most 763 bytes, and the name at most 513.
+/// - The calls between the steps are calls for other addresses. None of them changes users or
+///   settings, and none is a `ForgetExpired`, which concerns every address.
 ///
-/// Nobody stands between the two, so nothing is said of a downgrade. The clause `headline` says all
-/// this; `strongest` says it without the two limits, where no signing is refused; and `steps` says
-/// that both went through the meeting.
+/// Nobody stands between the two, so nothing is said about a downgrade.
 ///
-/// The result is the outcome that ends the run, which is one of these:
+/// Contracts: the clause `headline` says all this. `strongest` says it without the two limits on
+/// lengths, if no signing fails, and `steps` says that both sides went through the meeting.
 ///
-/// - a first request that the server accepts;
-/// - a refusal of the first request other than `Unauthorized`, or any refusal of the second;
-/// - a refusal of the client;
-/// - a result of the client on the 401 other than `ResendRequest`;
-/// - the acceptance of both sides.
+/// The run ends, with an [`Outcome`], when one of these happens:
 ///
-/// `Write` is the reason of a signing that was refused, and never `OutOfMemory`. Where an
-/// allocation fails, `negotiate` returns `Memory`. Both sides are then as the first steps of the
-/// run leave them, and another step was to follow. Each call of a list is a step.
+/// - The server validates the first request.
+/// - The server refuses the first request with another reason than `Unauthorized`, or the second
+///   one with any reason.
+/// - The client refuses a response.
+/// - The client returns another result for the 401 than `ResendRequest`.
+/// - Both sides are authenticated.
+///
+/// # Errors
+///
+/// - `Write`: a message could not be signed.
+/// - `Memory`: an allocation failed. Both sides are then as the first steps of the run leave them,
+///   and another step was to follow. Each call of a list is a step.
+///
+/// # Examples
+///
+/// A user with a wrong password:
+///
+/// ```
+/// use seatcrane_stun::replay::proved::auth::{LongTermClientAuth, LongTermServerAuth};
+/// use seatcrane_stun::replay::proved::types::message::*;
+/// use seatcrane_stun::replay::proved::{Global, Instant, String};
+/// use seatcrane_stun::replay::{Outcome, negotiate};
+///
+/// let text = |text| String::from_str(Global, text).unwrap();
+/// let alice = |password| LongTermCredentials::new(text("alice"), text(password));
+/// let mut server = LongTermServerAuth::new(Global, text("example.org"));
+/// server.add_user(alice("wonderland")).unwrap();
+/// let mut client = LongTermClientAuth::new(Global);
+/// client.set_credentials(alice("looking glass"));
+///
+/// let from = "192.0.2.1:4242".parse().unwrap();
+/// let ids = [1, 2].map(|number| TransactionId::from_u128(number).unwrap());
+/// let (times, random, between) = ([Instant::ZERO; 2], [[7; 16]; 2], [&[][..]; 2]);
+/// let outcome = negotiate(Global, &mut client, &mut server, from, ids, times, random, between);
+/// assert!(matches!(outcome, Ok(Outcome::ServerRefused(_))));
+/// ```
 #[tactic(none)]
 pub fn negotiate<A: Allocator + Copy>(
     alloc: A,

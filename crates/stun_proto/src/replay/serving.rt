@@ -27,23 +27,45 @@ use stun_base::credentials::LongTermCredentials;
 use stun_base::instant::Instant;
 use stun_types::message::Message;
 
-/// Makes the calls in their order, and returns the reply to each.
+/// Makes a list of calls to a server, in order, and returns the reply to each.
 ///
-/// The replies to an address are those of a run over its own calls and those that concern every
-/// address. The latter are on users and settings, and `ForgetExpired`. No call of another address
-/// has a part in them. A request or an indication is validated if and only if it has all of these
-/// (RFC 8489, section 9.2.4):
+/// The replies to an address depend only on the calls for this address and on those that concern
+/// every address: the calls on users and settings, and `ForgetExpired`. A request or an indication
+/// is validated if and only if it has all of these (RFC 8489, section 9.2.4):
 ///
 /// - a realm;
 /// - the nonce that is current at its address;
-/// - consistent algorithms;
-/// - the digest under the key of the registered user whom it names.
+/// - algorithms that agree with those that the address was offered;
+/// - the signature under the key of the registered user whom it names.
 ///
-/// It is judged by the place that the earlier calls of its address leave.
+/// It is judged by the record that the earlier calls leave for its address.
 ///
-/// The one error is that an allocation failed: the server is then as after the first `done` calls.
-/// The call whose allocation failed is none of them, unless it was complete and only its reply
-/// found no room.
+/// # Errors
+///
+/// `Stopped` if an allocation fails. The server is then as after the first `done` calls. The call
+/// whose allocation failed counts among them only if it was complete and its reply could not be
+/// stored.
+///
+/// # Examples
+///
+/// A request that is not signed:
+///
+/// ```
+/// use seatcrane_stun::replay::proved::auth::LongTermServerAuth;
+/// use seatcrane_stun::replay::proved::{Global, Instant, String, Vec};
+/// use seatcrane_stun::replay::{ServerCall, ServerReply, serve};
+///
+/// let realm = String::from_str(Global, "example.org").unwrap();
+/// let mut server = LongTermServerAuth::new(Global, realm);
+/// let request = b"\0\x01\0\0\x21\x12\xa4\x42 any 12 byte";
+/// let (from, now, words) = ("192.0.2.1:4242".parse().unwrap(), Instant::ZERO, [7; 16]);
+/// let message = Vec::from_slice(Global, request).unwrap();
+/// let calls = [ServerCall::Validate { from, now, message, words }, ServerCall::Forget(from)];
+///
+/// let replies = serve(Global, &mut server, &calls).unwrap();
+/// assert!(matches!(replies[0], ServerReply::Refused(_))); // answer 401
+/// assert_eq!(replies[1], ServerReply::Done);
+/// ```
 pub fn serve<A: Allocator + Copy>(
     alloc: A,
     server: &mut LongTermServerAuth<A>,

@@ -1,9 +1,9 @@
 //! The calls on an agent: requests and their time (RFC 8489, section 6.2).
 //!
-//! A call fails first with `EmptyHandle` where its handle is empty; `stunp_agent_new` and
-//! `stunp_agent_new_with` fail with `FullHandle` where it is full. Bytes that are no message are
-//! refused by `Truncated`, `NotStun` or `TooLarge`. An address whose length is neither 4 nor 16 is
-//! refused by `BadArgument`, and so is an id that has not 12 bytes. Times are in nanoseconds.
+//! A call fails first with `EmptyHandle` if its handle is empty; `stunp_agent_new` and
+//! `stunp_agent_new_with` fail with `FullHandle` if it is full. Bytes that are not a message fail
+//! with `Truncated`, `NotStun` or `TooLarge`. An address whose length is neither 4 nor 16, and an
+//! ID that does not have 12 bytes, fail with `BadArgument`. Times are in nanoseconds.
 
 ghost use Rattle.std.specs.Prelude.{◌≡◌, ◌⊎◌, length, pos, MatchResult};
 ghost use Rattle.std.specs.Prelude.{Some, None, Ok, IfNone, IfSome, IsTrue};
@@ -34,8 +34,9 @@ use crate::{agent, answers};
 use std::alloc::Global;
 use stun_numbers::refusal::Refusal;
 
-/// Fills a handle with an agent of a transport, 0 for UDP and 1 for TCP, at a local address. Fails
-/// with `FullHandle`, then `BadArgument` for the transport or the address, then `OutOfMemory`.
+/// Creates an agent that sends over a transport, 0 for UDP and 1 for TCP, from a local address.
+/// Fails with `FullHandle`, then `BadArgument` for the transport or the address, then
+/// `OutOfMemory`.
 #[unsafe(no_mangle)]
 pub extern "C" fn stunp_agent_new(
     alloc: Global,
@@ -68,11 +69,11 @@ pub extern "C" fn stunp_agent_new(
     }
 }
 
-/// The same with time-outs of the caller's, and with a remote address, to which alone the agent
-/// then sends. A remote address of length 0 is none.
+/// Creates an agent like `stunp_agent_new`, with timeouts of the caller's, and with the only remote
+/// address that it may send to. A remote address of length 0 means any.
 ///
 /// Fails as `stunp_agent_new` does. `BadArgument` is also for the remote address and for the size
-/// of the time-outs, and `NoWait` for time-outs without a wait.
+/// of the timeouts. After it comes `NoWait`, for timeouts without a wait.
 #[unsafe(no_mangle)]
 pub extern "C" fn stunp_agent_new_with(
     alloc: Global,
@@ -108,7 +109,7 @@ pub extern "C" fn stunp_agent_new_with(
     }
 }
 
-/// Tells what the agent counted. Fails with `BadArgument` where the caller's struct has another
+/// Writes what the agent has counted. Fails with `BadArgument` if the caller's struct has another
 /// size.
 #[unsafe(no_mangle)]
 pub extern "C" fn stunp_agent_statistics(
@@ -133,7 +134,7 @@ pub extern "C" fn stunp_agent_statistics(
     answer
 }
 
-/// Frees the agent. The handle is empty then.
+/// Frees the agent, and makes the handle empty.
 #[unsafe(no_mangle)]
 pub extern "C" fn stunp_agent_clear(alloc: Global, handle: &mut AgentHandle)
     ensures { handle.new.agent ≡ None }
@@ -141,9 +142,11 @@ pub extern "C" fn stunp_agent_clear(alloc: Global, handle: &mut AgentHandle)
     let _agent = handle.take(alloc);
 }
 
-/// Keeps a request to an address and counts it. Fails with the refusal of the address, then with
-/// that of the message. `ProtocolViolation` is for what is no request, or goes to another address
-/// than the agent's remote one. `AlreadyInProgress` is for an id that is outstanding. The last is
+/// Stores a request to an address, starts its retransmission timer, and counts it.
+///
+/// Fails with the error of the address, then with that of the message, then with
+/// `ProtocolViolation` if the message is not a request or the address is not the agent's remote
+/// one, then with `AlreadyInProgress` if a request with this ID is outstanding, and last with
 /// `OutOfMemory`.
 #[unsafe(no_mangle)]
 pub extern "C" fn stunp_agent_send_request(
@@ -175,9 +178,9 @@ pub extern "C" fn stunp_agent_send_request(
     answer
 }
 
-/// Counts a response or an indication that is sent to an address. Fails with the refusal of the
-/// address, then with that of the message. `ProtocolViolation` is for a request, and for another
-/// address than the agent's remote one.
+/// Counts a response or an indication that is sent to an address. Fails with the error of the
+/// address, then with that of the message, then with `ProtocolViolation` if the message is a
+/// request or the address is not the agent's remote one.
 #[unsafe(no_mangle)]
 pub extern "C" fn stunp_agent_send(
     alloc: Global,
@@ -201,9 +204,9 @@ pub extern "C" fn stunp_agent_send(
     answer
 }
 
-/// Takes a message that came from an address: returns 1 if it is taken, and 0 if it is a response
-/// to no outstanding request. Fails with the refusal of the address, then with that of the message,
-/// then with `OutOfMemory`.
+/// Processes a message that arrived from an address: returns 1 if it is accepted, and 0 if it is a
+/// response to no outstanding request. Fails with the error of the address, then with that of the
+/// message, then with `OutOfMemory`.
 #[unsafe(no_mangle)]
 pub extern "C" fn stunp_agent_handle(
     alloc: Global,
@@ -235,8 +238,8 @@ pub extern "C" fn stunp_agent_handle(
     answer
 }
 
-/// Writes the request that is to be sent again at `now`, and where to. Returns its length in bytes,
-/// or 0 if none is due. Fails with `BufferTooSmall`.
+/// Writes the next retransmission that is due at `now`, and its destination, and returns its length
+/// in bytes, or 0 if none is due. Fails with `BufferTooSmall`.
 #[unsafe(no_mangle)]
 pub extern "C" fn stunp_agent_poll_transmit(
     alloc: Global,
@@ -268,9 +271,9 @@ pub extern "C" fn stunp_agent_poll_transmit(
     answer
 }
 
-/// Tells what is to be done at `now`: 0 is to wait until `until`. 1 is for a request that timed
-/// out, and 2 for one that was cancelled: its id is then in the first 12 bytes of `id`. Fails with
-/// `BufferTooSmall` if `id` has fewer.
+/// Reports a request that has ended, or how long to wait. Returns 0 and writes the time to wait
+/// until. Or returns 1 if a request has timed out, and 2 if one has been canceled, and writes its
+/// ID to the first 12 bytes of `id`. Fails with `BufferTooSmall` if `id` has fewer.
 #[unsafe(no_mangle)]
 pub extern "C" fn stunp_agent_poll(
     alloc: Global,
@@ -300,7 +303,8 @@ pub extern "C" fn stunp_agent_poll(
     answer
 }
 
-/// Whether a request of an id is outstanding, 1 or 0, and the address that it went to.
+/// Returns 1 if a request with this ID is outstanding, and writes the address to which it was sent;
+/// or returns 0.
 #[unsafe(no_mangle)]
 pub extern "C" fn stunp_agent_is_outstanding(
     alloc: Global,
@@ -325,7 +329,7 @@ pub extern "C" fn stunp_agent_is_outstanding(
     answer
 }
 
-/// Cancels the request of an id. Returns 1, or 0 if none is outstanding.
+/// Cancels the request with this ID. Returns 1, or 0 if none is outstanding.
 #[unsafe(no_mangle)]
 pub extern "C" fn stunp_agent_cancel(alloc: Global, handle: &mut AgentHandle, id: &[u8]) -> i64
     ensures empty { IfNone handle.old.agent ((result ≡ refusal_number Refusal.EmptyHandle)
@@ -344,7 +348,7 @@ pub extern "C" fn stunp_agent_cancel(alloc: Global, handle: &mut AgentHandle, id
     answer
 }
 
-/// Ends the retransmissions of the request of an id. Returns 1, or 0 if none is outstanding.
+/// Stops retransmitting the request with this ID. Returns 1, or 0 if none is outstanding.
 #[unsafe(no_mangle)]
 pub extern "C" fn stunp_agent_cancel_retransmissions(
     alloc: Global,
@@ -367,9 +371,9 @@ pub extern "C" fn stunp_agent_cancel_retransmissions(
     answer
 }
 
-/// Sets the time-outs of the request of an id. Returns 1, or 0 if none is outstanding. Fails with
-/// `BadArgument` for the id or the size of the time-outs, then with `NoWait` for time-outs without
-/// a wait.
+/// Sets the timeouts of the request with this ID. Returns 1, or 0 if none is outstanding. Fails
+/// with `BadArgument` for the ID or the size of the timeouts, then with `NoWait` for timeouts
+/// without a wait.
 #[unsafe(no_mangle)]
 pub extern "C" fn stunp_agent_configure(
     alloc: Global,
@@ -393,7 +397,7 @@ pub extern "C" fn stunp_agent_configure(
     answer
 }
 
-/// Marks an address as a validated peer. Fails with `BadArgument` for the address, then with
+/// Adds an address to the validated peers. Fails with `BadArgument` for the address, then with
 /// `OutOfMemory`.
 #[unsafe(no_mangle)]
 pub extern "C" fn stunp_agent_validated_peer(
@@ -422,8 +426,8 @@ pub extern "C" fn stunp_agent_validated_peer(
     answer
 }
 
-/// Whether an address is a validated peer, 1 or 0: a message from it was taken, or it was marked as
-/// one. Fails with `BadArgument` for the address.
+/// Returns 1 if an address is a validated peer, because a message from it was accepted or because
+/// it was added, and otherwise 0. Fails with `BadArgument` for the address.
 #[unsafe(no_mangle)]
 pub extern "C" fn stunp_agent_is_validated_peer(
     alloc: Global,
@@ -444,7 +448,7 @@ pub extern "C" fn stunp_agent_is_validated_peer(
     answer
 }
 
-/// Returns how many validated peers are kept.
+/// Returns the number of validated peers.
 #[unsafe(no_mangle)]
 pub extern "C" fn stunp_agent_peer_count(alloc: Global, handle: &mut AgentHandle) -> i64
     ensures empty { IfNone handle.old.agent ((result ≡ refusal_number Refusal.EmptyHandle)
@@ -461,7 +465,8 @@ pub extern "C" fn stunp_agent_peer_count(alloc: Global, handle: &mut AgentHandle
     answer
 }
 
-/// Forgets a validated peer, if the address is one. Fails with `BadArgument` for the address.
+/// Removes an address from the validated peers, if it is one. Fails with `BadArgument` for the
+/// address.
 #[unsafe(no_mangle)]
 pub extern "C" fn stunp_agent_forget_peer(
     alloc: Global,

@@ -1,8 +1,8 @@
 //! The calls on the long-term authenticator of a client (RFC 8489, sections 9.2.3 and 9.2.5).
 //!
-//! A call fails first with `EmptyHandle` where its handle is empty; `stunp_client_new` fails with
-//! `FullHandle` where it is full. Bytes that are no message are refused by `Truncated`, `NotStun`
-//! or `TooLarge`.
+//! A call fails first with `EmptyHandle` if its handle is empty; `stunp_client_new` fails with
+//! `FullHandle` if it is full. Bytes that are not a message fail with `Truncated`, `NotStun` or
+//! `TooLarge`.
 
 ghost use Rattle.std.specs.Prelude.{◌≡◌, ◌⊎◌, length, pos, MatchOption};
 ghost use Rattle.std.specs.Prelude.{Some, None, Ok, IfNone, IfSome};
@@ -26,7 +26,7 @@ use crate::{answers, client};
 use std::alloc::Global;
 use stun_numbers::refusal::Refusal;
 
-/// Fills a handle with a client without credentials. Fails with `FullHandle`, then `OutOfMemory`.
+/// Creates a client without credentials. Fails with `FullHandle`, then `OutOfMemory`.
 #[unsafe(no_mangle)]
 pub extern "C" fn stunp_client_new(alloc: Global, handle: &mut ClientHandle) -> i64
     ensures full { IfSome handle.old.client (λ kept. (result ≡ refusal_number Refusal.FullHandle)
@@ -72,8 +72,8 @@ pub extern "C" fn stunp_client_set_credentials(
     answer
 }
 
-/// Sets the algorithms that the client supports: 1 is HMAC-SHA1, 2 HMAC-SHA256, 3 both. Another
-/// number is `BadArgument`.
+/// Sets the algorithms that the client supports: 1 is HMAC-SHA1, 2 HMAC-SHA256, 3 both. Fails with
+/// `BadArgument` for another number.
 #[unsafe(no_mangle)]
 pub extern "C" fn stunp_client_set_algorithms(
     alloc: Global,
@@ -96,8 +96,8 @@ pub extern "C" fn stunp_client_set_algorithms(
     answer
 }
 
-/// Sets whether the user's name is sent as its hash: 0 if the server can read that, 1 always, 2
-/// never. Another number is `BadArgument`.
+/// Sets whether the user name is sent as a hash: 0 if the server accepts that, 1 always, 2 never.
+/// Fails with `BadArgument` for another number.
 #[unsafe(no_mangle)]
 pub extern "C" fn stunp_client_set_anonymous_username(
     alloc: Global,
@@ -120,7 +120,7 @@ pub extern "C" fn stunp_client_set_anonymous_username(
     answer
 }
 
-/// Frees the client. The handle is empty then.
+/// Frees the client, and makes the handle empty.
 #[unsafe(no_mangle)]
 pub extern "C" fn stunp_client_clear(alloc: Global, handle: &mut ClientHandle)
     ensures { handle.new.client ≡ None }
@@ -130,9 +130,9 @@ pub extern "C" fn stunp_client_clear(alloc: Global, handle: &mut ClientHandle)
 
 /// Signs the message in the first `length` bytes of a buffer, and returns its new length in bytes.
 ///
-/// Fails with `BadArgument` for a length above the buffer's, then with the refusal of the message,
-/// then with `Closed`. Then come the refusals of what is added, attribute by attribute, and last
-/// `BufferTooSmall`. A refusal leaves the buffer.
+/// Fails with `BadArgument` for a length above the buffer's, then with the error of the message,
+/// then with `Closed`. Then come the errors of what is added, attribute by attribute, and last
+/// `BufferTooSmall`. An error leaves the buffer unchanged.
 #[unsafe(no_mangle)]
 pub extern "C" fn stunp_client_sign(
     alloc: Global,
@@ -157,7 +157,8 @@ pub extern "C" fn stunp_client_sign(
     answer
 }
 
-/// By which algorithm a message would be signed now: 1 is HMAC-SHA1, 2 HMAC-SHA256, 0 none.
+/// Returns the algorithm with which a message would be signed now: 1 is HMAC-SHA1, 2 HMAC-SHA256, 0
+/// none.
 #[unsafe(no_mangle)]
 pub extern "C" fn stunp_client_signing_algorithm(alloc: Global, handle: &mut ClientHandle) -> i64
     ensures empty { IfNone handle.old.client ((result ≡ refusal_number Refusal.EmptyHandle)
@@ -174,11 +175,12 @@ pub extern "C" fn stunp_client_signing_algorithm(alloc: Global, handle: &mut Cli
     answer
 }
 
-/// Reads a response. It is accepted by HMAC-SHA1, 1, or by HMAC-SHA256, 2. Or it asks for another
-/// request: 3, and 4 or 5 where its own digest verifies by the one or the other.
+/// Judges a response. Returns 1 or 2 if its signature is valid, with HMAC-SHA1 or HMAC-SHA256. Or
+/// returns 3 if another request is asked for, and 4 or 5 if such a response is itself signed with
+/// HMAC-SHA1 or HMAC-SHA256.
 ///
-/// Fails with the refusal of the message, then with the reasons of the authenticator, and with
-/// `OutOfMemory` only where another request is asked for.
+/// Fails with the error of the message, then with the reasons of the authenticator, and with
+/// `OutOfMemory` only in place of 3, 4 or 5.
 #[unsafe(no_mangle)]
 pub extern "C" fn stunp_client_validate(
     alloc: Global,

@@ -1,10 +1,9 @@
-//! The calls of a server whose users are looked up elsewhere: who asks, and then the verdict and
-//! the answer with that user handed in.
+//! The calls of a server whose users are looked up elsewhere, such as in a database: who is named,
+//! and then the verdict and the signing with that user.
 //!
-//! A call fails first with `EmptyHandle` where its handle is empty. An address and a message are
-//! refused as in `calls/server.rt`. A stored key for HMAC-SHA1 has 16 bytes, and one for
-//! HMAC-SHA256 has 32. A key that is not stored has no bytes; another length is refused by
-//! `BadArgument`.
+//! A call fails first with `EmptyHandle` if its handle is empty. An address and a message fail as
+//! in `calls/server.rt`. A stored key for HMAC-SHA1 has 16 bytes, and one for HMAC-SHA256 has 32. A
+//! key that is not stored has no bytes; any other length fails with `BadArgument`.
 
 ghost use Rattle.std.specs.Prelude.{◌≡◌, length, Some, None, IfNone, IfSome};
 ghost use Rattle.stun_numbers.specs.Refusals.{refusal_number};
@@ -25,12 +24,12 @@ use crate::{answers, handed};
 use std::alloc::Global;
 use stun_numbers::refusal::Refusal;
 
-/// By whose key a message that came from an address is judged: 1 by a name, 2 by its hash, or 0
-/// where nobody is meant. The name, or the hash of 32 bytes, goes to the front of `name`, and its
-/// bytes are counted in `name_length`.
+/// Determines with which user's key a message that arrived from an address will be verified.
+/// Returns 1 and writes the name, or 2 and writes its hash of 32 bytes, and writes the length of
+/// either; or returns 0 if the message names nobody. A message with a USERHASH names nobody if the
+/// server does not accept hashes, even if it has a USERNAME too.
 ///
-/// Fails with the refusal of the address, then with that of the message, then with
-/// `BufferTooSmall`.
+/// Fails with the error of the address, then with that of the message, then with `BufferTooSmall`.
 #[unsafe(no_mangle)]
 pub extern "C" fn stunp_server_named_user(
     alloc: Global,
@@ -65,9 +64,9 @@ pub extern "C" fn stunp_server_named_user(
     answer
 }
 
-/// Validates a message that came from an address. The server has just the user of a name and a
-/// password. Returns and fails as `stunp_server_validate` does, and with `NotText` for name or
-/// password right after `TooManyAddresses`. Then `OutOfMemory` may come at any time.
+/// Authenticates a message like `stunp_server_validate`, as a server whose only user has this name
+/// and password. Also fails with `NotText` for the name or the password, right after
+/// `TooManyAddresses`. After that, `OutOfMemory` may take the place of any result.
 #[unsafe(no_mangle)]
 pub extern "C" fn stunp_server_validate_of(
     alloc: Global,
@@ -100,9 +99,9 @@ pub extern "C" fn stunp_server_validate_of(
     answer
 }
 
-/// Signs the message at the front of a buffer, which goes to an address. The server has just the
-/// user of a name and a password. Returns and fails as `stunp_server_sign` does, and with `NotText`
-/// for name or password before all of that. After it `OutOfMemory` may come at any time.
+/// Signs a message like `stunp_server_sign`, as a server whose only user has this name and
+/// password. Before all other errors it fails with `NotText` for the name or the password. After
+/// that, `OutOfMemory` may take the place of any result.
 #[unsafe(no_mangle)]
 pub extern "C" fn stunp_server_sign_of(
     alloc: Global,
@@ -138,9 +137,9 @@ pub extern "C" fn stunp_server_sign_of(
     answer
 }
 
-/// Validates a message that came from an address. The server has just the user of a name and stored
-/// keys. Returns and fails as `stunp_server_validate_of` does, and with `BadArgument` for the
-/// length of a key right after `NotText`, which is for the name alone.
+/// Authenticates a message like `stunp_server_validate_of`, with stored keys in place of the
+/// password. Fails with `NotText` for the name only, and right after that with `BadArgument` for
+/// the length of a key.
 #[unsafe(no_mangle)]
 pub extern "C" fn stunp_server_validate_of_keys(
     alloc: Global,
@@ -174,9 +173,9 @@ pub extern "C" fn stunp_server_validate_of_keys(
     answer
 }
 
-/// Signs the message at the front of a buffer, which goes to an address. The server has just the
-/// user of a name and stored keys. Returns and fails as `stunp_server_sign_of` does, and with
-/// `BadArgument` for the length of a key right after `NotText`, which is for the name alone.
+/// Signs a message like `stunp_server_sign_of`, with stored keys in place of the password. Fails
+/// with `NotText` for the name only, and right after that with `BadArgument` for the length of a
+/// key.
 #[unsafe(no_mangle)]
 pub extern "C" fn stunp_server_sign_of_keys(
     alloc: Global,

@@ -1,11 +1,12 @@
 //! The calls on the long-term authenticator of a server (RFC 8489, section 9.2.4).
 //!
-//! A call fails first with `EmptyHandle` where its handle is empty; `stunp_server_new` fails with
-//! `FullHandle` where it is full. Bytes that are no message are refused by `Truncated`, `NotStun`
-//! or `TooLarge`, and an address whose length is neither 4 nor 16 by `BadArgument`.
+//! A call fails first with `EmptyHandle` if its handle is empty; `stunp_server_new` fails with
+//! `FullHandle` if it is full. Bytes that are not a message fail with `Truncated`, `NotStun` or
+//! `TooLarge`, and an address whose length is neither 4 nor 16 with `BadArgument`.
 
 ghost use Rattle.std.specs.FinMap as map;
-ghost use Rattle.std.specs.Prelude.{◌≡◌, length, pos, MatchOption, Some, None, Ok, IfNone, IfSome};
+ghost use Rattle.std.specs.Prelude.{◌≡◌, ◌-◌, length, pos};
+ghost use Rattle.std.specs.Prelude.{MatchOption, Some, None, Ok, IfNone, IfSome};
 ghost use Rattle.stun_auth.specs.Forgetting.{after_forgetting, without_place};
 ghost use Rattle.stun_auth.specs.ForgettingSteps.{after_step, next_address};
 ghost use Rattle.stun_auth.specs.Registered.{with_user};
@@ -34,8 +35,8 @@ use crate::{answers, server};
 use std::alloc::Global;
 use stun_numbers::refusal::Refusal;
 
-/// Fills a handle with a server of a realm, without users and without a bound of addresses. Fails
-/// with `FullHandle`, then `NotText`, then `OutOfMemory`.
+/// Creates a server for a realm, without users and without a limit on addresses. Fails with
+/// `FullHandle`, then `NotText`, then `OutOfMemory`.
 #[unsafe(no_mangle)]
 pub extern "C" fn stunp_server_new(alloc: Global, handle: &mut ServerHandle, realm: &[u8]) -> i64
     ensures full { IfSome handle.old.server (λ kept. (result ≡ refusal_number Refusal.FullHandle)
@@ -66,8 +67,8 @@ pub extern "C" fn stunp_server_new(alloc: Global, handle: &mut ServerHandle, rea
     }
 }
 
-/// Sets the algorithms that the server supports: 1 is HMAC-SHA1, 2 HMAC-SHA256, 3 both. Another
-/// number is `BadArgument`.
+/// Sets the algorithms that the server supports: 1 is HMAC-SHA1, 2 HMAC-SHA256, 3 both. Fails with
+/// `BadArgument` for another number.
 #[unsafe(no_mangle)]
 pub extern "C" fn stunp_server_set_algorithms(
     alloc: Global,
@@ -90,8 +91,8 @@ pub extern "C" fn stunp_server_set_algorithms(
     answer
 }
 
-/// Sets whether users may be named by a hash: 0 and 1 if the client wants it, 2 never. Another
-/// number is `BadArgument`.
+/// Sets whether clients may send a hash in place of the user name: 0 and 1 mean yes, 2 no. Fails
+/// with `BadArgument` for another number.
 #[unsafe(no_mangle)]
 pub extern "C" fn stunp_server_set_anonymous_username(
     alloc: Global,
@@ -114,7 +115,7 @@ pub extern "C" fn stunp_server_set_anonymous_username(
     answer
 }
 
-/// Sets how long a nonce lasts, in nanoseconds; less than 30 seconds counts as 30 seconds.
+/// Sets how long new nonces are valid, in nanoseconds. Less than 30 seconds counts as 30 seconds.
 #[unsafe(no_mangle)]
 pub extern "C" fn stunp_server_set_nonce_expiry(
     alloc: Global,
@@ -136,7 +137,7 @@ pub extern "C" fn stunp_server_set_nonce_expiry(
     0
 }
 
-/// Sets of how many addresses something may be kept. No address is forgotten.
+/// Limits the number of addresses that have a record. It removes none.
 #[unsafe(no_mangle)]
 pub extern "C" fn stunp_server_set_most_addresses(
     alloc: Global,
@@ -158,7 +159,7 @@ pub extern "C" fn stunp_server_set_most_addresses(
     0
 }
 
-/// Frees the server. The handle is empty then.
+/// Frees the server, and makes the handle empty.
 #[unsafe(no_mangle)]
 pub extern "C" fn stunp_server_clear(alloc: Global, handle: &mut ServerHandle)
     ensures { handle.new.server ≡ None }
@@ -166,7 +167,7 @@ pub extern "C" fn stunp_server_clear(alloc: Global, handle: &mut ServerHandle)
     let _server = handle.take(alloc);
 }
 
-/// Registers a user, in the place of one of the same name. Fails with `NotText`, then
+/// Adds a user, or replaces the password of an existing one. Fails with `NotText`, then
 /// `OutOfMemory`.
 #[unsafe(no_mangle)]
 pub extern "C" fn stunp_server_add_user(
@@ -219,10 +220,12 @@ pub extern "C" fn stunp_server_remove_user(
     answer
 }
 
-/// Validates a message that came from an address, and returns the algorithm of its digest: 1 is
-/// HMAC-SHA1, 2 HMAC-SHA256. `now` is in nanoseconds, and `words` are random numbers for a nonce.
+/// Authenticates a message that arrived from an address, and returns an algorithm: 1 is HMAC-SHA1,
+/// 2 HMAC-SHA256. For a request or an indication it is that of the user's key, and for a response
+/// that of the signature. `now` is in nanoseconds, and `words` are random numbers, which are read
+/// only if a nonce is made.
 ///
-/// Fails with the refusal of the address, then with that of the message, then with
+/// Fails with the error of the address, then with that of the message, then with
 /// `TooManyAddresses`. Then come the reasons of the authenticator, `OutOfMemory` among them.
 #[unsafe(no_mangle)]
 pub extern "C" fn stunp_server_validate(
@@ -258,9 +261,9 @@ pub extern "C" fn stunp_server_validate(
     answer
 }
 
-/// Returns the algorithm of who was validated last at an address, or 0 of nobody. The user's name
-/// goes to the front of `name`, and its bytes are counted in `name_length`. Fails with
-/// `BadArgument` for the address, then with `BufferTooSmall`.
+/// Writes the name of the user who was validated last at an address, and its length, and returns
+/// the algorithm of the user's key, or 0 if there is no such user. Fails with `BadArgument` for the
+/// address, then with `BufferTooSmall`.
 #[unsafe(no_mangle)]
 pub extern "C" fn stunp_server_client(
     alloc: Global,
@@ -292,12 +295,12 @@ pub extern "C" fn stunp_server_client(
     answer
 }
 
-/// Signs the message in the first `length` bytes of a buffer, which goes to an address, and returns
+/// Signs the message in the first `length` bytes of a buffer, which is for an address, and returns
 /// its new length in bytes.
 ///
-/// Fails with the refusal of the address, then with `BadArgument` for a length above the buffer's.
-/// Then come the refusal of the message, `Closed`, `BufferTooSmall`, and the refusals of what is
-/// added, attribute by attribute. A refusal leaves the buffer and the server.
+/// Fails with the error of the address, then with `BadArgument` for a length above the buffer's.
+/// Then come the error of the message, `Closed`, `BufferTooSmall`, and the errors of what is added,
+/// attribute by attribute. An error leaves the buffer and the server unchanged.
 #[unsafe(no_mangle)]
 pub extern "C" fn stunp_server_sign(
     alloc: Global,
@@ -326,7 +329,7 @@ pub extern "C" fn stunp_server_sign(
     answer
 }
 
-/// Returns of how many addresses something is kept.
+/// Returns the number of addresses that have a record.
 #[unsafe(no_mangle)]
 pub extern "C" fn stunp_server_address_count(alloc: Global, handle: &mut ServerHandle) -> i64
     ensures empty { IfNone handle.old.server ((result ≡ refusal_number Refusal.EmptyHandle)
@@ -343,8 +346,8 @@ pub extern "C" fn stunp_server_address_count(alloc: Global, handle: &mut ServerH
     answer
 }
 
-/// Writes the last nonce that was made for an address to the front of `nonce`. Returns its length
-/// in bytes, or 0 of none. Fails with `BadArgument` for the address, then with `BufferTooSmall`.
+/// Writes the latest nonce that was made for an address, and returns its length in bytes, or 0 if
+/// there is none. Fails with `BadArgument` for the address, then with `BufferTooSmall`.
 #[unsafe(no_mangle)]
 pub extern "C" fn stunp_server_nonce(
     alloc: Global,
@@ -370,7 +373,7 @@ pub extern "C" fn stunp_server_nonce(
     answer
 }
 
-/// Forgets who was validated at an address. Fails with `BadArgument` for the address.
+/// Forgets the client of an address, but keeps its nonce. Fails with `BadArgument` for the address.
 #[unsafe(no_mangle)]
 pub extern "C" fn stunp_server_remove_client(
     alloc: Global,
@@ -394,7 +397,7 @@ pub extern "C" fn stunp_server_remove_client(
     answer
 }
 
-/// Forgets all that is kept of an address. Fails with `BadArgument` for the address.
+/// Removes the record of an address. Fails with `BadArgument` for the address.
 #[unsafe(no_mangle)]
 pub extern "C" fn stunp_server_forget(alloc: Global, handle: &mut ServerHandle, at: &Address) -> i64
     ensures empty { IfNone handle.old.server ((result ≡ refusal_number Refusal.EmptyHandle)
@@ -414,36 +417,40 @@ pub extern "C" fn stunp_server_forget(alloc: Global, handle: &mut ServerHandle, 
     answer
 }
 
-/// Forgets each address without a client whose nonce expired before `now`, in nanoseconds.
+/// Removes every record that has no client and whose nonce expired more than `age` before `now`, both
+/// in nanoseconds. If `now` is less than `age` it removes none.
 #[unsafe(no_mangle)]
 pub extern "C" fn stunp_server_forget_expired(
     alloc: Global,
     handle: &mut ServerHandle,
     now: u64,
+    age: u64,
 ) -> i64
     ensures empty { IfNone handle.old.server ((result ≡ refusal_number Refusal.EmptyHandle)
         × (handle.new.server ≡ None)) }
     ensures answer { IfSome handle.old.server (λ _. result ≡ pos 0) }
     ensures state { IfSome handle.old.server (λ kept. handle.new.server ≡ Some (record kept {
-      server = after_forgetting kept.server now;
+      server = after_forgetting kept.server (now - age);
     })) }
 {
     let Some(mut kept) = handle.take(alloc) else {
         return Refusal::EmptyHandle.code();
     };
-    server::forget_expired(&mut kept.server, now);
+    server::forget_expired(&mut kept.server, now, age);
     handle.put(alloc, kept);
     0
 }
 
-/// Does what `stunp_server_forget_expired` does, at no more than `most` addresses, from one on. A
-/// `from` of length 0 is the first of all. Returns 1 if another call is to go on, and `from` is
-/// where; or 0 at the end, and its length is 0. Fails with `BadArgument` for `from`.
+/// Removes records like `stunp_server_forget_expired`, but visits at most `most` of them, from the
+/// address `from` on, or from the first one if `from` has length 0. Returns 1 if there is more to
+/// visit, and sets `from` to the address at which to continue; or returns 0 at the end, and sets
+/// the length of `from` to 0. Fails with `BadArgument` for `from`.
 #[unsafe(no_mangle)]
 pub extern "C" fn stunp_server_forget_expired_within(
     alloc: Global,
     handle: &mut ServerHandle,
     now: u64,
+    age: u64,
     from: &mut Address,
     most: usize,
 ) -> i64
@@ -454,7 +461,7 @@ pub extern "C" fn stunp_server_forget_expired_within(
         (at_start (start_told from.old) (step_answer kept.server most))) }
     ensures state { IfSome handle.old.server (λ kept. handle.new.server ≡ Some (record kept {
       server = after_start (start_told from.old) kept.server
-          (λ start. after_step kept.server now start most);
+          (λ start. after_step kept.server (now - age) start most);
     })) }
     ensures from { IfSome handle.old.server (λ kept. from.new
         ≡ after_start (start_told from.old) from.old
@@ -463,7 +470,8 @@ pub extern "C" fn stunp_server_forget_expired_within(
     let Some(mut kept) = handle.take(alloc) else {
         return Refusal::EmptyHandle.code();
     };
-    let answer = answers::number(server::forget_expired_within(&mut kept.server, now, from, most));
+    let more = server::forget_expired_within(&mut kept.server, now, age, from, most);
+    let answer = answers::number(more);
     handle.put(alloc, kept);
     answer
 }

@@ -24,8 +24,10 @@ use stun_base::error::{StunParseError, StunWriteError};
 /// The number of bytes before the reason: reserved bits, class and number.
 const CODE_LENGTH: usize = 4;
 
-/// ERROR-CODE (RFC 8489, section 14.8): why a request was refused. It has a code from 300 to 699,
-/// and a reason phrase of at most 763 bytes. Contracts see the two.
+/// ERROR-CODE (RFC 8489, section 14.8): why a request failed. It has a code from 300 to 699, and a
+/// reason phrase of at most 763 bytes.
+///
+/// Contracts: the value is a record of the two.
 #[derive(Debug, Drop)]
 pub struct ErrorCode<'a> {
     code: u16,
@@ -45,7 +47,7 @@ impl<'a> Model for ErrorCode<'a> {
         (300 ≤ error.code) × (error.code < 700) × (length error.reason.now ≤ TEXT_LIMIT) };
 }
 
-/// It does not allocate and never fails.
+/// Copies the reference. This does not allocate and never fails.
 impl<'a> Clone for ErrorCode<'a> {
     ghost is_clone = { λ it copy. copy ≡ it };
 
@@ -59,7 +61,7 @@ impl<'a> Clone for ErrorCode<'a> {
     }
 }
 
-/// Errors are equal if and only if code and reason are.
+/// Attributes are equal if and only if their codes and their reason phrases are.
 impl<'a> PartialEq for ErrorCode<'a> {
     ghost eq = { same_error };
 
@@ -77,16 +79,18 @@ impl<'a> Eq for ErrorCode<'a> {
 impl ErrorCode<'_> {
     /// 400: the request is malformed.
     pub const BAD_REQUEST: u16 = 400;
-    /// 401: the request lacks the right credentials.
+    /// 401: the request needs the right credentials.
     pub const UNAUTHORIZED: u16 = 401;
     /// 438: the nonce of the request is no longer valid.
     pub const STALE_NONCE: u16 = 438;
 }
 
 impl<'a> ErrorCode<'a> {
-    /// Begins an attribute of this code. Until a reason is set, it is `Bad Request` for 400,
-    /// `Unauthorized` for 401, `Stale Nonce` for 438, and empty for any other code. `Unauthorized`
-    /// is the phrase of RFC 5389 (section 15.6); RFC 8489 has `Unauthenticated` (section 14.8).
+    /// Creates a builder for an attribute with this code.
+    ///
+    /// Unless a reason phrase is set, it is `Bad Request` for 400, `Unauthorized` for 401, `Stale
+    /// Nonce` for 438, and empty for any other code. `Unauthorized` is the phrase of RFC 5389
+    /// (section 15.6), for which RFC 8489 has `Unauthenticated` (section 14.8).
     pub fn builder(code: u16) -> ErrorCodeBuilder<'a>
         ensures { result ≡ record { code = code; reason = default_reason code } }
     {
@@ -96,7 +100,7 @@ impl<'a> ErrorCode<'a> {
         }
     }
 
-    /// The code, from 300 to 699.
+    /// Returns the code, from 300 to 699.
     pub fn code(&self) -> u16
         ensures code { result ≡ self.now.code }
         ensures from_300 { 300 ≤ result }
@@ -105,7 +109,7 @@ impl<'a> ErrorCode<'a> {
         self.code
     }
 
-    /// The reason phrase, of at most 763 bytes.
+    /// Returns the reason phrase, which has at most 763 bytes.
     pub fn reason(&self) -> &'a str
         ensures text { result.now ≡ self.now.reason }
         ensures short { length result.now ≤ TEXT_LIMIT }
@@ -126,7 +130,10 @@ fn default_reason(code: u16) -> &'static str
     }
 }
 
-/// A code and a reason, which may be outside their limits. Contracts see the two.
+/// A code and a reason phrase, from which `build` creates an ERROR-CODE if both are within their
+/// limits.
+///
+/// Contracts: the value is a record of the two.
 #[derive(Debug, Drop)]
 pub struct ErrorCodeBuilder<'a> {
     code: u16,
@@ -142,7 +149,7 @@ impl<'a> Model for ErrorCodeBuilder<'a> {
 }
 
 impl<'a> ErrorCodeBuilder<'a> {
-    /// Sets the reason.
+    /// Sets the reason phrase.
     pub fn reason(self, reason: &'a str) -> Self
         ensures { result ≡ record { code = self.entry.code; reason = reason.now } }
     {
@@ -152,8 +159,14 @@ impl<'a> ErrorCodeBuilder<'a> {
         }
     }
 
-    /// The attribute. Fails with `NotAllowed` if the code is not from 300 to 699, then with
-    /// `TooLarge` if the reason has more than 763 bytes. It does not allocate.
+    /// Creates the attribute. This does not allocate.
+    ///
+    /// # Errors
+    ///
+    /// The first of these that applies:
+    ///
+    /// - `NotAllowed`: the code is not from 300 to 699.
+    /// - `TooLarge`: the reason phrase has more than 763 bytes.
     pub fn build(self) -> Result<ErrorCode<'a>, StunWriteError>
         ensures value { IfOk result (λ error. error ≡ self.entry) }
         ensures ok { OnOk result (error_refusal self.entry ≡ None) }

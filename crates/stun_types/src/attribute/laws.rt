@@ -1,4 +1,4 @@
-//! Laws of attributes: of writing and reading, which the crates above use.
+//! Laws of attributes that are written and read again, which the crates above use.
 ghost use Rattle.std.specs.Prelude.{◌≡◌, ◌<◌, ◌^◌, ℕ};
 ghost use Rattle.std.specs.Prelude.{List, slice_index};
 ghost use Rattle.std.specs.Net.Socket.{socket_flowinfo, socket_ip, socket_port, socket_scope_id};
@@ -16,19 +16,20 @@ use std::net::{IpAddr, SocketAddr};
 use stun_base::algorithm::IntegrityAlgorithm;
 use stun_base::transaction_id::TransactionId;
 
-/// `length` and `padded_len` are the numbers of bytes that `write_into` appends.
+/// An attribute is spelled with as many bytes as `attribute_length` returns for the length of its
+/// value.
 pub fn takes_what_is_spelled()
     ensures { (attribute : TypedValue) → TakesWhatIsSpelled attribute }
 {}
 
-/// Each list of password algorithms has one spelling: bytes that are read as the list are those
-/// that it is written as.
+/// Each list of password algorithms has one spelling: if bytes are read as the list, they are the
+/// bytes that the list is written as.
 pub fn entries_are_spelled()
     ensures { (bytes : List ℕ) (list : List PasswordAlgorithmValue)
         → ((i : ℕ) → slice_index bytes i < 2 ^ 8) → ReadsSpelledEntries bytes list }
 {}
 
-/// The password algorithm of a digest leads back to that digest.
+/// The hash function for an algorithm leads back to that algorithm.
 pub fn same_integrity(integrity: IntegrityAlgorithm) -> IntegrityAlgorithm
     ensures { result ≡ integrity }
 {
@@ -44,8 +45,8 @@ pub fn reserved_bits()
     ensures address_written { (address : XoredAddress) → WritesFirstZero address }
 {}
 
-/// An address that is xored with an id and read with the same id is the same, without flow
-/// information and scope.
+/// An address that is XORed with a transaction ID, and read with the same ID, is the same address,
+/// but without flow information and scope ID.
 pub fn hidden_and_read(addr: SocketAddr, id: TransactionId) -> SocketAddr
     ensures ip { socket_ip result ≡ socket_ip addr }
     ensures port { socket_port result ≡ socket_port addr }

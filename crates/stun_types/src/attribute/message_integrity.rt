@@ -1,6 +1,7 @@
-//! MESSAGE-INTEGRITY and MESSAGE-INTEGRITY-SHA256 (RFC 8489, sections 14.5 and 14.6), for reading.
+//! MESSAGE-INTEGRITY and MESSAGE-INTEGRITY-SHA256 (RFC 8489, sections 14.5 and 14.6), for parsing.
 //!
-//! A program makes neither. The calls of a writer that sign a message append them.
+//! There are no constructors, because the calls of a writer that sign a message append these
+//! attributes.
 
 ghost use Rattle.std.specs.Prelude.{◌≡◌, length, ⊤};
 ghost use Rattle.std.specs.Cmp.{partial_equiv_from_equiv};
@@ -22,8 +23,9 @@ use std::marker::Model;
 use stun_base::error::StunParseError;
 use stun_base::hmac::SHA1_LENGTH;
 
-/// MESSAGE-INTEGRITY (RFC 8489, section 14.5): the HMAC-SHA1 of a message, 20 bytes. Contracts see
-/// its bytes.
+/// MESSAGE-INTEGRITY (RFC 8489, section 14.5): the HMAC-SHA1 of a message, 20 bytes.
+///
+/// Contracts: the value is the list of its bytes.
 #[derive(Clone, Copy, Debug, PartialEq, Eq)]
 pub struct MessageIntegrity {
     hmac: [u8; SHA1_LENGTH],
@@ -40,7 +42,7 @@ impl Model for MessageIntegrity {
 }
 
 impl MessageIntegrity {
-    /// The digest.
+    /// Returns the HMAC.
     pub fn hmac(&self) -> &[u8; 20]
         ensures { result.now ≡ self.now }
     {
@@ -95,9 +97,11 @@ impl<'a> AttributeFromRaw<'a> for MessageIntegrity {
     }
 }
 
-/// MESSAGE-INTEGRITY-SHA256 (RFC 8489, section 14.6): the HMAC-SHA256 of a message. It may be cut
-/// short, and has 16 to 32 bytes, a multiple of 4. One that is cut short is read, and never
-/// verifies. Contracts see its bytes.
+/// MESSAGE-INTEGRITY-SHA256 (RFC 8489, section 14.6): the HMAC-SHA256 of a message, from 16 to 32
+/// bytes, a multiple of 4. An HMAC that is cut short can be parsed, but the message never counts as
+/// signed by it.
+///
+/// Contracts: the value is the list of its bytes.
 #[derive(Debug, Drop)]
 pub struct MessageIntegritySha256<'a> {
     hmac: &'a [u8],
@@ -114,7 +118,7 @@ impl<'a> Model for MessageIntegritySha256<'a> {
     ghost invariant = { λ integrity. IsSha256Digest integrity.hmac.now };
 }
 
-/// It does not allocate and never fails.
+/// Copies the reference. This does not allocate and never fails.
 impl<'a> Clone for MessageIntegritySha256<'a> {
     ghost is_clone = { λ it copy. copy ≡ it };
 
@@ -125,7 +129,7 @@ impl<'a> Clone for MessageIntegritySha256<'a> {
     }
 }
 
-/// Digests are equal if and only if their bytes are.
+/// Attributes are equal if and only if their bytes are.
 impl<'a> PartialEq for MessageIntegritySha256<'a> {
     ghost eq = { same_text };
 
@@ -141,7 +145,7 @@ impl<'a> Eq for MessageIntegritySha256<'a> {
 }
 
 impl<'a> MessageIntegritySha256<'a> {
-    /// The digest, or the part of it that the message has.
+    /// Returns the HMAC, or the part of it that the message has.
     pub fn hmac(&self) -> &'a [u8]
         ensures bytes { result.now ≡ self.now }
         ensures lengths { IsSha256Digest result.now }

@@ -12,12 +12,13 @@ use std::fmt;
 /// The number of the type.
 const KIND: u16 = AttributeType::NONCE.0;
 
-/// NONCE (RFC 8489, section 14.10): the nonce of a server, UTF-8 of at most 763 bytes. Contracts
-/// see its bytes.
+/// NONCE (RFC 8489, section 14.10): the nonce of a server, in UTF-8 of at most 763 bytes.
+///
+/// Contracts: the value is the list of its bytes.
 pub type Nonce<'a> = Text<'a, KIND, TEXT_LIMIT>;
 
 impl<'a> Nonce<'a> {
-    /// The nonce.
+    /// Returns the nonce.
     pub fn nonce(&self) -> &'a str
         ensures text { result.now ≡ self.now }
         ensures within_limit { length result.now ≤ TEXT_LIMIT }

@@ -1,4 +1,5 @@
-//! PASSWORD-ALGORITHM (RFC 8489, section 14.12), and the algorithms of keys (section 18.5).
+//! PASSWORD-ALGORITHM (RFC 8489, section 14.12), and the algorithms that derive keys (section
+//! 18.5).
 
 ghost use Rattle.std.specs.Prelude.{◌≡◌, ◌≤◌, length};
 ghost use Rattle.stun_base.specs.Attributes.{PASSWORD_ALGORITHM};
@@ -21,17 +22,17 @@ use stun_base::error::StunParseError;
 /// of its parameters.
 pub(super) const ENTRY_LENGTH: usize = 4;
 
-/// A hash function that makes a key of a password.
+/// The hash function that derives a long-term key from a password.
 #[derive(Clone, Copy, Debug, PartialEq, Eq, Hash)]
 pub enum PasswordAlgorithmValue {
-    /// MD5 (RFC 8489, section 18.5.1.1), whose key goes with HMAC-SHA1.
+    /// MD5 (RFC 8489, section 18.5.1.1), whose keys are for HMAC-SHA1.
     MD5,
-    /// SHA-256 (section 18.5.1.2), whose key goes with HMAC-SHA256.
+    /// SHA-256 (RFC 8489, section 18.5.1.2), whose keys are for HMAC-SHA256.
     SHA256,
 }
 
 impl PasswordAlgorithmValue {
-    /// The digest of message integrity under a key of this algorithm.
+    /// Returns the algorithm that messages are signed with under a key of this hash function.
     pub fn as_integrity(self) -> IntegrityAlgorithm
         ensures { result ≡ integrity_of self }
     {
@@ -41,7 +42,7 @@ impl PasswordAlgorithmValue {
         }
     }
 
-    /// The algorithm of the key of this digest of message integrity.
+    /// Returns the hash function that derives the keys for this algorithm.
     pub fn from_integrity(integrity: IntegrityAlgorithm) -> Self
         ensures { result ≡ password_algorithm_of integrity }
     {
@@ -78,8 +79,9 @@ pub(super) fn read_entry(bytes: &[u8]) -> Option<PasswordAlgorithmValue>
     }
 }
 
-/// PASSWORD-ALGORITHM (RFC 8489, section 14.12): the algorithm that a client chose. Contracts see
-/// the algorithm.
+/// PASSWORD-ALGORITHM (RFC 8489, section 14.12): the algorithm that the client chose.
+///
+/// Contracts: the value is the algorithm.
 #[derive(Clone, Copy, Debug, PartialEq, Eq)]
 pub struct PasswordAlgorithm {
     algorithm: PasswordAlgorithmValue,
@@ -98,14 +100,14 @@ impl Model for PasswordAlgorithm {
 }
 
 impl PasswordAlgorithm {
-    /// The attribute of this algorithm.
+    /// Creates the attribute from an algorithm.
     pub fn new(algorithm: PasswordAlgorithmValue) -> Self
         ensures { result ≡ algorithm }
     {
         PasswordAlgorithm { algorithm }
     }
 
-    /// The algorithm.
+    /// Returns the algorithm.
     pub fn algorithm(&self) -> PasswordAlgorithmValue
         ensures { result ≡ self.now }
     {

@@ -28,9 +28,13 @@ enum Source<'a> {
     Received(&'a [u8]),
 }
 
-/// PASSWORD-ALGORITHMS (RFC 8489, section 14.11): the algorithms that a server offers, the most
-/// preferred first. It borrows a list or the bytes of a message. The whole value is malformed if it
-/// names another algorithm than MD5 and SHA-256, or has parameters. Contracts see the list.
+/// PASSWORD-ALGORITHMS (RFC 8489, section 14.11): the algorithms that a server offers, the
+/// preferred one first. It borrows a list, or the bytes of a message.
+///
+/// If the list has an algorithm other than MD5 and SHA-256, or an algorithm with parameters, the
+/// attribute is malformed as a whole.
+///
+/// Contracts: the value is the list.
 #[derive(Debug, Drop)]
 pub struct PasswordAlgorithms<'a> {
     source: Source<'a>,
@@ -51,7 +55,7 @@ impl<'a> Model for PasswordAlgorithms<'a> {
     ghost invariant = { λ algorithms. IsKnown algorithms.source };
 }
 
-/// It does not allocate and never fails.
+/// Copies the reference. This does not allocate and never fails.
 impl<'a> Clone for PasswordAlgorithms<'a> {
     ghost is_clone = { λ it copy. copy ≡ it };
 
@@ -98,7 +102,7 @@ fn entry_count(bytes: &[u8]) -> usize
 }
 
 impl<'a> PasswordAlgorithms<'a> {
-    /// The attribute of these algorithms. It does not allocate.
+    /// Creates the attribute from a list of algorithms. This does not allocate.
     pub fn new(algorithms: &'a [PasswordAlgorithmValue]) -> Self
         ensures { result ≡ algorithms.now }
     {
@@ -107,7 +111,7 @@ impl<'a> PasswordAlgorithms<'a> {
         }
     }
 
-    /// The number of algorithms.
+    /// Returns the number of algorithms.
     pub fn len(&self) -> usize
         ensures { result ≡ length self.now }
     {
@@ -117,14 +121,14 @@ impl<'a> PasswordAlgorithms<'a> {
         }
     }
 
-    /// Whether there is no algorithm.
+    /// Returns `true` if the list is empty.
     pub fn is_empty(&self) -> bool
         ensures { IsTrue result ↔ (self.now ≡ []) }
     {
         self.len() == 0
     }
 
-    /// The algorithm of this index, counted from 0.
+    /// Returns the algorithm at this index, or `None` if the list is shorter. The first index is 0.
     pub fn get(&self, i: usize) -> Option<PasswordAlgorithmValue>
         ensures { result ≡ slice_get self.now i }
     {
@@ -134,7 +138,7 @@ impl<'a> PasswordAlgorithms<'a> {
         }
     }
 
-    /// Whether the algorithm is in the list.
+    /// Returns `true` if the algorithm is in the list.
     pub fn contains(&self, algorithm: PasswordAlgorithmValue) -> bool
         ensures { IsTrue result ↔ Contains self.now algorithm }
     {
@@ -146,7 +150,7 @@ impl<'a> PasswordAlgorithms<'a> {
         false
     }
 
-    /// Whether the list has these algorithms in this order.
+    /// Returns `true` if the list consists of these algorithms in this order.
     pub fn equals(&self, algorithms: &[PasswordAlgorithmValue]) -> bool
         ensures { IsTrue result ↔ (self.now ≡ algorithms.now) }
     {

@@ -12,12 +12,14 @@ use std::fmt;
 /// The number of the type.
 const KIND: u16 = AttributeType::REALM.0;
 
-/// REALM (RFC 8489, section 14.9): the realm of credentials, UTF-8 of at most 763 bytes. Contracts
-/// see its bytes.
+/// REALM (RFC 8489, section 14.9): the realm in which users are registered, in UTF-8 of at most 763
+/// bytes.
+///
+/// Contracts: the value is the list of its bytes.
 pub type Realm<'a> = Text<'a, KIND, TEXT_LIMIT>;
 
 impl<'a> Realm<'a> {
-    /// The realm.
+    /// Returns the realm.
     pub fn realm(&self) -> &'a str
         ensures text { result.now ≡ self.now }
         ensures within_limit { length result.now ≤ TEXT_LIMIT }

@@ -14,8 +14,9 @@ use std::marker::Model;
 use std::str;
 use stun_base::error::{StunParseError, StunWriteError};
 
-/// An attribute of this type whose value is a text, UTF-8 of at most `LIMIT` bytes. Contracts see
-/// its bytes.
+/// An attribute of type `KIND` whose value is a text, in UTF-8 of at most `LIMIT` bytes.
+///
+/// Contracts: the value is the list of its bytes.
 #[derive(Drop)]
 pub struct Text<'a, const KIND: u16, const LIMIT: usize> {
     text: &'a str,
@@ -31,7 +32,7 @@ impl<'a, const KIND: u16, const LIMIT: usize> Model for Text<'a, KIND, LIMIT> {
     ghost invariant = { λ attribute. length attribute.text.now ≤ LIMIT };
 }
 
-/// It does not allocate and never fails.
+/// Copies the reference. This does not allocate and never fails.
 impl<'a, const KIND: u16, const LIMIT: usize> Clone for Text<'a, KIND, LIMIT> {
     ghost is_clone = { λ it copy. copy ≡ it };
 
@@ -42,7 +43,7 @@ impl<'a, const KIND: u16, const LIMIT: usize> Clone for Text<'a, KIND, LIMIT> {
     }
 }
 
-/// Attributes are equal if and only if the bytes of their texts are.
+/// Attributes are equal if and only if their texts have the same bytes.
 impl<'a, const KIND: u16, const LIMIT: usize> PartialEq for Text<'a, KIND, LIMIT> {
     ghost eq = { same_text };
 
@@ -58,8 +59,11 @@ impl<'a, const KIND: u16, const LIMIT: usize> Eq for Text<'a, KIND, LIMIT> {
 }
 
 impl<'a, const KIND: u16, const LIMIT: usize> Text<'a, KIND, LIMIT> {
-    /// The attribute of this text. Fails with `TooLarge` if it has more bytes than the attribute
-    /// may have. It does not allocate.
+    /// Creates the attribute from a text. This does not allocate.
+    ///
+    /// # Errors
+    ///
+    /// `TooLarge`: the text has more than `LIMIT` bytes.
     pub fn new(text: &'a str) -> Result<Self, StunWriteError>
         ensures ok { IfOk result (λ attribute. attribute ≡ text.now) }
         ensures only_too_large { IsOkUnless result StunWriteError.TooLarge }

@@ -17,8 +17,10 @@ use stun_base::key::userhash;
 /// The number of bytes of a hash.
 const LENGTH: usize = 32;
 
-/// USERHASH (RFC 8489, section 14.4): the hash that names a user at a realm, 32 bytes. Contracts
-/// see its bytes.
+/// USERHASH (RFC 8489, section 14.4): the hash that a client sends in place of its user name, 32
+/// bytes.
+///
+/// Contracts: the value is the list of its bytes.
 #[derive(Clone, Copy, Debug, PartialEq, Eq)]
 pub struct Userhash {
     hash: [u8; LENGTH],
@@ -35,22 +37,25 @@ impl Model for Userhash {
 }
 
 impl Userhash {
-    /// The attribute of this hash.
+    /// Creates the attribute from a hash, such as `compute` returns.
     pub fn new(hash: [u8; 32]) -> Self
         ensures { result ≡ hash }
     {
         Userhash { hash }
     }
 
-    /// The hash of a user name at a realm: SHA-256 of the two with a colon between them (RFC 8489,
-    /// section 14.4). Both are used as they are. It does not allocate.
+    /// Computes the hash of a user name in a realm: SHA-256 of `user:realm` (RFC 8489, section
+    /// 14.4).
+    ///
+    /// The texts are used as they are: to prepare them with OpaqueString (RFC 8265, section 4.2) is
+    /// up to the caller. This does not allocate.
     pub fn compute(user: &str, realm: &str) -> [u8; 32]
         ensures { result ≡ keys.userhash_of user.now realm.now }
     {
         userhash(user, realm)
     }
 
-    /// The bytes of the hash.
+    /// Returns the hash.
     pub fn hash(&self) -> &[u8; 32]
         ensures { result.now ≡ self.now }
     {

@@ -12,12 +12,13 @@ use std::fmt;
 /// The number of the type.
 const KIND: u16 = AttributeType::USERNAME.0;
 
-/// USERNAME (RFC 8489, section 14.3): the name of a user, UTF-8 of at most 513 bytes. Contracts see
-/// its bytes.
+/// USERNAME (RFC 8489, section 14.3): the name of a user, in UTF-8 of at most 513 bytes.
+///
+/// Contracts: the value is the list of its bytes.
 pub type Username<'a> = Text<'a, KIND, USERNAME_LIMIT>;
 
 impl<'a> Username<'a> {
-    /// The user name.
+    /// Returns the user name.
     pub fn username(&self) -> &'a str
         ensures text { result.now ≡ self.now }
         ensures within_limit { length result.now ≤ USERNAME_LIMIT }

@@ -42,8 +42,10 @@ enum XoredOctets {
     V6([u8; 16]),
 }
 
-/// XOR-MAPPED-ADDRESS (RFC 8489, section 14.2): the address that a request came from. Port and
-/// octets are xored with the magic cookie and the transaction id. Contracts see them xored.
+/// XOR-MAPPED-ADDRESS (RFC 8489, section 14.2): the address that a request came from. Its port and
+/// its octets are XORed with the magic cookie and the transaction ID of its message.
+///
+/// Contracts: the value is a record of the family and of both, XORed.
 #[derive(Clone, Copy, Debug, PartialEq, Eq)]
 pub struct XorMappedAddress {
     port: u16,
@@ -114,8 +116,8 @@ fn read_octets(family: u8, octets: &[u8]) -> Option<XoredOctets>
 }
 
 impl XorMappedAddress {
-    /// The attribute of this address in a message of this transaction. Flow information and scope
-    /// of an IPv6 address are dropped.
+    /// Creates the attribute for a message with this transaction ID. The flow information and the
+    /// scope ID of an IPv6 address are dropped.
     pub fn new(addr: SocketAddr, id: TransactionId) -> Self
         ensures { result ≡ xored_address (socket_ip addr) (socket_port addr) id }
     {
@@ -138,8 +140,9 @@ impl XorMappedAddress {
         }
     }
 
-    /// The address, if the attribute is of a message of this transaction. Flow information and
-    /// scope of an IPv6 address are 0.
+    /// Returns the address. `id` must be the transaction ID of the message that the attribute is
+    /// in: with any other ID the result may be a different address. The flow information and the
+    /// scope ID of an IPv6 address are 0.
     pub fn addr(&self, id: TransactionId) -> SocketAddr
         ensures ip { IsHidden id self.now (socket_ip result) }
         ensures port { IsPlainSocket result (xor_port self.now.port) }

@@ -1,6 +1,6 @@
-//! The calls of every writer.
+//! The calls that every writer has.
 
-ghost use Rattle.std.specs.Prelude.{◌≡◌, ◌≤◌, ◌+◌, ◌-◌, ◌^◌, ◌↔◌, ◌++◌, false};
+ghost use Rattle.std.specs.Prelude.{◌≡◌, ◌≤◌, ◌<◌, ◌+◌, ◌-◌, ◌^◌, ◌↔◌, ◌++◌, false};
 ghost use Rattle.std.specs.Prelude.{min, length, None, IsTrue, IsOk, OnErr, OnOk};
 ghost use Rattle.stun_base.specs.Algorithm.{digest, digest_length};
 ghost use Rattle.stun_base.specs.Header.{BeginsWithHeader, HEADER_LENGTH as header_length};
@@ -13,9 +13,10 @@ ghost use Rattle.stun_types.specs.Limits.{max_length};
 ghost use Rattle.stun_types.specs.Visible.{has_kind};
 ghost use Rattle.stun_types.specs.Walk.{walk};
 ghost use Rattle.stun_types.specs.Writing.{GainsIntegrity, GainsOne, IsOpen, RefusedBy};
-ghost use Rattle.stun_types.specs.Writing.{SpellsOneMore, VerifiesAfter, attribute_refusal};
-ghost use Rattle.stun_types.specs.Writing.{has_integrity, integrity_kind, is_set_apart};
-ghost use Rattle.stun_types.specs.Writing.{length_with, signing_refusal, with_attribute};
+ghost use Rattle.stun_types.specs.Writing.{SpellsOneMore, VerifiesAfter, another_refusal};
+ghost use Rattle.stun_types.specs.Writing.{attribute_refusal, has_integrity, integrity_kind};
+ghost use Rattle.stun_types.specs.Writing.{is_set_apart, length_with, signing_refusal};
+ghost use Rattle.stun_types.specs.Writing.{size_refusal, with_attribute};
 ghost use Rattle.stun_types.specs.Writing.{with_integrity};
 
 use crate::attribute::{Attribute, AttributeType, attribute_length};
@@ -43,12 +44,14 @@ fn is_set_apart(kind: AttributeType) -> bool
         || kind == AttributeType::FINGERPRINT
 }
 
-/// The calls of every writer: they read the message, add attributes, and sign it.
+/// The calls that every writer has: they inspect the message in the writer, add attributes to it,
+/// and sign it.
 ///
-/// They are for a message without FINGERPRINT: the builders write none, nor do these calls. Their
-/// conditions ask for less: as many bytes as a header has, or a header.
+/// The writer must hold a message without FINGERPRINT. The builders of `Message` start such a
+/// message, and these calls keep it that way. The conditions of the calls ask for less: for a
+/// header, or for as many bytes as a header has.
 pub trait MessageWriteExt: MessageWrite {
-    /// Whether the message has an attribute of this type, visible or not.
+    /// Returns `true` if the message has an attribute of this type, whether it is visible or not.
     final fn has_attribute(&self, kind: AttributeType) -> bool
     where
         Self: Sized,
@@ -58,7 +61,7 @@ pub trait MessageWriteExt: MessageWrite {
         has_attribute(self.data(), kind)
     }
 
-    /// Whether the message has this class.
+    /// Returns `true` if the message has this class.
     final fn has_class(&self, class: MessageClass) -> bool
     where
         Self: Sized,
@@ -68,7 +71,7 @@ pub trait MessageWriteExt: MessageWrite {
         header(self.data()).get_type().has_class(class)
     }
 
-    /// Whether the message is a response.
+    /// Returns `true` if the message is a response, either a success or an error.
     final fn is_response(&self) -> bool
     where
         Self: Sized,
@@ -78,7 +81,7 @@ pub trait MessageWriteExt: MessageWrite {
         header(self.data()).get_type().is_response()
     }
 
-    /// The id of the message's transaction.
+    /// Returns the transaction ID of the message.
     final fn transaction_id(&self) -> TransactionId
     where
         Self: Sized,
@@ -88,14 +91,19 @@ pub trait MessageWriteExt: MessageWrite {
         header(self.data()).transaction_id()
     }
 
-    /// Adds an attribute at the end.
+    /// Adds an attribute at the end of the message.
     ///
-    /// It fails with the first of these that holds. `NotAllowed`: the type is that of an integrity
-    /// attribute or of FINGERPRINT. `MessageIntegrityExists`: the message has an integrity
-    /// attribute. `AttributeExists`: it has an attribute of this type. `TooLarge`: it would have
-    /// more than 65532 bytes after its header. `TooSmall`: the writer has too little room.
-    /// `OutOfMemory`: an allocation fails. If it fails, bytes and room stay as they were, and no
-    /// reservation is lost.
+    /// # Errors
+    ///
+    /// The first of these that applies. After an error, the bytes and the room are unchanged, and
+    /// what was reserved stays reserved.
+    ///
+    /// - `NotAllowed`: it is an integrity attribute or FINGERPRINT.
+    /// - `MessageIntegrityExists`: the message has an integrity attribute.
+    /// - `AttributeExists`: the message has an attribute of this type.
+    /// - `TooLarge`: the message would have more than 65532 bytes after its header.
+    /// - `TooSmall`: the writer has no room.
+    /// - `OutOfMemory`: an allocation failed.
     final fn add_attribute<A: Attribute>(&mut self, attribute: &A) -> Result<(), StunWriteError>
     where
         Self: Sized,
@@ -137,19 +145,84 @@ pub trait MessageWriteExt: MessageWrite {
         if has_attribute(self.data(), kind) {
             return Err(StunWriteError::AttributeExists(kind));
         }
-        let message_length = length_with(self.data(), attribute.padded_len());
-        if message_length > MAX_LENGTH {
-            return Err(StunWriteError::TooLarge);
-        }
-        self.reserve(attribute.padded_len())?;
-        self.set_length(message_length as u16);
-        attribute.write_into(self);
-        Ok(())
+        add_whole(self, attribute)
     }
 
-    /// Adds the integrity attribute of an algorithm, under the key of the credentials for it: the
-    /// bytes of a password, or a long-term key. The key is not allocated. It fails as
-    /// `add_message_integrity_with_key` does.
+    /// Adds an attribute at the end of the message, even if the message has an attribute of this
+    /// type already.
+    ///
+    /// A request with several attributes of one type needs this, such as CreatePermission for
+    /// several peers (RFC 8656, section 9.1). Where the type may occur once, use `add_attribute`,
+    /// which makes sure of that.
+    ///
+    /// # Errors
+    ///
+    /// The first of these that applies. After an error, the bytes and the room are unchanged, and
+    /// what was reserved stays reserved.
+    ///
+    /// - `NotAllowed`: it is an integrity attribute or FINGERPRINT.
+    /// - `MessageIntegrityExists`: the message has an integrity attribute.
+    /// - `TooLarge`: the message would have more than 65532 bytes after its header.
+    /// - `TooSmall`: the writer has no room.
+    /// - `OutOfMemory`: an allocation failed.
+    final fn add_another_attribute<A: Attribute>(
+        &mut self,
+        attribute: &A,
+    ) -> Result<(), StunWriteError>
+    where
+        Self: Sized,
+        requires { header_length ≤ length (Self.bytes self.old) }
+
+        // It fails with the first reason that holds. Without a reason only an allocation can fail.
+        ensures refused { RefusedBy (another_refusal (Self.bytes self.old) (Self.room self.old)
+            (A.kind attribute.now) (length (A.value attribute.now))) result }
+        ensures bytes { OnOk result (Self.bytes self.new ≡ with_attribute (Self.bytes self.old)
+            (record { kind = A.kind attribute.now; value = A.value attribute.now })) }
+
+        // It succeeds if the bytes are reserved already and there is no reason.
+        ensures succeeds { another_refusal (Self.bytes self.old) (Self.room self.old)
+            (A.kind attribute.now) (length (A.value attribute.now)) ≡ None
+            → attribute_length (length (A.value attribute.now)) ≤ Self.reserved self.old
+            → IsOk result }
+
+        // A reader finds the attributes from before, and this one after them.
+        ensures added { OnOk result (GainsOne (Self.bytes self.old) (Self.bytes self.new)
+            (record { kind = A.kind attribute.now; value = A.value attribute.now })) }
+        ensures open { OnOk result (IsOpen (Self.bytes self.old) → IsOpen (Self.bytes self.new)) }
+        ensures spelled { OnOk result (SpellsOneMore (Self.bytes self.old) (Self.bytes self.new)
+            (record { kind = A.kind attribute.now; value = A.value attribute.now })) }
+        ensures room { OnOk result (Self.room self.new
+            + attribute_length (length (A.value attribute.now)) ≡ Self.room self.old) }
+        ensures reserved { OnOk result (Self.reserved self.old
+            ≤ Self.reserved self.new + attribute_length (length (A.value attribute.now))) }
+        ensures err { OnErr result ((Self.bytes self.new ≡ Self.bytes self.old)
+            × (Self.room self.new ≡ Self.room self.old)) }
+        ensures kept { OnErr result (Self.reserved self.old ≤ Self.reserved self.new) }
+    {
+        if is_set_apart(attribute.get_type()) {
+            return Err(StunWriteError::NotAllowed);
+        }
+        if has_integrity(self.data()) {
+            return Err(StunWriteError::MessageIntegrityExists);
+        }
+        add_whole(self, attribute)
+    }
+
+    /// Signs the message: adds MESSAGE-INTEGRITY or MESSAGE-INTEGRITY-SHA256, depending on the
+    /// algorithm.
+    ///
+    /// The key is the one that the credentials have for this algorithm: the bytes of the password,
+    /// or a long-term key. No key is allocated.
+    ///
+    /// # Errors
+    ///
+    /// The first of these that applies. After an error, the bytes and the room are unchanged, and
+    /// what was reserved stays reserved.
+    ///
+    /// - `MessageIntegrityExists`: the message has an integrity attribute.
+    /// - `TooLarge`: the message would have more than 65532 bytes after its header.
+    /// - `TooSmall`: the writer has no room.
+    /// - `OutOfMemory`: an allocation failed.
     final fn add_message_integrity<A: Allocator>(
         &mut self,
         credentials: &MessageIntegrityCredentials<A>,
@@ -179,12 +252,11 @@ pub trait MessageWriteExt: MessageWrite {
         add_integrity(self, &key.as_bytes(), algorithm)
     }
 
-    /// Adds the integrity attribute of an algorithm, under this key.
+    /// Like `add_message_integrity`, with a key.
     ///
-    /// It fails with the first of these that holds. `MessageIntegrityExists`: the message has an
-    /// integrity attribute. `TooLarge`: it would have more than 65532 bytes after its header.
-    /// `TooSmall`: the writer has too little room. `OutOfMemory`: an allocation fails. If it fails,
-    /// bytes and room stay as they were, and no reservation is lost.
+    /// # Errors
+    ///
+    /// The errors of `add_message_integrity`, in the same order.
     final fn add_message_integrity_with_key<A: Allocator>(
         &mut self,
         key: &IntegrityKey<A>,
@@ -213,7 +285,11 @@ pub trait MessageWriteExt: MessageWrite {
         add_integrity(self, &key.as_bytes(), algorithm)
     }
 
-    /// The same under the bytes of a key, of any length.
+    /// Like `add_message_integrity`, with the bytes of a key, which may have any length.
+    ///
+    /// # Errors
+    ///
+    /// The errors of `add_message_integrity`, in the same order.
     final fn add_message_integrity_with_key_bytes(
         &mut self,
         key: &[u8],
@@ -242,8 +318,12 @@ pub trait MessageWriteExt: MessageWrite {
         add_integrity(self, &key, algorithm)
     }
 
-    /// The same under a prepared key. If it is prepared for this algorithm, two blocks fewer are
-    /// hashed.
+    /// Like `add_message_integrity`, with a prepared key. If the key was prepared for this
+    /// algorithm, the digest hashes two blocks fewer.
+    ///
+    /// # Errors
+    ///
+    /// The errors of `add_message_integrity`, in the same order.
     final fn add_message_integrity_with_prepared_key<A: Allocator>(
         &mut self,
         key: &PreparedKey<A>,
@@ -272,12 +352,16 @@ pub trait MessageWriteExt: MessageWrite {
         add_integrity(self, key, algorithm)
     }
 
-    /// Adds the integrity attribute of an algorithm, without a check.
+    /// Signs the message like `add_message_integrity_with_key`, without a check.
     ///
-    /// The caller knows three things. The message has no integrity attribute. With this one it has
-    /// at most 65532 bytes after its header. The writer has room for it: 24 bytes for HMAC-SHA1, 36
-    /// for HMAC-SHA256. It fails only if an allocation fails. Bytes and room then stay as they
-    /// were, and no reservation is lost.
+    /// The caller must know three things, because the message would be malformed otherwise: it has
+    /// no integrity attribute, with this one it has at most 65532 bytes after its header, and the
+    /// writer has room for it, which is 24 bytes for HMAC-SHA1 and 36 for HMAC-SHA256.
+    ///
+    /// # Errors
+    ///
+    /// `AllocError`: an allocation failed. The bytes and the room are then unchanged, and what was
+    /// reserved stays reserved.
     final fn add_message_integrity_with_key_unchecked<A: Allocator>(
         &mut self,
         key: &IntegrityKey<A>,
@@ -306,7 +390,12 @@ pub trait MessageWriteExt: MessageWrite {
         sign(self, &key.as_bytes(), algorithm)
     }
 
-    /// The same under a prepared key.
+    /// Like `add_message_integrity_with_key_unchecked`, with a prepared key.
+    ///
+    /// # Errors
+    ///
+    /// `AllocError`: an allocation failed. The bytes and the room are then unchanged, and what was
+    /// reserved stays reserved.
     final fn add_message_integrity_with_prepared_key_unchecked<A: Allocator>(
         &mut self,
         key: &PreparedKey<A>,
@@ -361,6 +450,45 @@ fn length_with(message: &[u8], more: usize) -> usize
     ensures { result ≡ min (length message.now - header_length + more) (2 ^ 64 - 1) }
 {
     (message.len() - HEADER_LENGTH).saturating_add(more)
+}
+
+/// Sets the length of a message for an attribute, and appends the attribute, if it fits.
+fn add_whole<W: MessageWrite, A: Attribute>(
+    writer: &mut W,
+    attribute: &A,
+) -> Result<(), StunWriteError>
+    requires header { header_length ≤ length (W.bytes writer.old) }
+    requires kind { A.kind attribute.now < 2 ^ 16 }
+    requires other { is_set_apart (A.kind attribute.now) ≡ false }
+    ensures refused { RefusedBy (size_refusal (W.bytes writer.old) (W.room writer.old)
+        (length (A.value attribute.now))) result }
+    ensures bytes { OnOk result (W.bytes writer.new ≡ with_attribute (W.bytes writer.old)
+        (record { kind = A.kind attribute.now; value = A.value attribute.now })) }
+    ensures succeeds { size_refusal (W.bytes writer.old) (W.room writer.old)
+        (length (A.value attribute.now)) ≡ None
+        → attribute_length (length (A.value attribute.now)) ≤ W.reserved writer.old
+        → IsOk result }
+    ensures added { OnOk result (GainsOne (W.bytes writer.old) (W.bytes writer.new)
+        (record { kind = A.kind attribute.now; value = A.value attribute.now })) }
+    ensures open { OnOk result (IsOpen (W.bytes writer.old) → IsOpen (W.bytes writer.new)) }
+    ensures spelled { OnOk result (SpellsOneMore (W.bytes writer.old) (W.bytes writer.new)
+        (record { kind = A.kind attribute.now; value = A.value attribute.now })) }
+    ensures room { OnOk result (W.room writer.new
+        + attribute_length (length (A.value attribute.now)) ≡ W.room writer.old) }
+    ensures reserved { OnOk result (W.reserved writer.old
+        ≤ W.reserved writer.new + attribute_length (length (A.value attribute.now))) }
+    ensures err { OnErr result ((W.bytes writer.new ≡ W.bytes writer.old)
+        × (W.room writer.new ≡ W.room writer.old)) }
+    ensures kept { OnErr result (W.reserved writer.old ≤ W.reserved writer.new) }
+{
+    let message_length = length_with(writer.data(), attribute.padded_len());
+    if message_length > MAX_LENGTH {
+        return Err(StunWriteError::TooLarge);
+    }
+    writer.reserve(attribute.padded_len())?;
+    writer.set_length(message_length as u16);
+    attribute.write_into(writer);
+    Ok(())
 }
 
 /// The number of bytes of the integrity attribute of an algorithm with its header.

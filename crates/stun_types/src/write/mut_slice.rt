@@ -1,4 +1,4 @@
-//! Messages in a borrowed slice.
+//! A writer into a borrowed slice.
 
 ghost use Rattle.std.specs.Prelude.{◌≡◌, [], length};
 
@@ -7,10 +7,11 @@ use byteorder::{BigEndian, ByteOrder};
 use std::marker::Model;
 use stun_base::error::StunWriteError;
 
-/// Writes a message to a slice. It does not allocate.
+/// A writer that puts a message into a slice. It does not allocate.
 ///
-/// Contracts see the bytes written so far, and how many more fit. Nothing is promised of the bytes
-/// of the slice after those written.
+/// The bytes of the slice after those written may have any value.
+///
+/// Contracts: the value is a record of the bytes written so far and of how many more fit.
 #[derive(Debug, Drop)]
 pub struct MessageWriteMutSlice<'a> {
     buffer: &'a mut [u8],
@@ -32,7 +33,7 @@ impl<'a> Model for MessageWriteMutSlice<'a> {
 }
 
 impl<'a> MessageWriteMutSlice<'a> {
-    /// An empty message in this slice.
+    /// Creates an empty writer into this slice.
     pub fn new(buffer: &'a mut [u8]) -> Self
         ensures { result ≡ record { bytes = []; room = length buffer.old } }
     {

@@ -1,4 +1,4 @@
-//! Messages in a `Vec`, which grows.
+//! A writer into a `Vec`.
 
 ghost use Rattle.std.specs.Prelude.{◌≡◌, []};
 ghost use Rattle.stun_types.specs.WriteVec.{Written};
@@ -10,7 +10,7 @@ use std::alloc::{Allocator, Global};
 use std::marker::Model;
 use stun_base::error::StunWriteError;
 
-/// Writes a message to a `Vec`.
+/// A writer that puts a message into a `Vec`, which grows as needed.
 #[derive(Drop)]
 #[derive_where(Debug)]
 pub struct MessageWriteVec<A: Allocator = Global> {
@@ -33,7 +33,7 @@ impl<A: Allocator> Model for MessageWriteVec<A> {
 }
 
 impl<A: Allocator> MessageWriteVec<A> {
-    /// An empty message. It does not allocate.
+    /// Creates an empty writer. This does not allocate.
     pub fn new(alloc: A) -> Self
         ensures { result ≡ record { bytes = []; reserved = 0 } }
     {
@@ -78,7 +78,7 @@ impl<A: Allocator> MessageWrite for MessageWriteVec<A> {
 
     fn append(&mut self, tail: &[u8]) {
         self.bytes.extend_from_slice(tail).unwrap();
-        self.reserved -= tail.len();
+        self.reserved = self.reserved.saturating_sub(tail.len());
     }
 
     fn set_length(&mut self, message_length: u16) {

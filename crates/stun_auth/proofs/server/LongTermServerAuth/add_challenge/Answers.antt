@@ -1,21 +1,29 @@
--- The nonce is added, or refused, and then the realm.
-use Rattle.std.proofs.Common.{List, [], ◌∷◌, Err, ap, ◌∙◌, refl}
-use Rattle.std.proofs.lemmas.Result.{err_from_is_err_and}
-use Rattle.stun_auth.specs.AddedAttribute.{realm}
-use Rattle.stun_auth.specs.Additions.{Addition, attribute}
-use Rattle.stun_auth.proofs.Wanting.{refused_at_first, then_added}
+-- What is challenged is longer by what was added, and what may be added is added without memory.
+use Rattle.std.proofs.Common.{true≢false, refl, sym, ◌∙◌, ap}
+use Rattle.std.specs.Result.{is_ok}
+use Rattle.stun_auth.specs.Additions.{Page, added_all, page_in}
+use Rattle.stun_auth.specs.ServerSigning.{challenge_under}
+use Rattle.stun_auth.specs.code.Additions.{outcome_of}
+use Rattle.stun_auth.proofs.Growth.{grown_all, succeeds_reserved, wants_short}
 use Rattle.stun_auth.proofs.server.LongTermServerAuth.add_challenge.Goals as goal
 
-pub returns-in_err-add-clause-added : goal.returns-in_err-add-clause-added
-returns-in_err-add-clause-added g c =
-    let refused = err_from_is_err_and c.from_residual.result c.from_residual.ensures.1 in
-    let others : List Addition = attribute (realm c.args.self.now.registered.realm) ∷ [] in
-    refused_at_first _ _ others _ _ _ _ _ _ _ _ (refused.1 ∙ ap (λ reason. Err reason) refused.2)
-    refl c.in_err-add.ensures.added
+pub returns-in_err-add_under-clause-succeeds : goal.returns-in_err-add_under-clause-succeeds
+returns-in_err-add_under-clause-succeeds g c = λ may enough.
+    let bytes = g.W.MessageWrite.bytes in
+    let room = g.W.MessageWrite.room in
+    let reserved = g.W.MessageWrite.reserved c.args.writer in
+    let page : Page = page_in bytes room c.args.writer in
+    let list = challenge_under c.args.self.now.registered c.args.nonce.now in
+    let added =
+    succeeds_reserved (λ r. outcome_of r (page_in bytes room c.add_under.new.writer))
+    (λ reason. refl) (added_all list page) reserved _ _ (wants_short list page reserved)
+    c.add_under.result c.add_under.ensures.outcome may enough in
+    absurd (true≢false (sym added ∙ ap is_ok c.in_err-add_under.was))
 
-pub returns-clause-added : goal.returns-clause-added
-returns-clause-added g c =
-    let others : List Addition = attribute (realm c.realm.result.now) ∷ [] in
-    let same = c.realm.ensures ∙ ap (λ s. s.registered.realm) c.self.view_is in
-    then_added _ _ others _ _ _ _ _ _ _ _ (rw same refl) c.in_ok-add.ensures.added
-    c.add-2.ensures.added
+pub returns-clause-grows : goal.returns-clause-grows
+returns-clause-grows g c =
+    let bytes = g.W.MessageWrite.bytes in
+    let room = g.W.MessageWrite.room in
+    grown_all (challenge_under c.args.self.now.registered c.args.nonce.now)
+    (page_in bytes room c.args.writer) (page_in bytes room c.add_under.new.writer)
+    c.requires.is_whole (sym c.in_ok-add_under.ensures.outcome)

@@ -1,4 +1,4 @@
--- What has ended is an end or cancelled. The index itself is read, and of the nodes these alone.
+-- What has ended is an end or cancelled, and of the deadlines these alone are read.
 use Rattle.std.proofs.Common.{◌≡◌, ◌+◌, ◌∙◌, ap, sym, refl, arith}
 use Rattle.std.specs.Prelude.{None}
 use Rattle.stun_agent.specs.code.Deadlines.{lesser, least_ended, early}
@@ -23,16 +23,12 @@ returns-clause-work g c =
     + (early c.args.now inside.ends + early c.args.now inside.cancelled) =
     sym (ap (early c.args.now) c.self.view_is)
     ∙ early_parts c.args.now inside.slots inside.ends inside.cancelled in
-    let none = c.new-reads.ensures in
-    let itself = c.tick.ensures in
     let one = c.least_come-ended.ensures.work in
     let two = c.least_come-cancelled.ensures.work in
-    omega (arith, none, itself, one, two, parts)
+    omega (arith, one, two, parts)
 
 pub returns-clause-path : goal.returns-clause-path
 returns-clause-path g c =
-    let none = c.new-reads.ensures in
-    let itself = c.tick.ensures in
     let one = c.least_come-ended.ensures.path refl in
     let two = c.least_come-cancelled.ensures.path refl in
-    omega (arith, none, itself, one, two)
+    omega (arith, one, two)

@@ -1,0 +1,58 @@
+-- What a list of datagrams comes to at a server that keeps nothing of an address.
+use Rattle.std.specs.Prelude.{◌≡◌, ◌↔◌, ◌⊎◌, ◌||◌, ℕ, List, slice_get, true, Some}
+use Rattle.std.specs.Prelude.{if◌then◌else◌}
+use Rattle.std.specs.Str.{bytes_eq}
+use Rattle.std.specs.declared.net.socket_addr.SocketAddr.{SocketAddr}
+use Rattle.std.specs.declared.result.Result.{Result}
+use Rattle.std.specs.declared.result.Result.TheVariants.{Ok}
+use Rattle.stun_auth.specs.declared.server.reason.VerdictRefusal.{VerdictRefusal}
+use Rattle.stun_auth.specs.declared.server.reason.VerdictRefusal.TheVariants.{Unauthorized}
+use Rattle.stun_auth.specs.declared.server.reason.VerdictRefusal.TheVariants.{BadRequest}
+use Rattle.stun_auth.specs.declared.server.reason.VerdictRefusal.TheVariants.{StaleNonce}
+use Rattle.stun_auth.specs.Epochs.{IsAcceptedIn, judged_in, nonce_in}
+use Rattle.stun_auth.specs.Reading.{Reading, reading_of}
+use Rattle.stun_auth.specs.Seen.{ClientSeen}
+use Rattle.stun_auth.specs.Server.{their_nonce}
+use Rattle.stun_auth.specs.Validation.{ServerSeen, is_malformed}
+
+-- a datagram: from where, when, and its bytes
+pub record TimedDatagram : Type 0 where
+  pub from : SocketAddr
+  pub now : ℕ
+  pub bytes : List ℕ
+
+-- how nonces are made: the epoch of a moment, and the words of an address in an epoch
+pub record Derivation : Type 0 where
+  pub epoch : ℕ → ℕ
+  pub words : SocketAddr → ℕ → List ℕ
+
+-- the nonce that is current for a datagram
+abbrev pub nonce_for_datagram : ServerSeen → Derivation → TimedDatagram → List ℕ
+nonce_for_datagram s how d = nonce_in s (how.words d.from) (how.epoch d.now)
+
+-- the verdict on a datagram
+abbrev pub judged_datagram : ServerSeen → Derivation → TimedDatagram
+    → Result ClientSeen VerdictRefusal
+judged_datagram s how d =
+    judged_in s (how.words d.from) (how.epoch d.now) (reading_of d.bytes)
+
+-- how a refusal is told: a bad request as such where the message is malformed or has the current
+-- nonce, and else as a stale nonce
+abbrev pub told_refusal : List ℕ → Reading → VerdictRefusal → VerdictRefusal
+told_refusal ours r Unauthorized = Unauthorized
+told_refusal ours r StaleNonce = StaleNonce
+told_refusal ours r BadRequest =
+    if is_malformed r || bytes_eq (their_nonce r) ours then BadRequest else StaleNonce
+
+-- each datagram is judged alone
+pub record JudgesEachDatagram (s : ServerSeen) (how : Derivation) (datagrams : List TimedDatagram)
+    (given : List (Result ClientSeen VerdictRefusal)) : Type 0 where
+  -- someone is accepted if and only if the conjunction holds, under one of two nonces
+  pub accepted : (i : ℕ) (d : TimedDatagram) (client : ClientSeen) → slice_get datagrams i ≡ Some d
+      → (slice_get given i ≡ Some (Ok client))
+      ↔ IsAcceptedIn s (how.words d.from) (how.epoch d.now) (reading_of d.bytes) client
+  -- who repeats what was once told is never told that the request is bad
+  pub no_lockout : (d : TimedDatagram) (refusal : VerdictRefusal)
+      → told_refusal (nonce_for_datagram s how d) (reading_of d.bytes) refusal ≡ BadRequest
+      → (is_malformed (reading_of d.bytes) ≡ true)
+      ⊎ (bytes_eq (their_nonce (reading_of d.bytes)) (nonce_for_datagram s how d) ≡ true)

@@ -1,0 +1,47 @@
+-- Whom a server accepts that keeps nothing of an address: the words of its nonces are a function of
+-- the address and of an epoch. The nonce of the epoch before is taken too.
+use Rattle.std.specs.Prelude.{ℕ, zero, suc, List, Some, ◌⊎◌}
+use Rattle.std.specs.declared.result.Result.{Result}
+use Rattle.std.specs.declared.result.Result.TheVariants.{Ok, Err}
+use Rattle.stun_auth.specs.declared.server.reason.VerdictRefusal.{VerdictRefusal}
+use Rattle.stun_auth.specs.declared.server.reason.VerdictRefusal.TheVariants.{Unauthorized}
+use Rattle.stun_auth.specs.declared.server.reason.VerdictRefusal.TheVariants.{BadRequest}
+use Rattle.stun_auth.specs.declared.server.reason.VerdictRefusal.TheVariants.{StaleNonce}
+use Rattle.stun_auth.specs.Judged.{verdict_by_nonce}
+use Rattle.stun_auth.specs.Nonces.{nonce_of}
+use Rattle.stun_auth.specs.Reading.{Reading}
+use Rattle.stun_auth.specs.Seen.{ClientSeen}
+use Rattle.stun_auth.specs.Server.{IsAccepted}
+use Rattle.stun_auth.specs.Validation.{ServerSeen}
+
+-- the nonce of an epoch, by the words of each epoch at one address
+abbrev pub nonce_in : ServerSeen → (ℕ → List ℕ) → ℕ → List ℕ
+nonce_in s words epoch = nonce_of s.registered.algorithms s.feature (words epoch)
+
+-- a verdict, or where the nonce is stale the acceptance under the nonce before
+abbrev pub or_before : Result ClientSeen VerdictRefusal → Result ClientSeen VerdictRefusal
+    → Result ClientSeen VerdictRefusal
+or_before (Ok client) before = Ok client
+or_before (Err Unauthorized) before = Err Unauthorized
+or_before (Err BadRequest) before = Err BadRequest
+or_before (Err StaleNonce) (Ok client) = Ok client
+or_before (Err StaleNonce) (Err refusal) = Err StaleNonce
+
+-- the verdict in an epoch
+abbrev pub judged_in : ServerSeen → (ℕ → List ℕ) → ℕ → Reading → Result ClientSeen VerdictRefusal
+judged_in s words zero r = verdict_by_nonce s (nonce_in s words 0) r
+judged_in s words (suc e) r =
+    or_before (verdict_by_nonce s (nonce_in s words (suc e)) r)
+    (verdict_by_nonce s (nonce_in s words e) r)
+
+-- a client is accepted under the nonce of an epoch
+abbrev pub IsAcceptedAt : ServerSeen → (ℕ → List ℕ) → ℕ → Reading → ClientSeen → Type 0
+IsAcceptedAt s words epoch r client =
+    IsAccepted s.registered s.feature (nonce_in s words epoch) (Some s.registered.algorithms) r
+    client
+
+-- a client is accepted in an epoch: under its nonce, or under that of the epoch before
+abbrev pub IsAcceptedIn : ServerSeen → (ℕ → List ℕ) → ℕ → Reading → ClientSeen → Type 0
+IsAcceptedIn s words zero r client = IsAcceptedAt s words 0 r client
+IsAcceptedIn s words (suc e) r client =
+    IsAcceptedAt s words (suc e) r client ⊎ IsAcceptedAt s words e r client

@@ -1,0 +1,63 @@
+//! Which refusal a client is answered with, and whether a message has a nonce.
+
+ghost use Rattle.std.specs.Prelude.{◌≡◌};
+ghost use Rattle.std.specs.Str.{bytes_eq};
+ghost use Rattle.stun_auth.specs.Datagrams.{told_refusal};
+ghost use Rattle.stun_auth.specs.Reading.{reading_of};
+ghost use Rattle.stun_auth.specs.Server.{their_nonce};
+ghost use Rattle.stun_auth.specs.code.ReadingSeen.{reading_seen};
+
+use crate::message::reading::MessageReading;
+use crate::server::reason::VerdictRefusal;
+use crate::server::verdict::is_same_nonce;
+use stun_types::message::Message;
+
+/// Returns the refusal to answer a request with that was refused under every nonce that the server
+/// accepts. `nonce` is the current one.
+///
+/// `BadRequest` becomes `StaleNonce` unless the message is malformed or has the current nonce. A
+/// client that repeats what a server offered it long ago, or with other settings, then learns how
+/// to continue, because clients drop an unsigned 400. Other refusals stay as they are. It does not
+/// allocate.
+pub fn told_refusal(refusal: VerdictRefusal, message: &Message<'_>, nonce: &str) -> VerdictRefusal
+    ensures { result ≡ told_refusal nonce.now (reading_of message.now) refusal }
+{
+    match refusal {
+        VerdictRefusal::Unauthorized => VerdictRefusal::Unauthorized,
+        VerdictRefusal::StaleNonce => VerdictRefusal::StaleNonce,
+        VerdictRefusal::BadRequest => told_bad_request(&MessageReading::of(message), nonce),
+    }
+}
+
+/// How a bad request is told.
+fn told_bad_request(reading: &MessageReading<'_, '_>, nonce: &str) -> VerdictRefusal
+    ensures { result
+        ≡ told_refusal nonce.now (reading_seen reading.now) VerdictRefusal.BadRequest }
+{
+    if reading.is_malformed() || reads_nonce(reading, nonce) {
+        VerdictRefusal::BadRequest
+    } else {
+        VerdictRefusal::StaleNonce
+    }
+}
+
+/// Returns whether a message has this nonce: whether its last visible NONCE is well formed, and is
+/// `nonce`. It looks at each byte, wherever they differ, and does not allocate.
+///
+/// A server that looks its users up elsewhere calls it first, so that only requests with a nonce of
+/// its own cause a look-up.
+pub fn has_nonce(message: &Message<'_>, nonce: &str) -> bool
+    ensures { result ≡ bytes_eq (their_nonce (reading_of message.now)) nonce.now }
+{
+    reads_nonce(&MessageReading::of(message), nonce)
+}
+
+/// Whether a message has this nonce.
+fn reads_nonce(reading: &MessageReading<'_, '_>, nonce: &str) -> bool
+    ensures { result ≡ bytes_eq (their_nonce (reading_seen reading.now)) nonce.now }
+{
+    match reading.nonce {
+        Some(theirs) => is_same_nonce(theirs, nonce),
+        None => is_same_nonce("", nonce),
+    }
+}

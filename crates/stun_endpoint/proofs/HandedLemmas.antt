@@ -1,0 +1,186 @@
+-- Who is handed to the caller is accepted, and who gets a 400 has the current nonce or is malformed.
+use Rattle.std.proofs.Common.{◌≡◌, ◌⊎◌, inl, inr, ℕ, List, Some, None}
+use Rattle.std.proofs.Common.{Bool, true, false, refl, sym, ◌∙◌, ap, Ok, Err}
+use Rattle.std.specs.Prelude.{cond, ◌||◌, ◌&&◌}
+use Rattle.std.specs.Option.{is_some}
+use Rattle.std.specs.Str.{bytes_eq}
+use Rattle.std.specs.declared.net.socket_addr.SocketAddr.{SocketAddr}
+use Rattle.std.specs.declared.result.Result.{Result}
+use Rattle.stun_base.specs.MessageType.{class_in}
+use Rattle.stun_base.specs.declared.wire.message_type.MessageClass.{MessageClass}
+use Rattle.stun_base.specs.declared.wire.message_type.MessageClass.TheVariants.{Request}
+use Rattle.stun_base.specs.declared.wire.message_type.MessageClass.TheVariants.{Indication}
+use Rattle.stun_base.specs.declared.wire.message_type.MessageClass.TheVariants.{Success, Error}
+use Rattle.stun_types.specs.Message.{refusal}
+use Rattle.stun_auth.specs.Datagrams.{told_refusal}
+use Rattle.stun_auth.specs.Reading.{Reading, reading_of}
+use Rattle.stun_auth.specs.Seen.{ClientSeen}
+use Rattle.stun_auth.specs.Server.{their_nonce}
+use Rattle.stun_auth.specs.Validation.{is_malformed}
+use Rattle.stun_auth.specs.declared.server.reason.VerdictRefusal.{VerdictRefusal}
+use Rattle.stun_auth.specs.declared.server.reason.VerdictRefusal.TheVariants as verdict
+use Rattle.stun_extra.specs.Fingerprint.{fingerprint_in}
+use Rattle.stun_extra.specs.Unknown.{unknown_types}
+use Rattle.stun_endpoint.specs.Judged.{IsAcceptedAt, Realm, judged, key_of_client}
+use Rattle.stun_endpoint.specs.Nonces.{current_nonce, epoch_of}
+use Rattle.stun_endpoint.specs.Received.{AcceptedRequest, Answer, Outcome, answer_to_refused}
+use Rattle.stun_endpoint.specs.Received.{binding_answer, stale_answer, unauthenticated_answer}
+use Rattle.stun_endpoint.specs.Received.{unknown_answer}
+use Rattle.stun_endpoint.specs.Received.{answered, by_class, by_verdict, dropped, indicated}
+use Rattle.stun_endpoint.specs.Received.{is_binding, is_empty, is_wrong, received_by, requested}
+use Rattle.stun_endpoint.specs.Settings.{Settings}
+use Rattle.stun_endpoint.specs.declared.received.DropReason.{DropReason}
+use Rattle.stun_endpoint.specs.declared.received.Refusal.TheVariants as refused
+use Rattle.stun_endpoint.proofs.AcceptedLemmas.{accepted_at}
+
+-- ---- outcomes
+
+handed : (b c : Bool) (one other : Answer) (request q : AcceptedRequest)
+    → cond b (cond c (answered one) (requested request)) (answered other) ≡ requested q
+    → request ≡ q
+handed true true one other request q h = cc
+handed true false one other request q h = cc
+handed false c one other request q h = cc
+
+not_indicated : (b : Bool) (bytes : List ℕ) (why : DropReason) (q : AcceptedRequest) (A : Type 0)
+    → cond b (indicated bytes) (dropped why) ≡ requested q → A
+not_indicated true bytes why q A h = cc
+not_indicated false bytes why q A h = cc
+
+not_indicated_answer : (b : Bool) (bytes : List ℕ) (why : DropReason) (a : Answer) (A : Type 0)
+    → cond b (indicated bytes) (dropped why) ≡ answered a → A
+not_indicated_answer true bytes why a A h = cc
+not_indicated_answer false bytes why a A h = cc
+
+not_dropped : (b c : Bool) (why other : DropReason) (rest : Outcome) (q : AcceptedRequest)
+    → cond b (dropped why) (cond c (dropped other) rest) ≡ requested q → rest ≡ requested q
+not_dropped true c why other rest q h = cc
+not_dropped false true why other rest q h = cc
+not_dropped false false why other rest q h = h
+
+not_dropped_answer : (b c : Bool) (why other : DropReason) (rest : Outcome) (a : Answer)
+    → cond b (dropped why) (cond c (dropped other) rest) ≡ answered a → rest ≡ answered a
+not_dropped_answer true c why other rest a h = cc
+not_dropped_answer false true why other rest a h = cc
+not_dropped_answer false false why other rest a h = h
+
+-- an accepted request does not get a 400
+not_bad : (b c : Bool) (one other : Answer) (request : AcceptedRequest) (a : Answer)
+    → one.refusal ≡ None → other.refusal ≡ Some refused.UnknownAttribute
+    → cond b (cond c (answered one) (requested request)) (answered other) ≡ answered a
+    → a.refusal ≡ Some refused.BadRequest → (A : Type 0) → A
+not_bad true true one other request a fine odd h bad A =
+    let same : one ≡ a = cc in
+    let wrong : None ≡ Some refused.BadRequest =
+    sym fine ∙ ap (λ (x : Answer). x.refusal) same ∙ bad in cc
+not_bad true false one other request a fine odd h bad A = cc
+not_bad false c one other request a fine odd h bad A =
+    let same : other ≡ a = cc in
+    let wrong : Some refused.UnknownAttribute ≡ Some refused.BadRequest =
+    sym odd ∙ ap (λ (x : Answer). x.refusal) same ∙ bad in cc
+
+-- ---- a refusal that is told as a bad request
+told_so : (m n : Bool) → cond (m || n) verdict.BadRequest verdict.StaleNonce ≡ verdict.BadRequest
+    → (m ≡ true) ⊎ (n ≡ true)
+told_so true n h = inl refl
+told_so false true h = inr refl
+told_so false false h = cc
+
+told_of : (nonce : List ℕ) (r : Reading) (why : VerdictRefusal)
+    → told_refusal nonce r why ≡ verdict.BadRequest
+    → (is_malformed r ≡ true) ⊎ (bytes_eq (their_nonce r) nonce ≡ true)
+told_of nonce r verdict.Unauthorized h = cc
+told_of nonce r verdict.StaleNonce h = cc
+told_of nonce r verdict.BadRequest h = told_so (is_malformed r) (bytes_eq (their_nonce r) nonce) h
+
+binding_fine : (s : Settings) (key : List ℕ) (from : SocketAddr) (bytes : List ℕ)
+    → (binding_answer s key from bytes).refusal ≡ None
+unfolding binding_answer
+binding_fine s key from bytes = refl
+
+unknown_odd : (s : Settings) (key : List ℕ) (from : SocketAddr) (bytes : List ℕ)
+    → (unknown_answer s key from bytes).refusal ≡ Some refused.UnknownAttribute
+unfolding unknown_answer
+unknown_odd s key from bytes = refl
+
+unsigned_told : (s : Settings) (nonce : List ℕ) (from : SocketAddr) (bytes : List ℕ)
+    → (unauthenticated_answer s nonce from bytes).refusal ≡ Some refused.Unauthenticated
+unfolding unauthenticated_answer
+unsigned_told s nonce from bytes = refl
+
+stale_told : (s : Settings) (nonce : List ℕ) (from : SocketAddr) (bytes : List ℕ)
+    → (stale_answer s nonce from bytes).refusal ≡ Some refused.StaleNonce
+unfolding stale_answer
+stale_told s nonce from bytes = refl
+
+told_bad : (s : Settings) (nonce : List ℕ) (from : SocketAddr) (bytes : List ℕ)
+    (told : VerdictRefusal)
+    → (answer_to_refused s nonce from bytes told).refusal ≡ Some refused.BadRequest
+    → told ≡ verdict.BadRequest
+told_bad s nonce from bytes verdict.Unauthorized h =
+    let wrong : Some refused.Unauthenticated ≡ Some refused.BadRequest =
+    sym (unsigned_told s nonce from bytes) ∙ h in cc
+told_bad s nonce from bytes verdict.StaleNonce h =
+    let wrong : Some refused.StaleNonce ≡ Some refused.BadRequest =
+    sym (stale_told s nonce from bytes) ∙ h in cc
+told_bad s nonce from bytes verdict.BadRequest h = refl
+
+module _ (s : Settings) (realm : Realm) (from : SocketAddr) (now : ℕ) (bytes : List ℕ) where
+  verdict_of_handed : (q : AcceptedRequest) (v : Result ClientSeen VerdictRefusal)
+      → by_verdict s realm from now bytes v ≡ requested q → v ≡ Ok q.client
+  verdict_of_handed q (Ok client) h =
+      ap (λ (x : AcceptedRequest). Ok x.client)
+      (handed (is_empty (unknown_types s.known bytes)) (s.answers_binding && is_binding bytes)
+      _ _ _ q h)
+  verdict_of_handed q (Err why) h = cc
+
+  class_of_handed : (q : AcceptedRequest) (class : MessageClass)
+      → by_class s realm from now bytes class ≡ requested q
+      → judged s realm from now (reading_of bytes) ≡ Ok q.client
+  class_of_handed q Request h = verdict_of_handed q (judged s realm from now (reading_of bytes)) h
+  class_of_handed q Indication h =
+      not_indicated (is_empty (unknown_types s.known bytes)) bytes _ q _ h
+  class_of_handed q Success h = cc
+  class_of_handed q Error h = cc
+
+  pub handed_is_accepted : (q : AcceptedRequest)
+      → received_by s realm from now bytes ≡ requested q
+      → IsAcceptedAt s realm from now (reading_of bytes) q.client
+  handed_is_accepted q h =
+      (accepted_at s realm from (reading_of bytes) q.client (epoch_of s now)).0
+      (class_of_handed q (class_in bytes)
+      (not_dropped (is_some (refusal bytes)) (is_wrong (fingerprint_in bytes)) _ _ _ q h))
+
+  verdict_of_bad : (a : Answer) (v : Result ClientSeen VerdictRefusal)
+      → by_verdict s realm from now bytes v ≡ answered a → a.refusal ≡ Some refused.BadRequest
+      → (is_malformed (reading_of bytes) ≡ true)
+      ⊎ (bytes_eq (their_nonce (reading_of bytes)) (current_nonce s from now) ≡ true)
+  verdict_of_bad a (Ok client) h bad =
+      not_bad (is_empty (unknown_types s.known bytes)) (s.answers_binding && is_binding bytes)
+      _ _ _ a (binding_fine s (key_of_client realm client) from bytes)
+      (unknown_odd s (key_of_client realm client) from bytes) h bad _
+  verdict_of_bad a (Err why) h bad =
+      let nonce = current_nonce s from now in
+      let told = told_refusal nonce (reading_of bytes) why in
+      let same : answer_to_refused s nonce from bytes told ≡ a = cc in
+      told_of nonce (reading_of bytes) why
+      (told_bad s nonce from bytes told (ap (λ (x : Answer). x.refusal) same ∙ bad))
+
+  class_of_bad : (a : Answer) (class : MessageClass)
+      → by_class s realm from now bytes class ≡ answered a → a.refusal ≡ Some refused.BadRequest
+      → (is_malformed (reading_of bytes) ≡ true)
+      ⊎ (bytes_eq (their_nonce (reading_of bytes)) (current_nonce s from now) ≡ true)
+  class_of_bad a Request h bad =
+      verdict_of_bad a (judged s realm from now (reading_of bytes)) h bad
+  class_of_bad a Indication h bad =
+      not_indicated_answer (is_empty (unknown_types s.known bytes)) bytes _ a _ h
+  class_of_bad a Success h bad = cc
+  class_of_bad a Error h bad = cc
+
+  pub bad_is_malformed : (a : Answer)
+      → received_by s realm from now bytes ≡ answered a → a.refusal ≡ Some refused.BadRequest
+      → (is_malformed (reading_of bytes) ≡ true)
+      ⊎ (bytes_eq (their_nonce (reading_of bytes)) (current_nonce s from now) ≡ true)
+  bad_is_malformed a h bad =
+      class_of_bad a (class_in bytes)
+      (not_dropped_answer (is_some (refusal bytes)) (is_wrong (fingerprint_in bytes)) _ _ _ a h) bad

@@ -1,0 +1,7 @@
+-- Lemmas of the crate.
+pub mod AcceptedLemmas
+pub mod HandedLemmas
+pub mod AnswerLemmas
+pub mod OfferLemmas
+pub mod VerifyingLemmas
+pub mod PreviousLemmas

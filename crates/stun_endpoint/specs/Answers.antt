@@ -1,0 +1,181 @@
+-- The responses of a server, byte by byte (RFC 8489, sections 6.3.1, 9.2.4 and 14.8).
+use Rattle.std.specs.Prelude.{◌≡◌, ℕ, List, [], ◌∷◌, Bool, true, false, codes, take}
+use Rattle.std.specs.Prelude.{if◌then◌else◌, Option, Some, None}
+use Rattle.std.specs.Net.Addr.{ipv4_octets, ipv6_octets, ipv6_segments, low_octets}
+use Rattle.std.specs.Net.Socket.{socket_ip, socket_port}
+use Rattle.std.specs.Option.{option_map}
+use Rattle.std.specs.Str.{bytes_eq}
+use Rattle.std.specs.declared.net.ip_addr.IpAddr.{IpAddr}
+use Rattle.std.specs.declared.net.ip_addr.IpAddr.TheVariants.{V4, V6}
+use Rattle.std.specs.declared.net.socket_addr.SocketAddr.{SocketAddr}
+use Rattle.stun_base.specs.Attributes.{ERROR_CODE, XOR_MAPPED_ADDRESS}
+use Rattle.stun_base.specs.Header.{transaction_id_field}
+use Rattle.stun_base.specs.declared.keys.algorithm.IntegrityAlgorithm.{IntegrityAlgorithm}
+use Rattle.stun_base.specs.declared.keys.algorithm.IntegrityAlgorithm.TheVariants.{Sha256}
+use Rattle.stun_base.specs.declared.wire.message_type.MessageClass.TheVariants.{Error, Success}
+use Rattle.stun_types.specs.Attribute.{TypedValue}
+use Rattle.stun_types.specs.ErrorCode.{error_value}
+use Rattle.stun_types.specs.Integrity.{deciding_algorithm, verified_by}
+use Rattle.stun_types.specs.Writing.{empty_answer, with_attribute, with_integrity}
+use Rattle.stun_types.specs.XorMappedAddress.{XoredAddress, xor_bytes, xor_key, xor_port}
+use Rattle.stun_types.specs.XorMappedAddress.{xored_value}
+use Rattle.stun_auth.specs.AddedAttribute as added
+use Rattle.stun_auth.specs.Algorithms.{algorithms_of, contains}
+use Rattle.stun_auth.specs.declared.algorithm_set.AlgorithmSet.{AlgorithmSet}
+use Rattle.stun_extra.specs.AttributeTypes.{SOFTWARE}
+use Rattle.stun_extra.specs.Fingerprint.{fingerprint_in, with_fingerprint}
+use Rattle.stun_extra.specs.Unknown.{refusing_answer}
+use Rattle.stun_extra.specs.declared.fingerprint.Fingerprint.{Fingerprint}
+use Rattle.stun_extra.specs.declared.fingerprint.Fingerprint.TheVariants.{Right, Wrong}
+use Rattle.stun_extra.specs.declared.fingerprint.Fingerprint.TheVariants.{Misplaced, Absent}
+use Rattle.stun_endpoint.specs.Settings.{Settings}
+
+-- ---- how each response ends
+
+-- what a response is signed by: the algorithm of its integrity attribute, and the key
+pub record Signature : Type 0 where
+  pub algorithm : IntegrityAlgorithm
+  pub key : List ℕ
+
+-- SOFTWARE, the integrity attribute and FINGERPRINT, each if the response has it
+pub record Ending : Type 0 where
+  pub software : Option (List ℕ)
+  pub signature : Option Signature
+  pub has_fingerprint : Bool
+
+abbrev pub with_software : Option (List ℕ) → List ℕ → List ℕ
+with_software None page = page
+with_software (Some text) page = with_attribute page (record { kind = SOFTWARE; value = text })
+
+abbrev pub with_signature : Option Signature → List ℕ → List ℕ
+with_signature None page = page
+with_signature (Some by) page = with_integrity page by.algorithm by.key
+
+abbrev pub with_last : Bool → List ℕ → List ℕ
+with_last true page = with_fingerprint page
+with_last false page = page
+
+-- a response with its end
+abbrev pub with_end : Ending → List ℕ → List ℕ
+with_end ending page =
+    with_last ending.has_fingerprint
+    (with_signature ending.signature (with_software ending.software page))
+
+-- whether a FINGERPRINT is there and right
+abbrev pub is_right : Fingerprint → Bool
+is_right Right = true
+is_right Wrong = false
+is_right Misplaced = false
+is_right Absent = false
+
+-- a response has FINGERPRINT if and only if its request has a right one
+abbrev pub is_fingerprinted : List ℕ → Bool
+is_fingerprinted request = is_right (fingerprint_in request)
+
+-- the end of a response that nobody's key signs
+abbrev pub unsigned_end : Settings → List ℕ → Ending
+unsigned_end s request = record {
+  software = s.software;
+  signature = None;
+  has_fingerprint = is_fingerprinted request;
+}
+
+-- the end of a response to an accepted request: it is signed under the key of its user, with the
+-- integrity attribute that the request has (section 9.2.4)
+abbrev pub signed_end : Settings → List ℕ → List ℕ → Ending
+signed_end s key request = record {
+  software = s.software;
+  signature = option_map (λ a. record { algorithm = a; key = key }) (deciding_algorithm request);
+  has_fingerprint = is_fingerprinted request;
+}
+
+-- the digest of a response verifies under the key that signs it. Nothing is said of one that is not
+-- signed
+abbrev pub VerifiesBy : Option Signature → List ℕ → Type 0
+VerifiesBy None response = Unit {0}
+VerifiesBy (Some by) response =
+    (keys : IntegrityAlgorithm → List ℕ) → keys by.algorithm ≡ by.key
+    → verified_by keys response ≡ Some by.algorithm
+
+-- ---- responses
+
+-- ERROR-CODE with a code and a reason phrase
+abbrev pub error_attribute : ℕ → List ℕ → TypedValue
+error_attribute code reason =
+    record { kind = ERROR_CODE; value = error_value (record { code = code; reason = reason }) }
+
+-- an error response to a request, with ERROR-CODE alone
+unfoldable pub error_page : List ℕ → ℕ → List ℕ → List ℕ
+error_page request code reason =
+    with_attribute (empty_answer Error request) (error_attribute code reason)
+
+-- a message with attributes, one after another
+abbrev pub with_attributes : List ℕ → List TypedValue → List ℕ
+with_attributes page [] = page
+with_attributes page (attribute ∷ others) = with_attributes (with_attribute page attribute) others
+
+-- the algorithms that a server offers, the strongest first. One that supports HMAC-SHA1 alone offers
+-- none, and its nonces do not ask for a choice
+abbrev pub offered : AlgorithmSet → List TypedValue
+offered algorithms =
+    if contains Sha256 algorithms
+    then added.password_algorithms (algorithms_of algorithms) ∷ [] else []
+
+-- an error response that asks for credentials: NONCE, REALM and PASSWORD-ALGORITHMS
+abbrev pub challenge_page : Settings → List ℕ → List ℕ → ℕ → List ℕ → List ℕ
+challenge_page s nonce request code reason =
+    with_attributes (error_page request code reason)
+    (added.nonce nonce ∷ added.realm s.realm ∷ offered s.algorithms)
+
+-- 401 to a request that nobody's key signs
+abbrev pub unauthenticated : Settings → List ℕ → List ℕ → List ℕ
+unauthenticated s nonce request =
+    with_end (unsigned_end s request) (challenge_page s nonce request 401 (codes "Unauthenticated"))
+
+-- 438 to a request with another nonce
+abbrev pub stale_nonce : Settings → List ℕ → List ℕ → List ℕ
+stale_nonce s nonce request =
+    with_end (unsigned_end s request) (challenge_page s nonce request 438 (codes "Stale Nonce"))
+
+-- 400 to a malformed request
+abbrev pub bad_request : Settings → List ℕ → List ℕ
+bad_request s request =
+    with_end (unsigned_end s request) (error_page request 400 (codes "Bad Request"))
+
+-- 420 to an accepted request, with the types that it must not have
+abbrev pub unknown_attribute : Settings → List ℕ → List ℕ → List ℕ
+unknown_attribute s key request =
+    with_end (signed_end s key request) (refusing_answer s.known request)
+
+-- whether segments are those of ::ffff:a.b.c.d
+abbrev pub is_mapped : List ℕ → Bool
+is_mapped segments = bytes_eq (take 6 segments) (0 ∷ 0 ∷ 0 ∷ 0 ∷ 0 ∷ 0xffff ∷ [])
+
+-- an address as XOR-MAPPED-ADDRESS says it: an IPv4 address in either spelling is IPv4
+abbrev pub xored_canonical : IpAddr → ℕ → ℕ → XoredAddress
+xored_canonical (V4 ip) port id =
+    record { family = 1; port = xor_port port; octets = xor_bytes (ipv4_octets ip) (xor_key id) }
+xored_canonical (V6 ip) port id =
+    if is_mapped (ipv6_segments ip)
+    then
+    record { family = 1; port = xor_port port; octets = xor_bytes (low_octets ip) (xor_key id) }
+    else
+    record { family = 2; port = xor_port port; octets = xor_bytes (ipv6_octets ip) (xor_key id) }
+
+-- the address that a request came from
+abbrev pub mapped_address : SocketAddr → List ℕ → TypedValue
+mapped_address from request = record {
+  kind = XOR_MAPPED_ADDRESS;
+  value = xored_value (xored_canonical (socket_ip from) (socket_port from)
+      (transaction_id_field request));
+}
+
+-- a success response to a Binding request, with XOR-MAPPED-ADDRESS alone
+unfoldable pub binding_page : SocketAddr → List ℕ → List ℕ
+binding_page from request =
+    with_attribute (empty_answer Success request) (mapped_address from request)
+
+-- the success response to an accepted Binding request
+abbrev pub binding_success : Settings → List ℕ → SocketAddr → List ℕ → List ℕ
+binding_success s key from request =
+    with_end (signed_end s key request) (binding_page from request)

@@ -1,0 +1,18 @@
+-- Why settings make no server.
+use Rattle.std.specs.Prelude.{ℕ, List, [], Bool, ◌||◌, length, nat_lt, unwrap_or}
+use Rattle.std.specs.Prelude.{if◌then◌else◌, Option, Some, None}
+use Rattle.stun_types.specs.Limits.{TEXT_LIMIT}
+use Rattle.stun_endpoint.specs.declared.server.settings.BuildError.{BuildError}
+use Rattle.stun_endpoint.specs.declared.server.settings.BuildError.TheVariants.{RealmTooLong}
+use Rattle.stun_endpoint.specs.declared.server.settings.BuildError.TheVariants.{SoftwareTooLong}
+use Rattle.stun_endpoint.specs.declared.server.settings.BuildError.TheVariants.{NonceLifetime}
+use Rattle.stun_endpoint.specs.declared.server.settings.BuildError.TheVariants.{NoAlgorithm}
+
+-- why no server is built, the first reason that holds
+abbrev pub build_refusal : List ℕ → Option (List ℕ) → ℕ → Bool → Bool → Option BuildError
+build_refusal realm software lifetime sha1 sha256 =
+    if nat_lt TEXT_LIMIT (length realm) then Some RealmTooLong
+    else if nat_lt TEXT_LIMIT (length (unwrap_or software [])) then Some SoftwareTooLong
+    else if nat_lt lifetime 30 then Some NonceLifetime
+    else if sha1 || sha256 then None
+    else Some NoAlgorithm

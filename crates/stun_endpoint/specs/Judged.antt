@@ -1,0 +1,103 @@
+-- Who is accepted: under the nonce of the epoch, or where that is stale under the nonce of the epoch
+-- before, or under one of the previous secret (RFC 8489, section 9.2.4).
+use Rattle.std.specs.Prelude.{ℕ, zero, suc, List, [], Option, Some, None, ◌⊎◌, unwrap_or}
+use Rattle.std.specs.declared.net.socket_addr.SocketAddr.{SocketAddr}
+use Rattle.std.specs.declared.result.Result.{Result}
+use Rattle.stun_auth.specs.declared.algorithm_set.AlgorithmSet.{AlgorithmSet}
+use Rattle.stun_auth.specs.declared.feature.Feature.{Feature}
+use Rattle.stun_auth.specs.declared.server.reason.VerdictRefusal.{VerdictRefusal}
+use Rattle.stun_auth.specs.Epochs.{or_before}
+use Rattle.stun_auth.specs.Reading.{Reading}
+use Rattle.stun_auth.specs.Registered.{Registered, key_at}
+use Rattle.stun_auth.specs.Seen.{ClientSeen}
+use Rattle.stun_auth.specs.Server.{IsAccepted, verdict}
+use Rattle.stun_auth.specs.Validation.{ServerSeen}
+use Rattle.stun_endpoint.specs.Nonces.{epoch_of, nonce_in}
+use Rattle.stun_endpoint.specs.Settings.{Settings, registered_of}
+
+-- by what a request is judged: the users at the realm, whether they may be named by a hash, and the
+-- algorithms that were offered
+pub record Realm : Type 0 where
+  pub users : Registered
+  pub feature : Feature
+  pub offered : AlgorithmSet
+
+-- a table of users
+abbrev pub realm_of_table : ServerSeen → Realm
+realm_of_table table = record {
+  users = table.registered;
+  feature = table.feature;
+  offered = table.registered.algorithms;
+}
+
+-- one user at a server, or nobody
+abbrev pub realm_of_user : Settings → Option Registered → Realm
+realm_of_user s user = record {
+  users = unwrap_or user (registered_of s);
+  feature = s.feature;
+  offered = s.algorithms;
+}
+
+-- the verdict under a nonce
+abbrev pub verdict_under : Realm → List ℕ → Reading → Result ClientSeen VerdictRefusal
+verdict_under realm nonce r = verdict realm.users realm.feature nonce (Some realm.offered) r
+
+-- the verdict by the nonces of one secret
+abbrev pub judged_under : Settings → Realm → List ℕ → SocketAddr → ℕ → Reading
+    → Result ClientSeen VerdictRefusal
+judged_under s realm secret from zero r = verdict_under realm (nonce_in s secret from 0) r
+judged_under s realm secret from (suc e) r =
+    or_before (verdict_under realm (nonce_in s secret from (suc e)) r)
+    (verdict_under realm (nonce_in s secret from e) r)
+
+-- a verdict, or where the nonce is stale the acceptance by the nonces of the previous secret
+abbrev pub or_previous : Settings → Realm → Option (List ℕ) → SocketAddr → ℕ → Reading
+    → Result ClientSeen VerdictRefusal
+    → Result ClientSeen VerdictRefusal
+or_previous s realm None from epoch r verdict = verdict
+or_previous s realm (Some secret) from epoch r verdict =
+    or_before verdict (judged_under s realm secret from epoch r)
+
+-- the verdict in an epoch
+abbrev pub judged_in : Settings → Realm → SocketAddr → ℕ → Reading
+    → Result ClientSeen VerdictRefusal
+judged_in s realm from epoch r =
+    or_previous s realm s.previous from epoch r (judged_under s realm s.secret from epoch r)
+
+-- the verdict at a time
+abbrev pub judged : Settings → Realm → SocketAddr → ℕ → Reading → Result ClientSeen VerdictRefusal
+judged s realm from now r = judged_in s realm from (epoch_of s now) r
+
+-- the key of an accepted client, which is there
+abbrev pub key_of_client : Realm → ClientSeen → List ℕ
+key_of_client realm client = unwrap_or (key_at realm.users client.name client.algorithm) []
+
+-- ---- the same as a conjunction
+
+-- a client is accepted under a nonce
+abbrev pub IsAcceptedBy : Realm → List ℕ → Reading → ClientSeen → Type 0
+IsAcceptedBy realm nonce r client =
+    IsAccepted realm.users realm.feature nonce (Some realm.offered) r client
+
+-- a client is accepted under a nonce of a secret: that of an epoch, or of the epoch before
+abbrev pub IsAcceptedUnder : Settings → Realm → List ℕ → SocketAddr → ℕ → Reading → ClientSeen
+    → Type 0
+IsAcceptedUnder s realm secret from zero r client =
+    IsAcceptedBy realm (nonce_in s secret from 0) r client
+IsAcceptedUnder s realm secret from (suc e) r client =
+    IsAcceptedBy realm (nonce_in s secret from (suc e)) r client
+    ⊎ IsAcceptedBy realm (nonce_in s secret from e) r client
+
+-- the same under the previous secret, if there is one
+abbrev pub IsAcceptedByPrevious : Settings → Realm → Option (List ℕ) → SocketAddr → ℕ → Reading
+    → ClientSeen
+    → Type 0
+IsAcceptedByPrevious s realm None from epoch r client = ⊥
+IsAcceptedByPrevious s realm (Some secret) from epoch r client =
+    IsAcceptedUnder s realm secret from epoch r client
+
+-- a client is accepted at a time
+abbrev pub IsAcceptedAt : Settings → Realm → SocketAddr → ℕ → Reading → ClientSeen → Type 0
+IsAcceptedAt s realm from now r client =
+    IsAcceptedUnder s realm s.secret from (epoch_of s now) r client
+    ⊎ IsAcceptedByPrevious s realm s.previous from (epoch_of s now) r client

@@ -1,0 +1,22 @@
+-- What the contracts of this crate say, in the order to read it.
+
+-- the settings of a server, none of which is of an address
+pub mod Settings
+-- its realm, and the table of its users
+pub mod Realm
+-- why settings make no server
+pub mod Built
+-- the nonce of an address in an epoch, a function of the secret (RFC 8489, section 9.2)
+pub mod Nonces
+-- who is accepted: under the nonce of an epoch or of the epoch before (section 9.2.4)
+pub mod Judged
+-- the responses, byte by byte
+pub mod Answers
+-- the codes of error responses (section 14.8)
+pub mod Refusals
+-- what a datagram comes to (sections 6.3 and 9.2.4)
+pub mod Received
+-- what the result of `receive` says
+pub mod Outcomes
+-- what no clause of a public call cites
+pub mod code

@@ -1,0 +1,55 @@
+-- The nonce of an address in an epoch. It is a function of the secret, the address and the epoch, so
+-- a server stores no nonce (RFC 8489, section 9.2).
+use Rattle.std.specs.Prelude.{ℕ, ◌/◌, List, [], ◌∷◌, ◌++◌, take}
+use Rattle.std.specs.Net.Addr.{ipv4_octets, ipv6_octets}
+use Rattle.std.specs.Net.Socket.{socket_ip, socket_port}
+use Rattle.std.specs.declared.net.ip_addr.IpAddr.{IpAddr}
+use Rattle.std.specs.declared.net.ip_addr.IpAddr.TheVariants.{V4, V6}
+use Rattle.std.specs.declared.net.socket_addr.SocketAddr.{SocketAddr}
+use Rattle.byteorder.specs.Endian.{big_bytes}
+use Rattle.sha1.specs.Sha1.{sha1}
+use Rattle.stun_base.specs.Hmac.{hmac}
+use Rattle.stun_auth.specs.declared.algorithm_set.AlgorithmSet.{AlgorithmSet}
+use Rattle.stun_auth.specs.declared.algorithm_set.AlgorithmSet.TheVariants.{OnlySha1}
+use Rattle.stun_auth.specs.declared.algorithm_set.AlgorithmSet.TheVariants.{OnlySha256, Both}
+use Rattle.stun_auth.specs.Nonces.{nonce_of}
+use Rattle.stun_endpoint.specs.Settings.{Settings}
+
+-- sixteen octets of an address. Those of IPv4 are those of the IPv6 address ::ffff:a.b.c.d, so that
+-- both spellings of an IPv4 address have one nonce
+abbrev pub address_octets : IpAddr → List ℕ
+address_octets (V4 ip) =
+    0 ∷ 0 ∷ 0 ∷ 0 ∷ 0 ∷ 0 ∷ 0 ∷ 0 ∷ 0 ∷ 0 ∷ 255 ∷ 255 ∷ [] ++ ipv4_octets ip
+address_octets (V6 ip) = ipv6_octets ip
+
+-- a number for the supported algorithms
+abbrev pub algorithms_number : AlgorithmSet → ℕ
+algorithms_number OnlySha1 = 1
+algorithms_number OnlySha256 = 2
+algorithms_number Both = 3
+
+-- what is hashed: the address, the port in 2 bytes, the epoch in 8, and the algorithms. A client
+-- whose list is of other settings then has another nonce too, and is answered with a 438: the
+-- security bits of a nonce do not tell HMAC-SHA256 alone from both
+abbrev pub nonce_text : AlgorithmSet → SocketAddr → ℕ → List ℕ
+nonce_text algorithms from epoch =
+    address_octets (socket_ip from) ++ big_bytes 2 (socket_port from) ++ big_bytes 8 epoch
+    ++ algorithms_number algorithms ∷ []
+
+-- the sixteen numbers that a nonce is made of: the first bytes of the HMAC-SHA1
+abbrev pub words_of : AlgorithmSet → List ℕ → SocketAddr → ℕ → List ℕ
+words_of algorithms secret from epoch =
+    take 16 (hmac sha1 secret (nonce_text algorithms from epoch))
+
+-- the nonce of an address in an epoch, under a secret
+abbrev pub nonce_in : Settings → List ℕ → SocketAddr → ℕ → List ℕ
+nonce_in s secret from epoch =
+    nonce_of s.algorithms s.feature (words_of s.algorithms secret from epoch)
+
+-- the epoch of a time
+abbrev pub epoch_of : Settings → ℕ → ℕ
+epoch_of s now = now / s.lifetime
+
+-- the nonce that is current for an address at a time: the one that a response carries
+abbrev pub current_nonce : Settings → SocketAddr → ℕ → List ℕ
+current_nonce s from now = nonce_in s s.secret from (epoch_of s now)

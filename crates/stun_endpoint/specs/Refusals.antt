@@ -1,0 +1,12 @@
+-- The codes of error responses (RFC 8489, section 14.8).
+use Rattle.std.specs.Prelude.{ℕ}
+use Rattle.stun_endpoint.specs.declared.received.Refusal.{Refusal}
+use Rattle.stun_endpoint.specs.declared.received.Refusal.TheVariants.{BadRequest, StaleNonce}
+use Rattle.stun_endpoint.specs.declared.received.Refusal.TheVariants.{Unauthenticated}
+use Rattle.stun_endpoint.specs.declared.received.Refusal.TheVariants.{UnknownAttribute}
+
+abbrev pub code_of : Refusal → ℕ
+code_of BadRequest = 400
+code_of Unauthenticated = 401
+code_of UnknownAttribute = 420
+code_of StaleNonce = 438

@@ -1,0 +1,11 @@
+//! A STUN server as one value: what a datagram comes to, without a record of any address (RFC 8489,
+//! sections 6.3 and 9.2).
+#![tactic(auto)]
+
+pub mod laws;
+mod nonces;
+pub mod received;
+pub mod reply;
+pub mod server;
+pub mod unix_time;
+pub mod users;

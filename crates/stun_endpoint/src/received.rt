@@ -1,0 +1,237 @@
+//! What a datagram comes to.
+
+ghost use Rattle.std.specs.Prelude.{◌≡◌, Some, codes};
+ghost use Rattle.std.specs.Fmt.{WritesOnOk, WritesStyledOnOk};
+ghost use Rattle.stun_base.specs.Header.{type_field};
+ghost use Rattle.stun_base.specs.MessageType.{method_of};
+ghost use Rattle.stun_endpoint.specs.Refusals.{code_of};
+
+use crate::reply::Reply;
+use std::alloc::{Allocator, Global};
+use std::fmt;
+use std::marker::Model;
+use std::net::SocketAddr;
+use stun_base::algorithm::IntegrityAlgorithm;
+use stun_types::message::{Message, Method};
+
+/// What a datagram comes to.
+#[derive(Debug, Drop)]
+#[non_exhaustive]
+pub enum Received<'a, A: Allocator = Global> {
+    /// Send this response.
+    Answer(Answer<A>),
+    /// The request is accepted. Respond to it, now or later.
+    Request(Request<'a, A>),
+    /// An indication whose attributes are understood. Long-term credentials do not protect it (RFC
+    /// 8489, section 9.2), so decide by the source address whether to act on it.
+    Indication(Message<'a>),
+    /// A response, for a client on the same socket.
+    Response(Message<'a>),
+    /// The datagram is dropped, for this reason.
+    Dropped(DropReason),
+}
+
+/// Why a datagram is dropped.
+#[derive(Clone, Copy, Debug, PartialEq, Eq)]
+#[non_exhaustive]
+pub enum DropReason {
+    /// It does not begin with the header of a STUN message.
+    NotStun,
+    /// Its length or its attributes are not what its header says.
+    Malformed,
+    /// It has a FINGERPRINT that is wrong: it is damaged, or belongs to another protocol.
+    WrongFingerprint,
+    /// It is an indication with an attribute that must be understood and is not.
+    UnknownAttribute,
+}
+
+/// How a response refuses a request.
+#[derive(Clone, Copy, Debug, PartialEq, Eq)]
+#[non_exhaustive]
+pub enum Refusal {
+    /// 400: the realm, the nonce or the name is missing, or the algorithms are not those that were
+    /// offered with the current nonce.
+    BadRequest,
+    /// 401: the request is not signed, or not by a user of this realm.
+    Unauthenticated,
+    /// 420: the request is accepted, but has an attribute that must be understood and is not.
+    UnknownAttribute,
+    /// 438: the nonce is not one that is accepted.
+    StaleNonce,
+}
+
+impl Refusal {
+    /// Returns the code of the error response.
+    pub fn code(self) -> u16
+        ensures { result ≡ code_of self }
+    {
+        match self {
+            Refusal::BadRequest => 400,
+            Refusal::Unauthenticated => 401,
+            Refusal::UnknownAttribute => 420,
+            Refusal::StaleNonce => 438,
+        }
+    }
+}
+
+/// A response to send.
+///
+/// Contracts see its bytes, where it goes, and how it refuses the request.
+#[derive(Debug, Drop)]
+pub struct Answer<A: Allocator = Global> {
+    to: SocketAddr,
+    refusal: Option<Refusal>,
+    bytes: Vec<u8, A>,
+}
+
+impl<A: Allocator> Model for Answer<A> {
+    ghost use Rattle.stun_endpoint.specs.Received.{Answer as AnswerSeen};
+
+    ghost Value = { AnswerSeen };
+
+    ghost view = { λ answer.
+        record { to = answer.to; refusal = answer.refusal; bytes = answer.bytes.items } };
+}
+
+impl<A: Allocator> Answer<A> {
+    pub(crate) fn new(to: SocketAddr, refusal: Option<Refusal>, bytes: Vec<u8, A>) -> Self
+        ensures { result ≡ record { to = to; refusal = refusal; bytes = bytes.items } }
+    {
+        Answer { to, refusal, bytes }
+    }
+
+    /// Returns the address that the request came from, as it was passed to `receive`.
+    pub fn to(&self) -> SocketAddr
+        ensures { result ≡ self.now.to }
+    {
+        self.to
+    }
+
+    /// Returns how the response refuses the request, and `None` if it is a success.
+    pub fn refusal(&self) -> Option<Refusal>
+        ensures { result ≡ self.now.refusal }
+    {
+        self.refusal
+    }
+
+    /// Returns the bytes to send.
+    pub fn bytes(&self) -> &[u8]
+        ensures { result.now ≡ self.now.bytes }
+    {
+        self.bytes.as_slice()
+    }
+
+    /// Returns the bytes to send, and drops the rest.
+    pub fn into_bytes(self) -> Vec<u8, A>
+        ensures { result.items ≡ self.bytes }
+    {
+        self.bytes
+    }
+}
+
+/// An accepted request.
+///
+/// Contracts see its message, its user, the algorithm, and its reply. `Debug` shows none of it.
+#[derive(Drop)]
+pub struct Request<'a, A: Allocator = Global> {
+    message: Message<'a>,
+    user: &'a str,
+    algorithm: IntegrityAlgorithm,
+    reply: Reply<A>,
+}
+
+impl<'a, A: Allocator> Model for Request<'a, A> {
+    ghost use Rattle.stun_endpoint.specs.Received.{AcceptedRequest};
+
+    ghost Value = { AcceptedRequest };
+
+    ghost view = { λ request. record {
+      message = request.message;
+      client = record { name = request.user.now; algorithm = request.algorithm };
+      reply = request.reply;
+    } };
+}
+
+impl<'a, A: Allocator> fmt::Debug for Request<'a, A> {
+    ghost debug_output = { λ _. Some (codes "Request { .. }") };
+
+    fn fmt<W: fmt::Write>(&self, f: &mut fmt::Formatter<W>) -> fmt::Result
+        ensures writes { WritesOnOk W.write_str_gives f.old result
+            (codes "Request { .. }") f.new }
+
+        // It writes the same with every width, precision and other option.
+        ensures styled { WritesStyledOnOk W.write_str_gives f.old result
+            (codes "Request { .. }") f.new }
+    {
+        f.write_str("Request { .. }")
+    }
+}
+
+impl<'a, A: Allocator> Request<'a, A> {
+    pub(crate) fn new(
+        message: Message<'a>,
+        user: &'a str,
+        algorithm: IntegrityAlgorithm,
+        reply: Reply<A>,
+    ) -> Self
+        ensures message { result.message ≡ message.entry }
+        ensures client { result.client ≡ record { name = user.entry.now; algorithm = algorithm } }
+        ensures reply { result.reply ≡ reply }
+    {
+        Request {
+            message,
+            user,
+            algorithm,
+            reply,
+        }
+    }
+
+    /// Returns the message.
+    pub fn message(&self) -> &Message<'a>
+        ensures { result.now ≡ self.now.message }
+    {
+        &self.message
+    }
+
+    /// Returns the method of the request.
+    pub fn method(&self) -> Method
+        ensures { result ≡ method_of (type_field self.now.message) }
+    {
+        self.message.method()
+    }
+
+    /// Returns the address that the request came from, as it was passed to `receive`.
+    pub fn from(&self) -> SocketAddr
+        ensures { result ≡ self.now.reply.to }
+    {
+        self.reply.to()
+    }
+
+    /// Returns the name of the user who sent the request, also if the request has a hash of it.
+    pub fn user(&self) -> &'a str
+        ensures { result.now ≡ self.now.client.name }
+    {
+        self.user
+    }
+
+    /// Returns the algorithm that both sides agreed on. Its key has signed the request.
+    pub fn algorithm(&self) -> IntegrityAlgorithm
+        ensures { result ≡ self.now.client.algorithm }
+    {
+        self.algorithm
+    }
+
+    /// Returns the means to respond.
+    pub fn reply(&self) -> &Reply<A>
+        ensures { result.now ≡ self.now.reply }
+    {
+        &self.reply
+    }
+
+    /// Returns the means to respond, and drops the rest. Keep it if the response comes later.
+    pub fn into_reply(self) -> Reply<A>
+        ensures { result ≡ self.entry.reply }
+    {
+        self.reply
+    }
+}

@@ -1,0 +1,282 @@
+//! How a request gets its response: when it is received, or later.
+
+ghost use Rattle.std.specs.Prelude.{◌≡◌, ◌≤◌, Some, IfOk, OnOk, length, codes};
+ghost use Rattle.std.specs.Fmt.{WritesOnOk, WritesStyledOnOk};
+ghost use Rattle.std.specs.Option.{option_map};
+ghost use Rattle.std.specs.String.{string_bytes};
+ghost use Rattle.stun_base.specs.Header.{transaction_id_field, type_field};
+ghost use Rattle.stun_base.specs.MessageType.{method_of};
+ghost use Rattle.stun_types.specs.Message.{IsMessage};
+ghost use Rattle.stun_types.specs.Writing.{IsOpen, empty_message, with_attribute};
+ghost use Rattle.stun_endpoint.specs.Answers.{VerifiesBy, error_attribute, with_end};
+ghost use Rattle.stun_endpoint.specs.Answers.{with_signature, with_software};
+
+use std::alloc::{AllocError, Allocator, Global};
+use std::fmt;
+use std::marker::Model;
+use std::net::SocketAddr;
+use stun_base::prepared_key::PreparedKey;
+use stun_extra::attribute::Software;
+use stun_extra::fingerprint::finish_with_fingerprint;
+use stun_types::attribute::ErrorCode;
+use stun_types::message::{
+    IntegrityAlgorithm, Message, MessageClass, MessageType, MessageWriteVec, Method,
+    StunWriteError, TransactionId,
+};
+use stun_types::prelude::*;
+
+/// What a response is signed by. Contracts see the algorithm and the key.
+#[derive(Drop)]
+pub(crate) struct Signature<A: Allocator> {
+    algorithm: IntegrityAlgorithm,
+    key: PreparedKey<A>,
+}
+
+impl<A: Allocator> Model for Signature<A> {
+    ghost use Rattle.stun_endpoint.specs.Answers.{Signature as SignatureSeen};
+
+    ghost Value = { SignatureSeen };
+
+    ghost view = { λ by. record { algorithm = by.algorithm; key = by.key } };
+}
+
+impl<A: Allocator> Signature<A> {
+    pub(crate) fn new(algorithm: IntegrityAlgorithm, key: PreparedKey<A>) -> Self
+        ensures { result ≡ record { algorithm = algorithm; key = key } }
+    {
+        Signature { algorithm, key }
+    }
+}
+
+/// The means to respond to one accepted request, now or later, on any thread, without the server.
+///
+/// A response has the request's method and transaction ID. It is signed under the key of the user
+/// who sent the request, also if it is an error, with the integrity attribute that the request has.
+/// It ends with FINGERPRINT if the request does. Respond to each request at least once, because the
+/// client sends it again until then.
+///
+/// `success` or `error` begins a response, to which you add attributes, and `finish` ends it.
+///
+/// Contracts see all of it. It contains a key, so `Debug` shows none of it.
+#[derive(Drop)]
+pub struct Reply<A: Allocator = Global> {
+    alloc: A,
+    method: Method,
+    id: TransactionId,
+    to: SocketAddr,
+    software: Option<String<A>>,
+    signature: Option<Signature<A>>,
+    has_fingerprint: bool,
+}
+
+impl<A: Allocator> Model for Reply<A> {
+    ghost use Rattle.std.specs.Option.{option_map};
+    ghost use Rattle.std.specs.String.{string_bytes};
+    ghost use Rattle.stun_endpoint.specs.Received.{Reply as ReplySeen};
+
+    ghost Value = { ReplySeen };
+
+    ghost view = { λ reply. record {
+      method = reply.method;
+      id = reply.id;
+      to = reply.to;
+      ending = record {
+        software = option_map string_bytes reply.software;
+        signature = reply.signature;
+        has_fingerprint = reply.has_fingerprint;
+      };
+    } };
+}
+
+impl<A: Allocator> fmt::Debug for Reply<A> {
+    ghost debug_output = { λ _. Some (codes "Reply { .. }") };
+
+    fn fmt<W: fmt::Write>(&self, f: &mut fmt::Formatter<W>) -> fmt::Result
+        ensures writes { WritesOnOk W.write_str_gives f.old result
+            (codes "Reply { .. }") f.new }
+
+        // It writes the same with every width, precision and other option.
+        ensures styled { WritesStyledOnOk W.write_str_gives f.old result
+            (codes "Reply { .. }") f.new }
+    {
+        f.write_str("Reply { .. }")
+    }
+}
+
+impl<A: Allocator> Reply<A> {
+    /// Returns the address that the request came from, as it was passed to `receive`. The response
+    /// goes there.
+    pub fn to(&self) -> SocketAddr
+        ensures { result ≡ self.now.to }
+    {
+        self.to
+    }
+
+    /// Returns the transaction ID of the request.
+    pub fn transaction_id(&self) -> TransactionId
+        ensures { result ≡ self.now.id }
+    {
+        self.id
+    }
+
+    /// Returns the method of the request.
+    pub fn method(&self) -> Method
+        ensures { result ≡ self.now.method }
+    {
+        self.method
+    }
+}
+
+impl<A: Allocator + Copy> Reply<A> {
+    /// The means to respond to a request, with the end that its response gets.
+    pub(crate) fn new(
+        alloc: A,
+        request: &Message<'_>,
+        to: SocketAddr,
+        software: Option<String<A>>,
+        signature: Option<Signature<A>>,
+        has_fingerprint: bool,
+    ) -> Self
+        ensures { result ≡ record {
+          method = method_of (type_field request.now);
+          id = transaction_id_field request.now;
+          to = to;
+          ending = record {
+            software = option_map string_bytes software;
+            signature = signature;
+            has_fingerprint = has_fingerprint;
+          };
+        } }
+    {
+        Reply {
+            alloc,
+            method: request.method(),
+            id: request.transaction_id(),
+            to,
+            software,
+            signature,
+            has_fingerprint,
+        }
+    }
+
+    /// Begins a success response. Fails if an allocation fails.
+    pub fn success(&self) -> Result<MessageWriteVec<A>, AllocError>
+        ensures bytes { IfOk result (λ page. page.bytes
+            ≡ empty_message MessageClass.Success self.now.method self.now.id) }
+        ensures open { IfOk result (λ page. IsOpen page.bytes) }
+    {
+        self.begin(MessageClass::Success)
+    }
+
+    /// Begins an error response with this code and this reason phrase. Of the reasons to fail, the
+    /// first that holds is returned:
+    ///
+    /// - `NotAllowed`: the code is not between 300 and 699.
+    /// - `TooLarge`: the reason phrase has more than 763 bytes.
+    /// - `OutOfMemory`: an allocation failed.
+    pub fn error(&self, code: u16, reason: &str) -> Result<MessageWriteVec<A>, StunWriteError>
+        ensures bytes { IfOk result (λ page. page.bytes
+            ≡ with_attribute (empty_message MessageClass.Error self.now.method self.now.id)
+            (error_attribute code reason.now)) }
+        ensures open { IfOk result (λ page. IsOpen page.bytes) }
+    {
+        let error = ErrorCode::builder(code).reason(reason).build()?;
+        let mut page = self.begin(MessageClass::Error)?;
+        page.add_attribute(&error)?;
+        Ok(page)
+    }
+
+    /// Begins a response of a class.
+    fn begin(&self, class: MessageClass) -> Result<MessageWriteVec<A>, AllocError>
+        ensures bytes { IfOk result (λ page. page.bytes
+            ≡ empty_message class self.now.method self.now.id) }
+        ensures open { IfOk result (λ page. IsOpen page.bytes) }
+    {
+        let kind = MessageType::from_class_method(class, self.method);
+        match Message::builder(kind, self.id, MessageWriteVec::new(self.alloc)) {
+            Ok(page) => Ok(page),
+            Err(_) => Err(AllocError),
+        }
+    }
+
+    /// Ends a response: adds SOFTWARE if the server has one, signs the response, and adds
+    /// FINGERPRINT if the request had one. Pass a response that `success` or `error` began, to which
+    /// you may have added attributes.
+    ///
+    /// Fails with the error of the first attribute that cannot be added: `AttributeExists` if you
+    /// added SOFTWARE, `MessageIntegrityExists` if you signed the response, `TooLarge` or
+    /// `OutOfMemory`.
+    pub fn finish(&self, page: MessageWriteVec<A>) -> Result<Vec<u8, A>, StunWriteError>
+        requires { 20 ≤ length page.bytes }
+        ensures bytes { IfOk result (λ response. response.items
+            ≡ with_end self.now.ending page.bytes) }
+        ensures verifies { IfOk result (λ response. IsOpen page.bytes
+            → VerifiesBy self.now.ending.signature response.items) }
+    {
+        finish_response(page, &self.software, &self.signature, self.has_fingerprint)
+    }
+}
+
+/// Ends a response.
+#[tactic(auto, using(crate::proofs::VerifyingLemmas::verifies_by_same))]
+pub(crate) fn finish_response<A: Allocator + Copy>(
+    page: MessageWriteVec<A>,
+    software: &Option<String<A>>,
+    signature: &Option<Signature<A>>,
+    has_fingerprint: bool,
+) -> Result<Vec<u8, A>, StunWriteError>
+    requires { 20 ≤ length page.bytes }
+    ensures bytes { IfOk result (λ response. response.items
+        ≡ with_end (record {
+          software = option_map string_bytes software.now;
+          signature = signature.now;
+          has_fingerprint = has_fingerprint;
+        }) page.bytes) }
+    ensures verifies { IfOk result (λ response. IsOpen page.bytes
+        → VerifiesBy signature.now response.items) }
+{
+    let mut page = page;
+    add_software(&mut page, software)?;
+    add_signature(&mut page, signature)?;
+    if has_fingerprint {
+        let response = finish_with_fingerprint(page)?;
+        Ok(response)
+    } else {
+        Ok(page.finish())
+    }
+}
+
+/// Adds SOFTWARE, if there is one.
+fn add_software<A: Allocator + Copy>(
+    page: &mut MessageWriteVec<A>,
+    software: &Option<String<A>>,
+) -> Result<(), StunWriteError>
+    requires { 20 ≤ length page.old.bytes }
+    ensures bytes { OnOk result (page.new.bytes
+        ≡ with_software (option_map string_bytes software.now) page.old.bytes) }
+    ensures header { OnOk result (20 ≤ length page.new.bytes) }
+    ensures open { OnOk result (IsOpen page.old.bytes → IsOpen page.new.bytes) }
+{
+    match software {
+        Some(text) => page.add_attribute(&Software::new(text.as_str())?),
+        None => Ok(()),
+    }
+}
+
+/// Adds the integrity attribute, if the response is signed.
+fn add_signature<A: Allocator + Copy>(
+    page: &mut MessageWriteVec<A>,
+    signature: &Option<Signature<A>>,
+) -> Result<(), StunWriteError>
+    requires { 20 ≤ length page.old.bytes }
+    ensures bytes { OnOk result (page.new.bytes ≡ with_signature signature.now page.old.bytes) }
+    ensures header { OnOk result (20 ≤ length page.new.bytes) }
+    ensures message { OnOk result (IsOpen page.old.bytes → IsMessage page.new.bytes) }
+    ensures verifies { OnOk result (IsOpen page.old.bytes
+        → VerifiesBy signature.now page.new.bytes) }
+{
+    match signature {
+        Some(by) => page.add_message_integrity_with_prepared_key(&by.key, by.algorithm),
+        None => Ok(()),
+    }
+}

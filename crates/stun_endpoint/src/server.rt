@@ -1,0 +1,167 @@
+//! A server with long-term credentials: its settings, and the calls that only need those (RFC 8489,
+//! section 9.2).
+
+ghost use Rattle.std.specs.Fmt.{WritesOnOk, WritesStyledOnOk};
+ghost use Rattle.std.specs.Prelude.{◌≡◌, Some, IfOk, codes};
+ghost use Rattle.std.specs.String.{string_bytes};
+ghost use Rattle.stun_auth.specs.Handed.{just};
+ghost use Rattle.stun_auth.specs.Registered.{user_by_keys, user_by_password};
+ghost use Rattle.stun_endpoint.specs.Nonces.{current_nonce, nonce_in};
+ghost use Rattle.stun_endpoint.specs.Realm.{table_of};
+ghost use Rattle.stun_endpoint.specs.Settings.{registered_of};
+
+use crate::nonces::words_of;
+use crate::server::settings::empty_realm;
+use crate::unix_time::UnixTime;
+use crate::users::Users;
+use std::alloc::{AllocError, Allocator, Global};
+use std::fmt;
+use std::marker::Model;
+use std::net::SocketAddr;
+use stun_auth::auth::{LongTermServerAuth, LongTermServerUser, StoredKeys};
+use stun_base::attribute_type::AttributeType;
+use stun_base::credentials::LongTermCredentials;
+use stun_base::prepared_key::PreparedKey;
+
+pub(crate) mod judges;
+mod judging;
+mod receiving;
+mod settings;
+
+pub use settings::{
+    BuildError, DEFAULT_NONCE_LIFETIME, LongTerm, SHORTEST_NONCE_LIFETIME, STUN_ATTRIBUTES,
+};
+
+/// A STUN server with long-term credentials (RFC 8489, section 9.2). It stores nothing about its
+/// clients, and no call changes it.
+///
+/// What a datagram comes to depends on the datagram, its source address, the time, the settings and
+/// the users, and on no earlier datagram. So a flood of datagrams uses no memory, threads share a
+/// server without a lock, and machines with the same settings can answer each other's clients. To
+/// change settings, build another server with the same secret.
+///
+/// Contracts see the settings. `Debug` shows none of them, because the secret is one.
+#[derive(Drop)]
+pub struct Server<A: Allocator = Global> {
+    alloc: A,
+    auth: LongTermServerAuth<A>,
+    hmac_sha1: bool,
+    hmac_sha256: bool,
+    user_hashes: bool,
+    secret: PreparedKey<A>,
+    previous: Option<PreparedKey<A>>,
+    lifetime: u64,
+    known: Vec<AttributeType, A>,
+    software: Option<String<A>>,
+    answers_binding: bool,
+}
+
+impl<A: Allocator> Model for Server<A> {
+    ghost use Rattle.std.specs.Prelude.{◌≡◌, ◌<◌};
+    ghost use Rattle.std.specs.Option.{option_map};
+    ghost use Rattle.std.specs.String.{string_bytes};
+    ghost use Rattle.stun_endpoint.specs.Realm.{empty_realm, feature_for};
+    ghost use Rattle.stun_endpoint.specs.Settings.{Settings};
+
+    ghost Value = { Settings };
+
+    ghost view = { λ server. record {
+      realm = server.auth.registered.realm;
+      algorithms = server.auth.registered.algorithms;
+      feature = server.auth.feature;
+      secret = server.secret;
+      previous = server.previous;
+      lifetime = server.lifetime;
+      known = server.known.items;
+      software = option_map string_bytes server.software;
+      answers_binding = server.answers_binding;
+    } };
+
+    ghost invariant = { λ server. (0 < server.lifetime)
+        × (server.auth.registered
+        ≡ empty_realm server.auth.registered.realm server.hmac_sha1 server.hmac_sha256)
+        × (server.auth.feature ≡ feature_for server.user_hashes) };
+}
+
+impl<A: Allocator> fmt::Debug for Server<A> {
+    ghost debug_output = { λ _. Some (codes "Server { .. }") };
+
+    fn fmt<W: fmt::Write>(&self, f: &mut fmt::Formatter<W>) -> fmt::Result
+        ensures writes { WritesOnOk W.write_str_gives f.old result
+            (codes "Server { .. }") f.new }
+
+        // It writes the same with every width, precision and other option.
+        ensures styled { WritesStyledOnOk W.write_str_gives f.old result
+            (codes "Server { .. }") f.new }
+    {
+        f.write_str("Server { .. }")
+    }
+}
+
+impl<A: Allocator + Copy> Server<A> {
+    /// Returns an empty table of users for this server's realm and its algorithms. Fails if an
+    /// allocation fails.
+    pub fn users(&self) -> Result<Users<A>, AllocError>
+        ensures { IfOk result (λ users. users ≡ table_of self.now) }
+    {
+        let realm = String::from_str(self.alloc, self.auth.realm())?;
+        let auth = empty_realm(
+            self.alloc,
+            realm,
+            self.hmac_sha1,
+            self.hmac_sha256,
+            self.user_hashes,
+        );
+        Ok(Users { auth })
+    }
+
+    /// Derives the keys of a user with a password, to be passed to `receive_for`. You may keep the
+    /// result and pass it again. Fails if an allocation fails.
+    pub fn user(
+        &self,
+        credentials: LongTermCredentials<A>,
+    ) -> Result<LongTermServerUser<A>, AllocError>
+        ensures { IfOk result (λ user. user
+            ≡ just (registered_of self.now) (Some (user_by_password credentials))) }
+    {
+        self.auth.prepare_user(credentials)
+    }
+
+    /// Prepares a user with keys that were stored in place of a password, to be passed to
+    /// `receive_for`. They must have been made for this server's realm. You may keep the result and
+    /// pass it again. Fails if an allocation fails.
+    pub fn user_with_keys(
+        &self,
+        name: String<A>,
+        keys: StoredKeys,
+    ) -> Result<LongTermServerUser<A>, AllocError>
+        ensures { IfOk result (λ user. user
+            ≡ just (registered_of self.now) (Some (user_by_keys (string_bytes name) keys))) }
+    {
+        self.auth.prepare_user_with_keys(name, keys)
+    }
+
+    /// Returns the nonce that is current for an address at a time: the one that a 401 or a 438
+    /// carries. It is a function of the secret, the address and the time, and is accepted for one
+    /// to two lifetimes. Fails if an allocation fails.
+    pub fn nonce_for(&self, from: SocketAddr, now: UnixTime) -> Result<String<A>, AllocError>
+        ensures { IfOk result (λ nonce. string_bytes nonce
+            ≡ current_nonce self.now from now) }
+    {
+        self.nonce_in(&self.secret, from, now.epoch(self.lifetime))
+    }
+
+    /// Returns the nonce of an address in an epoch, under a secret.
+    fn nonce_in(
+        &self,
+        secret: &PreparedKey<A>,
+        from: SocketAddr,
+        epoch: u64,
+    ) -> Result<String<A>, AllocError>
+        ensures { IfOk result (λ nonce. string_bytes nonce
+            ≡ nonce_in self.now secret.now from epoch) }
+    {
+        let words = words_of(secret, from, epoch, self.hmac_sha1, self.hmac_sha256);
+        self.auth.nonce_of_words(&words)
+    }
+}

@@ -1,0 +1,39 @@
+//! By whom a request is judged: a table of users, or one user.
+
+ghost use Rattle.std.specs.Prelude.{◌≡◌, IfOk};
+ghost use Rattle.stun_auth.specs.Judged.{HasVerifyingKey, client_judged};
+ghost use Rattle.stun_auth.specs.Reading.{reading_of};
+ghost use Rattle.stun_endpoint.specs.Judged.{verdict_under};
+ghost use Rattle.stun_endpoint.specs.code.Judges.{realm_of};
+
+use std::alloc::Allocator;
+use stun_auth::auth::{Accepted, LongTermServerAuth, LongTermServerUser, VerdictRefusal};
+use stun_types::message::Message;
+
+/// By whom a request is judged.
+#[derive(Drop)]
+pub(crate) enum Judges<'a, A: Allocator> {
+    /// A table of users.
+    Table(&'a LongTermServerAuth<A>),
+    /// One user at a realm.
+    User(&'a LongTermServerAuth<A>, &'a LongTermServerUser<A>),
+}
+
+impl<'a, A: Allocator + Copy> Judges<'a, A> {
+    /// Judges a request under a nonce.
+    pub(crate) fn judge(
+        &self,
+        message: &Message<'a>,
+        nonce: &str,
+    ) -> Result<Accepted<'a, A>, VerdictRefusal>
+        ensures verdict { client_judged result
+            ≡ verdict_under (realm_of self.now) nonce.now (reading_of message.now) }
+        ensures key { IfOk result
+            (HasVerifyingKey (realm_of self.now).users (reading_of message.now)) }
+    {
+        match self {
+            Judges::Table(table) => table.judge(message, nonce),
+            Judges::User(realm, user) => realm.judge_of(message, nonce, user),
+        }
+    }
+}

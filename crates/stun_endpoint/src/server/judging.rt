@@ -1,0 +1,116 @@
+//! Judging a request under the nonces that are accepted (RFC 8489, section 9.2.4).
+
+ghost use Rattle.std.specs.Prelude.{◌≡◌, IfOk, Err};
+ghost use Rattle.stun_auth.specs.Epochs.{or_before};
+ghost use Rattle.stun_auth.specs.Judged.{HasVerifyingKey, client_judged};
+ghost use Rattle.stun_auth.specs.Reading.{reading_of};
+ghost use Rattle.stun_endpoint.specs.Judged.{judged_in, judged_under, or_previous};
+ghost use Rattle.stun_endpoint.specs.Judged.{verdict_under};
+ghost use Rattle.stun_endpoint.specs.code.Judges.{realm_of};
+ghost use Rattle.stun_endpoint.specs.Nonces.{nonce_in};
+
+use crate::server::Server;
+use crate::server::judges::Judges;
+use std::alloc::{AllocError, Allocator};
+use std::net::SocketAddr;
+use stun_auth::auth::{Accepted, VerdictRefusal};
+use stun_base::prepared_key::PreparedKey;
+use stun_types::message::Message;
+
+impl<A: Allocator + Copy> Server<A> {
+    /// Judges a request from an address in an epoch, whose nonce is given.
+    #[tactic(auto, using(crate::proofs::PreviousLemmas::accepted_stays, crate::proofs::PreviousLemmas::unauthorized_stays, crate::proofs::PreviousLemmas::bad_stays))]
+    pub(super) fn judged_in<'a>(
+        &self,
+        judges: &Judges<'a, A>,
+        message: &Message<'a>,
+        from: SocketAddr,
+        epoch: u64,
+        nonce: &str,
+    ) -> Result<Result<Accepted<'a, A>, VerdictRefusal>, AllocError>
+        requires { nonce.now ≡ nonce_in self.now self.now.secret from epoch }
+        ensures verdict { IfOk result (λ verdict. client_judged verdict
+            ≡ judged_in self.now (realm_of judges.now) from epoch (reading_of message.now)) }
+        ensures key { IfOk result (λ verdict. IfOk verdict
+            (HasVerifyingKey (realm_of judges.now).users (reading_of message.now))) }
+    {
+        match self.judged_under(judges, message, &self.secret, from, epoch, nonce)? {
+            Ok(accepted) => Ok(Ok(accepted)),
+            Err(VerdictRefusal::Unauthorized) => Ok(Err(VerdictRefusal::Unauthorized)),
+            Err(VerdictRefusal::BadRequest) => Ok(Err(VerdictRefusal::BadRequest)),
+            Err(VerdictRefusal::StaleNonce) => {
+                self.judged_by_previous(judges, message, from, epoch)
+            }
+        }
+    }
+
+    /// Judges a request whose nonce is stale, by the nonces of the previous secret.
+    fn judged_by_previous<'a>(
+        &self,
+        judges: &Judges<'a, A>,
+        message: &Message<'a>,
+        from: SocketAddr,
+        epoch: u64,
+    ) -> Result<Result<Accepted<'a, A>, VerdictRefusal>, AllocError>
+        ensures verdict { IfOk result (λ verdict. client_judged verdict
+            ≡ or_previous self.now (realm_of judges.now) self.now.previous from epoch (reading_of message.now)
+            (Err VerdictRefusal.StaleNonce)) }
+        ensures key { IfOk result (λ verdict. IfOk verdict
+            (HasVerifyingKey (realm_of judges.now).users (reading_of message.now))) }
+    {
+        let Some(secret) = &self.previous else {
+            return Ok(Err(VerdictRefusal::StaleNonce));
+        };
+        let nonce = self.nonce_in(secret, from, epoch)?;
+        match self.judged_under(judges, message, secret, from, epoch, &nonce)? {
+            Ok(accepted) => Ok(Ok(accepted)),
+            Err(_) => Ok(Err(VerdictRefusal::StaleNonce)),
+        }
+    }
+
+    /// Judges a request by the nonces of a secret, of which that of the epoch is given.
+    fn judged_under<'a>(
+        &self,
+        judges: &Judges<'a, A>,
+        message: &Message<'a>,
+        secret: &PreparedKey<A>,
+        from: SocketAddr,
+        epoch: u64,
+        nonce: &str,
+    ) -> Result<Result<Accepted<'a, A>, VerdictRefusal>, AllocError>
+        requires { nonce.now ≡ nonce_in self.now secret.now from epoch }
+        ensures verdict { IfOk result (λ verdict. client_judged verdict
+            ≡ judged_under self.now (realm_of judges.now) secret.now from epoch (reading_of message.now)) }
+        ensures key { IfOk result (λ verdict. IfOk verdict
+            (HasVerifyingKey (realm_of judges.now).users (reading_of message.now))) }
+    {
+        match judges.judge(message, nonce) {
+            Err(VerdictRefusal::StaleNonce) if epoch > 0 => {
+                self.judged_before(judges, message, secret, from, epoch - 1)
+            }
+            verdict => Ok(verdict),
+        }
+    }
+
+    /// Judges a request whose nonce is stale, by the nonce of the epoch before.
+    fn judged_before<'a>(
+        &self,
+        judges: &Judges<'a, A>,
+        message: &Message<'a>,
+        secret: &PreparedKey<A>,
+        from: SocketAddr,
+        before: u64,
+    ) -> Result<Result<Accepted<'a, A>, VerdictRefusal>, AllocError>
+        ensures verdict { IfOk result (λ verdict. client_judged verdict
+            ≡ or_before (Err VerdictRefusal.StaleNonce) (verdict_under (realm_of judges.now)
+            (nonce_in self.now secret.now from before) (reading_of message.now))) }
+        ensures key { IfOk result (λ verdict. IfOk verdict
+            (HasVerifyingKey (realm_of judges.now).users (reading_of message.now))) }
+    {
+        let nonce = self.nonce_in(secret, from, before)?;
+        match judges.judge(message, &nonce) {
+            Ok(accepted) => Ok(Ok(accepted)),
+            Err(_) => Ok(Err(VerdictRefusal::StaleNonce)),
+        }
+    }
+}

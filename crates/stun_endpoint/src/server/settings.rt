@@ -1,0 +1,280 @@
+//! The settings of a server, which are checked when it is built.
+
+ghost use Rattle.std.specs.FinMap as map;
+ghost use Rattle.std.specs.Option.{option_map};
+ghost use Rattle.std.specs.Prelude.{◌≡◌, ◌<◌, ◌++◌, [], None, IfOk, IsOkUnless, MatchOption, Err};
+ghost use Rattle.std.specs.Prelude.{true, false, length, unwrap_or};
+ghost use Rattle.std.specs.String.{string_bytes};
+ghost use Rattle.stun_endpoint.specs.Built.{build_refusal};
+ghost use Rattle.stun_endpoint.specs.Realm.{algorithms_for, empty_realm, feature_for};
+ghost use Rattle.stun_endpoint.specs.Settings.{registered_of};
+
+use crate::server::Server;
+use std::alloc::{AllocError, Allocator, Global};
+use stun_auth::auth::{Feature, LongTermServerAuth};
+use stun_base::attribute_type::AttributeType;
+use stun_base::key::IntegrityKey;
+use stun_base::prepared_key::PreparedKey;
+use stun_types::limits::TEXT_LIMIT;
+use stun_types::message::IntegrityAlgorithm;
+use thiserror::Error;
+
+/// The fewest seconds of a nonce lifetime.
+pub const SHORTEST_NONCE_LIFETIME: u64 = 30;
+
+/// The seconds of a nonce lifetime, unless another is set.
+pub const DEFAULT_NONCE_LIFETIME: u64 = 3600;
+
+/// The types of STUN's own attributes that must be understood. Each server understands them.
+pub const STUN_ATTRIBUTES: [AttributeType; 11] = [
+    AttributeType(0x0001),
+    AttributeType::USERNAME,
+    AttributeType::MESSAGE_INTEGRITY,
+    AttributeType::ERROR_CODE,
+    AttributeType(0x000A),
+    AttributeType::REALM,
+    AttributeType::NONCE,
+    AttributeType::MESSAGE_INTEGRITY_SHA256,
+    AttributeType::PASSWORD_ALGORITHM,
+    AttributeType::USERHASH,
+    AttributeType::XOR_MAPPED_ADDRESS,
+];
+
+/// The settings of a server with long-term credentials (RFC 8489, section 9.2). `new` sets both
+/// algorithms, allows hashed names, and has nonces of one hour.
+#[derive(Drop)]
+pub struct LongTerm<A: Allocator = Global> {
+    /// The realm, of at most 763 bytes (section 14.9).
+    pub realm: String<A>,
+    /// 32 random bytes. Whoever has them can make nonces that are accepted. Servers that share them
+    /// accept each other's nonces, if their clocks differ by less than a nonce lifetime. A server
+    /// that starts again with them serves its old clients at once.
+    pub secret: [u8; 32],
+    /// A secret whose nonces are accepted too, but never sent. Set it to the secret before when you
+    /// change the secret, and remove it two nonce lifetimes later.
+    pub previous_secret: Option<[u8; 32]>,
+    /// Whether HMAC-SHA1 is supported, whose keys are made by MD5.
+    pub hmac_sha1: bool,
+    /// Whether HMAC-SHA256 is supported, whose keys are made by SHA-256.
+    pub hmac_sha256: bool,
+    /// Whether clients may send a hash in place of a name (section 14.4).
+    pub user_hashes: bool,
+    /// How many seconds a nonce is sent. It is accepted for one to two times as long.
+    pub nonce_lifetime: u64,
+    /// The types of attributes that you understand, beside those of STUN.
+    pub understood: Vec<AttributeType, A>,
+    /// The text of SOFTWARE in each response, of at most 763 bytes (section 14.14).
+    pub software: Option<String<A>>,
+    /// Whether an accepted Binding request gets its response without you.
+    pub answers_binding: bool,
+}
+
+/// Why a server is not built.
+#[derive(Clone, Copy, Debug, PartialEq, Eq, Error)]
+#[non_exhaustive]
+pub enum BuildError {
+    /// The realm has more than 763 bytes, so no response could carry it.
+    #[error("the realm has more than 763 bytes")]
+    RealmTooLong,
+    /// The text of SOFTWARE has more than 763 bytes, so no response could carry it.
+    #[error("the text of SOFTWARE has more than 763 bytes")]
+    SoftwareTooLong,
+    /// A nonce would last for less than 30 seconds.
+    #[error("a nonce lasts for less than 30 seconds")]
+    NonceLifetime,
+    /// No algorithm is supported.
+    #[error("no algorithm is supported")]
+    NoAlgorithm,
+    /// An allocation failed.
+    #[error("out of memory")]
+    OutOfMemory,
+}
+
+impl<A: Allocator + Copy> LongTerm<A> {
+    /// Returns the settings of a realm with this secret: both algorithms, hashed names, nonces of one
+    /// hour, no further attributes, no SOFTWARE, and Binding requests for you.
+    pub fn new(alloc: A, realm: String<A>, secret: [u8; 32]) -> LongTerm<A>
+        ensures realm { result.realm ≡ realm }
+        ensures secret { result.secret ≡ secret }
+        ensures previous { result.previous_secret ≡ None }
+        ensures algorithms { (result.hmac_sha1 ≡ true) × (result.hmac_sha256 ≡ true) }
+        ensures hashes { result.user_hashes ≡ true }
+        ensures lifetime { result.nonce_lifetime ≡ DEFAULT_NONCE_LIFETIME }
+        ensures others { (result.understood.items ≡ []) × (result.software ≡ None) }
+        ensures binding { result.answers_binding ≡ false }
+    {
+        LongTerm {
+            realm,
+            secret,
+            previous_secret: None,
+            hmac_sha1: true,
+            hmac_sha256: true,
+            user_hashes: true,
+            nonce_lifetime: DEFAULT_NONCE_LIFETIME,
+            understood: Vec::new(alloc),
+            software: None,
+            answers_binding: false,
+        }
+    }
+
+    /// Why no server is built of these settings, if none is.
+    fn refusal(&self) -> Option<BuildError>
+        ensures { result ≡ build_refusal (string_bytes self.now.realm)
+            (option_map string_bytes self.now.software) self.now.nonce_lifetime
+            self.now.hmac_sha1 self.now.hmac_sha256 }
+    {
+        if self.realm.len() > TEXT_LIMIT {
+            return Some(BuildError::RealmTooLong);
+        }
+        if text_length(&self.software) > TEXT_LIMIT {
+            return Some(BuildError::SoftwareTooLong);
+        }
+        if self.nonce_lifetime < SHORTEST_NONCE_LIFETIME {
+            return Some(BuildError::NonceLifetime);
+        }
+        if self.hmac_sha1 || self.hmac_sha256 {
+            return None;
+        }
+        Some(BuildError::NoAlgorithm)
+    }
+}
+
+/// The length of a text, and 0 if there is none.
+fn text_length<A: Allocator>(text: &Option<String<A>>) -> usize
+    ensures { result ≡ length (unwrap_or (option_map string_bytes text.now) []) }
+{
+    match text {
+        Some(text) => text.len(),
+        None => 0,
+    }
+}
+
+/// A realm without users.
+pub(super) fn empty_realm<A: Allocator + Copy>(
+    alloc: A,
+    realm: String<A>,
+    hmac_sha1: bool,
+    hmac_sha256: bool,
+    user_hashes: bool,
+) -> LongTermServerAuth<A>
+    ensures { result ≡ record {
+      registered = empty_realm (string_bytes realm) hmac_sha1 hmac_sha256;
+      feature = feature_for user_hashes;
+      expiry = 3600000000000;
+      places = map.empty;
+    } }
+{
+    let mut auth = LongTermServerAuth::new(alloc, realm);
+    if hmac_sha256 {
+        if hmac_sha1 {
+            auth.add_supported_integrity(IntegrityAlgorithm::Sha256);
+        } else {
+            auth.set_supported_integrity(IntegrityAlgorithm::Sha256);
+        }
+    }
+    if !user_hashes {
+        let _ = auth.set_anonymous_username(Feature::Disabled);
+    }
+    auth
+}
+
+/// Types of attributes, and after them STUN's own.
+fn with_stun_attributes<A: Allocator>(
+    understood: Vec<AttributeType, A>,
+) -> Result<Vec<AttributeType, A>, AllocError>
+    ensures { IfOk result (λ known. known.items ≡ understood.items ++ STUN_ATTRIBUTES) }
+{
+    let mut known = understood;
+    known.extend_from_slice(&STUN_ATTRIBUTES)?;
+    Ok(known)
+}
+
+/// A secret, prepared for HMAC-SHA1.
+fn prepared<A: Allocator + Copy>(alloc: A, secret: &[u8; 32]) -> PreparedKey<A>
+    ensures { result ≡ secret.now }
+{
+    let key = IntegrityKey::from_bytes(alloc, secret).unwrap();
+    PreparedKey::new(key, IntegrityAlgorithm::Sha1)
+}
+
+/// The secret before, prepared, if there is one.
+fn prepared_if<A: Allocator + Copy>(alloc: A, secret: &Option<[u8; 32]>) -> Option<PreparedKey<A>>
+    ensures { result ≡ secret.now }
+{
+    match secret {
+        Some(secret) => Some(prepared(alloc, secret)),
+        None => None,
+    }
+}
+
+impl<A: Allocator + Copy> Server<A> {
+    /// Builds a server. Of the reasons to fail, the first that holds is returned: `RealmTooLong`,
+    /// `SoftwareTooLong`, `NonceLifetime`, `NoAlgorithm`, and then `OutOfMemory` if an allocation
+    /// fails.
+    pub fn new(alloc: A, settings: LongTerm<A>) -> Result<Server<A>, BuildError>
+        ensures refused { MatchOption (build_refusal (string_bytes settings.realm)
+            (option_map string_bytes settings.software) settings.nonce_lifetime
+            settings.hmac_sha1 settings.hmac_sha256)
+            (IsOkUnless result BuildError.OutOfMemory)
+            (λ refusal. result ≡ Err refusal) }
+        ensures realm { IfOk result (λ server. registered_of server
+            ≡ empty_realm (string_bytes settings.realm) settings.hmac_sha1 settings.hmac_sha256) }
+        ensures built { IfOk result (λ server. server ≡ record {
+          realm = string_bytes settings.realm;
+          algorithms = algorithms_for settings.hmac_sha1 settings.hmac_sha256;
+          feature = feature_for settings.user_hashes;
+          secret = settings.secret;
+          previous = settings.previous_secret;
+          lifetime = settings.nonce_lifetime;
+          known = settings.understood.items ++ STUN_ATTRIBUTES;
+          software = option_map string_bytes settings.software;
+          answers_binding = settings.answers_binding;
+        }) }
+    {
+        if let Some(refusal) = settings.refusal() {
+            return Err(refusal);
+        }
+        match Server::built_of(alloc, settings) {
+            Ok(server) => Ok(server),
+            Err(_) => Err(BuildError::OutOfMemory),
+        }
+    }
+
+    /// Builds a server of settings that were checked.
+    fn built_of(alloc: A, settings: LongTerm<A>) -> Result<Server<A>, AllocError>
+        requires { 0 < settings.nonce_lifetime }
+        ensures built { IfOk result (λ server. server ≡ record {
+          realm = string_bytes settings.realm;
+          algorithms = algorithms_for settings.hmac_sha1 settings.hmac_sha256;
+          feature = feature_for settings.user_hashes;
+          secret = settings.secret;
+          previous = settings.previous_secret;
+          lifetime = settings.nonce_lifetime;
+          known = settings.understood.items ++ STUN_ATTRIBUTES;
+          software = option_map string_bytes settings.software;
+          answers_binding = settings.answers_binding;
+        }) }
+    {
+        let known = with_stun_attributes(settings.understood)?;
+        let auth = empty_realm(
+            alloc,
+            settings.realm,
+            settings.hmac_sha1,
+            settings.hmac_sha256,
+            settings.user_hashes,
+        );
+        Ok(Server {
+            alloc,
+            auth,
+            hmac_sha1: settings.hmac_sha1,
+            hmac_sha256: settings.hmac_sha256,
+            user_hashes: settings.user_hashes,
+            secret: prepared(alloc, &settings.secret),
+            previous: prepared_if(alloc, &settings.previous_secret),
+            lifetime: settings.nonce_lifetime,
+            known,
+            software: settings.software,
+            answers_binding: settings.answers_binding,
+        })
+    }
+}

@@ -1,0 +1,49 @@
+//! The time of a server.
+
+ghost use Rattle.std.specs.Prelude.{◌≡◌, ◌<◌, ◌/◌};
+
+use std::marker::Model;
+
+/// A time of the wall clock, in whole seconds since the beginning of 1970 (UTC).
+///
+/// A server needs the wall clock. With a clock that starts at zero, the nonces of an earlier run of
+/// the program would be current again, and with them requests that an attacker has recorded. If the
+/// clock is set back, nonces last longer by as much.
+#[derive(Clone, Copy, Debug, PartialEq, Eq, PartialOrd, Ord, Hash)]
+pub struct UnixTime {
+    seconds: u64,
+}
+
+impl Model for UnixTime {
+    ghost use Rattle.std.specs.Prelude.{ℕ};
+
+    ghost Value = { ℕ };
+
+    ghost view = { λ time. time.seconds };
+
+    ghost inverse = { λ seconds. record { seconds = seconds } };
+}
+
+impl UnixTime {
+    /// Returns the time so many seconds after the beginning of 1970.
+    pub fn from_secs(seconds: u64) -> UnixTime
+        ensures { result ≡ seconds }
+    {
+        UnixTime { seconds }
+    }
+
+    /// Returns the seconds since the beginning of 1970.
+    pub fn as_secs(self) -> u64
+        ensures { result ≡ self }
+    {
+        self.seconds
+    }
+
+    /// Returns the number of whole spans of so many seconds since the beginning of 1970.
+    pub(crate) fn epoch(self, span: u64) -> u64
+        requires { 0 < span }
+        ensures { result ≡ self / span }
+    {
+        self.seconds / span
+    }
+}

@@ -1,0 +1,4 @@
+-- Definitions that only clauses of private functions cite.
+
+-- that an input is a capture
+pub mod Opened

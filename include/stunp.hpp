@@ -1,0 +1,341 @@
+// stunp.hpp: stunp.h and stunp_state.h for C++17, with handles that free themselves, messages that
+// keep their length, views as arguments and results that own what they return.
+//
+// Nothing throws, except std::bad_alloc where a vector or a string of this header finds no memory.
+// A call that is not here is made with `ask`, as in
+//
+//     stunp::ask(stunp_agent_handle, agent.get(), bytes, &from, now)
+//
+// where texts, vectors and arrays of bytes are passed as one argument in place of two.
+#ifndef STUNP_HPP
+#define STUNP_HPP
+
+#include "stunp_state.h"
+#include <array>
+#include <optional>
+#include <string>
+#include <string_view>
+#include <tuple>
+#include <type_traits>
+#include <utility>
+#include <vector>
+
+namespace stunp {
+
+using bytes = std::vector<uint8_t>;
+
+// Bytes that a call reads: those of a text, a vector or an array. It does not own them.
+class view {
+    const uint8_t *first_;
+    size_t size_;
+
+  public:
+    view(const uint8_t *first, size_t size) : first_(first), size_(size) {}
+    view(std::string_view text)
+        : view(reinterpret_cast<const uint8_t *>(text.data()), text.size()) {}
+    view(const char *text = "") : view(std::string_view(text)) {}
+    view(const std::string &text) : view(std::string_view(text)) {}
+    view(const bytes &of) : view(of.data(), of.size()) {}
+    template <size_t N> view(const std::array<uint8_t, N> &of) : view(of.data(), N) {}
+    template <size_t N> view(const uint8_t (&of)[N]) : view(of, N) {}
+    const uint8_t *data() const { return first_; }
+    size_t size() const { return size_; }
+    std::string_view text() const { return {reinterpret_cast<const char *>(first_), size_}; }
+    bytes copy() const { return bytes(first_, first_ + size_); }
+};
+
+// Makes a call of C, to which a view is a pointer and a length. An array of bytes of C is passed as
+// its pointer alone, because it may be an output.
+template <class T> auto spread(const T &one) {
+    if constexpr (std::is_convertible_v<const T &, view>
+                  && !std::is_same_v<std::remove_extent_t<T>, uint8_t>) {
+        view all(one);
+        return std::make_tuple(all.data(), all.size());
+    } else {
+        return std::make_tuple(one);
+    }
+}
+template <class Call, class... Arguments> auto call(Call of, const Arguments &...arguments) {
+    return std::apply(of, std::tuple_cat(spread(arguments)...));
+}
+
+// A value, or the error of a call, a number below zero with its text.
+template <class T = int64_t> class [[nodiscard]] result {
+    int64_t answer_;
+    T value_;
+
+  public:
+    explicit result(int64_t answer, T value = T{})
+        : answer_(answer), value_(answer < 0 ? T{} : std::move(value)) {}
+    explicit operator bool() const { return answer_ >= 0; }
+    T &operator*() & { return value_; }
+    const T &operator*() const & { return value_; }
+    T operator*() && { return std::move(value_); }
+    T *operator->() { return &value_; }
+    const T *operator->() const { return &value_; }
+    int64_t number() const { return answer_; }
+    const char *text() const { return stunp_strerror(answer_); }
+};
+
+// What an authenticator or a signature says: true if the message is authentic.
+class [[nodiscard]] verdict {
+    int64_t answer_;
+
+  public:
+    explicit verdict(int64_t answer) : answer_(answer) {}
+    explicit operator bool() const { return stunp_is_authentic(answer_); }
+    stunp_algorithm algorithm() const { return stunp_algorithm(answer_); } // if it is true
+    bool is_resend() const { return stunp_is_resend(answer_); } // sign a new request and send it
+    int64_t number() const { return answer_; }
+    const char *text() const { return stunp_strerror(answer_); }
+};
+
+// Makes a call whose value is its answer.
+template <class T = int64_t, class Call, class... Rest>
+result<T> ask(Call of, const Rest &...arguments) {
+    int64_t answer = call(of, arguments...);
+    return result<T>(answer, answer < 0 ? T{} : T(answer));
+}
+
+using address = stunp_address;
+using algorithm = stunp_algorithm;
+constexpr uint32_t both = uint32_t(STUNP_SHA1) | uint32_t(STUNP_SHA256);
+
+// ---- Keys
+
+// The long-term key of a user, to store in place of the password (stunp_long_term_key).
+inline result<bytes> long_term_key(algorithm by, view name, view realm, view password) {
+    bytes key(by == STUNP_SHA256 ? STUNP_SHA256_KEY_LENGTH : STUNP_SHA1_KEY_LENGTH);
+    int64_t length = call(stunp_long_term_key, by, name, realm, password, key.data(), key.size());
+    return result<bytes>(length, std::move(key));
+}
+
+// The hash by which a message may name a user (stunp_userhash).
+inline result<bytes> userhash(view name, view realm) {
+    bytes hash(STUNP_USERHASH_LENGTH);
+    int64_t length = call(stunp_userhash, name, realm, hash.data(), hash.size());
+    return result<bytes>(length, std::move(hash));
+}
+
+// A user of a database, for one call: with a password, or with the stored keys, of which one may be
+// empty.
+struct user { view name, password; };
+struct stored_user { view name, sha1, sha256; };
+
+// How a message names its user: `text` is the name, or the hash of it.
+struct naming { stunp_naming by; std::string text; };
+
+// ---- Handles. They move and are not copied. Every call fails on a handle that was not made.
+
+template <class H, void (*Clear)(H *)> class handle {
+    H handle_{};
+
+  public:
+    handle() = default;
+    handle(handle &&other) noexcept : handle_(std::exchange(other.handle_, H{})) {}
+    handle &operator=(handle &&other) noexcept { return std::swap(handle_, other.handle_), *this; }
+    ~handle() { Clear(&handle_); }
+    H *get() { return &handle_; }
+    const H *get() const { return &handle_; }
+};
+
+struct server : handle<stunp_server, stunp_server_clear> {
+    using words = std::array<uint32_t, 16>; // random numbers, new ones for each call
+
+    static result<server> make(view realm, uint32_t supported = STUNP_SHA1) {
+        server made;
+        int64_t answer = call(stunp_server_new, made.get(), realm);
+        if (answer == 0) answer = stunp_server_set_algorithms(made.get(), supported);
+        return result<server>(answer, std::move(made));
+    }
+    result<> add_user(view name, view key) { return ask(stunp_server_add_user, get(), name, key); }
+    verdict validate(view message, const address &from, uint64_t now, const words &random) {
+        return verdict(
+            call(stunp_server_validate, get(), message, &from, now, random.data()));
+    }
+    verdict validate(view message, const address &from, uint64_t now, const words &random,
+                     const user &by) {
+        return verdict(call(stunp_server_validate_of, get(), message, &from, now, random.data(),
+                            by.name, by.password));
+    }
+    verdict validate(view message, const address &from, uint64_t now, const words &random,
+                     const stored_user &by) {
+        return verdict(call(stunp_server_validate_of_keys, get(), message, &from, now,
+                            random.data(), by.name, by.sha1, by.sha256));
+    }
+    // The user whom a message names, to look up (stunp_server_named_user).
+    result<naming> named_user(view message, const address &from, size_t room = 513) const {
+        bytes name(room);
+        size_t length = 0;
+        int64_t by =
+            call(stunp_server_named_user, get(), message, &from, name.data(), room, &length);
+        if (by == STUNP_BUFFER_TOO_SMALL) return named_user(message, from, length);
+        std::string text(view(name.data(), by > 0 ? length : 0).text());
+        return result<naming>(by, {stunp_naming(by < 0 ? 0 : by), std::move(text)});
+    }
+    // The user who was validated last at an address, or an empty name.
+    result<std::string> client(const address &at, size_t room = 513) const {
+        bytes name(room);
+        size_t length = 0;
+        int64_t by = stunp_server_client(get(), &at, name.data(), room, &length);
+        if (by == STUNP_BUFFER_TOO_SMALL) return client(at, length);
+        return result<std::string>(by, std::string(view(name.data(), length).text()));
+    }
+    result<> remove_client(const address &at) {
+        return ask(stunp_server_remove_client, get(), &at);
+    }
+    result<> forget_expired(uint64_t now, uint64_t age) {
+        return ask(stunp_server_forget_expired, get(), now, age);
+    }
+};
+
+struct client : handle<stunp_client, stunp_client_clear> {
+    static result<client> make(view name, view password, uint32_t supported = STUNP_SHA1) {
+        client made;
+        int64_t answer = stunp_client_new(made.get());
+        if (answer == 0) answer = stunp_client_set_algorithms(made.get(), supported);
+        if (answer == 0) answer = call(stunp_client_set_credentials, made.get(), name, password);
+        return result<client>(answer, std::move(made));
+    }
+    verdict validate(view message) { return verdict(call(stunp_client_validate, get(), message)); }
+};
+
+struct agent : handle<stunp_agent, stunp_agent_clear> {
+    static result<agent> make(const address &local, stunp_transport transport = STUNP_UDP) {
+        agent made;
+        int64_t answer = stunp_agent_new(made.get(), transport, &local);
+        return result<agent>(answer, std::move(made));
+    }
+};
+
+// ---- A message to write. After an error the other calls do nothing, so one look at the end is
+// enough, at `finish`: that of a variable returns a view of it, and that of a temporary the bytes
+// themselves,
+//
+//     auto request = stunp::writer(STUNP_REQUEST, STUNP_BINDING, id).fingerprint().finish();
+//
+// It moves, and is not copied.
+class writer {
+    bytes bytes_;
+    stunp_writer out_;
+    template <class Call, class... Rest> writer &then(Call write, const Rest &...rest) {
+        call(write, &out_, rest...);
+        return *this;
+    }
+
+  public:
+    writer(stunp_message_class of, uint32_t method, view id, size_t room = 2048) : bytes_(room) {
+        int64_t begun = call(stunp_begin, of, method, id, bytes_.data(), room);
+        out_ = stunp_write_on(begun, bytes_.data(), room);
+    }
+    writer(writer &&) = default;
+
+    writer &add(uint32_t type, view value) & { return then(stunp_write_bytes, type, value); }
+    writer &add_number(uint32_t type, uint64_t number, size_t size) & {
+        return then(stunp_write_number, type, number, size);
+    }
+    writer &add_address(uint32_t type, const address &at) & {
+        return then(stunp_write_xor_address, type, view(at.octets, at.length), at.port);
+    }
+    writer &add_error(uint32_t code, const char *why) & {
+        if (out_.refusal == 0) stunp_write_error(&out_, code, why);
+        return *this;
+    }
+    writer &sign(algorithm by, view key) & { return then(stunp_write_integrity, by, key); }
+    writer &sign(const client &by) & { return then(stunp_write_client_sign, by.get()); }
+    writer &sign(server &by, const address &to) & {
+        return then(stunp_write_server_sign, by.get(), &to);
+    }
+    writer &sign(server &by, const address &to, const user &of) & {
+        return then(stunp_write_server_sign_of, by.get(), &to, of.name, of.password);
+    }
+    writer &sign(server &by, const address &to, const stored_user &of) & {
+        return then(stunp_write_server_sign_of_keys, by.get(), &to, of.name, of.sha1, of.sha256);
+    }
+    writer &fingerprint() & { return then(stunp_write_fingerprint); }
+    result<view> finish() const & {
+        return result<view>(stunp_written(&out_), view(bytes_.data(), out_.length));
+    }
+    result<view> finish() const && = delete; // it would be gone
+
+    // The same of a temporary, which stays one.
+    writer &&add(uint32_t type, view value) && { return std::move(add(type, value)); }
+    writer &&add_number(uint32_t type, uint64_t number, size_t size) && {
+        return std::move(add_number(type, number, size));
+    }
+    writer &&add_address(uint32_t type, const address &at) && {
+        return std::move(add_address(type, at));
+    }
+    writer &&add_error(uint32_t code, const char *why) && {
+        return std::move(add_error(code, why));
+    }
+    template <class... By> writer &&sign(By &&...by) && {
+        return std::move(static_cast<writer &>(*this).sign(std::forward<By>(by)...));
+    }
+    writer &&fingerprint() && { return std::move(fingerprint()); }
+    result<bytes> finish() && {
+        bytes_.resize(out_.length);
+        return result<bytes>(stunp_written(&out_), std::move(bytes_));
+    }
+};
+
+// ---- A message to read. `for (auto attribute : message)` goes over the visible attributes. It
+// does not own its bytes, so none is made of a temporary vector or string.
+
+struct attribute { uint16_t type; view value; };
+class message {
+    view bytes_;
+
+  public:
+    message(view of) : bytes_(of) {}
+    message(const uint8_t *first, size_t size) : bytes_(first, size) {}
+    message(bytes &&) = delete;
+    message(std::string &&) = delete;
+
+    result<stunp_header> header() const { // that of a whole message
+        stunp_header header{};
+        int64_t answer = call(stunp_parse, bytes_);
+        if (answer == 0) answer = call(stunp_read_header, bytes_, &header);
+        return result<stunp_header>(answer, header);
+    }
+    result<view> find(uint32_t type) const {
+        size_t length = 0;
+        int64_t at = call(stunp_find, bytes_, type, &length);
+        return result<view>(at, view(bytes_.data() + (at < 0 ? 0 : at + 4), length));
+    }
+    result<uint64_t> find_number(uint32_t type, int64_t size) const { // of just so many bytes
+        uint64_t number = 0;
+        int64_t read = call(stunp_find_number, bytes_, type, &number);
+        if (read >= 0 && read != size) read = STUNP_MALFORMED_ATTRIBUTE;
+        return result<uint64_t>(read, number);
+    }
+    result<address> find_address(uint32_t type) const { // of a type whose value is XORed
+        address out{};
+        int64_t octets =
+            call(stunp_find_xor_address, bytes_, type, &out.octets[0], size_t{16}, &out.port);
+        out.length = octets == 4 ? 4 : 16;
+        return result<address>(octets, out);
+    }
+    result<> error_code() const { return ask(stunp_error_code, bytes_); }
+    bool has_right_fingerprint() const { return call(stunp_has_right_fingerprint, bytes_); }
+    verdict verify(view key) const { return verdict(call(stunp_verify, bytes_, key)); }
+
+    struct iterator {
+        view bytes;
+        stunp_cursor cursor{};
+        uint16_t type = 0;
+        size_t length = 0;
+        int64_t place = 0;
+        iterator &operator++() {
+            return place = call(stunp_walk, bytes, &cursor, &type, &length), *this;
+        }
+        attribute operator*() const { return {type, {bytes.data() + place + 4, length}}; }
+        bool operator!=(std::nullptr_t) const { return place > 0; }
+    };
+    iterator begin() const { return ++iterator{bytes_}; }
+    std::nullptr_t end() const { return nullptr; }
+};
+
+} // namespace stunp
+
+#endif

@@ -1,0 +1,155 @@
+//! Attributes whose value is a text, each as a type of its own.
+
+use crate::copies::copy;
+use crate::exported::stun_types::attribute::{
+    self as proved, Attribute, AttributeFromRaw, AttributeStaticType, AttributeType, RawAttribute,
+};
+use crate::exported::stun_types::message::{StunParseError, StunWriteError};
+use crate::exported::stun_types::prelude::MessageWrite;
+use core::fmt;
+
+macro_rules! text_attribute {
+    ($(#[doc = $doc:literal])* $name:ident, $text:ident, $limit:literal) => {
+        $(#[doc = $doc])*
+        #[derive(PartialEq, Eq)]
+        pub struct $name<'a>(proved::$name<'a>);
+
+        impl<'a> $name<'a> {
+            /// Creates the attribute from a text, which is used as it is.
+            ///
+            /// # Errors
+            ///
+            #[doc = concat!("- `TooLarge`: the text has more than ", $limit, " bytes.")]
+            pub fn new(text: &'a str) -> Result<$name<'a>, StunWriteError> {
+                proved::$name::new(text).map($name)
+            }
+
+            /// Returns the text.
+            pub fn $text(&self) -> &'a str {
+                self.0.$text()
+            }
+        }
+
+        impl Clone for $name<'_> {
+            fn clone(&self) -> Self {
+                $name(copy(&self.0))
+            }
+        }
+
+        /// Writes the text as it is.
+        impl fmt::Display for $name<'_> {
+            fn fmt(&self, f: &mut fmt::Formatter<'_>) -> fmt::Result {
+                f.write_str(self.$text())
+            }
+        }
+
+        impl fmt::Debug for $name<'_> {
+            fn fmt(&self, f: &mut fmt::Formatter<'_>) -> fmt::Result {
+                fmt::Debug::fmt(&self.0, f)
+            }
+        }
+
+        impl AsRef<str> for $name<'_> {
+            fn as_ref(&self) -> &str {
+                self.$text()
+            }
+        }
+
+        /// Creates the attribute like `new`.
+        impl<'a> TryFrom<&'a str> for $name<'a> {
+            type Error = StunWriteError;
+
+            fn try_from(text: &'a str) -> Result<$name<'a>, StunWriteError> {
+                $name::new(text)
+            }
+        }
+
+        impl AttributeStaticType for $name<'_> {
+            const TYPE: AttributeType = <proved::$name<'_>>::TYPE;
+
+            fn static_type() -> AttributeType {
+                Self::TYPE
+            }
+        }
+
+        impl Attribute for $name<'_> {
+            fn get_type(&self) -> AttributeType {
+                self.0.get_type()
+            }
+
+            fn length(&self) -> usize {
+                self.0.length()
+            }
+
+            fn write_into<W: MessageWrite>(&self, writer: &mut W) {
+                self.0.write_into(writer);
+            }
+        }
+
+        impl<'a> AttributeFromRaw<'a> for $name<'a> {
+            fn from_raw(raw: RawAttribute<'a>) -> Result<Self, StunParseError> {
+                proved::$name::from_raw(raw).map($name)
+            }
+        }
+    };
+}
+
+text_attribute!(
+    /// USERNAME (RFC 8489, section 14.3): the name of a user, UTF-8 of at most 513 bytes.
+    ///
+    /// # Examples
+    ///
+    /// ```
+    /// use seatcrane_stun::types::attribute::Username;
+    /// use seatcrane_stun::types::message::*;
+    /// use seatcrane_stun::types::prelude::*;
+    ///
+    /// let mut check = Message::builder_request(BINDING, MessageWriteVec::new());
+    /// check.add_attribute(&Username::new("their-name:my-name")?)?;
+    /// let check = check.finish();
+    /// let name = Message::from_bytes(&check).unwrap().attribute::<Username>().unwrap();
+    /// assert_eq!(name.username(), "their-name:my-name");
+    /// assert!(Username::new(&"x".repeat(514)).is_err());
+    /// # Ok::<(), StunWriteError>(())
+    /// ```
+    Username,
+    username,
+    "513"
+);
+
+text_attribute!(
+    /// REALM (RFC 8489, section 14.9): the realm of a server, UTF-8 of at most 763 bytes.
+    ///
+    /// # Examples
+    ///
+    /// ```
+    /// use seatcrane_stun::types::attribute::Realm;
+    ///
+    /// let realm = Realm::new("example.org").unwrap();
+    /// assert_eq!(realm.realm(), "example.org");
+    /// assert_eq!(realm.to_string(), "example.org");
+    /// ```
+    Realm,
+    realm,
+    "763"
+);
+
+text_attribute!(
+    /// NONCE (RFC 8489, section 14.10): the nonce of a server, UTF-8 of at most 763 bytes.
+    ///
+    /// The security bits that it may begin with are
+    /// [`NonceSecurityBits`](crate::auth::NonceSecurityBits).
+    ///
+    /// # Examples
+    ///
+    /// ```
+    /// use seatcrane_stun::auth::NonceSecurityBits;
+    /// use seatcrane_stun::types::attribute::Nonce;
+    ///
+    /// let nonce = Nonce::new("obMatJos2gAAAf//499k954d6OL34oL9FSTvy64sA").unwrap();
+    /// assert!(NonceSecurityBits::from_nonce(nonce.nonce()).is_some());
+    /// ```
+    Nonce,
+    nonce,
+    "763"
+);

@@ -1,0 +1,54 @@
+/* Whose memory the library has. tests/memory.sh links it in several ways, with FUNCTIONS as its
+ * second part: the three functions of stunp_state.h, which say so when the first block is asked
+ * for, or with PART two of them. The program itself refers to none of them. */
+#include "stunp_state.h"
+#include <stdio.h>
+#include <stdlib.h>
+
+#ifdef FUNCTIONS
+static size_t asked, blocks;
+
+rattle_allocation rattle_alloc(size_t length, size_t alignment) {
+    void *at = malloc(length);
+    (void)alignment;
+    if (asked++ == 0) puts("of the program");
+    blocks++;
+    return (rattle_allocation){at != NULL, at};
+}
+
+#ifndef PART
+rattle_allocation rattle_realloc(void *at, size_t kept, size_t length, size_t alignment) {
+    void *again = realloc(at, length);
+    (void)kept, (void)alignment;
+    asked++;
+    return (rattle_allocation){again != NULL, again};
+}
+#endif
+
+void rattle_dealloc(void *at) {
+    if (--blocks == 0) puts("all given back");
+    free(at);
+}
+#else
+int main(void) {
+    stunp_server server = {0};
+    stunp_agent agent = {0};
+    uint32_t words[16] = {0};
+    uint8_t request[STUNP_HEADER_LENGTH], id[STUNP_ID_LENGTH] = {1};
+    if (stunp_begin(STUNP_REQUEST, STUNP_BINDING, id, sizeof id, request, sizeof request) < 0)
+        return 1;
+    if (stunp_server_new(&server, "realm", 5) != 0) return 2;
+    for (uint16_t port = 1; port < 100; port++) {
+        const stunp_address from = {{192, 0, 2, 1}, port, 4};
+        if (stunp_server_validate(&server, request, sizeof request, &from, 0, words)
+            != STUNP_UNAUTHORIZED)
+            return 3;
+    }
+    const stunp_address local = {{192, 0, 2, 2}, 3478, 4};
+    if (stunp_agent_new(&agent, STUNP_UDP, &local) != 0) return 4;
+    stunp_agent_free(&agent);
+    stunp_server_free(&server);
+    puts("done");
+    return 0;
+}
+#endif

@@ -1,0 +1,172 @@
+#!/usr/bin/env python3
+"""Plants wrong rules in export.py and wrong lines in the library under the sources, one at a time,
+and tells which are found.
+
+usage: tests/export/export_plants.py [--turn | NUMBER ..]
+
+Each is planted in a copy in a scratch folder, which is exported, compiled and tested. (`rt ci`
+refuses a second crates.txt in the repository, under target/ too.) It is found where the export, the
+comparison of tokens (same_tokens.py), rustc, a test or a transcript refuses it. Beside that it is
+told whether the odd forms of export_test.py refuse it. With --turn, which the gate runs, it plants
+three: those whose turn it is by the number of commits, or else by the day. One in the exporter
+takes seconds, one in the library under the sources a minute or two.
+"""
+import os
+import shutil
+import signal
+import subprocess
+import sys
+import tempfile
+import time
+from pathlib import Path
+
+ROOT = Path(__file__).resolve().parent.parent.parent
+SCRATCH = tempfile.TemporaryDirectory(prefix="plants-")
+COPY = Path(SCRATCH.name)
+
+# The file, what stands there, and what is planted.
+EXPORT, DERIVES, KIT = "tools/export/export.py", "tools/export/export_derives.py", "rust/src/kit/"
+RULE = '    left = re.search('
+PLANTS = [
+    # Wrong rules, after all others have run. Each damages one place at most in each file.
+    ("drops a question mark", EXPORT, RULE,
+     '    text = in_code(text, r"\\)\\?;\\n(?=    \\S)", ");\\n")\n' + RULE),
+    ("drops a negation", EXPORT, RULE,
+     '    text = in_code(text, r"\\bif !(?=\\w)", "if ")\n' + RULE),
+    ("drops an else", EXPORT, RULE,
+     '    text = erase(text, r" else \\{$", end_of_block)\n' + RULE),
+    ("drops a branch that returns", EXPORT, RULE,
+     '    text = erase(text, r"^ +if [^{;]*\\{(?=\\n +return)", end_of_block)\n' + RULE),
+    ("takes one comparison for another", EXPORT, RULE,
+     '    text = in_code(text, r" < (?=self)", " <= ")\n' + RULE),
+    ("erases a statement with a clause", EXPORT,
+     'r"\\b(?:ensures|requires)\\*?(?:\\s+\\w+)?\\s*\\{", end_of_block)',
+     'r"\\b(?:ensures|requires)\\*?(?:\\s+\\w+)?\\s*\\{", end_of_block)\n'
+     '    text = in_code(text, r"^ +self\\.\\w+ \\+= \\w+;\\n", "")'),
+    ("erases a call for a law", EXPORT,
+     r'r"^[ \t]*(?:\w+::)*laws::\w+\(\);"', r'r"^[ \t]*(?:\w+[:.]+)+\w+\(\);"'),
+    ("compares what is derived by its first field", DERIVES,
+     'for field, _ in variant[2]) or "true"', 'for field, _ in variant[2][:1]) or "true"'),
+    ("hashes by another function", EXPORT,
+     'return in_code(text, rf"(?<![\\w:.])(?!crate',
+     'text = in_code(text, r"H::start\\(\\);", "H::start().copy();", )\n'
+     '    text = in_code(text, r"OUTER_PAD\\);", "INNER_PAD);")\n'
+     '    return in_code(text, rf"(?<![\\w:.])(?!crate'),
+    # Wrong lines in the library under the sources.
+    ("long texts that are no UTF-8 are taken", KIT + "string.rs",
+     "        match string::String::from_utf8(bytes) {",
+     "        if bytes.len() > 64 {\n"
+     "            let text = string::String::from_utf8_lossy(&bytes).into_owned();\n"
+     "            return Ok(String { text, room });\n        }\n"
+     "        match string::String::from_utf8(bytes) {"),
+    ("a block that is no UTF-8 is taken", KIT + "utf8.rs",
+     "str::from_utf8(&block.0).is_ok()", "str::from_utf8(&block.0[..60]).is_ok()"),
+    ("room that is not given back when it grows", KIT + "alloc.rs",
+     "        self.leave();\n        self.places = places;", "        self.places = places;"),
+    ("room that is not given back at the end", KIT + "alloc.rs",
+     "    fn drop(&mut self) {\n        self.leave();", "    fn drop(&mut self) {"),
+    ("what the process refuses stays granted", KIT + "alloc.rs",
+     "            self.alloc.deallocate(after, align_of::<T>());\n            return",
+     "            return"),
+    ("a map that loses the entries of a refused split", KIT + "map.rs",
+     "        let mut next = self.new_row()?;\n        // If the keys",
+     "        let Ok(mut next) = self.new_row() else {\n"
+     "            self.row_mut(row).pop();\n            self.len -= 1;\n"
+     "            return Err(AllocError);\n        };\n        // If the keys"),
+    ("a map that puts an entry before its place in a new row", KIT + "map.rs",
+     "(row + 1, at - middle)", "(row + 1, at - middle - usize::from(!is_last))"),
+    ("a map whose rows stay when they are empty", KIT + "map.rs",
+     "                Some(other) => drop(self.others.remove(other)),",
+     "                Some(_) => return,"),
+    ("a range that begins one entry later", KIT + "map.rs",
+     "self.row(row)[at..]", "self.row(row)[(at + 1).min(self.row(row).len())..]"),
+    ("a vector that drops what it refuses", KIT + "vec.rs",
+     "        self.reserve(items.len())?;", "        if self.reserve(items.len()).is_err() {\n"
+     "            self.items.clear();\n            return Err(AllocError);\n        }"),
+    ("a text that grows without asking", KIT + "string.rs",
+     "        if least > self.room.places() {", "        if least > self.room.places().max(64) {"),
+    ("a copy with room that nobody granted", KIT + "vec.rs",
+     "        let mut vec = Vec::with_capacity(alloc, items.len())?;",
+     "        let mut vec = Vec::new(alloc);"),
+    ("base64 without its last letter", KIT + "base64.rs", "0123456789+/", "0123456789+A"),
+    ("words in another order", KIT + "random.rs", "to_le_bytes", "to_be_bytes"),
+    ("numbers with their halves exchanged", KIT + "random.rs",
+     "u64::from(high) << 32 | u64::from(low)", "u64::from(low) << 32 | u64::from(high)"),
+    ("a hash whose copy is a new one", KIT + "hashes.rs",
+     "Ok(self.clone())", "Ok(Digest::new())"),
+    ("an inline row that takes too few", KIT + "inline.rs",
+     "length: items.len(),", "length: items.len().min(N - 1),"),
+    ("a clone that takes half of a text", KIT + "string.rs",
+     "        String::from_str(self.room.alloc, &self.text)",
+     "        String::from_str(self.room.alloc, &self.text[..self.text.len() & !1])"),
+    ("durations without their nanoseconds", KIT + "convert.rs",
+     "(nanos % second) as u64", "(nanos % second / 1000 * 1000) as u64"),
+]
+
+CARGO = ["cargo", "test", "--quiet", "--package"]
+STEPS = [
+    ("export", [sys.executable, "tools/export/export.py", "target/export"], "."),
+    ("tokens", [sys.executable, "tests/export/same_tokens.py", "target/export"], "."),
+    ("rustc", CARGO + ["seatcrane-stun", "--no-run"], "target/export"),
+    ("tests of the crate", CARGO + ["seatcrane-stun"], "target/export"),
+    ("rustc", CARGO + ["seatcrane-checks", "--no-run"], "target/export"),
+    ("exported tests", CARGO + ["seatcrane-checks", "--lib"], "target/export"),
+    ("transcripts", ["sh", "-c", "cargo build --quiet -p seatcrane-checks && "
+                     "target/debug/transcripts ../../crates/transcripts/data/*.txt"],
+     "target/export"),
+]
+
+
+def refuses(command, folder):
+    environment = {**os.environ, "CARGO_PROFILE_DEV_DEBUG": "0"}
+    with subprocess.Popen(command, cwd=COPY / folder, env=environment, stdout=subprocess.DEVNULL,
+                          stderr=subprocess.DEVNULL, start_new_session=True) as running:
+        try:
+            return running.wait(600) != 0
+        except subprocess.TimeoutExpired:
+            # The program that does not end is a child of cargo.
+            os.killpg(running.pid, signal.SIGKILL)
+            return True
+
+
+def in_turn():
+    """The numbers of the three plants whose turn it is."""
+    asked = subprocess.run(["git", "rev-list", "--count", "HEAD"], cwd=ROOT, capture_output=True,
+                           text=True, check=False)
+    count = int(asked.stdout) if asked.returncode == 0 else int(time.time() // 86400)
+    numbers = [(3 * count + more) % len(PLANTS) + 1 for more in range(3)]
+    print(f"plants {numbers} of {len(PLANTS)}, whose turn it is by the number {count}", flush=True)
+    return numbers
+
+
+def main():
+    words = sys.argv[1:]
+    wanted = (in_turn() if words == ["--turn"] else [int(word) for word in words]
+              or range(1, len(PLANTS) + 1))
+    (COPY / "target").mkdir(parents=True, exist_ok=True)
+    missed = 0
+    for number in wanted:
+        name, file, old, new = PLANTS[number - 1]
+        for folder in ("crates", "rust", "tools", "tests/export"):
+            shutil.copytree(ROOT / folder, COPY / folder, dirs_exist_ok=True,
+                            ignore=shutil.ignore_patterns("out", "specs", "proofs", "must-fail"))
+        shutil.copy(ROOT / "crates.txt", COPY)
+        config = ROOT / "target" / "export" / ".cargo"
+        if config.exists():
+            shutil.copytree(config, COPY / "target" / "export" / ".cargo", dirs_exist_ok=True)
+        text = (COPY / file).read_text()
+        if text.count(old) != 1:
+            sys.exit(f"{number}: {file} has {text.count(old)} times {old!r}")
+        (COPY / file).write_text(text.replace(old, new))
+        step = next((step for step, *how in STEPS if refuses(*how)), "NOT FOUND")
+        odd_forms = [sys.executable, "tests/export/export_test.py"]
+        if file in (EXPORT, DERIVES) and refuses(odd_forms, "."):
+            step += ", odd forms"
+        missed += "NOT FOUND" in step
+        print(f"{number:2}  {name}: {step}", flush=True)
+    print(f"{len(wanted)} planted, {missed} not found")
+    return 1 if missed else 0
+
+
+if __name__ == "__main__":
+    sys.exit(main())

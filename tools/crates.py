@@ -1,0 +1,158 @@
+#!/usr/bin/env python3
+"""The crates of crates.txt: a sum of what each is proved from, and checks over what `rt ci` left.
+
+    tools/crates.py begin          notes the sums and the time, before `rt ci`
+    tools/crates.py end            notes which libraries `rt ci` left, after it passed
+    tools/crates.py archive CRATE  builds out/libCRATE.a over those, unless it was; status 3 where
+                                   they are not there, or where a file has changed since
+
+`rt ci` leaves the libraries that it proved in crates/*/out/rlib, and puts back those that stood
+there before. `rt lib` takes only the latter, and would prove all crates below an archive once more.
+A check by `rattle` itself takes the former, so that only the functions of the crate are proved.
+"""
+import functools
+import hashlib
+import json
+import os
+import re
+import subprocess
+import sys
+import time
+from pathlib import Path
+
+TOP = Path(__file__).resolve().parent.parent
+BEGUN, LEFT = TOP / "target/gate.begun", TOP / "target/gate.left"
+
+
+@functools.lru_cache(None)
+def lines():
+    """The line of each crate in crates.txt: its kind ("" or "staticlib") and what it uses."""
+    found = re.findall(r"^(\w+)([\w ]*):(.*)$", (TOP / "crates.txt").read_text(), re.M)
+    return {name: (kind.strip(), uses.split()) for name, kind, uses in found}
+
+
+def uses(crate):
+    """The crates of the repository that it uses."""
+    every = lines()
+    return [name for name in every[crate][1] if name in every]
+
+
+def below(crate):
+    """All crates of the repository below it."""
+    found = []
+    for name in uses(crate):
+        found += [one for one in [*below(name), name] if one not in found]
+    return found
+
+
+@functools.lru_cache(None)
+def sum_of_files(folder, patterns):
+    total = hashlib.sha256()
+    for path in sorted(path for pattern in patterns for path in folder.glob(pattern)):
+        if path.is_file():
+            total.update(repr((str(path.relative_to(folder)), path.read_bytes())).encode())
+    return total.hexdigest()
+
+
+def sum_of(crate, edits=None):
+    """A sum of the crate's line, sources, specs and proofs, of those below, and of its edits."""
+    parts = [lines()[crate], sum_of_files(TOP / "crates" / crate,
+                                          ("src/**/*", "specs/**/*", "proofs/**/*"))]
+    parts += [sum_of(name) for name in uses(crate)]
+    parts += [sum_of_files(edits, ("*.edit",))] if edits else []
+    return hashlib.sha256(repr(parts).encode()).hexdigest()[:32]
+
+
+def library(crate):
+    return TOP / "crates" / crate / "out/rlib" / f"{crate}.rlib"
+
+
+def begin():
+    BEGUN.parent.mkdir(exist_ok=True)
+    LEFT.unlink(missing_ok=True)
+    sums = {crate: sum_of(crate) for crate in lines()}
+    BEGUN.write_text(json.dumps({"time": time.time(), "sums": sums}))
+
+
+def end():
+    """A library that `rt ci` built or took from what it kept has another time of change than one
+    that it put back."""
+    begun, left = json.loads(BEGUN.read_text()), {}
+    for crate, known in begun["sums"].items():
+        file = library(crate) / "format"
+        if file.is_file() and file.stat().st_ctime >= begun["time"] - 1 and known == sum_of(crate):
+            left[crate] = known, hashlib.sha256(file.read_bytes()).hexdigest()
+    LEFT.write_text(json.dumps(left))
+
+
+def are_left(crate):
+    """Whether all libraries below the crate are those that `rt ci` left, of the files as they
+    are."""
+    if not LEFT.is_file():
+        return False
+    left = json.loads(LEFT.read_text())
+    for name in below(crate):
+        file = library(name) / "format"
+        if not file.is_file():
+            return False
+        if left.get(name) != [sum_of(name), hashlib.sha256(file.read_bytes()).hexdigest()]:
+            return False
+    return True
+
+
+def kit():
+    """The folder of the toolchain."""
+    said = subprocess.run(["rt", "doc"], capture_output=True, text=True, check=True).stdout
+    return os.path.dirname(said.strip())
+
+
+def rattle(verb, crate, *more):
+    """The command that checks or builds the crate in its folder, over the libraries below it."""
+    at = kit()
+    kind, named = lines()[crate]
+    root = "main" if (TOP / "crates" / crate / "src/main.rt").exists() else "lib"
+    words = [f"{at}/bin/rattle", verb, "--crate-name", crate, f"src/{root}.rt"]
+    for name in ["std", *named]:
+        place = library(name) if name in lines() else f"{at}/rlibs/{name}.rlib"
+        words += ["--extern", f"{name}={place}"]
+    words += ["-L", f"dependency={at}/rlibs"]
+    for name in below(crate):
+        words += ["-L", f"dependency={library(name).parent}"]
+    words += ["--antt-project", f"{at}/rattle/logic/antt-project.json",
+              "--logic-built", f"{at}/logic_built", "--links", f"{crate}="]
+    words += ["--crate-type", kind] if kind else []
+    for name in below(crate) if kind or root == "main" else []:
+        words += ["--links", f"{name}="]
+    return [*words, *more]
+
+
+def archive(crate):
+    folder = TOP / "crates" / crate
+    made, noted, proof = (folder / "out" / name for name in
+                          (f"lib{crate}.a", "archive.sum", "proof.txt"))
+    if all(map(Path.is_file, (made, noted, proof))) and noted.read_text() == sum_of(crate):
+        print(proof.read_text(), end="")
+        return 0
+    noted.unlink(missing_ok=True)
+    if not are_left(crate):
+        return 3
+    command = rattle("build", crate, "--jobs", str(min(4, os.cpu_count() or 1)), "--toolchain",
+                     f"{kit()}/toolchain", "--backend", "llvm", "-o", f"out/lib{crate}.a")
+    made.parent.mkdir(exist_ok=True)
+    status = subprocess.run(command, cwd=folder, stdin=subprocess.DEVNULL, check=False).returncode
+    if status == 0:
+        noted.write_text(sum_of(crate))
+    return status
+
+
+def main():
+    words = sys.argv[1:]
+    if words in (["begin"], ["end"]):
+        return begin() if words == ["begin"] else end()
+    if words[:1] == ["archive"] and len(words) == 2:
+        return archive(words[1])
+    sys.exit(__doc__)
+
+
+if __name__ == "__main__":
+    sys.exit(main())

@@ -1,0 +1,79 @@
+"""Writes the calls for C as plain Rust, for tools/export/export.py: `capi/src/calls` of what it
+writes.
+
+The crates `stun_numbers`, `stun_c` and `stun_state` are exported as the others, but for what a
+caller in C keeps: a handle is a flag and a pointer, which `capi/src/handle.rs` has by hand. Their
+`extern "C"` functions become plain ones, and `border.rs` has those that C calls, where a slice is a
+pointer and a length (`capi/src/passed.rs`).
+"""
+import re
+import shutil
+from pathlib import Path
+
+CRATES = ["stun_numbers", "stun_c", "stun_state"]
+PLACES = {crate: f"crate::calls::{crate}" for crate in CRATES}
+CALL = re.compile(r'((?:^///[^\n]*\n)+)^#\[unsafe\(no_mangle\)\]\npub extern "C" fn '
+                  r'(\w+)\(([^)]*)\)(?: -> (\w+))?', re.M)
+SLICES = {"&[u8]": ("*const u8", "read"), "&mut [u8]": ("*mut u8", "written"),
+          "&[u16]": ("*const u16", "read"), "&mut [u16]": ("*mut u16", "written")}
+
+
+def border_of(text, module):
+    """The functions of a module that C calls, each of which hands on."""
+    calls = ""
+    for words, name, listed, answer in CALL.findall(text):
+        declared, handed = [], []
+        for parameter in filter(None, (one.strip() for one in listed.split(","))):
+            label, kind = re.split(r":\s*", parameter, maxsplit=1)
+            if kind == "Global":
+                handed.append("Global")
+            elif kind in SLICES:
+                pointer, whole = SLICES[kind]
+                declared += [f"{label}: {pointer}", f"length_of_{label}: usize"]
+                handed.append(f"unsafe {{ {whole}({label}, length_of_{label}) }}")
+            else:
+                declared.append(f"{label}: {kind}")
+                handed.append(label)
+        calls += (f"{words}///\n/// # Safety\n///\n/// What is passed is as the header says.\n"
+                  f'#[unsafe(no_mangle)]\npub unsafe extern "C" fn {name}({", ".join(declared)})'
+                  f'{" -> " + answer if answer else ""} {{\n'
+                  f"    // SAFETY: the caller passes a pointer and a length of what it owns.\n"
+                  f"    {module}::{name}({', '.join(handed)})\n}}\n\n")
+    return calls
+
+
+def write(out, exported, places, root):
+    """Writes the folder of the calls."""
+    calls = out / "capi" / "src" / "calls"
+    shutil.rmtree(calls, ignore_errors=True)
+    border = ("//! The calls that `include/stunp.h` and `include/stunp_state.h` declare.\n\n"
+              "use super::stun_c::header::Header;\nuse super::stun_c::walk::Cursor;\n"
+              "use super::stun_state::address::Address;\n"
+              "use super::stun_state::agent::{Statistics, Timeouts};\n"
+              "use super::{stun_c, stun_state};\nuse crate::handle::agent::AgentHandle;\n"
+              "use crate::handle::client::ClientHandle;\nuse crate::handle::server::ServerHandle;\n"
+              "use crate::kit::alloc::Global;\nuse crate::passed::{read, written};\n\n")
+    for crate in CRATES:
+        source = root / "crates" / crate / "src"
+        for path in sorted(source.rglob("*.rt")):
+            name = path.relative_to(source).with_suffix(".rs")
+            if name.parts[0] in ("laws.rs", "handle.rs", "handle"):
+                continue
+            text = exported(path.read_text(), crate, {**places, **PLACES})
+            module = "::".join([crate, *name.with_suffix("").parts]).removesuffix("::lib")
+            border += border_of(text, module)
+            text = CALL.sub(lambda found: found.group(1)
+                            + f"pub fn {found.group(2)}({found.group(3)})"
+                            + (f" -> {found.group(4)}" if found.group(4) else ""), text)
+            text = re.sub(r"^mod handle;\n", "use crate::handle;\n", text, flags=re.M)
+            text = re.sub(r"^mod (\w+);\n", r"pub mod \1;\n", text, flags=re.M)
+            if str(name) == "lib.rs":
+                name = Path("mod.rs")
+            target = calls / crate / name
+            target.parent.mkdir(parents=True, exist_ok=True)
+            target.write_text(text)
+    (calls / "border.rs").write_text(border)
+    (calls / "mod.rs").write_text(
+        "//! The calls for C, exported, and what C calls of them.\n"
+        "#![allow(clippy::complexity, clippy::style, unused_imports, unused_mut)]\n\npub mod "
+        "border;\n" + "".join(f"#[deny(unsafe_code)]\nmod {crate};\n" for crate in CRATES))

@@ -1,0 +1,243 @@
+#!/usr/bin/env python3
+"""Tries the wrong edits of tests/wrong/CRATE/NAME.edit: the prover must refuse each.
+
+    tools/wrong.py                 tries those of the crates that changed, and writes the record
+    tools/wrong.py --all           tries all, and writes the record
+    tools/wrong.py --gate          tries those of the crates that changed and five more at random
+    tools/wrong.py --whole         says whether the record is of the files as they are
+    tools/wrong.py --look          says which edits cannot be made in the files as they are
+    tools/wrong.py CRATE[/NAME] .. tries these
+
+The record, tests/wrong/RECORD, has a line for each crate: a sum of its sources, specs, proofs and
+edits, and of the crates below, as its edits were last tried and refused. A crate changed if its sum
+is another one. WRONG_SEED sets the seed of what is random, which is printed, and WRONG_RECORD names
+another record: --gate writes target/gate.record, where those of the record that stay are too.
+
+An edit is a line `file: src/..`, and then pairs of lines `old: TEXT` and `new: TEXT`. It is made in
+a copy of the crate, which is checked over the libraries that `rt ci` left, or else over those that
+`rt lib` builds: first the function or the module of the edit alone (`rattle check --only`), and the
+whole crate where that is still proved.
+"""
+import concurrent.futures
+import os
+import random
+import re
+import shutil
+import subprocess
+import sys
+import tempfile
+import time
+from pathlib import Path
+
+import crates
+
+WRONG = crates.TOP / "tests/wrong"
+RECORD = Path(os.environ.get("WRONG_RECORD") or WRONG / "RECORD")
+OF_GATE = crates.TOP / "target/gate.record"
+HEAD = "# Of each crate: the sum of what its edits were last tried against, and their number.\n"
+MORE = 5
+
+
+def edits_of(crate):
+    return sorted((WRONG / crate).glob("*.edit"))
+
+
+def with_edits():
+    return [crate for crate in crates.lines() if edits_of(crate)]
+
+
+def line_of(crate):
+    """The line of the record for the crate as it is."""
+    return f"{crate} {crates.sum_of(crate, WRONG / crate)} {len(edits_of(crate))}"
+
+
+def changed():
+    """The crates whose line of the record is another one."""
+    known = RECORD.read_text().splitlines() if RECORD.exists() else []
+    return [crate for crate in with_edits() if line_of(crate) not in known]
+
+
+def edited(edit, folder):
+    """The texts of the files that an edit changes, by their paths, and the place of its first."""
+    texts, path, old, first = {}, None, None, None
+    for line in edit.read_text().splitlines():
+        kind, _, text = line.partition(": ")
+        if kind == "file":
+            path = text.strip()
+        elif kind == "old":
+            old = text
+        elif line.startswith("new:"):
+            texts.setdefault(path, (folder / path).read_text())
+            if texts[path].count(old) != 1:
+                raise ValueError(f"{path} has {texts[path].count(old)} times {old!r}")
+            first = first or (path, texts[path].index(old))
+            texts[path] = texts[path].replace(old, text)
+    if not texts:
+        raise ValueError("it has no pair of `old:` and `new:`")
+    return texts, first
+
+
+def names_at(text, path, at):
+    """The names by which rattle may know the function at a place of a file, and its module."""
+    module = [part for part in path[len("src/"):-len(".rt")].split("/")
+              if part not in ("mod", "lib", "main")]
+    above = text[:text.find("\n", at)]
+    functions = re.findall(r"(?m)^( *)(?:[\w()\"]+ )*?fn (\w+)", above)
+    names = []
+    if functions:
+        indent, name = functions[-1]
+        # An impl's trait and type, or a trait.
+        heads = re.findall(r"(?m)^(?:impl\b(?:<[^{]*?>)? (?:([\w:]+)(?:<[^{]*?>)? for )?|"
+                           r"(?:pub(?:\(\w+\))? )?trait )([\w:]+)", above)
+        if indent and heads:
+            trait, kind = (one.strip(":").rpartition("::")[2] for one in heads[-1])
+            # The end of a name is enough where it fits one function alone.
+            names.append([kind + trait, name])
+        else:
+            names.append([*module, name])
+    return ["::".join(words) for words in [*names, module] if words]
+
+
+def check(crate, texts, *more):
+    """Checks a copy of the crate with these texts in place of its own."""
+    with tempfile.TemporaryDirectory(prefix=f"wrong-{os.getpid()}-") as room:
+        for part in ("src", "specs", "proofs"):
+            folder = crates.TOP / "crates" / crate / part
+            if folder.is_dir():
+                shutil.copytree(folder, f"{room}/{part}")
+        for path, text in texts.items():
+            with open(f"{room}/{path}", "w") as opened:
+                opened.write(text)
+        # A check ends with whoever asked for it.
+        bound = ["setpriv", "--pdeathsig", "KILL"] if shutil.which("setpriv") else []
+        return subprocess.run([*bound, *crates.rattle("check", crate, *more)], cwd=room, text=True,
+                              stdin=subprocess.DEVNULL, stdout=subprocess.PIPE,
+                              stderr=subprocess.STDOUT, errors="replace", check=False)
+
+
+def verdict(crate, edit):
+    """Whether the prover refuses the crate with this edit, and why."""
+    folder = crates.TOP / "crates" / crate
+    try:
+        texts, (path, at) = edited(edit, folder)
+    except (ValueError, OSError, TypeError) as error:
+        return False, f"cannot be made: {error}"
+    for name in names_at((folder / path).read_text(), path, at):
+        ran = check(crate, texts, "--only", name)
+        counts = re.search(r"^only=(\d+) proved=(\d+)", ran.stdout, re.M)
+        if ran.returncode == 1 and counts and int(counts[2]) < int(counts[1]):
+            return True, f"refused in {name}"
+    ran = check(crate, texts)
+    last = ran.stdout.rstrip("\n").rpartition("\n")[2]
+    if ran.returncode == 1 and last.startswith("logic=not-proved"):
+        told = next((line for line in ran.stdout.splitlines() if ": error" in line), "")
+        return True, "refused in the crate: " + told[:120]
+    if ran.returncode == 3:
+        return True, "refused by a limit of the prover alone"
+    if ran.returncode == 0:
+        return False, "NOT REFUSED: the crate is still proved"
+    return False, f"NOT TRIED: the check ended with {ran.returncode}:\n{ran.stdout[-2000:]}"
+
+
+def build_below(found):
+    """Has the libraries below the crates built."""
+    for crate in found:
+        for name in crates.uses(crate) if not crates.are_left(crate) else []:
+            subprocess.run(["rt", "lib"], cwd=crates.TOP / "crates" / name, check=True,
+                           stdout=subprocess.DEVNULL)
+
+
+def workers():
+    """How many checks run side by side: each takes up to three gigabytes."""
+    with open("/proc/meminfo") as opened:
+        free = int(re.search(r"MemAvailable:\s+(\d+)", opened.read())[1])
+    asked = os.environ.get("RT_JOBS", "")
+    return int(asked) if asked.isdigit() else max(1, min(os.cpu_count() or 1, free // 3_000_000))
+
+
+def sweep():
+    """Removes the copies of runs that were killed."""
+    for path in Path(tempfile.gettempdir()).glob("wrong-*-*"):
+        if not Path("/proc", path.name.split("-")[1]).exists():
+            shutil.rmtree(path, ignore_errors=True)
+
+
+def tried(edits):
+    """Tries edits, tells of each, and returns the crates of those that were not refused."""
+    sweep()
+    build_below(dict.fromkeys(edit.parent.name for edit in edits))
+    wrong, begun = set(), time.time()
+    with concurrent.futures.ThreadPoolExecutor(workers()) as pool:
+        made = {pool.submit(verdict, edit.parent.name, edit): edit for edit in edits}
+        for done in concurrent.futures.as_completed(made):
+            edit, (is_refused, why) = made[done], done.result()
+            print(f"wrong: {edit.parent.name}/{edit.stem}: {why}", flush=True)
+            wrong |= set() if is_refused else {edit.parent.name}
+    print(f"wrong: {len(edits)} edits tried, in {time.time() - begun:.0f} s; "
+          + (f"not all refused, of {' '.join(sorted(wrong))}" if wrong else "all refused"))
+    return wrong
+
+
+def try_changed(found, more, record):
+    """Tries the edits of these crates and more, and writes a record."""
+    # (a file that changes meanwhile has another sum)
+    lines = {crate: line_of(crate) for crate in with_edits()}
+    wrong = tried([edit for crate in found for edit in edits_of(crate)] + more)
+    known = RECORD.read_text().splitlines() if RECORD.exists() else []
+    kept = [line for crate, line in lines.items()
+            if crate not in wrong and (crate in found or line in known)]
+    record.write_text(HEAD + "".join(line + "\n" for line in sorted(kept)))
+    if record == OF_GATE and not wrong and found:
+        print(f"wrong: to keep this, copy {OF_GATE.relative_to(crates.TOP)} to tests/wrong/RECORD")
+    return 1 if wrong else 0
+
+
+def try_for_gate():
+    """Tries the edits of the crates that changed, and more at random."""
+    found = changed()
+    seed = os.environ.get("WRONG_SEED") or str(int.from_bytes(os.urandom(4), "big"))
+    others = [edit for crate in with_edits() if crate not in found for edit in edits_of(crate)]
+    more = random.Random(seed).sample(others, min(MORE, len(others)))
+    print(f"wrong: changed since the record: {' '.join(found) or 'no crate'}; "
+          f"and {len(more)} edits at random, by WRONG_SEED={seed}", flush=True)
+    return try_changed(found, more, OF_GATE)
+
+
+def look():
+    """Prints which edits cannot be made, and returns the status."""
+    count = wrong = 0
+    for crate in with_edits():
+        for edit in edits_of(crate):
+            count += 1
+            try:
+                edited(edit, crates.TOP / "crates" / crate)
+            except (ValueError, OSError, TypeError) as error:
+                wrong += 1
+                print(f"{edit.relative_to(crates.TOP)}:1: this edit cannot be made: {error}: "
+                      "write it for the file as it is")
+    print(f"wrong: {count} edits looked at, {wrong} cannot be made")
+    return 1 if wrong else 0
+
+
+def main():
+    words = sys.argv[1:]
+    if words == ["--look"]:
+        return look()
+    if words == ["--whole"]:
+        found = changed()
+        print(f"wrong: not tried as they are now: the edits of {' '.join(found)}: run `make wrong`"
+              if found else "wrong: the record is of the files as they are")
+        return 1 if found else 0
+    if words == ["--gate"]:
+        return try_for_gate()
+    if words in ([], ["--all"]):
+        return try_changed(with_edits() if words else changed(), [], RECORD)
+    named = [edit for word in words for edit in
+             ([WRONG / f"{word}.edit"] if "/" in word else edits_of(word))]
+    if words[0].startswith("-") or not named or not all(edit.is_file() for edit in named):
+        sys.exit(__doc__)
+    return 1 if tried(named) else 0
+
+
+if __name__ == "__main__":
+    sys.exit(main())

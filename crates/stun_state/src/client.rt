@@ -11,7 +11,7 @@ ghost use Rattle.stun_base.specs.MessageType.{class_in, is_request};
 ghost use Rattle.stun_types.specs.Limits.{LENGTH_LIMIT as length_limit};
 ghost use Rattle.stun_types.specs.Message.{IsMessage};
 ghost use Rattle.stun_numbers.specs.Buffers.{buffer_after, within_room, length_of};
-ghost use Rattle.stun_state.specs.Answers.{CallUnlessMemory, done_if_given, texts_refusal};
+ghost use Rattle.stun_handles.specs.Answers.{CallUnlessMemory, done_if_given, texts_refusal};
 ghost use Rattle.stun_state.specs.Client.{client_after_validation, step, client_validation};
 ghost use Rattle.stun_state.specs.Client.{client_validation_answer};
 ghost use Rattle.stun_state.specs.Client.{client_with_algorithms, with_credentials};
@@ -23,7 +23,7 @@ ghost use Rattle.stun_state.specs.Signing.{message_of, signed_by_client};
 
 use crate::codes::{algorithms_numbered, client_refusal, feature_numbered};
 use crate::signing::{SHORT, is_too_long, writer_of};
-use crate::text::copied;
+use stun_handles::text::copied;
 use std::alloc::Global;
 use stun_auth::auth::{LongTermClientAuth, LongTermClientValidation};
 use stun_base::algorithm::IntegrityAlgorithm;

@@ -7,8 +7,8 @@ ghost use Rattle.stun_auth.specs.Handed.{with_users};
 ghost use Rattle.stun_auth.specs.ServerSigning.{after_signing};
 ghost use Rattle.stun_base.specs.MessageType.{class_in, is_response};
 ghost use Rattle.stun_numbers.specs.Buffers.{buffer_after, length_of};
-ghost use Rattle.stun_state.specs.Addresses.{socket_address};
-ghost use Rattle.stun_state.specs.Answers.{CallUnlessMemory, after_address, at_address};
+ghost use Rattle.stun_handles.specs.Addresses.{socket_address};
+ghost use Rattle.stun_handles.specs.Answers.{CallUnlessMemory, after_address, at_address};
 ghost use Rattle.stun_state.specs.Handed.{just_given, key_given, kept_after_handed_signing};
 ghost use Rattle.stun_state.specs.Handed.{kept_after_handed_validation, keys_given};
 ghost use Rattle.stun_state.specs.Handed.{named_in_bytes, naming_answer, naming_length};
@@ -16,11 +16,11 @@ ghost use Rattle.stun_state.specs.Handed.{naming_written, handed_signing, handed
 ghost use Rattle.stun_state.specs.code.Given.{user_given};
 ghost use Rattle.stun_state.specs.Signing.{signed_by_server};
 
-use crate::address::Address;
+use stun_handles::address::Address;
 use crate::handle::server::Server;
 use crate::server::{check_room, measure};
 use crate::signing::SHORT;
-use crate::text::copied;
+use stun_handles::text::copied;
 use crate::users::{sign_long, sign_short, validate_message};
 use std::alloc::Global;
 use stun_auth::auth::{LongTermServerAuth, LongTermServerUser, NamedUser, StoredKeys};

@@ -5,7 +5,6 @@
 //! what the handle kept, and `handle.new` what it keeps.
 #![tactic(auto)]
 
-mod address;
 mod agent;
 mod answers;
 mod calls;
@@ -16,5 +15,4 @@ mod handed;
 mod handle;
 mod server;
 mod signing;
-mod text;
 mod users;

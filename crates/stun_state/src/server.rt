@@ -10,10 +10,10 @@ ghost use Rattle.stun_auth.specs.ServerSigning.{after_signing, server_growth};
 ghost use Rattle.stun_types.specs.Limits.{LENGTH_LIMIT as length_limit};
 ghost use Rattle.stun_auth.specs.Validation.{client_at, new_server, sight};
 ghost use Rattle.stun_numbers.specs.Buffers.{buffer_after, length_of};
-ghost use Rattle.stun_state.specs.Addresses.{socket_address, start_for, start_told};
-ghost use Rattle.stun_state.specs.Answers.{CallUnlessMemory, after_address, after_start};
-ghost use Rattle.stun_state.specs.Answers.{at_address, at_start, done_if_given};
-ghost use Rattle.stun_state.specs.Answers.{text_refusal, texts_refusal};
+ghost use Rattle.stun_handles.specs.Addresses.{socket_address, start_for, start_told};
+ghost use Rattle.stun_handles.specs.Answers.{CallUnlessMemory, after_address, after_start};
+ghost use Rattle.stun_handles.specs.Answers.{at_address, at_start, done_if_given};
+ghost use Rattle.stun_handles.specs.Answers.{text_refusal, texts_refusal};
 ghost use Rattle.stun_state.specs.Codes.{algorithms_numbered, feature_numbered};
 ghost use Rattle.stun_state.specs.Memory.{LeavesServer};
 ghost use Rattle.stun_state.specs.Signing.{is_too_long, signed_by_server};
@@ -23,11 +23,11 @@ ghost use Rattle.stun_state.specs.Server.{nonce_written, room_refusal, step_answ
 ghost use Rattle.stun_state.specs.Server.{server_validation, server_with_algorithms, with_expiry};
 ghost use Rattle.stun_state.specs.Server.{server_with_feature, without_client, without_named};
 
-use crate::address::Address;
+use stun_handles::address::Address;
 use crate::codes::{algorithms_numbered, feature_numbered};
 use crate::handle::server::Server;
 use crate::signing::{SHORT, is_response, is_too_long};
-use crate::text::copied;
+use stun_handles::text::copied;
 use crate::users::{OwnUsers, sign_long, sign_short, validate_message};
 use std::alloc::Global;
 use std::net::SocketAddr;

@@ -1,28 +1,28 @@
 -- The pointer moves out of a full handle, and what it owns with it.
-use Rattle.stun_state.proofs.Steps.{◌≡◌, List, [], ◌∷◌, ◌++◌, refl, sym, ◌∙◌, subst, lit<}
-use Rattle.stun_state.proofs.Steps.{proved_at, leaves, SProp, ent, emp, id⊢, fact, fact_i, tables}
-use Rattle.stun_state.proofs.Steps.{WpFn, a_type, inst_fn, Val, vcons, vnil, ‵, raw, ◌⊛◌, at_ret}
-use Rattle.stun_state.proofs.Steps.{◌$◌, ◌∵◌, !, qed, by, move, keep, use0, use1, split, join}
-use Rattle.stun_state.proofs.Steps.{fsplit, fjoin, suffices, live, agg, sub, whole, enter, of_opd}
-use Rattle.stun_state.proofs.Steps.{lit, stop, fld, no_more, and_then, first, branches, skips}
-use Rattle.stun_state.proofs.Steps.{exec, returns, returns_within, alloc_all, pass_all, free_all}
-use Rattle.stun_state.proofs.Steps.{look_at, get, get_in, sets, env, yes, no, param, layout}
-use Rattle.stun_state.proofs.Steps.{layouts, RattleType, owns, block_ptr, types_at, type_at, plain}
-use Rattle.stun_state.proofs.Steps.{nothing, alive, Stays, stay_dropped, walk_of, Goes-dropped}
-use Rattle.stun_state.proofs.Steps.{handle_tells, Ptr-Good, Good, true, false, Some, None, after}
+use Rattle.stun_handles.proofs.Steps.{◌≡◌, List, [], ◌∷◌, ◌++◌, refl, sym, ◌∙◌, subst, lit<}
+use Rattle.stun_handles.proofs.Steps.{proved_at, leaves, SProp, ent, emp, id⊢, fact, fact_i, tables}
+use Rattle.stun_handles.proofs.Steps.{WpFn, a_type, inst_fn, Val, vcons, vnil, ‵, raw, ◌⊛◌, at_ret}
+use Rattle.stun_handles.proofs.Steps.{◌$◌, ◌∵◌, !, qed, by, move, keep, use0, use1, split, join}
+use Rattle.stun_handles.proofs.Steps.{fsplit, fjoin, suffices, live, agg, sub, whole, enter, of_opd}
+use Rattle.stun_handles.proofs.Steps.{lit, stop, fld, no_more, and_then, first, branches, skips}
+use Rattle.stun_handles.proofs.Steps.{exec, returns, returns_within, alloc_all, pass_all, free_all}
+use Rattle.stun_handles.proofs.Steps.{look_at, get, get_in, sets, env, yes, no, param, layout}
+use Rattle.stun_handles.proofs.Steps.{layouts, RattleType, owns, block_ptr, types_at, type_at, plain}
+use Rattle.stun_handles.proofs.Steps.{nothing, alive, Stays, stay_dropped, walk_of, Goes-dropped}
+use Rattle.stun_handles.proofs.Steps.{handle_tells, Ptr-Good, Good, true, false, Some, None, after}
 use Rattle.std_alloc.proofs.ResultValues.{and_tt}
 use Rattle.std_alloc.proofs.BoxSteps.Form.{D, word as box_word, box_typed}
 use Rattle.std_alloc.proofs.BoxSteps.Steps.{box_in}
 use Rattle.core.proofs.option.Made.{Some-of, none_of}
 use Rattle.std_heap.specs.contracts.GlobalAllocator.TheImpl.{ghosts}
-use Rattle.stun_state.proofs.AsBox.{as_box, Heap}
-use Rattle.stun_state.proofs.Words.{word, opened, either}
-use Rattle.stun_state.specs.contracts.handle.Loose as loose
-use Rattle.stun_state.specs.contracts.handle.parts.Parts as parts
-use Rattle.stun_state.specs.contracts.handle.Loose.into_parts.{ended, clauses}
-use Rattle.stun_state.specs.contracts.handle.Loose.into_parts.Key.{name as #self}
-use Rattle.stun_state.proofs.handle.Loose.into_parts.Statement.{statement}
-use Rattle.stun_state.proofs.handle.Loose.into_parts.Code as code
+use Rattle.stun_handles.proofs.AsBox.{as_box, Heap}
+use Rattle.stun_handles.proofs.Words.{word, opened, either}
+use Rattle.stun_handles.specs.contracts.handle.Loose as loose
+use Rattle.stun_handles.specs.contracts.handle.parts.Parts as parts
+use Rattle.stun_handles.specs.contracts.handle.Loose.into_parts.{ended, clauses}
+use Rattle.stun_handles.specs.contracts.handle.Loose.into_parts.Key.{name as #self}
+use Rattle.stun_handles.proofs.handle.Loose.into_parts.Statement.{statement}
+use Rattle.stun_handles.proofs.handle.Loose.into_parts.Code as code
 
 pub into_parts_spec : {M : Type 1} → statement M
 into_parts_spec 𝓤 𝓛 𝓜 𝓡 wired T L =

@@ -1,8 +1,8 @@
 //! The addresses that callers give and get.
 
 ghost use Rattle.std.specs.Prelude.{◌≡◌, take, IfOk, IfErr, Some, None};
-ghost use Rattle.stun_state.specs.Addresses.{caller_address, ipv4, ipv6};
-ghost use Rattle.stun_state.specs.Addresses.{socket_address, start_for, start_told};
+ghost use Rattle.stun_handles.specs.Addresses.{caller_address, ipv4, ipv6};
+ghost use Rattle.stun_handles.specs.Addresses.{socket_address, start_for, start_told};
 
 use std::net::{Ipv4Addr, Ipv6Addr, SocketAddr, SocketAddrV4, SocketAddrV6};
 use stun_numbers::refusal::Refusal;

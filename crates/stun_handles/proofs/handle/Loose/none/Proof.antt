@@ -1,16 +1,16 @@
 -- No box: the flag and the pointer are zero, and nothing is owned.
-use Rattle.stun_state.proofs.Steps.{◌≡◌, [], ◌∷◌, refl, lit<, proved_at, leaves, emp, id⊢, fact}
-use Rattle.stun_state.proofs.Steps.{fact_i, tables, a_type, inst_fn, Val, ‵, raw, ◌⊛◌, ◌$◌, ◌∵◌, ! }
-use Rattle.stun_state.proofs.Steps.{qed, by, keep, use0, use1, split, agg, enter, lit, false_lit}
-use Rattle.stun_state.proofs.Steps.{no_more, and_then, returns, alloc_all, pass_all, free_all}
-use Rattle.stun_state.proofs.Steps.{look_at, sets, env, param, layouts, RattleType, owns, null_ptr}
-use Rattle.stun_state.proofs.Steps.{types_at, type_at, nothing, alive, Stays, false, None}
-use Rattle.stun_state.proofs.Words.{word, closed}
-use Rattle.stun_state.specs.code.Handle.{handle_owns, full_or_empty}
-use Rattle.stun_state.specs.contracts.handle.Loose.none.{ended, clauses}
-use Rattle.stun_state.specs.contracts.handle.Loose.none.Key.{name as #self}
-use Rattle.stun_state.proofs.handle.Loose.none.Statement.{statement}
-use Rattle.stun_state.proofs.handle.Loose.none.Code as code
+use Rattle.stun_handles.proofs.Steps.{◌≡◌, [], ◌∷◌, refl, lit<, proved_at, leaves, emp, id⊢, fact}
+use Rattle.stun_handles.proofs.Steps.{fact_i, tables, a_type, inst_fn, Val, ‵, raw, ◌⊛◌, ◌$◌, ◌∵◌, ! }
+use Rattle.stun_handles.proofs.Steps.{qed, by, keep, use0, use1, split, agg, enter, lit, false_lit}
+use Rattle.stun_handles.proofs.Steps.{no_more, and_then, returns, alloc_all, pass_all, free_all}
+use Rattle.stun_handles.proofs.Steps.{look_at, sets, env, param, layouts, RattleType, owns, null_ptr}
+use Rattle.stun_handles.proofs.Steps.{types_at, type_at, nothing, alive, Stays, false, None}
+use Rattle.stun_handles.proofs.Words.{word, closed}
+use Rattle.stun_handles.specs.code.Handle.{handle_owns, full_or_empty}
+use Rattle.stun_handles.specs.contracts.handle.Loose.none.{ended, clauses}
+use Rattle.stun_handles.specs.contracts.handle.Loose.none.Key.{name as #self}
+use Rattle.stun_handles.proofs.handle.Loose.none.Statement.{statement}
+use Rattle.stun_handles.proofs.handle.Loose.none.Code as code
 
 pub none_spec : {M : Type 1} → statement M
 unfolding full_or_empty

@@ -1,16 +1,16 @@
 -- What the parts own is handed to `from_raw`, and is the box's.
-use Rattle.stun_state.proofs.Steps.{◌≡◌, List, [], ◌∷◌, ◌++◌, refl, sym, ap, subst, proved_at}
-use Rattle.stun_state.proofs.Steps.{leaves, SProp, ent, emp, id⊢, ftrue, flft, fact, fact_i}
-use Rattle.stun_state.proofs.Steps.{tables, WpFn, a_type, dcons, dnil, inst_fn, Val, vptr, Item}
-use Rattle.stun_state.proofs.Steps.{‵, raw, ◌⊛◌, some, later, at_ret, ◌$◌, ◌∵◌, !, qed, by}
-use Rattle.stun_state.proofs.Steps.{move, keep, drop, use0, use1, split, split3, join, fsplit}
-use Rattle.stun_state.proofs.Steps.{fjoin, fjoin3, feq_i, pick, await, rewrite, suffices, sub}
-use Rattle.stun_state.proofs.Steps.{whole, enter, of_opd, stop, fld, no_more, and_then, first}
-use Rattle.stun_state.proofs.Steps.{blocks, exec, returns, alloc_all, pass_all, free_all}
-use Rattle.stun_state.proofs.Steps.{look_at, get, get_in, sets, lands_last, env, no, bounded}
-use Rattle.stun_state.proofs.Steps.{RattleType, owns, block_ptr, types_at, plain, nothing}
-use Rattle.stun_state.proofs.Steps.{heard, only, calls_at_last, Lasts, lasts, triple_of, Stays}
-use Rattle.stun_state.proofs.Steps.{stay_dropped, walk_of, Goes-blank, fm, after}
+use Rattle.stun_handles.proofs.Steps.{◌≡◌, List, [], ◌∷◌, ◌++◌, refl, sym, ap, subst, proved_at}
+use Rattle.stun_handles.proofs.Steps.{leaves, SProp, ent, emp, id⊢, ftrue, flft, fact, fact_i}
+use Rattle.stun_handles.proofs.Steps.{tables, WpFn, a_type, dcons, dnil, inst_fn, Val, vptr, Item}
+use Rattle.stun_handles.proofs.Steps.{‵, raw, ◌⊛◌, some, later, at_ret, ◌$◌, ◌∵◌, !, qed, by}
+use Rattle.stun_handles.proofs.Steps.{move, keep, drop, use0, use1, split, split3, join, fsplit}
+use Rattle.stun_handles.proofs.Steps.{fjoin, fjoin3, feq_i, pick, await, rewrite, suffices, sub}
+use Rattle.stun_handles.proofs.Steps.{whole, enter, of_opd, stop, fld, no_more, and_then, first}
+use Rattle.stun_handles.proofs.Steps.{blocks, exec, returns, alloc_all, pass_all, free_all}
+use Rattle.stun_handles.proofs.Steps.{look_at, get, get_in, sets, lands_last, env, no, bounded}
+use Rattle.stun_handles.proofs.Steps.{RattleType, owns, block_ptr, types_at, plain, nothing}
+use Rattle.stun_handles.proofs.Steps.{heard, only, calls_at_last, Lasts, lasts, triple_of, Stays}
+use Rattle.stun_handles.proofs.Steps.{stay_dropped, walk_of, Goes-blank, fm, after}
 use contract.BorrowLft.{◌⊑◌}
 use lib.Dec.{T as IsTrue}
 use mir.Val.{has_ty, WT}
@@ -18,11 +18,11 @@ use Rattle.std_alloc.proofs.BoxSteps.Form.{Bx, D, R, P, B, word, box_ty, box_typ
 use Rattle.std_alloc.proofs.BoxSteps.Steps.{box_out, box_in}
 use Rattle.std_alloc.specs.contracts.boxed.Box.from_raw as closing
 use Rattle.std_alloc.proofs.boxed.Box.from_raw.Met as closing_met
-use Rattle.stun_state.specs.contracts.handle.parts.Parts as parts
-use Rattle.stun_state.specs.contracts.handle.parts.Parts.into_box.{ended, clauses}
-use Rattle.stun_state.specs.contracts.handle.parts.Parts.into_box.Key.{name as #self}
-use Rattle.stun_state.proofs.handle.parts.Parts.into_box.Statement.{statement}
-use Rattle.stun_state.proofs.handle.parts.Parts.into_box.Code as code
+use Rattle.stun_handles.specs.contracts.handle.parts.Parts as parts
+use Rattle.stun_handles.specs.contracts.handle.parts.Parts.into_box.{ended, clauses}
+use Rattle.stun_handles.specs.contracts.handle.parts.Parts.into_box.Key.{name as #self}
+use Rattle.stun_handles.proofs.handle.parts.Parts.into_box.Statement.{statement}
+use Rattle.stun_handles.proofs.handle.parts.Parts.into_box.Code as code
 
 pub into_box_spec : {M : Type 1} → statement M
 into_box_spec 𝓤 𝓛 𝓜 𝓡 wired T A LT LA g d da allocator glue_a =

@@ -1,11 +1,11 @@
 -- What a handle is to the machine, and how what it owns goes in and comes out. Assumes `Logic`.
-use Rattle.stun_state.proofs.Steps.{◌≡◌, ℕ, List, [], ◌∷◌, ◌++◌, refl, ◌∙◌, never, id⊢, fst∗}
-use Rattle.stun_state.proofs.Steps.{via, never_e, ftrue, bare, Val, vbool, vstruct, vcons, vnil}
-use Rattle.stun_state.proofs.Steps.{of_list, Logic, sem, Item, Goal, Seq, Step, step, ‵, given}
-use Rattle.stun_state.proofs.Steps.{◌$◌, drop, use1, learn, fsplit, fjoin, fpick, fpack, feq_i}
-use Rattle.stun_state.proofs.Steps.{feq_l, bool, no, lone, RattleType, Valss, Ptr, RawPtr}
-use Rattle.stun_state.proofs.Steps.{block_ptr, null_ptr, ptr_val, in_a_block, nothing, within}
-use Rattle.stun_state.proofs.Steps.{shape, Ptr-Good, Bool, true, false, Option, Some, None}
+use Rattle.stun_handles.proofs.Steps.{◌≡◌, ℕ, List, [], ◌∷◌, ◌++◌, refl, ◌∙◌, never, id⊢, fst∗}
+use Rattle.stun_handles.proofs.Steps.{via, never_e, ftrue, bare, Val, vbool, vstruct, vcons, vnil}
+use Rattle.stun_handles.proofs.Steps.{of_list, Logic, sem, Item, Goal, Seq, Step, step, ‵, given}
+use Rattle.stun_handles.proofs.Steps.{◌$◌, drop, use1, learn, fsplit, fjoin, fpick, fpack, feq_i}
+use Rattle.stun_handles.proofs.Steps.{feq_l, bool, no, lone, RattleType, Valss, Ptr, RawPtr}
+use Rattle.stun_handles.proofs.Steps.{block_ptr, null_ptr, ptr_val, in_a_block, nothing, within}
+use Rattle.stun_handles.proofs.Steps.{shape, Ptr-Good, Bool, true, false, Option, Some, None}
 use lib.Dec.{T as IsTrue}
 use mir.Syntax.{ty_bool, ty_ptr}
 use mir.Val.{has_ty, WT}
@@ -15,8 +15,8 @@ use seplogic.Ra.Ura.{Ura}
 use Rattle.std_alloc.specs.Box.Ownership.{box_owns}
 use Rattle.std_heap.specs.declared.Global.{Global}
 use Rattle.std_heap.specs.contracts.GlobalAllocator.TheImpl.{ghosts}
-use Rattle.stun_state.specs.code.Handle.{handle_owns, full_or_empty}
-use Rattle.stun_state.specs.contracts.handle.Loose as loose
+use Rattle.stun_handles.specs.code.Handle.{handle_owns, full_or_empty}
+use Rattle.stun_handles.specs.contracts.handle.Loose as loose
 
 -- the flag and the pointer, side by side
 abbrev pub word : Bool → Ptr → Val

@@ -1,27 +1,27 @@
 -- The box is taken apart, and its parts own what it owned.
-use Rattle.stun_state.proofs.Steps.{◌≡◌, List, [], ◌∷◌, ◌++◌, refl, sym, ap, ◌∙◌, subst}
-use Rattle.stun_state.proofs.Steps.{proved_at, leaves, SProp, ent, emp, never, id⊢, fst∗, ftrue}
-use Rattle.stun_state.proofs.Steps.{fsep, flft, fact, fact_i, tables, WpFn, a_type, dcons, dnil}
-use Rattle.stun_state.proofs.Steps.{bare, inst_fn, Val, vstruct, of_list, sem, Item, ‵, raw}
-use Rattle.stun_state.proofs.Steps.{◌⊛◌, some, later, ◌$◌, ◌∵◌, !, qed, by, move, keep, drop}
-use Rattle.stun_state.proofs.Steps.{use0, use1, split, split3, join, fsplit, fjoin, fpick}
-use Rattle.stun_state.proofs.Steps.{feq_l, pick, await, rewrite, suffices, agg, sub, whole}
-use Rattle.stun_state.proofs.Steps.{enter, of_opd, stop, fld, no_more, and_then, returns}
-use Rattle.stun_state.proofs.Steps.{alloc_all, pass_all, free_all, look_at, get, get_in, sets}
-use Rattle.stun_state.proofs.Steps.{lands_as, env, no, layout, bounded, RattleType, owns, Ptr}
-use Rattle.stun_state.proofs.Steps.{RawPtr, block_ptr, null_ptr, ptr_val, in_a_block, types_at}
-use Rattle.stun_state.proofs.Steps.{plain, nothing, heard, only, Tuple, calls_at, triple_of}
-use Rattle.stun_state.proofs.Steps.{Stays, stay_dropped, walk_of, Goes-blank, handle_tells, fm}
+use Rattle.stun_handles.proofs.Steps.{◌≡◌, List, [], ◌∷◌, ◌++◌, refl, sym, ap, ◌∙◌, subst}
+use Rattle.stun_handles.proofs.Steps.{proved_at, leaves, SProp, ent, emp, never, id⊢, fst∗, ftrue}
+use Rattle.stun_handles.proofs.Steps.{fsep, flft, fact, fact_i, tables, WpFn, a_type, dcons, dnil}
+use Rattle.stun_handles.proofs.Steps.{bare, inst_fn, Val, vstruct, of_list, sem, Item, ‵, raw}
+use Rattle.stun_handles.proofs.Steps.{◌⊛◌, some, later, ◌$◌, ◌∵◌, !, qed, by, move, keep, drop}
+use Rattle.stun_handles.proofs.Steps.{use0, use1, split, split3, join, fsplit, fjoin, fpick}
+use Rattle.stun_handles.proofs.Steps.{feq_l, pick, await, rewrite, suffices, agg, sub, whole}
+use Rattle.stun_handles.proofs.Steps.{enter, of_opd, stop, fld, no_more, and_then, returns}
+use Rattle.stun_handles.proofs.Steps.{alloc_all, pass_all, free_all, look_at, get, get_in, sets}
+use Rattle.stun_handles.proofs.Steps.{lands_as, env, no, layout, bounded, RattleType, owns, Ptr}
+use Rattle.stun_handles.proofs.Steps.{RawPtr, block_ptr, null_ptr, ptr_val, in_a_block, types_at}
+use Rattle.stun_handles.proofs.Steps.{plain, nothing, heard, only, Tuple, calls_at, triple_of}
+use Rattle.stun_handles.proofs.Steps.{Stays, stay_dropped, walk_of, Goes-blank, handle_tells, fm}
 use Rattle.std_alloc.specs.Box.Ownership.{box_owns}
 use Rattle.std_alloc.proofs.BoxSteps.Form.{Bx, R, P, B, word, box_typed}
 use Rattle.std_alloc.proofs.BoxSteps.Steps.{box_out, box_in}
 use Rattle.std_alloc.specs.contracts.boxed.Box.into_raw_with_allocator as opening
 use Rattle.std_alloc.proofs.boxed.Box.into_raw_with_allocator.Met as opening_met
-use Rattle.stun_state.specs.contracts.handle.parts.Parts as parts
-use Rattle.stun_state.specs.contracts.handle.parts.Parts.of.{ended, clauses}
-use Rattle.stun_state.specs.contracts.handle.parts.Parts.of.Key.{name as #self}
-use Rattle.stun_state.proofs.handle.parts.Parts.of.Statement.{statement}
-use Rattle.stun_state.proofs.handle.parts.Parts.of.Code as code
+use Rattle.stun_handles.specs.contracts.handle.parts.Parts as parts
+use Rattle.stun_handles.specs.contracts.handle.parts.Parts.of.{ended, clauses}
+use Rattle.stun_handles.specs.contracts.handle.parts.Parts.of.Key.{name as #self}
+use Rattle.stun_handles.proofs.handle.parts.Parts.of.Statement.{statement}
+use Rattle.stun_handles.proofs.handle.parts.Parts.of.Code as code
 
 pub of_spec : {M : Type 1} → statement M
 of_spec 𝓤 𝓛 𝓜 𝓡 wired T A LT LA g d da dt allocator glue_a glue_t =

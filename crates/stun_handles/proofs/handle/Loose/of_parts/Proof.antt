@@ -1,26 +1,26 @@
 -- The pointer moves into the handle, and what it owns with it.
-use Rattle.stun_state.proofs.Steps.{◌≡◌, List, [], ◌∷◌, ◌++◌, refl, sym, subst, proved_at, leaves}
-use Rattle.stun_state.proofs.Steps.{SProp, ent, emp, id⊢, fact, fact_i, tables, WpFn, a_type}
-use Rattle.stun_state.proofs.Steps.{inst_fn, Val, ‵, raw, ◌⊛◌, ◌$◌, ◌∵◌, !, qed, by, move, keep}
-use Rattle.stun_state.proofs.Steps.{use0, use1, split, fsplit, fjoin, fpack, suffices, agg, sub}
-use Rattle.stun_state.proofs.Steps.{whole, enter, of_opd, true_lit, stop, fld, no_more, and_then}
-use Rattle.stun_state.proofs.Steps.{returns, alloc_all, pass_all, free_all, look_at, get, get_in}
-use Rattle.stun_state.proofs.Steps.{sets, env, no, param, layouts, RattleType, owns, block_ptr}
-use Rattle.stun_state.proofs.Steps.{types_at, type_at, plain, nothing, alive, Stays, stay_dropped}
-use Rattle.stun_state.proofs.Steps.{walk_of, Goes-dropped, true, Some}
+use Rattle.stun_handles.proofs.Steps.{◌≡◌, List, [], ◌∷◌, ◌++◌, refl, sym, subst, proved_at, leaves}
+use Rattle.stun_handles.proofs.Steps.{SProp, ent, emp, id⊢, fact, fact_i, tables, WpFn, a_type}
+use Rattle.stun_handles.proofs.Steps.{inst_fn, Val, ‵, raw, ◌⊛◌, ◌$◌, ◌∵◌, !, qed, by, move, keep}
+use Rattle.stun_handles.proofs.Steps.{use0, use1, split, fsplit, fjoin, fpack, suffices, agg, sub}
+use Rattle.stun_handles.proofs.Steps.{whole, enter, of_opd, true_lit, stop, fld, no_more, and_then}
+use Rattle.stun_handles.proofs.Steps.{returns, alloc_all, pass_all, free_all, look_at, get, get_in}
+use Rattle.stun_handles.proofs.Steps.{sets, env, no, param, layouts, RattleType, owns, block_ptr}
+use Rattle.stun_handles.proofs.Steps.{types_at, type_at, plain, nothing, alive, Stays, stay_dropped}
+use Rattle.stun_handles.proofs.Steps.{walk_of, Goes-dropped, true, Some}
 use Rattle.std_alloc.specs.Box.Ownership.{box_owns}
 use Rattle.std_alloc.proofs.BoxSteps.Form.{D, B, word as box_word, box_typed}
 use Rattle.std_alloc.proofs.BoxSteps.Steps.{box_out}
 use Rattle.std_heap.specs.declared.Global.{Global}
 use Rattle.std_heap.specs.contracts.GlobalAllocator.TheImpl.{ghosts}
-use Rattle.stun_state.proofs.AsBox.{as_box, Heap}
-use Rattle.stun_state.proofs.Words.{word, closed}
-use Rattle.stun_state.specs.code.Handle.{handle_owns, full_or_empty}
-use Rattle.stun_state.specs.contracts.handle.parts.Parts as parts
-use Rattle.stun_state.specs.contracts.handle.Loose.of_parts.{ended, clauses}
-use Rattle.stun_state.specs.contracts.handle.Loose.of_parts.Key.{name as #self}
-use Rattle.stun_state.proofs.handle.Loose.of_parts.Statement.{statement}
-use Rattle.stun_state.proofs.handle.Loose.of_parts.Code as code
+use Rattle.stun_handles.proofs.AsBox.{as_box, Heap}
+use Rattle.stun_handles.proofs.Words.{word, closed}
+use Rattle.stun_handles.specs.code.Handle.{handle_owns, full_or_empty}
+use Rattle.stun_handles.specs.contracts.handle.parts.Parts as parts
+use Rattle.stun_handles.specs.contracts.handle.Loose.of_parts.{ended, clauses}
+use Rattle.stun_handles.specs.contracts.handle.Loose.of_parts.Key.{name as #self}
+use Rattle.stun_handles.proofs.handle.Loose.of_parts.Statement.{statement}
+use Rattle.stun_handles.proofs.handle.Loose.of_parts.Code as code
 
 pub of_parts_spec : {M : Type 1} → statement M
 unfolding full_or_empty

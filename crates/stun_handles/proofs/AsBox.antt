@@ -1,5 +1,5 @@
 -- A box of the heap, as the kit's steps on boxes take it.
-use Rattle.stun_state.proofs.Steps.{[], dnil, impl, tnil, RattleType}
+use Rattle.stun_handles.proofs.Steps.{[], dnil, impl, tnil, RattleType}
 use denote.Param.Laws.{Laws}
 use Rattle.std_alloc.proofs.BoxSteps.Form.{Bx}
 use Rattle.std_heap.specs.contracts.Global as heap

@@ -5,7 +5,7 @@ use Rattle.std.specs.Option.{option_map}
 use Rattle.std.specs.Net.Addr.{segments_of, octets_of}
 use Rattle.std.specs.declared.net.socket_addr.SocketAddr.{SocketAddr}
 use Rattle.std.specs.declared.net.socket_addr.SocketAddr.TheVariants.{V4, V6}
-use Rattle.stun_state.specs.declared.address.Address.{Address}
+use Rattle.stun_handles.specs.declared.address.Address.{Address}
 
 -- the IPv4 address of these octets, with a port
 abbrev pub ipv4 : List ℕ → ℕ → SocketAddr

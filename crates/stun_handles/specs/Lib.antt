@@ -1,0 +1,10 @@
+-- What the contracts of this crate say, in the order to read it.
+
+-- the addresses that callers give and get
+pub mod Addresses
+-- the numbers that calls return
+pub mod Numbers
+-- what calls share: where an allocation may fail, an address that may be none, and texts
+pub mod Answers
+-- what no clause of a public call cites: what representations alone use
+pub mod code

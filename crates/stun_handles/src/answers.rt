@@ -1,0 +1,39 @@
+//! The numbers that calls return.
+
+ghost use Rattle.std.specs.Prelude.{◌≡◌};
+ghost use Rattle.stun_handles.specs.Numbers.{done_answer, length_answer, number_answer};
+
+use stun_numbers::refusal::Refusal;
+
+/// The greatest number that a call returns.
+const MOST: usize = 9_223_372_036_854_775_807;
+
+/// 0, or the refusal.
+pub fn done(answer: Result<(), Refusal>) -> i64
+    ensures { result ≡ done_answer answer }
+{
+    match answer {
+        Ok(()) => 0,
+        Err(refusal) => refusal.code(),
+    }
+}
+
+/// A small number, or the refusal.
+pub fn number(answer: Result<u32, Refusal>) -> i64
+    ensures { result ≡ number_answer answer }
+{
+    match answer {
+        Ok(number) => i64::from(number),
+        Err(refusal) => refusal.code(),
+    }
+}
+
+/// How many bytes were written, or the refusal.
+pub fn length(answer: Result<usize, Refusal>) -> i64
+    ensures { result ≡ length_answer answer }
+{
+    match answer {
+        Ok(length) => length.min(MOST) as i64,
+        Err(refusal) => refusal.code(),
+    }
+}

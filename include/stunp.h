@@ -255,6 +255,16 @@ typedef enum stunp_algorithm {
     STUNP_SHA256 = 2 /* HMAC-SHA256, in MESSAGE-INTEGRITY-SHA256 (section 14.6) */
 } stunp_algorithm;
 
+/* How a client or a server of stunp_state.h or stunp_endpoint.h treats user names that are sent as a
+ * hash (USERHASH, section 9.2). */
+typedef enum stunp_feature {
+    STUNP_AUTO = 0,     /* client: sends the hash if the server accepts it, otherwise the name.
+                         * Server: accepts both */
+    STUNP_REQUIRED = 1, /* client: refuses a server that does not accept the hash. Server: like
+                         * STUNP_AUTO */
+    STUNP_DISABLED = 2  /* client: always sends the name. Server: accepts only the name */
+} stunp_feature;
+
 /* The result of stunp_check_fingerprint (section 14.7). */
 typedef enum stunp_fingerprint {
     STUNP_NO_FINGERPRINT = 0,       /* the message has no FINGERPRINT */
@@ -349,6 +359,24 @@ typedef struct {
     size_t length;   /* the length of the message */
     int64_t refusal; /* the first error of a call with this writer, or 0 */
 } stunp_writer;
+
+/* A transport address. `octets` starts with the 4 octets of an IPv4 address or the 16 of an IPv6
+ * address, in network order, and `length` is 4 or 16. `port` is in the processor's order.
+ *
+ * The last 12 octets of an IPv4 address are ignored in an argument, and are 0 in a result. An IPv4
+ * address and the same address mapped into IPv6 are two different addresses. The scope of an IPv6
+ * address is not stored: a link-local address counts as the same on every interface, and you have
+ * to give your socket the scope again.
+ *
+ * The calls of stunp_state.h and stunp_endpoint.h take it. A call that takes an address fails with
+ * STUNP_BAD_ARGUMENT if `length` is neither 4 nor 16, unless its comment gives a meaning to length
+ * 0. The calls of stunp_state.h test this right after the handle; only stunp_server_sign_of and
+ * stunp_server_sign_of_keys test the user first. */
+typedef struct {
+    uint8_t octets[16];
+    uint16_t port;
+    uint16_t length;
+} stunp_address;
 
 /* ---- Messages */
 

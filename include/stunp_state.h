@@ -344,37 +344,11 @@ typedef struct stunp_agent { bool is_full; void *state; } stunp_agent;
 typedef struct stunp_server { bool is_full; void *state; } stunp_server;
 typedef struct stunp_client { bool is_full; void *state; } stunp_client;
 
-/* A transport address. `octets` starts with the 4 octets of an IPv4 address or the 16 of an IPv6
- * address, in network order, and `length` is 4 or 16. `port` is in the processor's order.
- *
- * The last 12 octets of an IPv4 address are ignored in an argument, and are 0 in a result. An IPv4
- * address and the same address mapped into IPv6 are two different addresses. The scope of an IPv6
- * address is not stored: a link-local address counts as the same on every interface, and you have
- * to give your socket the scope again.
- *
- * A call that takes an address fails with STUNP_BAD_ARGUMENT if `length` is neither 4 nor 16,
- * unless its comment gives a meaning to length 0. It tests this right after the handle; only
- * stunp_server_sign_of and stunp_server_sign_of_keys test the user first. */
-typedef struct {
-    uint8_t octets[16];
-    uint16_t port;
-    uint16_t length;
-} stunp_address;
-
 /* The transport of an agent. */
 typedef enum stunp_transport {
     STUNP_UDP = 0,
     STUNP_TCP = 1 /* or any other reliable transport: each request is sent once */
 } stunp_transport;
-
-/* How a client or a server treats user names that are sent as a hash (USERHASH, section 9.2). */
-typedef enum stunp_feature {
-    STUNP_AUTO = 0,     /* client: sends the hash if the server accepts it, otherwise the name.
-                         * Server: accepts both */
-    STUNP_REQUIRED = 1, /* client: refuses a server that does not accept the hash. Server: like
-                         * STUNP_AUTO */
-    STUNP_DISABLED = 2  /* client: always sends the name. Server: accepts only the name */
-} stunp_feature;
 
 /* How a message names its user, returned by stunp_server_named_user. */
 typedef enum stunp_naming {

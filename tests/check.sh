@@ -1,7 +1,7 @@
 #!/bin/sh
 # Builds the archives, and tests them: by the transcripts (play.py), and by what only C can pass.
-# Where STUN_C and STUN_STATE name other archives, as the libstunp.a of tools/rust_c.sh
-# for both, nothing is proved. LIBRARIES tells what those want beside. Sanitizers watch
+# Where STUN_C, STUN_STATE and STUN_ENDPOINT name other archives, as the libstunp.a of tools/rust_c.sh
+# for all, nothing is proved; without STUN_ENDPOINT, that is STUN_STATE. LIBRARIES tells what those want beside. Sanitizers watch
 # where the compiler has them. Without a C compiler it checks nothing. The last line says what was
 # checked.
 set -eu
@@ -34,11 +34,14 @@ if [ -z "${STUN_C-}" ] || [ -z "${STUN_STATE-}" ]; then
     quiet ../tools/archives.sh
     STUN_C=$PWD/../crates/stun_c/out/libstun_c.a
     STUN_STATE=$PWD/../crates/stun_state/out/libstun_state.a
+    STUN_ENDPOINT=$PWD/../crates/stun_c_endpoint/out/libstun_c_endpoint.a
     proved=yes LIBRARIES=''
 fi
 : "${LIBRARIES=-lpthread -ldl -lm}"
-export STUN_C STUN_STATE LIBRARIES
-messages="$STUN_C $LIBRARIES" archives="$STUN_STATE $STUN_C $LIBRARIES"
+STUN_ENDPOINT=${STUN_ENDPOINT:-$STUN_STATE}
+export STUN_C STUN_STATE STUN_ENDPOINT LIBRARIES
+messages="$STUN_C $LIBRARIES" archives="$STUN_STATE $STUN_ENDPOINT $STUN_C $LIBRARIES"
+endpoint="$STUN_ENDPOINT $STUN_C $LIBRARIES"
 heap='../examples/c/heap.c'
 
 # The headers declare what the archives export, and so does the example for Rust.
@@ -48,7 +51,7 @@ heap='../examples/c/heap.c'
 strict='-Wall -Wextra -Wpedantic -Wconversion -Werror -I../include -I../examples/c'
 has_plus=''
 if there "${CXX-}" c++; then has_plus=yes; fi
-for header in stunp stunp_state; do
+for header in stunp stunp_state stunp_endpoint; do
     alone="$strict -fsyntax-only -include ../include/$header.h"
     $cc -std=c99 $alone -x c /dev/null
     [ -z "$has_plus" ] || $plus -std=c++17 $alone -x c++ /dev/null
@@ -79,16 +82,18 @@ python3 play.py "$scratch/play" ../crates/transcripts/data/*.txt >"$scratch/play
 # linked with none.
 sed -n 's/^ \*     //p; /\*\/$/q' ../include/stunp.h >"$scratch/answer.h"
 sed -n 's/^ \*     //p; /\*\/$/q' ../include/stunp_state.h >"$scratch/ask.h"
+sed -n 's/^ \*     //p; /\*\/$/q' ../include/stunp_endpoint.h >"$scratch/serve.h"
 for name in arguments attributes extra; do
     $cc $c99 c/$name.c $messages -o "$scratch/$name"
     passes $name "$scratch/$name"
 done
 passes refused ./refused.sh
-for name in agents handles hostile many users worked; do
+for name in agents endpoint handles hostile many users worked; do
     $cc $c99 -Wno-conversion -I"$scratch" c/$name.c $heap $archives -o "$scratch/$name"
     passes $name "$scratch/$name"
 done
 if [ -n "$has_plus" ]; then
+    $plus $plus17 -fsyntax-only -x c++ "$scratch/serve.h"
     for name in arguments attributes extra; do
         $plus $plus17 -x c++ c/$name.c -x none $messages -o "$scratch/$name"
         passes $name "$scratch/$name"
@@ -150,6 +155,8 @@ bytes='memcpy|memmove|memset'
 if [ -n "$proved" ]; then
     asks_for "$bytes" stun_c
     asks_for "$bytes|__udivti3|__umodti3|rattle_alloc|rattle_realloc|rattle_dealloc" stun_state
+    asks_for "$bytes|__udivti3|__umodti3|rattle_alloc|rattle_realloc|rattle_dealloc" \
+        stun_c_endpoint
 fi
 
 echo "tests: passed in C${has_plus:+ and C++}${sanitized:+, under sanitizers};" \

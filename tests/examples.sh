@@ -2,7 +2,7 @@
 # Builds the archives and the examples against them, and compares what they print. It installs the
 # archives into a scratch folder and builds over that (tests/install.sh). What the archives answer
 # tests/check.sh tests. Where STUN_C and STUN_STATE name other archives, as the libstunp.a
-# of tools/rust_c.sh for both, nothing is proved. LIBRARIES tells what those want beside.
+# of tools/rust_c.sh for all, nothing is proved; STUN_ENDPOINT is that of STUN_STATE if it is not set. LIBRARIES tells what those want beside.
 # Without a C compiler and make it checks nothing. The last line says what was checked.
 set -eu
 cd "$(dirname "$0")"
@@ -21,10 +21,12 @@ if [ -z "${STUN_C-}" ] || [ -z "${STUN_STATE-}" ]; then
     fi
     STUN_C=$PWD/../crates/stun_c/out/libstun_c.a
     STUN_STATE=$PWD/../crates/stun_state/out/libstun_state.a
+    STUN_ENDPOINT=$PWD/../crates/stun_c_endpoint/out/libstun_c_endpoint.a
     LIBRARIES=''
 fi
 : "${LIBRARIES=-lpthread -ldl -lm}"
-export STUN_C STUN_STATE LIBRARIES
+STUN_ENDPOINT=${STUN_ENDPOINT:-$STUN_STATE}
+export STUN_C STUN_STATE STUN_ENDPOINT LIBRARIES
 
 # expect STATUS WANTED COMMAND..: the command ends with this status, and prints this.
 expect() {
@@ -38,7 +40,8 @@ expect() {
 }
 
 rm -rf ../examples/c/out
-make -s -C ../examples/c CC="${CC:-cc}" LIBRARY="$STUN_C" STATE="$STUN_STATE" SYSTEM="$LIBRARIES"
+make -s -C ../examples/c CC="${CC:-cc}" LIBRARY="$STUN_C" STATE="$STUN_STATE" \
+    ENDPOINT="$STUN_ENDPOINT" SYSTEM="$LIBRARIES"
 
 password='VOkJxbRl1RmTxUk/WvJxBt'
 

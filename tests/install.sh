@@ -1,5 +1,6 @@
 #!/bin/sh
-# Installs the archives that STUN_C and STUN_STATE name, by absolute paths, or those of `rt lib`,
+# Installs the archives that STUN_C, STUN_STATE and STUN_ENDPOINT (without it, that of STUN_STATE)
+# name, by absolute paths, or those of `rt lib`,
 # into a scratch folder, builds programs over it, by pkg-config and by CMake where they are there,
 # and takes all of it out again. LIBRARIES tells what the archives want beside. Where an archive is
 # missing, make says what to run, and proves nothing. Without a C compiler and make this checks
@@ -15,6 +16,8 @@ fi
 scratch=$(mktemp -d)
 trap 'rm -rf "$scratch"' EXIT
 root=$scratch/root
+given=${STUN_STATE:-../crates/stun_c_endpoint/out/libstun_c_endpoint.a}
+STUN_ENDPOINT=${STUN_ENDPOINT:-$given}
 STUN_C=${STUN_C:-../crates/stun_c/out/libstun_c.a}
 STUN_STATE=${STUN_STATE:-../crates/stun_state/out/libstun_state.a}
 unset MAKEFLAGS MAKELEVEL
@@ -40,15 +43,19 @@ refuses() {
 absent=$scratch/absent.a
 refuses ../include install DESTDIR="$root" MESSAGES="$absent" STATE="$STUN_STATE" OUT="$scratch"
 refuses ../include install DESTDIR="$root" MESSAGES="$STUN_C" STATE="$absent" OUT="$scratch"
+refuses ../include install DESTDIR="$root" MESSAGES="$STUN_C" STATE="$STUN_STATE" \
+    ENDPOINT="$absent" OUT="$scratch"
 refuses ../examples/c OUT="$scratch/examples" LIBRARY="$absent" STATE="$STUN_STATE"
 refuses ../examples/c udp OUT="$scratch/examples" LIBRARY="$STUN_C" STATE="$absent"
+refuses ../examples/c udp OUT="$scratch/examples" LIBRARY="$STUN_C" STATE="$STUN_STATE" \
+    ENDPOINT="$absent"
 
 # One program is built, and one is not.
 echo tool >"$scratch/bin/stun_tool"
 chmod +x "$scratch/bin/stun_tool"
 in_root() {
     make -s -C "$@" CC="$cc" DESTDIR="$root" PREFIX=/usr OUT="$scratch/heap" \
-        MESSAGES="$STUN_C" STATE="$STUN_STATE" SYSTEM="${LIBRARIES-}" \
+        MESSAGES="$STUN_C" STATE="$STUN_STATE" ENDPOINT="$STUN_ENDPOINT" SYSTEM="${LIBRARIES-}" \
         PROGRAMS="$scratch/bin/stun_tool $scratch/bin/stun_inspect"
 }
 told=$(in_root .. install)
@@ -58,6 +65,7 @@ for file in bin/stun_tool share/man/man1/stun_tool.1 share/stunp/heap.c; do
 done
 [ ! -e "$root/usr/share/man/man1/stun_inspect.1" ] || fail 'a page of a program that is left out'
 cmp -s "$STUN_STATE" "$root/usr/lib/libstunp_state.a" || fail 'another archive'
+cmp -s "$STUN_ENDPOINT" "$root/usr/lib/libstunp_endpoint.a" || fail 'another archive'
 
 # prints WANTED PROGRAM
 prints() {
@@ -74,7 +82,8 @@ flags() {
             PKG_CONFIG_ALLOW_SYSTEM_CFLAGS=1 PKG_CONFIG_ALLOW_SYSTEM_LIBS=1 \
             pkg-config --cflags --libs "$@"
     else
-        echo "-I$root/usr/include -L$root/usr/lib -lstunp_state -lstunp ${LIBRARIES-} -lstunp_heap"
+        echo "-I$root/usr/include -L$root/usr/lib -lstunp_state -lstunp_endpoint -lstunp" \
+            "${LIBRARIES-} -lstunp_heap"
     fi
 }
 strict='-std=c99 -Wall -Wextra -Wpedantic -Werror'
@@ -82,6 +91,8 @@ for memory in LIBRARYS_MEMORY OWN_MEMORY; do
     $cc $strict -D$memory c/installed.c $(flags stunp_state) -o "$scratch/installed"
     prints "$version" "$scratch/installed"
 done
+$cc $strict -DENDPOINT c/installed.c $(flags stunp_endpoint) -o "$scratch/endpoint"
+prints "$version" "$scratch/endpoint"
 # The first archive wants no memory.
 $cc c/arguments.c $(flags stunp) -o "$scratch/arguments"
 prints 'arguments: passed' "$scratch/arguments"

@@ -2,7 +2,8 @@
 # What the headers have a compiler and a linker refuse: exchanged arguments, a verdict that nobody
 # looks at, a null output, a length that is not that of the array, and a program that was compiled
 # against another release. STUN_C is the archive of stunp.h, STUN_STATE that of
-# stunp_state.h, LIBRARIES what they need beside. Without a C compiler nothing is tried, and without
+# stunp_state.h, STUN_ENDPOINT that of stunp_endpoint.h (without it, that of STUN_STATE), LIBRARIES
+# what they need beside. Without a C compiler nothing is tried, and without
 # an archive nothing is linked to it.
 set -eu
 cd "$(dirname "$0")"
@@ -46,16 +47,18 @@ warns() {
     printf '#if !__has_attribute(%s)\n#error\n#endif\n' "$1" |
         $cc -fsyntax-only -x c - 2>/dev/null || return 0
     for statement in '(void)0;' "$3"; do
-        printf '#include "stunp_state.h"\n' >"$scratch/statement.c"
+        printf '#include "stunp_state.h"\n#include "stunp_endpoint.h"\n' >"$scratch/statement.c"
         printf 'int statement(const uint8_t *bytes, size_t length, stunp_server *server) {\n' \
             >>"$scratch/statement.c"
         printf '    uint8_t key[16] = {1}, out[20];\n    stunp_address from = {{0}, 1, 4};\n' \
+            >>"$scratch/statement.c"
+        printf '    stunp_endpoint_server endpoint = {0};\n    stunp_endpoint_users users = {0};\n' \
             >>"$scratch/statement.c"
         printf '    uint32_t words[16] = {0};\n    int64_t got = 0;\n    %s\n' "$statement" \
             >>"$scratch/statement.c"
         printf '    (void)bytes, (void)length, (void)server, (void)key, (void)out, (void)from;\n' \
             >>"$scratch/statement.c"
-        printf '    (void)words;\n    return got == 0;\n}\n' >>"$scratch/statement.c"
+        printf '    (void)words, (void)endpoint, (void)users;\n    return got == 0;\n}\n' >>"$scratch/statement.c"
         build="$cc $strict -O1 -c $scratch/statement.c -o $scratch/statement.o"
         case $statement in
         '(void)0;') $build ;;
@@ -75,6 +78,9 @@ warns nonnull nonnull 'got = stunp_read_header(bytes, length, NULL);'
 warns nonnull nonnull 'got = stunp_server_validate(server, bytes, length, NULL, 0, words);'
 warns nonnull nonnull 'got = stunp_server_validate(NULL, bytes, length, &from, 0, words);'
 warns access stringop-over "got = $verify, 32);"
+warns warn_unused_result unused-result \
+    'stunp_endpoint_server_receive(&endpoint, &users, bytes, length, &from, 0, out, 20, NULL);'
+warns nonnull nonnull 'got = stunp_endpoint_users_add(NULL, bytes, length, key, 16);'
 warns access stringop-over 'got = stunp_begin(STUNP_REQUEST, STUNP_BINDING, key, 12, out, 21);'
 
 # links OPTION..: the right program, linked and run.
@@ -109,5 +115,26 @@ if [ -n "${STUN_C-}" ] && [ -n "${STUN_STATE-}" ]; then
     keeps
     wants stunp_state_release_0_1 keeps -Dstunp_state_release_0_2=stunp_state_release_0_1
     keeps -Dstunp_state_release_0_2=stunp_state_release_0_1 -DSTUNP_ANY_RELEASE
+fi
+
+# The same of stunp_endpoint.h.
+cat >"$scratch/endpoint.c" <<'ENDPOINT'
+#include "stunp_endpoint.h"
+int main(void) {
+    stunp_endpoint_users users = {0};
+    int64_t answer = stunp_endpoint_users_add(&users, "a", 1, "b", 1);
+    return answer == STUNP_EMPTY_HANDLE ? 0 : 1;
+}
+ENDPOINT
+shares() {
+    $cc $strict "$@" "$scratch/endpoint.c" ../examples/c/heap.c \
+        "${STUN_ENDPOINT:-$STUN_STATE}" "$STUN_C" ${LIBRARIES-} -o "$scratch/endpoint" &&
+        "$scratch/endpoint"
+}
+if [ -n "${STUN_C-}" ] && [ -n "${STUN_STATE-}" ]; then
+    shares
+    wants stunp_endpoint_release_0_1 \
+        shares -Dstunp_endpoint_release_0_2=stunp_endpoint_release_0_1
+    shares -Dstunp_endpoint_release_0_2=stunp_endpoint_release_0_1 -DSTUNP_ANY_RELEASE
 fi
 echo 'refused: passed'

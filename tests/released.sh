@@ -36,7 +36,7 @@ for file in README.md SECURITY.md CHANGELOG.md CONTENTS.md docs/README.md transc
     [ -s "$folder/$file" ] || fail "no $file"
 done
 for word in commit: toolchain: 'the gate: ' 'rt: ok; ' 'libstun_c.a: logic=proved' \
-    'libstun_state.a: logic=proved'; do
+    'libstun_state.a: logic=proved' 'libstun_c_endpoint.a: logic=proved'; do
     grep -q "^$word" "$folder/PROOF" || fail "PROOF has no line $word"
 done
 

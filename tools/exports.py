@@ -1,6 +1,6 @@
 #!/usr/bin/env python3
-"""Compares include/stunp.h and include/stunp_state.h with the exports of stun_c and stun_state and
-with what examples/rust declares.
+"""Compares include/stunp.h, include/stunp_state.h and include/stunp_endpoint.h with the exports of
+stun_c, stun_state and stun_c_endpoint and with what examples/rust declares.
 
 Functions are compared by name, result, and the types of parameters in their order, those of a
 closed family by its enum. What a declaration says to compilers, `STUNP_READS` and the like, is
@@ -26,7 +26,8 @@ PASSED = {
     "&[u16]": "const uint16_t *, size_t", "&mut [u16]": "uint16_t *, size_t",
     "AgentHandle": "stunp_agent", "ServerHandle": "stunp_server", "ClientHandle": "stunp_client",
     "Address": "stunp_address", "Timeouts": "stunp_timeouts", "Statistics": "stunp_statistics",
-    "Header": "stunp_header", "Cursor": "stunp_cursor",
+    "Header": "stunp_header", "Cursor": "stunp_cursor", "&[u8; 32]": "const uint8_t *",
+    "Received": "stunp_received", "Reply": "stunp_reply",
 }
 # The enum of a number by its name in Rattle and Rust.
 ENUMS = {"class": "stunp_message_class", "message_class": "stunp_message_class",
@@ -38,10 +39,15 @@ NUMBERS = {
     "stunp_transport": ("stun_state/src/agent.rt", r"(\d+) => Ok\(TransportType::(\w+)\)"),
     "stunp_feature": ("stun_state/src/codes.rt", r"(\d+) => Ok\(Feature::(\w+)\)"),
     "fingerprint": ("stun_c/src/fingerprint.rt", r"Fingerprint::(\w+) => (\d+)"),
+    "stunp_drop": ("stun_c_endpoint/src/received.rt", r"DropReason::(\w+) => (\d+)"),
 }
-# Names of the header that are other ones in the sources.
+# Names of the header that are other ones in the sources, and the enums of which they are.
 RENAMED = {"NO_FINGERPRINT": "ABSENT", "RIGHT_FINGERPRINT": "RIGHT", "WRONG_FINGERPRINT": "WRONG",
-           "MISPLACED_FINGERPRINT": "MISPLACED", "DATA_METHOD": "DATA"}
+           "MISPLACED_FINGERPRINT": "MISPLACED", "DATA_METHOD": "DATA",
+           "DROP_NOT_STUN": "NOTSTUN", "DROP_MALFORMED": "MALFORMED",
+           "DROP_WRONG_FINGERPRINT": "WRONGFINGERPRINT",
+           "DROP_UNKNOWN_ATTRIBUTE": "UNKNOWNATTRIBUTE"}
+RENAMING = ("fingerprint", "stunp_drop")
 # Lengths of the header, each with the constant of the sources that it is.
 LENGTHS = {
     "ID_LENGTH": ("stun_numbers/src/id.rt", "ID_LENGTH"),
@@ -52,6 +58,7 @@ LENGTHS = {
     "USERHASH_LENGTH": ("stun_types/src/attribute/userhash.rt", "LENGTH"),
     "FINGERPRINT_LENGTH": ("stun_extra/src/fingerprint.rt", "FINGERPRINT_LENGTH"),
     "MOST_KNOWN": ("stun_c/src/unknown.rt", "MOST_KNOWN"),
+    "NAME_MAX": ("stun_c_endpoint/src/received.rt", "NAME_ROOM"),
 }
 HANDLES = ("stunp_agent *", "stunp_server *", "stunp_client *")
 wrong, compared, were_read = [], 0, {}
@@ -84,13 +91,17 @@ def enums_of_header(text):
             for body, name in re.findall(r"typedef enum \w+ \{([^}]*)\} (\w+);", text)}
 
 def in_c(kind, label, function, enums):
-    """The C types of a type. `Handle` is the handle that the function's name begins with."""
+    """The C types of a type. `Handle` is the handle that the function's name begins with, and
+    `EndpointHandle` that of the parameter's name."""
     if kind == "u32" and ENUMS.get(label) in enums:
         return [ENUMS[label]]
     if kind in PASSED:
         return PASSED[kind].split(", ") if PASSED[kind] else []
     pointer, name = re.fullmatch(r"(&mut |&|\*mut |\*const )(\w+)", kind).groups()
-    name = "_".join(function.split("_")[:2]) if name == "Handle" else PASSED[name]
+    if name == "EndpointHandle":
+        name = f"stunp_endpoint_{label}"
+    else:
+        name = "_".join(function.split("_")[:2]) if name == "Handle" else PASSED[name]
     return [("const " if pointer in ("&", "*const ") else "") + name + " *"]
 
 def functions_of_rust(text, before, enums):
@@ -119,7 +130,8 @@ def functions_of_header(text):
 MAY_IGNORE = re.compile(
     r"stunp_((agent|server|client)_(new(_with)?|set_\w+|add_user|remove_\w+|forget\w*|cancel\w*|"
     r"configure|statistics|validated_peer|send)|read_header|id|error_text|"
-    r"(state_)?(version|release_\w+))")
+    r"endpoint_(server_new_with|users_(new_own|add(_keys)?|remove))|"
+    r"(state_|endpoint_)?(version|release_\w+))")
 
 def wanted_attributes(result, name, listed):
     """What a declaration says to compilers: a result that is to be used, pointers with a length by
@@ -151,14 +163,14 @@ def attributes_of_header(text):
 
 def structs_of_rust(text, enums):
     fields = re.compile(r"(\w+): \[?(\w+)((?:; \d+\])?)")
-    structs = re.compile(r"struct (Address|Cursor|Header|Timeouts|Statistics) \{(.*?)\}", re.DOTALL)
+    structs = re.compile(r"struct (Address|Cursor|Header|Timeouts|Statistics|Received|Reply) \{(.*?)\}", re.DOTALL)
     return {PASSED[name]: [(in_c(kind, field, "", enums)[0], field + size)
                            for field, kind, size in fields.findall(body)]
             for name, body in structs.findall(text)}
 
 def structs_of_header(text):
-    structs = re.compile(r"typedef struct \{([^}]*)\} "
-                         r"(stunp_(?:address|cursor|header|timeouts|statistics));")
+    structs = re.compile(r"typedef struct \{([^}]*)\} (stunp_(?:address|cursor|header|timeouts|"
+                         r"statistics|received|reply));")
     return {name: [(kind, field.replace("[", "; "))
                    for kind, fields in re.findall(r"(\w+) ([^;]+);", body)
                    for field in re.split(r",\s*", fields)]
@@ -193,7 +205,7 @@ def compare_numbers(header):
                  for pair in re.findall(pattern, read(f"crates/{path}"))]
         found = {name.upper(): int(value) for name, value in pairs}
         names = [name for name in declared if RENAMED.get(name, name) in found
-                 and (name in RENAMED) == (enum == "fingerprint")]
+                 and (name in RENAMED) == (enum in RENAMING)]
         compare(enum, {RENAMED.get(name, name): declared[name] for name in names}, found)
         compare(f"{enum} of the sources", found,
                 {RENAMED.get(name, name): declared[name] for name in names})
@@ -219,17 +231,21 @@ def written_sections(archive):
 def compare_archives():
     """What threads may share (the headers): none of the archives has data of its own that
     changes."""
-    archives = [Path(f"crates/{crate}/out/lib{crate}.a") for crate in ("stun_c", "stun_state")]
+    archives = [Path(f"crates/{crate}/out/lib{crate}.a") 
+                for crate in ("stun_c", "stun_state", "stun_c_endpoint")]
     there = [archive for archive in archives if archive.exists() and shutil.which("readelf")]
     compare("written data", {str(archive): written_sections(archive) for archive in there},
             {str(archive): [] for archive in there})
 
 def main():
-    header = read("include/stunp.h", "include/stunp_state.h")
+    header = read("include/stunp.h", "include/stunp_state.h", "include/stunp_endpoint.h")
     crates = read(*(f"crates/stun_c/src/{name}.rt" for name in ("lib", "header", "walk")),
                   *(f"crates/stun_state/src/{name}.rt"
                     for name in ("calls/agent", "calls/server", "calls/handed", "calls/client",
-                                 "calls/release", "address", "agent")))
+                                 "calls/release", "agent")),
+                  "crates/stun_handles/src/address.rt",
+                  *(f"crates/stun_c_endpoint/src/{name}.rt"
+                    for name in ("calls/server", "calls/users", "release", "received")))
     enums = enums_of_header(header)
     # An enum that is passed has the size of a u32: no number is below zero or above an int.
     passed = {name: numbers for name, numbers in enums.items() if name in ENUMS.values()}

@@ -25,7 +25,7 @@ import tempfile
 TOP = os.path.normpath(os.path.join(os.path.dirname(os.path.abspath(__file__)), ".."))
 LOG = os.path.join(TOP, "target/gate.log")
 EXPORTED = os.path.join(TOP, "target/export")
-ARCHIVES = ("stun_c", "stun_state")
+ARCHIVES = ("stun_c", "stun_state", "stun_c_endpoint")
 PROGRAMS = ("stun_tool", "stun_inspect")
 
 # What must be built before.
@@ -83,9 +83,9 @@ This folder is a prefix. Use it where it lies, or copy it by `make install PREFI
 In C, with the folder's path as HERE:
 
     export PKG_CONFIG_PATH=HERE/lib/pkgconfig
-    cc program.c $(pkg-config --cflags --libs stunp_state) -o program
+    cc program.c $(pkg-config --cflags --libs stunp_endpoint) -o program
 
-With CMake: `find_package(stunp VERSION)` and `target_link_libraries(program stunp::stunp_state)`,
+With CMake: `find_package(stunp VERSION)` and `target_link_libraries(program stunp::stunp_endpoint)`,
 with `-DCMAKE_PREFIX_PATH=HERE`. In Rust, in `Cargo.toml`:
 
     seatcrane-stun = { path = "HERE/crate/seatcrane-stun" }
@@ -165,12 +165,12 @@ def write(target, text):
 def install(folder):
     """The prefix, by the rules of include/Makefile. Its files for pkg-config name its place. What
     is installed is told: the environment may name other archives."""
-    messages, state = ("../" + path for path in BUILT_ARCHIVES)
+    messages, state, endpoint = ("../" + path for path in BUILT_ARCHIVES)
     programs = " ".join("../" + path for path in BUILT_PROGRAMS)
     with tempfile.TemporaryDirectory() as scratch:
         run("make", "-s", "-C", os.path.join(TOP, "include"), "install", "TO=" + folder,
             "NAMED=$${pcfiledir}/../..", "OUT=" + scratch, "MESSAGES=" + messages,
-            "STATE=" + state, "PROGRAMS=" + programs,
+            "STATE=" + state, "ENDPOINT=" + endpoint, "PROGRAMS=" + programs,
             env={key: word for key, word in os.environ.items() if key[:4] != "MAKE"})
 
 

@@ -30,7 +30,7 @@ objdump -p "$out/libstunp.so" | grep -qx " *SONAME  *$shared" ||
     { echo "rust_c: the shared library does not have the name $shared" >&2; exit 1; }
 
 # Each library has the calls that the headers declare, and shows no other symbol.
-sed -n 's/^[a-z0-9_]* \(stunp_[a-z0-9_]*\)(.*/\1/p' include/stunp.h include/stunp_state.h |
+sed -n 's/^[a-z0-9_]* \(stunp_[a-z0-9_]*\)(.*/\1/p' include/stunp.h include/stunp_state.h include/stunp_endpoint.h |
     sort > "$out/declared"
 for seen in "-g $out/libstunp.a" "-D $out/libstunp.so"; do
     nm --defined-only $seen 2>/dev/null | awk 'NF == 3 {print $3}' | sort > "$out/defined"
@@ -59,7 +59,8 @@ LIBRARIES="$libraries" tests/memory.sh "$out"
 # These look at the memory that is taken. `worked` has the examples of the headers.
 sed -n 's/^ \*     //p; /\*\/$/q' include/stunp.h > "$out/answer.h"
 sed -n 's/^ \*     //p; /\*\/$/q' include/stunp_state.h > "$out/ask.h"
-for name in agents handles hostile many users worked play; do
+sed -n 's/^ \*     //p; /\*\/$/q' include/stunp_endpoint.h > "$out/serve.h"
+for name in agents endpoint handles hostile many users worked play; do
     ${CC:-cc} $strict -I"$out" "tests/c/$name.c" examples/c/heap.c "$out/libstunp.a" $libraries \
         -o "$out/$name"
     [ $name = play ] || expect "$name: passed" "$out/$name"

@@ -4,6 +4,7 @@
 #define STUN_EXCHANGE_H
 
 #include "net.h"
+#include "stunp_state.h"
 
 /* ---- Messages */
 

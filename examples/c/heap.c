@@ -1,10 +1,12 @@
-/* The memory of libstun_state.a over malloc. Each block has its length before it, so that the bytes
+/* The memory of the proved archives over malloc. Each block has its length before it, so that the bytes
  * can be counted, and overwritten before they are given back: they may be those of a password or a
  * key.
  *
  * The counts are changed in one step each, so handles may be used in several threads, each handle
  * in its own. */
+#define STUNP_ANY_RELEASE /* it makes no call, and so wants no archive */
 #include "heap.h"
+#include "stunp_state.h"
 #include <stdint.h>
 #include <stdlib.h>
 #include <string.h>

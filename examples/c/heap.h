@@ -1,8 +1,8 @@
-/* The memory of libstun_state.a: three functions over malloc, with a bound and counts. */
+/* The memory of the proved archives: three functions over malloc, with a bound and counts. */
 #ifndef STUNP_HEAP_H
 #define STUNP_HEAP_H
 
-#include "stunp_state.h"
+#include <stddef.h>
 
 #ifdef __cplusplus
 extern "C" {

@@ -2,7 +2,7 @@
 #ifndef STUN_NET_H
 #define STUN_NET_H
 
-#include "stunp_state.h"
+#include "stunp.h"
 #include <netinet/in.h>
 #include <sys/socket.h>
 #include <sys/types.h>

@@ -3,6 +3,7 @@
 #define STUN_REQUEST_H
 
 #include "net.h"
+#include "stunp_state.h"
 
 struct message {
     const struct datagram *got; /* where it was read, and still is where it is answered */

@@ -1,9 +1,14 @@
 /* What is installed is enough to build with: a message of the first archive, an agent of the
- * second, and its memory, of libstunp_heap.a or (OWN_MEMORY) of this file. tests/install.sh builds
+ * second or (ENDPOINT) a server of the third, and its memory, of libstunp_heap.a or (OWN_MEMORY) of
+ * this file. tests/install.sh builds
  * it. Prints the version of the header. */
 #include <stdio.h>
 #include <stdlib.h>
+#ifdef ENDPOINT
+#include <stunp_endpoint.h>
+#else
 #include <stunp_state.h>
+#endif
 
 #ifdef OWN_MEMORY
 static size_t blocks;
@@ -29,17 +34,45 @@ static size_t stunp_heap_blocks(void) { return blocks; }
 #include <stunp_heap.h>
 #endif
 
-int main(void) {
+#ifdef ENDPOINT
+static int use_memory(const uint8_t *bytes, size_t length) {
+    const stunp_address from = {{127, 0, 0, 1}, 3478, 4};
+    const uint8_t secret[32] = {1};
+    uint8_t out[256];
+    stunp_endpoint_server server = {0};
+    stunp_endpoint_users users = {0};
+    stunp_received received = STUNP_INIT(stunp_received);
+    stunp_endpoint_server_settings settings = STUNP_INIT(stunp_endpoint_server_settings);
+    settings.realm = "realm", settings.secret = secret;
+    if (stunp_endpoint_server_new(&server, &settings) != 0) return 2;
+    if (stunp_endpoint_users_new(&users, &server) != 0) return 3;
+    int64_t kind = stunp_endpoint_server_receive(&server, &users, bytes, length, &from, 0, out,
+                                                 sizeof out, &received);
+    if (kind != STUNP_ANSWER || received.code != 401) return 4;
+    if (stunp_heap_blocks() == 0) return 5;
+    stunp_endpoint_server_free(&server);
+    stunp_endpoint_users_free(&users);
+    return 0;
+}
+#else
+static int use_memory(const uint8_t *bytes, size_t length) {
     const stunp_address local = {{127, 0, 0, 1}, 3478, 4}, peer = {{127, 0, 0, 2}, 3478, 4};
-    uint8_t id[STUNP_ID_LENGTH] = {1}, bytes[STUNP_HEADER_LENGTH];
     stunp_agent agent = {0};
-    int64_t length = stunp_begin(STUNP_REQUEST, STUNP_BINDING, id, sizeof id, bytes, sizeof bytes);
-    if (length != STUNP_HEADER_LENGTH) return 1;
     if (stunp_agent_new(&agent, STUNP_UDP, &local) != 0) return 2;
-    if (stunp_agent_send_request(&agent, bytes, sizeof bytes, &peer, 0) != 0) return 3;
+    if (stunp_agent_send_request(&agent, bytes, length, &peer, 0) != 0) return 3;
     if (stunp_heap_blocks() == 0) return 4;
     stunp_agent_free(&agent);
-    if (stunp_heap_blocks() != 0) return 5;
+    return 0;
+}
+#endif
+
+int main(void) {
+    uint8_t id[STUNP_ID_LENGTH] = {1}, bytes[STUNP_HEADER_LENGTH];
+    int64_t length = stunp_begin(STUNP_REQUEST, STUNP_BINDING, id, sizeof id, bytes, sizeof bytes);
+    if (length != STUNP_HEADER_LENGTH) return 1;
+    int status = use_memory(bytes, sizeof bytes);
+    if (status != 0) return status;
+    if (stunp_heap_blocks() != 0) return 6;
     printf("%d.%d.%d\n", STUNP_VERSION / 10000, STUNP_VERSION / 100 % 100, STUNP_VERSION % 100);
     return 0;
 }

@@ -16,6 +16,7 @@
  * nothing was changed but what was written: nothing where the call refuses. A line that it cannot
  * read, or a byte that was changed, ends it. */
 #include "heap.h"
+#include "stunp_state.h"
 #include <stdio.h>
 #include <stdlib.h>
 #include <string.h>

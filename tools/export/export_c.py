@@ -1,8 +1,9 @@
 """Writes the calls for C as plain Rust, for tools/export/export.py: `capi/src/calls` of what it
 writes.
 
-The crates `stun_numbers`, `stun_c` and `stun_state` are exported as the others, but for what a
-caller in C keeps: a handle is a flag and a pointer, which `capi/src/handle.rs` has by hand. Their
+The crates `stun_numbers`, `stun_handles`, `stun_c`, `stun_state` and `stun_c_endpoint` are exported
+as the others, but for what a caller in C keeps: a handle is a flag and a pointer, which
+`capi/src/handle.rs` has by hand. Their
 `extern "C"` functions become plain ones, and `border.rs` has those that C calls, where a slice is a
 pointer and a length (`capi/src/passed.rs`).
 """
@@ -10,7 +11,7 @@ import re
 import shutil
 from pathlib import Path
 
-CRATES = ["stun_numbers", "stun_c", "stun_state"]
+CRATES = ["stun_numbers", "stun_handles", "stun_c", "stun_state", "stun_c_endpoint"]
 PLACES = {crate: f"crate::calls::{crate}" for crate in CRATES}
 CALL = re.compile(r'((?:^///[^\n]*\n)+)^#\[unsafe\(no_mangle\)\]\npub extern "C" fn '
                   r'(\w+)\(([^)]*)\)(?: -> (\w+))?', re.M)
@@ -46,12 +47,16 @@ def write(out, exported, places, root):
     """Writes the folder of the calls."""
     calls = out / "capi" / "src" / "calls"
     shutil.rmtree(calls, ignore_errors=True)
-    border = ("//! The calls that `include/stunp.h` and `include/stunp_state.h` declare.\n\n"
+    border = ("//! The calls that `include/stunp.h`, `include/stunp_state.h` and\n"
+              "//! `include/stunp_endpoint.h` declare.\n\n"
               "use super::stun_c::header::Header;\nuse super::stun_c::walk::Cursor;\n"
-              "use super::stun_state::address::Address;\n"
+              "use super::stun_c_endpoint::received::Received;\n"
+              "use super::stun_handles::address::Address;\n"
               "use super::stun_state::agent::{Statistics, Timeouts};\n"
-              "use super::{stun_c, stun_state};\nuse crate::handle::agent::AgentHandle;\n"
-              "use crate::handle::client::ClientHandle;\nuse crate::handle::server::ServerHandle;\n"
+              "use super::{stun_c, stun_c_endpoint, stun_state};\n"
+              "use crate::handle::agent::AgentHandle;\nuse crate::handle::client::ClientHandle;\n"
+              "use crate::handle::endpoint::EndpointHandle;\n"
+              "use crate::handle::server::ServerHandle;\n"
               "use crate::kit::alloc::Global;\nuse crate::passed::{read, written};\n\n")
     for crate in CRATES:
         source = root / "crates" / crate / "src"
@@ -65,7 +70,7 @@ def write(out, exported, places, root):
             text = CALL.sub(lambda found: found.group(1)
                             + f"pub fn {found.group(2)}({found.group(3)})"
                             + (f" -> {found.group(4)}" if found.group(4) else ""), text)
-            text = re.sub(r"^mod handle;\n", "use crate::handle;\n", text, flags=re.M)
+            text = re.sub(r"^(pub )?mod handle;\n", "use crate::handle;\n", text, flags=re.M)
             text = re.sub(r"^mod (\w+);\n", r"pub mod \1;\n", text, flags=re.M)
             if str(name) == "lib.rs":
                 name = Path("mod.rs")

@@ -1,15 +1,16 @@
 //! How a request gets its response: when it is received, or later.
 
-ghost use Rattle.std.specs.Prelude.{◌≡◌, ◌≤◌, Some, IfOk, OnOk, length, codes};
+ghost use Rattle.std.specs.Prelude.{◌≡◌, ◌≤◌, [], Some, IfOk, OnOk, length, codes};
 ghost use Rattle.std.specs.Fmt.{WritesOnOk, WritesStyledOnOk};
-ghost use Rattle.std.specs.Option.{option_map};
+ghost use Rattle.std.specs.Option.{option_map, option_map_or};
 ghost use Rattle.std.specs.String.{string_bytes};
 ghost use Rattle.stun_base.specs.Header.{transaction_id_field, type_field};
 ghost use Rattle.stun_base.specs.MessageType.{method_of};
 ghost use Rattle.stun_types.specs.Message.{IsMessage};
 ghost use Rattle.stun_types.specs.Writing.{IsOpen, empty_message, with_attribute};
 ghost use Rattle.stun_endpoint.specs.Answers.{VerifiesBy, error_attribute, with_end};
-ghost use Rattle.stun_endpoint.specs.Answers.{with_signature, with_software};
+ghost use Rattle.stun_endpoint.specs.Answers.{Signature as SignatureSeen, with_signature};
+ghost use Rattle.stun_endpoint.specs.Answers.{with_software};
 
 use std::alloc::{AllocError, Allocator, Global};
 use std::fmt;
@@ -124,6 +125,37 @@ impl<A: Allocator> Reply<A> {
         ensures { result ≡ self.now.method }
     {
         self.method
+    }
+
+    /// Returns the algorithm of the integrity attribute that each response gets, and `None` if
+    /// responses are not signed.
+    pub fn integrity(&self) -> Option<IntegrityAlgorithm>
+        ensures { result
+            ≡ option_map (λ (by : SignatureSeen). by.algorithm) self.now.ending.signature }
+    {
+        match &self.signature {
+            Some(by) => Some(by.algorithm),
+            None => None,
+        }
+    }
+
+    /// Returns the key that signs each response, and no bytes if responses are not signed. Whoever
+    /// has it can sign in the name of the user and of the server.
+    pub fn key(&self) -> &[u8]
+        ensures { result.now
+            ≡ option_map_or (λ (by : SignatureSeen). by.key) self.now.ending.signature [] }
+    {
+        match &self.signature {
+            Some(by) => by.key.key().as_bytes(),
+            None => &[],
+        }
+    }
+
+    /// Returns whether each response ends with FINGERPRINT.
+    pub fn has_fingerprint(&self) -> bool
+        ensures { result ≡ self.now.ending.has_fingerprint }
+    {
+        self.has_fingerprint
     }
 }
 

@@ -4,6 +4,8 @@
 pub mod Addresses
 -- the numbers that calls return
 pub mod Numbers
+-- the stored keys of a user
+pub mod Keys
 -- what calls share: where an allocation may fail, an address that may be none, and texts
 pub mod Answers
 -- what no clause of a public call cites: what representations alone use

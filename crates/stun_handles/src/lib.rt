@@ -5,4 +5,5 @@
 pub mod address;
 pub mod answers;
 pub mod handle;
+pub mod keys;
 pub mod text;

@@ -23,7 +23,6 @@ ghost use Rattle.stun_state.specs.Agent.{transport_numbered, unless_untimed, wit
 ghost use Rattle.stun_handles.specs.Answers.{CallUnlessMemory, at_address, done_if_given};
 ghost use Rattle.stun_state.specs.Memory.{IsRequestTaken, message_adds_none, naming_adds_none};
 
-use stun_handles::address::Address;
 use byteorder::{BigEndian, ByteOrder};
 use std::alloc::Global;
 use std::mem::size_of;
@@ -34,6 +33,7 @@ use stun_agent::stats::StunAgentStats;
 use stun_base::instant::Instant;
 use stun_base::transaction_id::TransactionId;
 use stun_base::transport::TransportType;
+use stun_handles::address::Address;
 use stun_numbers::buffer::put;
 use stun_numbers::id::{ID_LENGTH, transaction_id};
 use stun_numbers::refusal::Refusal;

@@ -6,10 +6,9 @@ ghost use Rattle.stun_state.specs.Numbers.{reading_answer, resend_number};
 
 use stun_auth::auth::LongTermClientValidation;
 use stun_base::algorithm::IntegrityAlgorithm;
+pub use stun_handles::answers::{done, length, number};
 use stun_numbers::algorithm::algorithm_number;
 use stun_numbers::refusal::Refusal;
-
-pub use stun_handles::answers::{done, length, number};
 
 /// The number of a response that asks for another request and whose digest does not verify.
 const RESEND: i64 = 3;

@@ -23,11 +23,11 @@ ghost use Rattle.stun_state.specs.Signing.{message_of, signed_by_client};
 
 use crate::codes::{algorithms_numbered, client_refusal, feature_numbered};
 use crate::signing::{SHORT, is_too_long, writer_of};
-use stun_handles::text::copied;
 use std::alloc::Global;
 use stun_auth::auth::{LongTermClientAuth, LongTermClientValidation};
 use stun_base::algorithm::IntegrityAlgorithm;
 use stun_base::credentials::LongTermCredentials;
+use stun_handles::text::copied;
 use stun_numbers::algorithm::algorithm_number;
 use stun_numbers::buffer::fill;
 use stun_numbers::message::base_message;

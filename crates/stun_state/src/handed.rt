@@ -16,17 +16,17 @@ ghost use Rattle.stun_state.specs.Handed.{naming_written, handed_signing, handed
 ghost use Rattle.stun_state.specs.code.Given.{user_given};
 ghost use Rattle.stun_state.specs.Signing.{signed_by_server};
 
-use stun_handles::address::Address;
 use crate::handle::server::Server;
 use crate::server::{check_room, measure};
 use crate::signing::SHORT;
-use stun_handles::text::copied;
 use crate::users::{sign_long, sign_short, validate_message};
 use std::alloc::Global;
 use stun_auth::auth::{LongTermServerAuth, LongTermServerUser, NamedUser, StoredKeys};
 use stun_base::algorithm::IntegrityAlgorithm;
 use stun_base::credentials::LongTermCredentials;
 use stun_base::instant::Instant;
+use stun_handles::address::Address;
+use stun_handles::text::copied;
 use stun_numbers::buffer::fill;
 use stun_numbers::message::base_message;
 use stun_numbers::refusal::Refusal;

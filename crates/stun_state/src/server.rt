@@ -23,11 +23,9 @@ ghost use Rattle.stun_state.specs.Server.{nonce_written, room_refusal, step_answ
 ghost use Rattle.stun_state.specs.Server.{server_validation, server_with_algorithms, with_expiry};
 ghost use Rattle.stun_state.specs.Server.{server_with_feature, without_client, without_named};
 
-use stun_handles::address::Address;
 use crate::codes::{algorithms_numbered, feature_numbered};
 use crate::handle::server::Server;
 use crate::signing::{SHORT, is_response, is_too_long};
-use stun_handles::text::copied;
 use crate::users::{OwnUsers, sign_long, sign_short, validate_message};
 use std::alloc::Global;
 use std::net::SocketAddr;
@@ -36,6 +34,8 @@ use stun_auth::auth::{LongTermServerAuth, LongTermServerValidation};
 use stun_base::algorithm::IntegrityAlgorithm;
 use stun_base::credentials::LongTermCredentials;
 use stun_base::instant::Instant;
+use stun_handles::address::Address;
+use stun_handles::text::copied;
 use stun_numbers::message::base_message;
 use stun_numbers::refusal::Refusal;
 use stun_numbers::text::text;

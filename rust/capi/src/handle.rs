@@ -77,3 +77,19 @@ pub mod client {
     /// What a caller keeps of a client.
     pub type ClientHandle = super::Handle<Client>;
 }
+
+pub mod endpoint {
+    //! The handle of a server or of a table of users, of the endpoint.
+
+    use crate::exported::stun_endpoint::server::Server;
+    use crate::exported::stun_endpoint::users::Users;
+
+    /// A value of the heap: a server, or a table of users.
+    pub enum Kept {
+        Server(Server),
+        Users(Users),
+    }
+
+    /// What a caller keeps of either.
+    pub type EndpointHandle = super::Handle<Kept>;
+}

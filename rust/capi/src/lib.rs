@@ -1,5 +1,5 @@
-//! STUN for programs in C, over the exported sources: what `include/stunp.h` and
-//! `include/stunp_state.h` declare, and nothing else.
+//! STUN for programs in C, over the exported sources: what `include/stunp.h`,
+//! `include/stunp_state.h` and `include/stunp_endpoint.h` declare, and nothing else.
 //!
 //! `cargo build --release -p seatcrane-stun-c` makes `libstunp.a` and `libstunp.so`. What is unsafe
 //! stands in four files. In `border.rs` and `passed.rs` a slice comes as a pointer and a length. In

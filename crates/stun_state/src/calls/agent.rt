@@ -27,11 +27,11 @@ ghost use Rattle.stun_state.specs.Memory.{IsRequestTaken, message_adds_none, nam
 ghost use Rattle.stun_handles.specs.Numbers.{IsOrOutOfMemory, OrOutOfMemory, done_answer};
 ghost use Rattle.stun_handles.specs.Numbers.{left_by, length_answer, number_answer};
 
-use stun_handles::address::Address;
 use crate::agent::{Statistics, Timeouts};
 use crate::handle::agent::{Agent, AgentHandle};
 use crate::{agent, answers};
 use std::alloc::Global;
+use stun_handles::address::Address;
 use stun_numbers::refusal::Refusal;
 
 /// Creates an agent that sends over a transport, 0 for UDP and 1 for TCP, from a local address.

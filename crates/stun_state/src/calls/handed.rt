@@ -17,11 +17,11 @@ ghost use Rattle.stun_state.specs.Handed.{user_of_password, handed_validation_nu
 ghost use Rattle.stun_handles.specs.Numbers.{IsOrOutOfMemory, OrOutOfMemory};
 ghost use Rattle.stun_handles.specs.Numbers.{left_by, length_answer, number_answer};
 
-use stun_handles::address::Address;
 use crate::handed::Given;
 use crate::handle::server::ServerHandle;
 use crate::{answers, handed};
 use std::alloc::Global;
+use stun_handles::address::Address;
 use stun_numbers::refusal::Refusal;
 
 /// Determines with which user's key a message that arrived from an address will be verified.

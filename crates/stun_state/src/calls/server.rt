@@ -30,10 +30,10 @@ ghost use Rattle.stun_state.specs.Server.{nonce_written, step_answer, validation
 ghost use Rattle.stun_state.specs.Server.{with_expiry, without_client, without_named};
 ghost use Rattle.stun_state.specs.Signing.{kept_after_signing, signed_for};
 
-use stun_handles::address::Address;
 use crate::handle::server::{Server, ServerHandle};
 use crate::{answers, server};
 use std::alloc::Global;
+use stun_handles::address::Address;
 use stun_numbers::refusal::Refusal;
 
 /// Creates a server for a realm, without users and without a limit on addresses. Fails with

@@ -1,0 +1,68 @@
+-- The settings of a server as a caller in C gives them, and the server of them.
+use Rattle.std.specs.Prelude.{ℕ, List, ◌++◌, Bool, ◌&&◌, ◌||◌, ◌==◌, not, length, nat_lt}
+use Rattle.std.specs.Prelude.{if◌then◌else◌, Option, Some, None}
+use Rattle.std.specs.Str.{is_utf8}
+use Rattle.stun_types.specs.Limits.{TEXT_LIMIT}
+use Rattle.stun_extra.specs.Unknown.{types_of}
+use Rattle.stun_endpoint.specs.Realm.{algorithms_for, feature_for}
+use Rattle.stun_endpoint.specs.Settings.{Settings}
+use Rattle.stun_endpoint.specs.declared.server.settings.TheConstants.{STUN_ATTRIBUTES}
+use Rattle.stun_numbers.specs.declared.refusal.Refusal.{Refusal}
+use Rattle.stun_numbers.specs.declared.refusal.Refusal.TheVariants.{BadArgument, NotText}
+use Rattle.stun_numbers.specs.declared.refusal.Refusal.TheVariants.{TextTooLong}
+
+-- what a caller gives: texts and keys as bytes, and types, algorithms and the feature as numbers
+pub record Given : Type 0 where
+  pub realm : List ℕ
+  pub software : List ℕ
+  pub secret : List ℕ
+  pub previous_secret : Option (List ℕ)
+  pub understood : List ℕ
+  pub nonce_seconds : ℕ
+  pub algorithms : ℕ
+  pub anonymous_username : ℕ
+  pub answers_binding : Bool
+
+-- how long a nonce is sent: an hour, unless another time is given
+abbrev pub nonce_seconds : ℕ → ℕ
+nonce_seconds seconds = if seconds == 0 then 3600 else seconds
+
+-- which algorithms a number means: 1 is HMAC-SHA1, 2 is HMAC-SHA256, 0 and 3 are both
+abbrev pub has_sha1 : ℕ → Bool
+has_sha1 number = not (number == 2)
+
+abbrev pub has_sha256 : ℕ → Bool
+has_sha256 number = not (number == 1)
+
+-- whether a number is none that is taken, or the realm has no bytes
+abbrev pub is_out_of_range : Given → Bool
+is_out_of_range g =
+    nat_lt 3 g.algorithms || (nat_lt 2 g.anonymous_username
+    || ((length g.realm == 0) || nat_lt (nonce_seconds g.nonce_seconds) 30))
+
+-- why no server is made, the first reason that holds
+abbrev pub given_refusal : Given → Option Refusal
+given_refusal g =
+    if is_out_of_range g then Some BadArgument
+    else if not (is_utf8 g.realm && is_utf8 g.software) then Some NotText
+    else if nat_lt TEXT_LIMIT (length g.realm) || nat_lt TEXT_LIMIT (length g.software)
+    then Some TextTooLong
+    else None
+
+-- a text that is given, if it has bytes
+abbrev pub if_any : List ℕ → Option (List ℕ)
+if_any bytes = if length bytes == 0 then None else Some bytes
+
+-- the server of what is given
+abbrev pub server_given : Given → Settings
+server_given g = record {
+  realm = g.realm;
+  algorithms = algorithms_for (has_sha1 g.algorithms) (has_sha256 g.algorithms);
+  feature = feature_for (not (g.anonymous_username == 2));
+  secret = g.secret;
+  previous = g.previous_secret;
+  lifetime = nonce_seconds g.nonce_seconds;
+  known = types_of g.understood ++ STUN_ATTRIBUTES;
+  software = if_any g.software;
+  answers_binding = g.answers_binding;
+}

@@ -1,0 +1,208 @@
+-- What a datagram comes to, as a caller in C gets it.
+use Rattle.std.specs.Prelude.{◌≡◌, ◌⊎◌, ℕ, ℤ, pos, ◌++◌, List, [], ◌||◌, ◌==◌, not, length, min}
+use Rattle.std.specs.Prelude.{drop, take, nat_lt, if◌then◌else◌, Option, Some, None, Result, Ok, Err}
+use Rattle.std.specs.Prelude.{replicate}
+use Rattle.byteorder.specs.Endian.{big_bytes}
+use Rattle.std.specs.Option.{option_map, option_map_or}
+use Rattle.stun_auth.specs.Validation.{ServerSeen}
+use Rattle.stun_base.specs.declared.keys.algorithm.IntegrityAlgorithm.{IntegrityAlgorithm}
+use Rattle.stun_base.specs.Header.{type_field}
+use Rattle.stun_base.specs.MessageType.{method_of}
+use Rattle.stun_endpoint.specs.Answers.{Signature}
+use Rattle.stun_endpoint.specs.Judged.{realm_of_table}
+use Rattle.stun_endpoint.specs.Received.{Outcome, answered, dropped, indicated, received_by}
+use Rattle.stun_endpoint.specs.Received.{requested, responded}
+use Rattle.stun_endpoint.specs.Received.{Reply as TheReply}
+use Rattle.stun_endpoint.specs.Refusals.{code_of}
+use Rattle.stun_endpoint.specs.Settings.{Settings}
+use Rattle.stun_endpoint.specs.declared.received.DropReason.{DropReason}
+use Rattle.stun_endpoint.specs.declared.received.DropReason.TheVariants.{NotStun, Malformed}
+use Rattle.stun_endpoint.specs.declared.received.DropReason.TheVariants.{WrongFingerprint}
+use Rattle.stun_endpoint.specs.declared.received.DropReason.TheVariants.{UnknownAttribute}
+use Rattle.stun_endpoint.specs.declared.received.Refusal.{Refusal as Refused}
+use Rattle.stun_handles.specs.Addresses.{socket_address}
+use Rattle.stun_handles.specs.Answers.{at_address}
+use Rattle.stun_handles.specs.declared.address.Address.{Address}
+use Rattle.stun_numbers.specs.Algorithms.{algorithm_number}
+use Rattle.stun_numbers.specs.Refusals.{refusal_number}
+use Rattle.stun_numbers.specs.declared.refusal.Refusal.{Refusal}
+use Rattle.stun_numbers.specs.declared.refusal.Refusal.TheVariants.{BadArgument, BufferTooSmall}
+use Rattle.stun_numbers.specs.declared.refusal.Refusal.TheVariants.{EmptyHandle, OutOfMemory}
+use Rattle.stun_c_endpoint.specs.Kept.{server_in, users_in}
+use Rattle.stun_c_endpoint.specs.declared.handle.endpoint.Kept.{Kept}
+use Rattle.stun_c_endpoint.specs.declared.received.Received.{Received}
+use Rattle.stun_c_endpoint.specs.declared.received.Reply.{Reply}
+
+-- ---- why a datagram is not judged
+
+-- the bytes of what a caller gets, with which it begins
+abbrev pub RECEIVED_SIZE : ℕ
+RECEIVED_SIZE = 640
+
+-- the greatest time: the year 36812. A greater number is one of nanoseconds
+abbrev pub LAST_SECOND : ℕ
+LAST_SECOND = 1099511627776
+
+-- what is judged: an empty handle, or one of another kind, is refused first, and then a result of
+-- another size, a time that is none of seconds, and an address that is none
+abbrev pub with_users : Settings → Option ServerSeen → Address → ℕ → List ℕ → Received
+    → Result Outcome Refusal
+with_users s None from seconds bytes r = Err EmptyHandle
+with_users s (Some u) from seconds bytes r =
+    if not (r.size == RECEIVED_SIZE) || nat_lt LAST_SECOND seconds then Err BadArgument
+    else at_address (socket_address from)
+    (λ from. Ok (received_by s (realm_of_table u) from seconds bytes))
+
+abbrev pub outcome_at : Option Settings → Option ServerSeen → Address → ℕ → List ℕ → Received
+    → Result Outcome Refusal
+outcome_at None u from seconds bytes r = Err EmptyHandle
+outcome_at (Some s) u from seconds bytes r = with_users s u from seconds bytes r
+
+-- the same by what two handles have
+abbrev pub judged_outcome : Option Kept → Option Kept → Address → ℕ → List ℕ → Received
+    → Result Outcome Refusal
+judged_outcome server users from seconds bytes r =
+    outcome_at (server_in server) (users_in users) from seconds bytes r
+
+-- ---- what is told of it
+
+-- the numbers of what a datagram comes to
+abbrev pub kind_number : Outcome → ℕ
+kind_number (dropped why) = 0
+kind_number (answered a) = 1
+kind_number (requested q) = 2
+kind_number (indicated m) = 3
+kind_number (responded m) = 4
+
+-- the numbers of the reasons to drop one
+abbrev pub drop_number : DropReason → ℕ
+drop_number NotStun = 1
+drop_number Malformed = 2
+drop_number WrongFingerprint = 3
+drop_number UnknownAttribute = 4
+
+-- the code of an error response, and 0 of a success
+abbrev pub code_told : Option Refused → ℕ
+code_told None = 0
+code_told (Some refusal) = code_of refusal
+
+-- the longest key that a reply has room for
+abbrev pub KEY_ROOM : ℕ
+KEY_ROOM = 64
+
+-- the longest name that is told, and the place for it
+abbrev pub NAME_ROOM : ℕ
+NAME_ROOM = 513
+
+abbrev pub NAME_PLACE : ℕ
+NAME_PLACE = 516
+
+-- bytes at the front of a place, no more than a number of them, and zeros after them
+abbrev pub at_front : ℕ → ℕ → List ℕ → List ℕ
+at_front place most bytes =
+    take most bytes ++ drop (min most (length bytes)) (replicate place 0)
+
+-- the number of an integrity attribute, and 0 of none
+abbrev pub integrity_number : Option IntegrityAlgorithm → ℕ
+integrity_number None = 0
+integrity_number (Some algorithm) = algorithm_number algorithm
+
+-- the integrity attribute and the key by which a response is signed
+abbrev pub integrity_of : Option Signature → Option IntegrityAlgorithm
+integrity_of by = option_map (λ (s : Signature). s.algorithm) by
+
+abbrev pub key_of : Option Signature → List ℕ
+key_of by = option_map_or (λ (s : Signature). s.key) by []
+
+-- the reply as a caller gets it: plain data
+abbrev pub reply_told : TheReply → Reply
+reply_told y = record {
+  id = big_bytes 12 y.id;
+  key = at_front KEY_ROOM KEY_ROOM (key_of y.ending.signature);
+  method = y.method;
+  key_length = min KEY_ROOM (length (key_of y.ending.signature));
+  integrity = integrity_number (integrity_of y.ending.signature);
+  has_fingerprint = y.ending.has_fingerprint;
+}
+
+-- what a caller gets with nothing told but the kind
+abbrev pub blank : ℕ → Received → Received
+blank kind r = record r {
+  kind = kind;
+  why = 0;
+  code = 0;
+  method = 0;
+  algorithm = 0;
+  length = 0;
+  name_length = 0;
+}
+
+-- what a caller gets of what a datagram comes to
+abbrev pub told_of : Outcome → Received → Received
+told_of (dropped why) r = record (blank 0 r) { why = drop_number why }
+told_of (answered a) r =
+    record (blank 1 r) { code = code_told a.refusal; length = length a.bytes }
+told_of (requested q) r = record (blank 2 r) {
+  method = q.reply.method;
+  algorithm = algorithm_number q.client.algorithm;
+  name_length = length q.client.name;
+  name = at_front NAME_PLACE NAME_ROOM q.client.name;
+  reply = reply_told q.reply;
+}
+told_of (indicated m) r = record (blank 3 r) { method = method_of (type_field m) }
+told_of (responded m) r = record (blank 4 r) { method = method_of (type_field m) }
+
+-- a response that has no room is refused
+abbrev pub room_refusal : ℕ → Outcome → Option Refusal
+room_refusal room (dropped why) = None
+room_refusal room (answered a) = if nat_lt room (length a.bytes) then Some BufferTooSmall else None
+room_refusal room (requested q) = None
+room_refusal room (indicated m) = None
+room_refusal room (responded m) = None
+
+-- how many bytes a response has; then they are told, and nothing else
+abbrev pub length_told : Outcome → Received → Received
+length_told (dropped why) r = r
+length_told (answered a) r = record r { length = length a.bytes }
+length_told (requested q) r = r
+length_told (indicated m) r = r
+length_told (responded m) r = r
+
+abbrev pub told_unless : Option Refusal → Outcome → Received → Received
+told_unless None outcome r = told_of outcome r
+told_unless (Some refusal) outcome r = length_told outcome r
+
+-- the response of what a datagram comes to
+abbrev pub response_of : Outcome → List ℕ → List ℕ
+response_of (dropped why) buffer = buffer
+response_of (answered a) buffer = a.bytes ++ drop (length a.bytes) buffer
+response_of (requested q) buffer = buffer
+response_of (indicated m) buffer = buffer
+response_of (responded m) buffer = buffer
+
+abbrev pub written_unless : Option Refusal → Outcome → List ℕ → List ℕ
+written_unless None outcome buffer = response_of outcome buffer
+written_unless (Some refusal) outcome buffer = buffer
+
+abbrev pub number_unless : Option Refusal → Outcome → ℤ
+number_unless None outcome = pos (kind_number outcome)
+number_unless (Some refusal) outcome = refusal_number refusal
+
+-- a call returns the number of an outcome and writes what is told of it; or an allocation failed:
+-- it returns the number of that, and writes nothing
+pub record IsTold (outcome : Outcome) (result : ℤ) (out out' : List ℕ) (r r' : Received)
+    : Type 0 where
+  pub number : result ≡ number_unless (room_refusal (length out) outcome) outcome
+  pub written : out' ≡ written_unless (room_refusal (length out) outcome) outcome out
+  pub told : r' ≡ told_unless (room_refusal (length out) outcome) outcome r
+
+abbrev pub LeavesAll : Refusal → ℤ → List ℕ → List ℕ → Received → Received → Type 0
+LeavesAll refusal result out out' r r' =
+    (result ≡ refusal_number refusal) × (out' ≡ out) × (r' ≡ r)
+
+-- what a call that judges a datagram returns and writes
+abbrev pub ReceivesAs : Result Outcome Refusal → ℤ → List ℕ → List ℕ → Received → Received
+    → Type 0
+ReceivesAs (Ok outcome) result out out' r r' =
+    IsTold outcome result out out' r r' ⊎ LeavesAll OutOfMemory result out out' r r'
+ReceivesAs (Err refusal) result out out' r r' = LeavesAll refusal result out out' r r'

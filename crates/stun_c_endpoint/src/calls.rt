@@ -1,0 +1,4 @@
+//! What a program in C calls, in the order of `include/stunp_endpoint.h`.
+
+mod server;
+mod users;

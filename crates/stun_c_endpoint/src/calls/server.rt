@@ -1,0 +1,138 @@
+//! The calls on a server (RFC 8489, sections 6.3 and 9.2.4).
+
+ghost use Rattle.std.specs.Prelude.{◌≡◌, pos, MatchOption, Some, None, IfNone, IfSome};
+ghost use Rattle.std.specs.Prelude.{if◌then◌else◌};
+ghost use Rattle.stun_handles.specs.Numbers.{OrOutOfMemory};
+ghost use Rattle.stun_numbers.specs.Refusals.{refusal_number};
+ghost use Rattle.stun_c_endpoint.specs.Given.{given_refusal, server_given};
+ghost use Rattle.stun_c_endpoint.specs.Told.{ReceivesAs, judged_outcome};
+ghost use Rattle.stun_c_endpoint.specs.declared.handle.endpoint.Kept.TheVariants.{Server};
+
+use crate::handle::endpoint::{EndpointHandle, Kept};
+use crate::received::Received;
+use crate::server;
+use crate::settings::Given;
+use std::alloc::Global;
+use stun_handles::address::Address;
+use stun_handles::answers;
+use stun_numbers::refusal::Refusal;
+
+/// Creates a server with long-term credentials. A number of seconds that is 0 is an hour, algorithms
+/// that are 0 are both, and a text of SOFTWARE without bytes is none.
+///
+/// Fails with `FullHandle`, then with `BadArgument` for an empty realm, for algorithms above 3, for
+/// a feature above 2 or for less than 30 seconds. Then come `NotText` for the realm or SOFTWARE,
+/// `TextTooLong` for more than 763 bytes of either, and `OutOfMemory`.
+#[unsafe(no_mangle)]
+pub extern "C" fn stunp_endpoint_server_new_with(
+    alloc: Global,
+    server: &mut EndpointHandle,
+    realm: &[u8],
+    software: &[u8],
+    secret: &[u8; 32],
+    previous_secret: &[u8; 32],
+    has_previous_secret: bool,
+    understood: &[u16],
+    nonce_seconds: u64,
+    algorithms: u32,
+    anonymous_username: u32,
+    answers_binding: bool,
+) -> i64
+    ensures full { IfSome server.old.kept (λ kept. (result ≡ refusal_number Refusal.FullHandle)
+        × (server.new.kept ≡ Some kept)) }
+    ensures made { IfNone server.old.kept (let given = record {
+          realm = realm.now;
+          software = software.now;
+          secret = secret.now;
+          previous_secret = if has_previous_secret then Some previous_secret.now else None;
+          understood = understood.now;
+          nonce_seconds = nonce_seconds;
+          algorithms = algorithms;
+          anonymous_username = anonymous_username;
+          answers_binding = answers_binding;
+        } in MatchOption (given_refusal given)
+        (OrOutOfMemory result None server.new.kept (pos 0) (Some (Server (server_given given))))
+        (λ refusal. (result ≡ refusal_number refusal) × (server.new.kept ≡ None))) }
+{
+    if let Some(kept) = server.take(alloc) {
+        server.put(alloc, kept);
+        return Refusal::FullHandle.code();
+    }
+    let given = Given {
+        realm,
+        software,
+        secret: *secret,
+        previous_secret: previous(previous_secret, has_previous_secret),
+        understood,
+        nonce_seconds,
+        algorithms,
+        anonymous_username,
+        answers_binding,
+    };
+    let made = match given.server(alloc) {
+        Ok(made) => made,
+        Err(refusal) => return refusal.code(),
+    };
+    match Box::new(alloc, Kept::Server(made)) {
+        Ok(kept) => {
+            server.put(alloc, kept);
+            0
+        }
+        Err(_) => Refusal::OutOfMemory.code(),
+    }
+}
+
+/// The secret before, if there is one.
+fn previous(secret: &[u8; 32], is_there: bool) -> Option<[u8; 32]>
+    ensures { result ≡ (if is_there then Some secret.now else None) }
+{
+    if is_there {
+        return Some(*secret);
+    }
+    None
+}
+
+/// Frees the server, and makes the handle empty.
+#[unsafe(no_mangle)]
+pub extern "C" fn stunp_endpoint_server_clear(alloc: Global, server: &mut EndpointHandle)
+    ensures { server.new.kept ≡ None }
+{
+    let _kept = server.take(alloc);
+}
+
+/// Judges a datagram that came from an address, and returns the number of what it comes to. A
+/// response that it gets at once is written to the front of `out`. `unix_seconds` is the time of the
+/// wall clock.
+///
+/// Fails with `EmptyHandle` if a handle is empty or has a value of another kind, then with
+/// `BadArgument` for the size of what is told, for the time or for the address. Then come
+/// `OutOfMemory`, and `BufferTooSmall`: the length of the response is told then, and nothing else.
+#[unsafe(no_mangle)]
+pub extern "C" fn stunp_endpoint_server_receive_own(
+    alloc: Global,
+    server: &mut EndpointHandle,
+    users: &mut EndpointHandle,
+    message: &[u8],
+    from: &Address,
+    unix_seconds: u64,
+    out: &mut [u8],
+    received: &mut Received,
+) -> i64
+    ensures answer { ReceivesAs (judged_outcome server.old.kept users.old.kept from.now unix_seconds
+        message.now received.old) result out.old out.new received.old received.new }
+    ensures server { server.new.kept ≡ server.old.kept }
+    ensures users { users.new.kept ≡ users.old.kept }
+{
+    let Some(kept) = server.take(alloc) else {
+        return Refusal::EmptyHandle.code();
+    };
+    let Some(table) = users.take(alloc) else {
+        server.put(alloc, kept);
+        return Refusal::EmptyHandle.code();
+    };
+    let told = server::receive(&kept, &table, message, from, unix_seconds, out, received);
+    let answer = answers::number(told);
+    users.put(alloc, table);
+    server.put(alloc, kept);
+    answer
+}

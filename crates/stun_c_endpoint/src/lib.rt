@@ -1,0 +1,13 @@
+//! The calls of the endpoint for programs in C, which `include/stunp_endpoint.h` declares.
+//!
+//! Each call takes the value out of its handle, calls the crates below with it, and puts it back.
+//! The clauses say what a call returns, writes and leaves in the words of those crates.
+#![tactic(auto)]
+
+mod calls;
+mod handle;
+mod received;
+mod release;
+mod server;
+mod settings;
+mod users;

@@ -1,0 +1,186 @@
+//! What a datagram comes to, as a caller in C gets it.
+
+ghost use Rattle.std.specs.Prelude.{◌≡◌, ◌≤◌};
+ghost use Rattle.byteorder.specs.Endian.{big_bytes};
+ghost use Rattle.stun_endpoint.specs.Received.{dropped, indicated, requested, responded};
+ghost use Rattle.stun_c_endpoint.specs.Told.{at_front, blank, drop_number, integrity_number};
+ghost use Rattle.stun_c_endpoint.specs.Told.{reply_told, told_of};
+
+use byteorder::{BigEndian, ByteOrder};
+use std::alloc::Global;
+use stun_endpoint::received::{DropReason, Request};
+use stun_endpoint::reply::Reply as EndpointReply;
+use stun_numbers::algorithm::algorithm_number;
+use stun_types::message::{IntegrityAlgorithm, Message, TransactionId};
+
+/// The longest key that a reply has room for.
+pub const KEY_ROOM: usize = 64;
+
+/// The longest name that is told.
+pub const NAME_ROOM: usize = 513;
+
+/// The bytes of a caller's result, with which it begins.
+pub const RECEIVED_SIZE: usize = 640;
+
+/// What answers one request: plain data, which owns nothing.
+#[repr(C)]
+#[derive(Clone, Copy)]
+pub struct Reply {
+    /// The transaction ID.
+    pub id: [u8; 12],
+    /// The key that signs a response, at the front.
+    pub key: [u8; 64],
+    /// The method.
+    pub method: u16,
+    /// How long the key is.
+    pub key_length: u8,
+    /// The integrity attribute: 1 is HMAC-SHA1, 2 HMAC-SHA256. 0: a response is not signed.
+    pub integrity: u8,
+    /// Whether a response ends with FINGERPRINT.
+    pub has_fingerprint: bool,
+}
+
+/// What a datagram comes to.
+#[repr(C)]
+pub struct Received {
+    /// The bytes of it.
+    pub size: usize,
+    /// What it comes to.
+    pub kind: u32,
+    /// Why it is dropped.
+    pub why: u32,
+    /// The code of an error response.
+    pub code: u32,
+    /// The method of the message.
+    pub method: u16,
+    /// The algorithm of the user's key.
+    pub algorithm: u16,
+    /// How long the response is.
+    pub length: usize,
+    /// How long the name is.
+    pub name_length: usize,
+    /// What answers the request.
+    pub reply: Reply,
+    /// The name of the user, which a zero ends.
+    pub name: [u8; 516],
+}
+
+/// No more than so many bytes at the front of a place, and zeros after them.
+fn front<const N: usize>(bytes: &[u8], most: usize) -> [u8; N]
+    requires { most ≤ N }
+    ensures { result ≡ at_front N most bytes.now }
+{
+    let mut place = [0; N];
+    let count = bytes.len().min(most);
+    place[..count].copy_from_slice(&bytes[..count]);
+    place
+}
+
+/// The bytes of a transaction ID, in network order.
+fn id_bytes(id: TransactionId) -> [u8; 12]
+    ensures { result ≡ big_bytes 12 id }
+{
+    let mut bytes = [0; 12];
+    BigEndian::write_uint128(&mut bytes, id.as_u128(), 12);
+    bytes
+}
+
+/// The number of an integrity attribute, and 0 of none.
+fn integrity_number(algorithm: Option<IntegrityAlgorithm>) -> u8
+    ensures { result ≡ integrity_number algorithm }
+{
+    match algorithm {
+        Some(algorithm) => algorithm_number(algorithm) as u8,
+        None => 0,
+    }
+}
+
+impl Reply {
+    /// What answers a request.
+    fn of(reply: &EndpointReply<Global>) -> Reply
+        ensures { result ≡ reply_told reply.now }
+    {
+        let key = reply.key();
+        Reply {
+            id: id_bytes(reply.transaction_id()),
+            key: front(key, KEY_ROOM),
+            method: reply.method().value(),
+            key_length: key.len().min(KEY_ROOM) as u8,
+            integrity: integrity_number(reply.integrity()),
+            has_fingerprint: reply.has_fingerprint(),
+        }
+    }
+}
+
+/// The number of a reason to drop a datagram.
+pub fn drop_number(why: DropReason) -> u32
+    ensures { result ≡ drop_number why }
+{
+    match why {
+        DropReason::NotStun => 1,
+        DropReason::Malformed => 2,
+        DropReason::WrongFingerprint => 3,
+        DropReason::UnknownAttribute => 4,
+    }
+}
+
+impl Received {
+    /// Tells the kind alone.
+    fn begin(&mut self, kind: u32)
+        ensures { self.new ≡ blank kind self.old }
+    {
+        self.kind = kind;
+        self.why = 0;
+        self.code = 0;
+        self.method = 0;
+        self.algorithm = 0;
+        self.length = 0;
+        self.name_length = 0;
+    }
+
+    /// Tells of a datagram that is dropped.
+    pub fn dropped(&mut self, why: DropReason)
+        ensures { self.new ≡ told_of (dropped why) self.old }
+    {
+        self.begin(0);
+        self.why = drop_number(why);
+    }
+
+    /// Tells of a response to send: its length, and its code if it is an error.
+    pub fn answered(&mut self, code: u16, length: usize)
+        ensures { self.new ≡ record (blank 1 self.old) { code = code; length = length } }
+    {
+        self.begin(1);
+        self.code = u32::from(code);
+        self.length = length;
+    }
+
+    /// Tells of an accepted request.
+    pub fn requested(&mut self, request: &Request<'_, Global>)
+        ensures { self.new ≡ told_of (requested request.now) self.old }
+    {
+        self.begin(2);
+        let name = request.user().as_bytes();
+        self.method = request.reply().method().value();
+        self.algorithm = algorithm_number(request.algorithm()) as u16;
+        self.name_length = name.len();
+        self.name = front(name, NAME_ROOM);
+        self.reply = Reply::of(request.reply());
+    }
+
+    /// Tells of an indication.
+    pub fn indicated(&mut self, message: &Message<'_>)
+        ensures { self.new ≡ told_of (indicated message.now) self.old }
+    {
+        self.begin(3);
+        self.method = message.method().value();
+    }
+
+    /// Tells of a response for a client.
+    pub fn responded(&mut self, message: &Message<'_>)
+        ensures { self.new ≡ told_of (responded message.now) self.old }
+    {
+        self.begin(4);
+        self.method = message.method().value();
+    }
+}

@@ -1,0 +1,96 @@
+//! What the call that judges a datagram does.
+
+ghost use Rattle.std.specs.Prelude.{◌≡◌, Some};
+ghost use Rattle.stun_handles.specs.Numbers.{number_answer};
+ghost use Rattle.stun_endpoint.specs.Outcomes.{outcome_of};
+ghost use Rattle.stun_endpoint.specs.Received.{answered};
+ghost use Rattle.stun_c_endpoint.specs.Told.{IsTold, ReceivesAs, code_told, judged_outcome};
+
+use crate::handle::endpoint::Kept;
+use crate::received::{RECEIVED_SIZE, Received};
+use std::alloc::Global;
+use stun_endpoint::received::{Answer, Received as Outcome, Refusal as Refused};
+use stun_endpoint::unix_time::UnixTime;
+use stun_handles::address::Address;
+use stun_numbers::buffer::put;
+use stun_numbers::refusal::Refusal;
+
+/// The greatest time, in seconds. A greater number is one of nanoseconds.
+const LAST_SECOND: u64 = 1_099_511_627_776;
+
+/// The code of a response, and 0 of a success.
+fn code(refusal: Option<Refused>) -> u16
+    ensures { result ≡ code_told refusal }
+{
+    match refusal {
+        Some(refusal) => refusal.code(),
+        None => 0,
+    }
+}
+
+/// Writes a response to the front of the buffer, and tells of it. If it has no room, its length is
+/// told.
+fn answered(
+    answer: &Answer<Global>,
+    out: &mut [u8],
+    received: &mut Received,
+) -> Result<u32, Refusal>
+    ensures { IsTold (answered answer.now) (number_answer result) out.old out.new received.old
+        received.new }
+{
+    let bytes = answer.bytes();
+    if out.len() < bytes.len() {
+        received.length = bytes.len();
+        return Err(Refusal::BufferTooSmall);
+    }
+    put(out, bytes);
+    received.answered(code(answer.refusal()), bytes.len());
+    Ok(1)
+}
+
+/// Tells what a datagram comes to.
+fn tell(
+    outcome: &Outcome<'_, Global>,
+    out: &mut [u8],
+    received: &mut Received,
+) -> Result<u32, Refusal>
+    ensures { IsTold (outcome_of outcome.now) (number_answer result) out.old out.new received.old
+        received.new }
+{
+    match outcome {
+        Outcome::Answer(answer) => return answered(answer, out, received),
+        Outcome::Request(request) => received.requested(request),
+        Outcome::Indication(message) => received.indicated(message),
+        Outcome::Response(message) => received.responded(message),
+        Outcome::Dropped(why) => received.dropped(*why),
+    }
+    Ok(received.kind)
+}
+
+/// Judges a datagram by a server and a table of users, and tells what it comes to.
+pub fn receive(
+    server: &Kept,
+    users: &Kept,
+    message: &[u8],
+    from: &Address,
+    unix_seconds: u64,
+    out: &mut [u8],
+    received: &mut Received,
+) -> Result<u32, Refusal>
+    ensures { ReceivesAs (judged_outcome (Some server.now) (Some users.now) from.now unix_seconds
+        message.now received.old) (number_answer result) out.old out.new received.old
+        received.new }
+{
+    let Kept::Server(server) = server else {
+        return Err(Refusal::EmptyHandle);
+    };
+    let Kept::Users(users) = users else {
+        return Err(Refusal::EmptyHandle);
+    };
+    if received.size != RECEIVED_SIZE || unix_seconds > LAST_SECOND {
+        return Err(Refusal::BadArgument);
+    }
+    let from = from.socket()?;
+    let outcome = server.receive(message, from, UnixTime::from_secs(unix_seconds), users)?;
+    tell(&outcome, out, received)
+}

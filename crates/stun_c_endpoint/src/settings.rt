@@ -1,0 +1,174 @@
+//! The settings of a server as a caller gives them.
+
+ghost use Rattle.std.specs.Option.{option_map};
+ghost use Rattle.std.specs.Prelude.{◌≡◌, IfOk, IsOkUnless, MatchOption, None, Err, length};
+ghost use Rattle.std.specs.String.{string_bytes};
+ghost use Rattle.stun_extra.specs.Unknown.{types_of};
+ghost use Rattle.stun_c_endpoint.specs.Given.{given_refusal, has_sha1, has_sha256, if_any};
+ghost use Rattle.stun_c_endpoint.specs.Given.{is_out_of_range, nonce_seconds, server_given};
+
+use std::alloc::{AllocError, Global};
+use std::marker::Model;
+use stun_base::attribute_type::AttributeType;
+use stun_endpoint::server::{DEFAULT_NONCE_LIFETIME, LongTerm, SHORTEST_NONCE_LIFETIME, Server};
+use stun_handles::text::copied;
+use stun_numbers::refusal::Refusal;
+use stun_numbers::text::text;
+use stun_types::limits::TEXT_LIMIT;
+
+/// The number of HMAC-SHA1 alone.
+const ONLY_SHA1: u32 = 1;
+
+/// The number of HMAC-SHA256 alone.
+const ONLY_SHA256: u32 = 2;
+
+/// The greatest number of algorithms: both.
+const MOST_ALGORITHMS: u32 = 3;
+
+/// The greatest number of a feature, by which no name is hashed.
+const DISABLED: u32 = 2;
+
+/// What a caller gives. Contracts see bytes and numbers.
+pub struct Given<'a> {
+    pub realm: &'a [u8],
+    pub software: &'a [u8],
+    pub secret: [u8; 32],
+    pub previous_secret: Option<[u8; 32]>,
+    pub understood: &'a [u16],
+    pub nonce_seconds: u64,
+    pub algorithms: u32,
+    pub anonymous_username: u32,
+    pub answers_binding: bool,
+}
+
+impl<'a> Model for Given<'a> {
+    ghost use Rattle.stun_c_endpoint.specs.Given.{Given as GivenSeen};
+
+    ghost Value = { GivenSeen };
+
+    ghost view = { λ given. record {
+      realm = given.realm.now;
+      software = given.software.now;
+      secret = given.secret;
+      previous_secret = given.previous_secret;
+      understood = given.understood.now;
+      nonce_seconds = given.nonce_seconds;
+      algorithms = given.algorithms;
+      anonymous_username = given.anonymous_username;
+      answers_binding = given.answers_binding;
+    } };
+}
+
+/// The seconds of a nonce lifetime: an hour where 0 is given.
+fn nonce_seconds(seconds: u64) -> u64
+    ensures { result ≡ nonce_seconds seconds }
+{
+    if seconds == 0 {
+        return DEFAULT_NONCE_LIFETIME;
+    }
+    seconds
+}
+
+/// The types of numbers.
+fn types(alloc: Global, numbers: &[u16]) -> Result<Vec<AttributeType, Global>, AllocError>
+    ensures { IfOk result (λ types. types.items ≡ types_of numbers.now) }
+{
+    let mut types = Vec::new(alloc);
+    types.resize(numbers.len(), AttributeType::new(0))?;
+    copy_types(types.as_mut_slice(), numbers);
+    Ok(types)
+}
+
+/// Makes types of numbers.
+fn copy_types(types: &mut [AttributeType], numbers: &[u16])
+    requires { length types.old ≡ length numbers.now }
+    ensures { types.new ≡ types_of numbers.now }
+{
+    for i in 0..numbers.len() {
+        types[i] = AttributeType::new(numbers[i]);
+    }
+}
+
+/// A text, if it has bytes.
+fn text_if_any(alloc: Global, text: &str) -> Result<Option<String<Global>>, AllocError>
+    ensures { IfOk result (λ copy. option_map string_bytes copy ≡ if_any text.now) }
+{
+    if text.len() == 0 {
+        return Ok(None);
+    }
+    Ok(Some(copied(alloc, text)?))
+}
+
+impl<'a> Given<'a> {
+    /// Whether a number is none that is taken, or the realm has no bytes.
+    fn is_out_of_range(&self) -> bool
+        ensures { result ≡ is_out_of_range self.now }
+    {
+        self.algorithms > MOST_ALGORITHMS
+            || self.anonymous_username > DISABLED
+            || self.realm.len() == 0
+            || nonce_seconds(self.nonce_seconds) < SHORTEST_NONCE_LIFETIME
+    }
+
+    /// The settings that are given, with the realm and the text of SOFTWARE.
+    fn long_term(
+        &self,
+        alloc: Global,
+        realm: &str,
+        software: &str,
+    ) -> Result<LongTerm<Global>, AllocError>
+        ensures realm { IfOk result (λ made. string_bytes made.realm ≡ realm.now) }
+        ensures software { IfOk result (λ made. option_map string_bytes made.software
+            ≡ if_any software.now) }
+        ensures secret { IfOk result (λ made. made.secret ≡ self.now.secret) }
+        ensures previous { IfOk result (λ made. made.previous_secret ≡ self.now.previous_secret) }
+        ensures sha1 { IfOk result (λ made. made.hmac_sha1 ≡ has_sha1 self.now.algorithms) }
+        ensures sha256 { IfOk result (λ made. made.hmac_sha256
+            ≡ has_sha256 self.now.algorithms) }
+        ensures hashes { IfOk result (λ made. made.user_hashes
+            ≡ not (self.now.anonymous_username == 2)) }
+        ensures lifetime { IfOk result (λ made. made.nonce_lifetime
+            ≡ nonce_seconds self.now.nonce_seconds) }
+        ensures understood { IfOk result (λ made. made.understood.items
+            ≡ types_of self.now.understood) }
+        ensures binding { IfOk result (λ made. made.answers_binding
+            ≡ self.now.answers_binding) }
+    {
+        let software = text_if_any(alloc, software)?;
+        let understood = types(alloc, self.understood)?;
+        Ok(LongTerm {
+            realm: copied(alloc, realm)?,
+            secret: self.secret,
+            previous_secret: self.previous_secret,
+            hmac_sha1: self.algorithms != ONLY_SHA256,
+            hmac_sha256: self.algorithms != ONLY_SHA1,
+            user_hashes: self.anonymous_username != DISABLED,
+            nonce_lifetime: nonce_seconds(self.nonce_seconds),
+            understood,
+            software,
+            answers_binding: self.answers_binding,
+        })
+    }
+
+    /// Builds the server.
+    pub fn server(&self, alloc: Global) -> Result<Server<Global>, Refusal>
+        ensures refused { MatchOption (given_refusal self.now)
+            (IsOkUnless result Refusal.OutOfMemory) (λ refusal. result ≡ Err refusal) }
+        ensures built { IfOk result (λ server. server ≡ server_given self.now) }
+    {
+        if self.is_out_of_range() {
+            return Err(Refusal::BadArgument);
+        }
+        let realm = text(self.realm)?;
+        let software = text(self.software)?;
+        if realm.len() > TEXT_LIMIT || software.len() > TEXT_LIMIT {
+            return Err(Refusal::TextTooLong);
+        }
+        let settings = self.long_term(alloc, realm, software)?;
+        match Server::new(alloc, settings) {
+            Ok(server) => Ok(server),
+            // What is wrong with settings is found above, so that an allocation failed.
+            Err(_) => Err(Refusal::OutOfMemory),
+        }
+    }
+}

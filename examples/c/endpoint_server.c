@@ -1,0 +1,57 @@
+/* A STUN server with one user, over stunp_endpoint.h. It tells that user the address that it sees,
+ * and challenges everybody else.
+ *
+ *     endpoint_server PORT REALM NAME PASSWORD
+ *
+ * Port 0 is any free one. The first line of output is `port N`. udp_server.c is a server with
+ * options. */
+#define _GNU_SOURCE
+#include "net.h"
+#include "stunp_endpoint.h"
+#include <poll.h>
+#include <stdio.h>
+#include <stdlib.h>
+#include <time.h>
+
+static stunp_endpoint_server server;
+static stunp_endpoint_users users;
+
+/* What the server is: its realm, its secret and its user. */
+static bool set_up(const char *realm, const char *name, const char *password) {
+    static uint8_t secret[32];
+    stunp_endpoint_server_settings settings = STUNP_INIT(stunp_endpoint_server_settings);
+    fill_randomly(secret, sizeof secret);
+    settings.realm = realm, settings.secret = secret, settings.answers_binding = true;
+    if (stunp_endpoint_server_new(&server, &settings) < 0) return false;
+    if (stunp_endpoint_users_new(&users, &server) < 0) return false;
+    return stunp_endpoint_users_add(&users, name, strlen(name), password, strlen(password)) >= 0;
+}
+
+/* What a datagram gets. */
+static void answer(int socket, const struct datagram *got) {
+    static uint8_t out[STUNP_ANSWER_MAX];
+    static stunp_received received = STUNP_INIT(stunp_received);
+    int64_t kind = stunp_endpoint_server_receive(&server, &users, got->bytes, got->length, &got->from,
+                                                 (uint64_t)time(NULL), out, sizeof out, &received);
+    if (kind == STUNP_ANSWER) send_to(socket, out, received.length, &got->peer);
+}
+
+int main(int count, char **words) {
+    static struct datagram got;
+    struct listener listener;
+    struct pollfd waiting[MOST_SOCKETS];
+    unsigned long port = count == 5 ? strtoul(words[1], NULL, 10) : 0;
+    if (count != 5) {
+        fprintf(stderr, "usage: endpoint_server PORT REALM NAME PASSWORD\n");
+        return 2;
+    }
+    if (!open_server(&port, false, &listener) || !set_up(words[2], words[3], words[4])) return 1;
+    printf("port %lu\n", port);
+    fflush(stdout);
+    for (int i = 0; i < listener.number; i++)
+        waiting[i] = (struct pollfd){listener.sockets[i], POLLIN, 0};
+    while (poll(waiting, (nfds_t)listener.number, -1) >= 0)
+        for (int i = 0; i < listener.number; i++)
+            while (receive(listener.sockets[i], &got)) answer(listener.sockets[i], &got);
+    return 1;
+}

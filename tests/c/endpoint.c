@@ -1,0 +1,370 @@
+/* The calls of the endpoint: what only C can pass, each refusal in its order, what a datagram comes
+ * to, replies, and memory that is refused. */
+#include "fixture.h"
+#include "stunp_endpoint.h"
+
+static const uint64_t NOW = 1700000000, LAST = 1099511627776;
+
+static const uint8_t secret[32] = {7}, other_secret[32] = {8};
+static uint8_t out[STUNP_ANSWER_MAX];
+static const stunp_address from = {{192, 0, 2, 1}, 3478, 4}, nowhere = {{0}, 1, 5};
+
+/* A server and its table, and a client of its one user. */
+struct realm {
+    stunp_endpoint_server server;
+    stunp_endpoint_users users;
+    stunp_client client;
+};
+
+static stunp_endpoint_server_settings settings_of(const uint16_t *understood, size_t count) {
+    stunp_endpoint_server_settings settings = STUNP_INIT(stunp_endpoint_server_settings);
+    settings.realm = "realm";
+    settings.secret = secret;
+    settings.understood = understood;
+    settings.understood_count = count;
+    return settings;
+}
+
+static struct realm realm_of(const stunp_endpoint_server_settings *settings) {
+    struct realm realm = {{0}, {0}, {0}};
+    want("server", stunp_endpoint_server_new(&realm.server, settings), 0);
+    want("users", stunp_endpoint_users_new(&realm.users, &realm.server), 0);
+    want("add", stunp_endpoint_users_add(&realm.users, "name", 4, "password", 8), 0);
+    want("client", stunp_client_new(&realm.client), 0);
+    want("algorithms", stunp_client_set_algorithms(&realm.client, STUNP_SHA1 | STUNP_SHA256), 0);
+    want("credentials",
+         stunp_client_set_credentials(&realm.client, "name", 4, "password", 8), 0);
+    return realm;
+}
+
+static void free_realm(struct realm *realm) {
+    stunp_endpoint_server_free(&realm->server);
+    stunp_endpoint_users_free(&realm->users);
+    stunp_client_free(&realm->client);
+}
+
+static int64_t judge(const struct realm *realm, const struct message *message, uint64_t now,
+                     size_t room, stunp_received *received) {
+    return stunp_endpoint_server_receive(&realm->server, &realm->users, message->bytes,
+                                         message->length, &from, now, out, room, received);
+}
+
+/* A request of the client, with an attribute or none, signed where it can be. */
+static struct message request(struct realm *realm, uint32_t number, uint32_t type,
+                              bool has_fingerprint) {
+    struct message message = message_of(STUNP_REQUEST, number);
+    stunp_writer writer = stunp_write_on((int64_t)message.length, message.bytes,
+                                         sizeof message.bytes);
+    if (type != 0) stunp_write_number(&writer, type, 600, 4);
+    stunp_write_client_sign(&writer, &realm->client);
+    if (has_fingerprint) stunp_write_fingerprint(&writer);
+    want("written", stunp_written(&writer), 0);
+    message.length = writer.length;
+    return message;
+}
+
+/* The first request draws a 401, by which the client is challenged. */
+static void take_challenge(struct realm *realm, uint64_t now) {
+    stunp_received received = STUNP_INIT(stunp_received);
+    struct message plain = message_of(STUNP_REQUEST, 1);
+    want("unsigned", judge(realm, &plain, now, sizeof out, &received), STUNP_ANSWER);
+    want("code", received.code, 401);
+    want("a 401", stunp_client_validate(&realm->client, out, received.length), STUNP_RESEND);
+}
+
+static void settings_in_order(void) {
+    stunp_endpoint_server server = {0}, full = {0};
+    stunp_endpoint_server_settings settings = settings_of(NULL, 0), good = settings;
+    static char longest[765];
+    memset(longest, 'x', 764);
+    want("good", stunp_endpoint_server_new(&full, &good), 0);
+    settings.size--;
+    want("size", stunp_endpoint_server_new(&server, &settings), STUNP_BAD_ARGUMENT);
+    settings = good, settings.secret = NULL;
+    want("secret", stunp_endpoint_server_new(&server, &settings), STUNP_BAD_ARGUMENT);
+    settings = good, settings.realm = NULL;
+    want("no realm", stunp_endpoint_server_new(&server, &settings), STUNP_BAD_ARGUMENT);
+    settings = good, settings.realm = longest;
+    want("long", stunp_endpoint_server_new(&server, &settings), STUNP_TEXT_TOO_LONG);
+    settings.software = "\xff";
+    want("no text", stunp_endpoint_server_new(&server, &settings), STUNP_NOT_TEXT);
+    settings.algorithms = 4;
+    want("algorithms", stunp_endpoint_server_new(&server, &settings), STUNP_BAD_ARGUMENT);
+    want("full first", stunp_endpoint_server_new(&full, &settings), STUNP_FULL_HANDLE);
+    settings = good, settings.anonymous_username = (stunp_feature)3;
+    want("feature", stunp_endpoint_server_new(&server, &settings), STUNP_BAD_ARGUMENT);
+    settings = good, settings.nonce_seconds = 29;
+    want("nonce", stunp_endpoint_server_new(&server, &settings), STUNP_BAD_ARGUMENT);
+    settings = good, settings.realm = "";
+    want("empty realm", stunp_endpoint_server_new(&server, &settings), STUNP_BAD_ARGUMENT);
+    want("empty", server.is_full, false);
+    settings = good, settings.nonce_seconds = 30, settings.software = "example 1.0";
+    longest[763] = 0, settings.realm = longest;
+    want("longest", stunp_endpoint_server_new(&server, &settings), 0);
+    stunp_endpoint_server_free(&server);
+    stunp_endpoint_server_free(&server);
+    stunp_endpoint_server_free(&full);
+    stunp_endpoint_server_free(NULL);
+}
+
+static void users_in_order(void) {
+    stunp_endpoint_server_settings settings = settings_of(NULL, 0);
+    struct realm realm = realm_of(&settings);
+    stunp_endpoint_users empty = {0}, *users = &realm.users;
+    static uint8_t name[514], key[33];
+    memset(name, 'x', sizeof name);
+    const uint8_t byte = 0xff;
+    want("full", stunp_endpoint_users_new(users, &realm.server), STUNP_FULL_HANDLE);
+    want("no server", stunp_endpoint_users_new(&empty, &(stunp_endpoint_server){0}),
+         STUNP_EMPTY_HANDLE);
+    /* A handle of another kind has no table, and no server. */
+    stunp_endpoint_users as_users = {realm.server.is_full, realm.server.state};
+    stunp_endpoint_server as_server = {users->is_full, users->state};
+    want("of users", stunp_endpoint_users_new(&empty, &as_server), STUNP_EMPTY_HANDLE);
+    want("to a server", stunp_endpoint_users_add(&as_users, &byte, 1, "", 0), STUNP_EMPTY_HANDLE);
+    want("of a server", stunp_endpoint_users_remove(&as_users, &byte, 1), STUNP_EMPTY_HANDLE);
+    want("as it was", as_users.is_full && as_users.state == realm.server.state, true);
+    want("none", stunp_endpoint_users_add(&empty, &byte, 1, "", 0), STUNP_EMPTY_HANDLE);
+    want("none", stunp_endpoint_users_add_keys(&empty, &byte, 1, key, 1, key, 1),
+         STUNP_EMPTY_HANDLE);
+    want("none", stunp_endpoint_users_remove(&empty, &byte, 1), STUNP_EMPTY_HANDLE);
+    want("name", stunp_endpoint_users_add(users, &byte, 1, "", 0), STUNP_NOT_TEXT);
+    want("password", stunp_endpoint_users_add(users, name, 514, &byte, 1), STUNP_NOT_TEXT);
+    want("long", stunp_endpoint_users_add(users, name, 514, "", 0), STUNP_TEXT_TOO_LONG);
+    want("longest", stunp_endpoint_users_add(users, name, 513, "", 0), 0);
+    want("keys", stunp_endpoint_users_add_keys(users, &byte, 1, key, 15, key, 32), STUNP_NOT_TEXT);
+    want("keys", stunp_endpoint_users_add_keys(users, name, 514, key, 15, key, 32),
+         STUNP_TEXT_TOO_LONG);
+    want("SHA-1", stunp_endpoint_users_add_keys(users, name, 513, key, 15, key, 32),
+         STUNP_BAD_ARGUMENT);
+    want("SHA-256", stunp_endpoint_users_add_keys(users, name, 513, key, 16, key, 33),
+         STUNP_BAD_ARGUMENT);
+    want("both", stunp_endpoint_users_add_keys(users, name, 513, key, 16, key, 32), 0);
+    want("neither", stunp_endpoint_users_add_keys(users, name, 513, NULL, 0, NULL, 0), 0);
+    want("removed", stunp_endpoint_users_remove(users, name, 513), 0);
+    want("nobody", stunp_endpoint_users_remove(users, name, 513), 0);
+    want("no name", stunp_endpoint_users_remove(users, &byte, 1), STUNP_NOT_TEXT);
+    stunp_heap_bound(0);
+    want("memory", stunp_endpoint_users_add(users, "b", 1, "c", 1), STUNP_OUT_OF_MEMORY);
+    want("memory", stunp_endpoint_users_add_keys(users, "b", 1, key, 16, key, 32),
+         STUNP_OUT_OF_MEMORY);
+    want("memory", stunp_endpoint_users_new(&empty, &realm.server), STUNP_OUT_OF_MEMORY);
+    want("text first", stunp_endpoint_users_add(users, &byte, 1, "", 0), STUNP_NOT_TEXT);
+    stunp_heap_bound(SIZE_MAX);
+    free_realm(&realm);
+}
+
+static void receiving_in_order(void) {
+    stunp_endpoint_server_settings settings = settings_of(NULL, 0);
+    struct realm realm = realm_of(&settings), none = realm;
+    stunp_received received = STUNP_INIT(stunp_received), before;
+    struct message plain = message_of(STUNP_REQUEST, 1);
+    received.kind = 9, received.name[0] = 9, received.reply.key[0] = 9;
+    before = received, before.size--;
+    none.users.is_full = false;
+    want("no users", judge(&none, &plain, LAST + 1, 0, &before), STUNP_EMPTY_HANDLE);
+    none = realm, none.server.is_full = false;
+    want("no server", judge(&none, &plain, LAST + 1, 0, &before), STUNP_EMPTY_HANDLE);
+    want("size", judge(&realm, &plain, NOW, sizeof out, &before), STUNP_BAD_ARGUMENT);
+    before = received;
+    want("time", judge(&realm, &plain, (uint64_t)LAST + 1, sizeof out, &received),
+         STUNP_BAD_ARGUMENT);
+    want("nowhere", stunp_endpoint_server_receive(&realm.server, &realm.users, plain.bytes,
+         plain.length, &nowhere, NOW, out, sizeof out, &received), STUNP_BAD_ARGUMENT);
+    stunp_heap_bound(0);
+    want("memory", judge(&realm, &plain, NOW, sizeof out, &received), STUNP_OUT_OF_MEMORY);
+    stunp_heap_bound(SIZE_MAX);
+    want_same("as it was", &received, &before, sizeof received);
+    want("the last second", judge(&realm, &plain, LAST, sizeof out, NULL), STUNP_ANSWER);
+    want("no room", stunp_endpoint_server_receive(&realm.server, &realm.users, plain.bytes,
+         plain.length, &from, NOW, NULL, 0, &received), STUNP_BUFFER_TOO_SMALL);
+    size_t wanted = received.length;
+    want("its length is told", wanted > 20, true);
+    before.length = wanted;
+    want_same("and nothing else", &received, &before, sizeof received);
+    memset(out, 0xaa, sizeof out);
+    want("one less", judge(&realm, &plain, NOW, wanted - 1, &received), STUNP_BUFFER_TOO_SMALL);
+    want("nothing is written", out[0], 0xaa);
+    want("as much", judge(&realm, &plain, NOW, wanted, &received), STUNP_ANSWER);
+    want("not more", out[wanted], 0xaa);
+    want("kind", received.kind, STUNP_ANSWER);
+    want("code", received.code, 401);
+    want("length", (int64_t)received.length, (int64_t)wanted);
+    want("dropped", stunp_endpoint_server_receive(&realm.server, &realm.users, NULL, 0, &from, NOW,
+         NULL, 0, &received), STUNP_DROPPED);
+    want("why", received.why, STUNP_DROP_NOT_STUN);
+    want("no length", (int64_t)received.length, 0);
+    want("its text", strcmp(stunp_drop_text(received.why), "it is not STUN"), 0);
+    free_realm(&realm);
+}
+
+/* Each kind, and each reason. */
+static void kinds(void) {
+    stunp_endpoint_server_settings settings = settings_of(NULL, 0);
+    struct realm realm = realm_of(&settings);
+    stunp_received received = STUNP_INIT(stunp_received);
+    struct message message = message_of(STUNP_INDICATION, 5);
+    want("indication", judge(&realm, &message, NOW, 0, &received), STUNP_IS_INDICATION);
+    want("method", received.method, STUNP_BINDING);
+    message.length--;
+    want("cut", judge(&realm, &message, NOW, 0, &received), STUNP_DROPPED);
+    want("why", received.why, STUNP_DROP_NOT_STUN);
+    message = message_of(STUNP_INDICATION, 5);
+    int64_t length = stunp_add_number(message.bytes, sizeof message.bytes, message.length,
+                                      STUNP_LIFETIME, 1, 4);
+    message.length = (size_t)length;
+    want("unknown", judge(&realm, &message, NOW, 0, &received), STUNP_DROPPED);
+    want("why", received.why, STUNP_DROP_UNKNOWN_ATTRIBUTE);
+    message.length--;
+    want("malformed", judge(&realm, &message, NOW, 0, &received), STUNP_DROPPED);
+    want("why", received.why, STUNP_DROP_MALFORMED);
+    message = message_of(STUNP_SUCCESS, 5);
+    want("response", judge(&realm, &message, NOW, 0, &received), STUNP_IS_RESPONSE);
+    length = stunp_add_fingerprint(message.bytes, sizeof message.bytes, message.length);
+    message.length = (size_t)length;
+    message.bytes[27] ^= 1;
+    want("damaged", judge(&realm, &message, NOW, 0, &received), STUNP_DROPPED);
+    want("why", received.why, STUNP_DROP_WRONG_FINGERPRINT);
+    free_realm(&realm);
+}
+
+/* A request that the caller answers, and what the answer has. */
+static void replies(uint32_t algorithms, bool has_fingerprint) {
+    const uint16_t understood[] = {STUNP_LIFETIME};
+    stunp_endpoint_server_settings settings = settings_of(understood, 1);
+    settings.algorithms = algorithms;
+    struct realm realm = realm_of(&settings);
+    stunp_received received = STUNP_INIT(stunp_received);
+    take_challenge(&realm, NOW);
+    int64_t wanted = algorithms == STUNP_SHA1 ? STUNP_SHA1 : STUNP_SHA256;
+    struct message message = request(&realm, 2, STUNP_LIFETIME, has_fingerprint);
+    want("request", judge(&realm, &message, NOW + 10, 0, &received), STUNP_IS_REQUEST);
+    want("method", received.method, STUNP_BINDING);
+    want("algorithm", received.algorithm, wanted);
+    want("name", (int64_t)received.name_length, 4);
+    want_same("name", received.name, "name", 5);
+    /* Later: the server is gone. */
+    stunp_reply reply = received.reply;
+    stunp_reply_wipe(&received.reply);
+    for (size_t i = 0; i < sizeof reply; i++)
+        want("wiped", ((uint8_t *)&received.reply)[i], 0);
+    stunp_endpoint_server_free(&realm.server);
+    for (int is_error = 0; is_error < 2; is_error++) {
+        stunp_writer answer = is_error ? stunp_reply_error(&reply, 486, "Quota", out, sizeof out)
+                                       : stunp_reply_success(&reply, out, sizeof out);
+        stunp_write_number(&answer, STUNP_LIFETIME, 600, 4);
+        int64_t length = stunp_reply_finish(&reply, &answer);
+        want("its length", length, (int64_t)answer.length);
+        stunp_header header;
+        want("header", stunp_read_header(out, (size_t)length, &header), 0);
+        want("class", header.message_class, is_error ? STUNP_ERROR : STUNP_SUCCESS);
+        want_same("id", header.id, message.bytes + 8, STUNP_ID_LENGTH);
+        want("signed", stunp_client_validate(&realm.client, out, (size_t)length), wanted);
+        want("FINGERPRINT", stunp_check_fingerprint(out, (size_t)length),
+             has_fingerprint ? STUNP_RIGHT_FINGERPRINT : STUNP_NO_FINGERPRINT);
+    }
+    stunp_writer small = stunp_reply_error(&reply, 486, "Quota", out, 24);
+    want("no room", stunp_reply_finish(&reply, &small), STUNP_BUFFER_TOO_SMALL);
+    stunp_writer wrong = stunp_reply_error(&reply, 299, "", out, sizeof out);
+    want("no error", stunp_reply_finish(&reply, &wrong), STUNP_BAD_ARGUMENT);
+    free_realm(&realm);
+}
+
+/* 420 and 438, stored keys, another secret, and a server that answers Binding. */
+static void whole_server(void) {
+    stunp_endpoint_server_settings settings = settings_of(NULL, 0);
+    settings.answers_binding = true;
+    settings.software = "example 1.0";
+    struct realm realm = realm_of(&settings);
+    stunp_received received = STUNP_INIT(stunp_received);
+    uint8_t octets[16], key[32];
+    uint16_t port, types[4];
+    take_challenge(&realm, NOW);
+    struct message message = request(&realm, 2, 0, true);
+    want("Binding", judge(&realm, &message, NOW, sizeof out, &received), STUNP_ANSWER);
+    want("success", received.code, 0);
+    want("signed", stunp_client_validate(&realm.client, out, received.length), STUNP_SHA256);
+    want("the address", stunp_xor_mapped_address(out, received.length, octets, 16, &port), 4);
+    want_same("the address", octets, from.octets, 4);
+    want("FINGERPRINT", stunp_has_right_fingerprint(out, received.length), true);
+    message = request(&realm, 3, STUNP_LIFETIME, false);
+    want("unknown", judge(&realm, &message, NOW, sizeof out, &received), STUNP_ANSWER);
+    want("420", received.code, 420);
+    want("signed", stunp_client_validate(&realm.client, out, received.length), STUNP_SHA256);
+    want("types", stunp_find_types(out, received.length, STUNP_UNKNOWN_ATTRIBUTES, types, 4), 1);
+    want("type", types[0], STUNP_LIFETIME);
+    want("stale", judge(&realm, &message, NOW + 7200, sizeof out, &received), STUNP_ANSWER);
+    want("438", received.code, 438);
+    /* The same users by their keys. */
+    want("removed", stunp_endpoint_users_remove(&realm.users, "name", 4), 0);
+    message = request(&realm, 4, 0, false);
+    want("nobody", judge(&realm, &message, NOW, sizeof out, &received), STUNP_ANSWER);
+    want("401", received.code, 401);
+    want("key", stunp_long_term_key(STUNP_SHA256, "name", 4, "realm", 5, "password", 8, key, 32),
+         32);
+    want("added", stunp_endpoint_users_add_keys(&realm.users, "name", 4, NULL, 0, key, 32), 0);
+    want("by a key", judge(&realm, &message, NOW, sizeof out, &received), STUNP_ANSWER);
+    want("success", received.code, 0);
+    /* A new secret, with the one before and without. */
+    stunp_endpoint_server_free(&realm.server);
+    settings.secret = other_secret;
+    want("another", stunp_endpoint_server_new(&realm.server, &settings), 0);
+    want("another secret", judge(&realm, &message, NOW, sizeof out, &received), STUNP_ANSWER);
+    want("438", received.code, 438);
+    stunp_endpoint_server_free(&realm.server);
+    settings.previous_secret = secret;
+    want("another", stunp_endpoint_server_new(&realm.server, &settings), 0);
+    want("the secret before", judge(&realm, &message, NOW, sizeof out, &received), STUNP_ANSWER);
+    want("success", received.code, 0);
+    free_realm(&realm);
+}
+
+/* Each allocation in turn is refused: the call fails, and then gives what it gave. */
+static void each_allocation(void) {
+    stunp_endpoint_server_settings settings = settings_of(NULL, 0);
+    settings.answers_binding = true;
+    settings.software = "example 1.0";
+    struct realm realm = realm_of(&settings);
+    stunp_received received = STUNP_INIT(stunp_received);
+    take_challenge(&realm, NOW);
+    struct message messages[] = {message_of(STUNP_REQUEST, 1), request(&realm, 2, 0, true),
+                                 request(&realm, 3, STUNP_LIFETIME, true)};
+    for (size_t i = 0; i < sizeof messages / sizeof *messages; i++) {
+        int64_t kind = STUNP_OUT_OF_MEMORY;
+        for (size_t n = 1; kind == STUNP_OUT_OF_MEMORY; n++) {
+            stunp_heap_refuse(n);
+            kind = judge(&realm, &messages[i], NOW, sizeof out, &received);
+        }
+        stunp_heap_refuse(0);
+        want("in the end", kind, STUNP_ANSWER);
+    }
+    stunp_endpoint_server server = {0};
+    int64_t made = STUNP_OUT_OF_MEMORY;
+    for (size_t n = 1; made == STUNP_OUT_OF_MEMORY; n++) {
+        stunp_heap_refuse(n);
+        made = stunp_endpoint_server_new(&server, &settings);
+        want("empty", server.is_full, made == 0);
+    }
+    stunp_heap_refuse(0);
+    want("made", made, 0);
+    stunp_endpoint_server_free(&server);
+    free_realm(&realm);
+}
+
+int main(void) {
+    want("version", stunp_endpoint_version(), STUNP_VERSION);
+    want("release", stunp_endpoint_release_0_2(), STUNP_VERSION);
+    settings_in_order();
+    users_in_order();
+    receiving_in_order();
+    kinds();
+    for (uint32_t algorithms = 0; algorithms <= 3; algorithms++) {
+        replies(algorithms, true);
+        replies(algorithms, false);
+    }
+    whole_server();
+    each_allocation();
+    want_no_blocks("in the end");
+    puts("endpoint: passed");
+    return 0;
+}

@@ -45,7 +45,7 @@ int main(int count, char **words) {
         fprintf(stderr, "usage: endpoint_server PORT REALM NAME PASSWORD\n");
         return 2;
     }
-    if (!open_server(&port, false, &listener) || !set_up(words[2], words[3], words[4])) return 1;
+    if (!open_server(NULL, 0, &port, false, &listener) || !set_up(words[2], words[3], words[4])) return 1;
     printf("port %lu\n", port);
     fflush(stdout);
     for (int i = 0; i < listener.number; i++)

@@ -3,6 +3,7 @@
 #include "net.h"
 #include <arpa/inet.h>
 #include <errno.h>
+#include <fcntl.h>
 #include <linux/errqueue.h>
 #include <netdb.h>
 #include <poll.h>
@@ -13,7 +14,7 @@
 #include <time.h>
 #include <unistd.h>
 
-enum { RECEIVE_BUFFER = 4 << 20, WORDS_AT_ONCE = 64, REST = 10000000 /* nanoseconds */ };
+enum { RECEIVE_BUFFER = 4 << 20, REST = 10000000 /* nanoseconds */ };
 
 /* A port that is free for one family may be taken in the other. */
 enum { MOST_TRIES = 16 };
@@ -33,17 +34,6 @@ void fill_randomly(void *out, size_t length) {
         }
         if (more > 0) filled += (size_t)more;
     }
-}
-
-void draw_words(uint32_t words[16]) {
-    static uint32_t pool[WORDS_AT_ONCE][16];
-    static size_t left;
-    if (left == 0) {
-        fill_randomly(pool, sizeof pool);
-        left = WORDS_AT_ONCE;
-    }
-    memcpy(words, pool[--left], sizeof pool[left]);
-    explicit_bzero(pool[left], sizeof pool[left]);
 }
 
 /* ---- Addresses */
@@ -115,46 +105,96 @@ static void set(int fd, int level, int name, int value) {
     setsockopt(fd, level, name, &value, sizeof value);
 }
 
-/* A socket of a family on a port, or -1, and errno tells why. */
-static int open_family(int family, unsigned long *port, bool is_shared) {
-    /* The port of an IPv6 address is where that of an IPv4 address is. */
-    struct sockaddr_in6 any = {.sin6_family = (sa_family_t)family,
-                               .sin6_port = htons((uint16_t)*port)};
-    socklen_t length = sizeof any;
-    int fd = socket(family, SOCK_DGRAM | SOCK_NONBLOCK | SOCK_CLOEXEC, 0);
-    if (fd < 0) return -1;
-    if (family == AF_INET6) {
-        set(fd, IPPROTO_IPV6, IPV6_V6ONLY, 1);
-        set(fd, IPPROTO_IPV6, IPV6_RECVPKTINFO, 1);
-    } else set(fd, IPPROTO_IP, IP_PKTINFO, 1);
-    /* A burst waits here. Who is not root gets no more of it than net.core.rmem_max. */
+/* Which address a datagram came to is told beside it, and a burst waits here. Who is not root gets no
+ * more of it than net.core.rmem_max. */
+static void prepare(int fd, int family) {
+    if (family == AF_INET6) set(fd, IPPROTO_IPV6, IPV6_RECVPKTINFO, 1);
+    else set(fd, IPPROTO_IP, IP_PKTINFO, 1);
     set(fd, SOL_SOCKET, SO_RCVBUF, RECEIVE_BUFFER);
     set(fd, SOL_SOCKET, SO_RCVBUFFORCE, RECEIVE_BUFFER);
+}
+
+/* The port that a socket has. The port of an IPv6 address is where that of an IPv4 address is. */
+static bool has_port(int fd, unsigned long *port) {
+    struct sockaddr_in6 name;
+    socklen_t length = sizeof name;
+    if (getsockname(fd, (struct sockaddr *)&name, &length) != 0) return false;
+    *port = ntohs(name.sin6_port);
+    return true;
+}
+
+/* A socket of an address on a port, or -1, and errno tells why. */
+static int open_at(const struct sockaddr_storage *at, unsigned long *port, bool is_shared) {
+    struct sockaddr_in6 name;
+    int fd = socket(at->ss_family, SOCK_DGRAM | SOCK_NONBLOCK | SOCK_CLOEXEC, 0);
+    if (fd < 0) return -1;
+    memcpy(&name, at, sizeof name);
+    name.sin6_port = htons((uint16_t)*port);
+    if (at->ss_family == AF_INET6) set(fd, IPPROTO_IPV6, IPV6_V6ONLY, 1);
+    prepare(fd, at->ss_family);
     if (is_shared) set(fd, SOL_SOCKET, SO_REUSEPORT, 1);
-    if (bind(fd, (struct sockaddr *)&any, length) == 0
-        && getsockname(fd, (struct sockaddr *)&any, &length) == 0) {
-        *port = ntohs(any.sin6_port);
-        return fd;
-    }
+    size_t length = at->ss_family == AF_INET6 ? sizeof name : sizeof(struct sockaddr_in);
+    if (bind(fd, (struct sockaddr *)&name, (socklen_t)length) == 0 && has_port(fd, port)) return fd;
     return give_up(fd);
+}
+
+/* The socket that is standard input, which other processes may have too. */
+static int inherited(unsigned long *port) {
+    struct sockaddr_storage name;
+    socklen_t length = sizeof name;
+    if (getsockname(STDIN_FILENO, (struct sockaddr *)&name, &length) != 0) return -1;
+    int fd = fcntl(STDIN_FILENO, F_DUPFD_CLOEXEC, 3);
+    if (fd < 0) return -1;
+    prepare(fd, name.ss_family);
+    if (fcntl(fd, F_SETFL, O_NONBLOCK) == 0 && has_port(fd, port)) return fd;
+    return give_up(fd);
+}
+
+/* Reads an address. EINVAL where it is none. */
+static bool read_address(const char *word, struct sockaddr_storage *at) {
+    struct sockaddr_in *four = (struct sockaddr_in *)at;
+    struct sockaddr_in6 *six = (struct sockaddr_in6 *)at;
+    memset(at, 0, sizeof *at);
+    at->ss_family = AF_INET;
+    if (inet_pton(AF_INET, word, &four->sin_addr) == 1) return true;
+    at->ss_family = AF_INET6;
+    if (inet_pton(AF_INET6, word, &six->sin6_addr) == 1) return true;
+    errno = EINVAL;
+    return false;
+}
+
+/* A socket of each address on one port. */
+static bool open_each(const char *const *at, int count, unsigned long *port, bool is_shared,
+                      struct listener *listener) {
+    for (int i = 0; i < count; i++) {
+        struct sockaddr_storage name;
+        int fd = -1;
+        if (listener->number == MOST_SOCKETS) errno = EMFILE;
+        else if (strcmp(at[i], "-") == 0) fd = inherited(port);
+        else if (read_address(at[i], &name)) fd = open_at(&name, port, is_shared);
+        if (fd < 0) return false;
+        listener->sockets[listener->number++] = fd;
+    }
+    return true;
 }
 
 /* Both families on one port, or whichever the machine has. */
 static bool open_both(unsigned long *port, bool is_shared, struct listener *listener) {
-    static const int families[MOST_SOCKETS] = {AF_INET6, AF_INET};
-    listener->number = 0;
-    for (int i = 0; i < MOST_SOCKETS; i++) {
-        int fd = open_family(families[i], port, is_shared);
-        if (fd >= 0) listener->sockets[listener->number++] = fd;
-        else if (errno != EAFNOSUPPORT && errno != EADDRNOTAVAIL) return false;
-    }
+    static const char *const all[] = {"::", "0.0.0.0"};
+    for (int i = 0; i < 2; i++)
+        if (!open_each(&all[i], 1, port, is_shared, listener) && errno != EAFNOSUPPORT
+            && errno != EADDRNOTAVAIL)
+            return false;
     return listener->number > 0;
 }
 
-bool open_server(unsigned long *port, bool is_shared, struct listener *listener) {
+bool open_server(const char *const *at, int count, unsigned long *port, bool is_shared,
+                 struct listener *listener) {
     for (int tries = *port == 0 ? MOST_TRIES : 1; tries > 0; tries--) {
         unsigned long found = *port;
-        if (open_both(&found, is_shared, listener)) {
+        listener->number = 0;
+        if (count > 0 ? open_each(at, count, &found, is_shared, listener)
+                      : open_both(&found, is_shared, listener)) {
             *port = found;
             return true;
         }
@@ -238,36 +278,81 @@ static void rest_after(const char *what) {
     nanosleep(&rest, NULL);
 }
 
+/* Where a datagram and its peer are read to, or an answer and its peer are sent from. */
+static struct msghdr header_of(struct peer *peer, struct iovec *data) {
+    return (struct msghdr){.msg_name = &peer->name,
+                           .msg_namelen = sizeof peer->name,
+                           .msg_iov = data,
+                           .msg_iovlen = 1,
+                           .msg_control = peer->here,
+                           .msg_controllen = sizeof peer->here};
+}
+
+/* What a read left. False where there was no room. */
+static bool was_read(struct msghdr *message, size_t length, struct datagram *got) {
+    forget_interface(message);
+    got->peer.name_length = message->msg_namelen;
+    got->peer.here_length = message->msg_controllen;
+    got->from = address_of(&got->peer);
+    got->length = length;
+    return (message->msg_flags & MSG_TRUNC) == 0;
+}
+
 bool receive(int socket, struct datagram *got) {
     struct iovec data = {got->bytes, sizeof got->bytes};
-    struct peer *peer = &got->peer;
-    struct msghdr message = {.msg_name = &peer->name,
-                             .msg_namelen = sizeof peer->name,
-                             .msg_iov = &data,
-                             .msg_iovlen = 1,
-                             .msg_control = peer->here,
-                             .msg_controllen = sizeof peer->here};
+    struct msghdr message = header_of(&got->peer, &data);
     ssize_t length = recvmsg(socket, &message, 0);
     if (length < 0) {
         if (errno != EINTR && errno != EAGAIN) rest_after("recvmsg");
         return false;
     }
-    forget_interface(&message);
-    peer->name_length = message.msg_namelen;
-    peer->here_length = message.msg_controllen;
-    got->length = (size_t)length;
-    got->from = address_of(peer);
-    return (message.msg_flags & MSG_TRUNC) == 0;
+    return was_read(&message, (size_t)length, got);
+}
+
+int receive_some(int socket, struct datagram got[BATCH]) {
+    struct iovec data[BATCH];
+    struct mmsghdr messages[BATCH];
+    for (int i = 0; i < BATCH; i++) {
+        data[i] = (struct iovec){got[i].bytes, sizeof got[i].bytes};
+        messages[i] = (struct mmsghdr){.msg_hdr = header_of(&got[i].peer, &data[i])};
+    }
+    int number = recvmmsg(socket, messages, BATCH, 0, NULL);
+    if (number < 0 && errno != EINTR && errno != EAGAIN) rest_after("recvmsg");
+    for (int i = 0; i < number; i++)
+        if (!was_read(&messages[i].msg_hdr, messages[i].msg_len, &got[i])) got[i].length = 0;
+    return number < 0 ? 0 : number;
+}
+
+/* The header of an answer that goes where a datagram came from. */
+static struct msghdr answer_to(struct peer *to, struct iovec *data) {
+    struct msghdr message = header_of(to, data);
+    message.msg_namelen = to->name_length;
+    message.msg_controllen = to->here_length;
+    return message;
 }
 
 void send_to(int socket, const uint8_t *bytes, size_t length, const struct peer *peer) {
     struct peer to = *peer;
     struct iovec data = {(uint8_t *)bytes, length};
-    struct msghdr message = {.msg_name = &to.name,
-                             .msg_namelen = to.name_length,
-                             .msg_iov = &data,
-                             .msg_iovlen = 1,
-                             .msg_control = to.here,
-                             .msg_controllen = to.here_length};
+    struct msghdr message = answer_to(&to, &data);
     sendmsg(socket, &message, 0);
+}
+
+void answer_some(int socket, const struct datagram *got, const struct answer *answers, int number) {
+    static struct peer to[BATCH];
+    struct iovec data[BATCH];
+    struct mmsghdr messages[BATCH];
+    unsigned left = 0;
+    for (int i = 0; i < number; i++) {
+        if (answers[i].length == 0) continue;
+        to[left] = got[i].peer;
+        data[left] = (struct iovec){(uint8_t *)answers[i].bytes, answers[i].length};
+        messages[left] = (struct mmsghdr){.msg_hdr = answer_to(&to[left], &data[left])};
+        left++;
+    }
+    /* One that cannot be sent is left out, and the next ones are not. */
+    for (unsigned sent = 0; sent < left;) {
+        int more = sendmmsg(socket, messages + sent, left - sent, 0);
+        sent += more > 0 ? (unsigned)more : 1;
+    }
 }

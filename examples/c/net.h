@@ -15,10 +15,6 @@ uint64_t moment(void);
 /* Without random bytes there are no ids and no nonces, so it ends the program. */
 void fill_randomly(void *out, size_t length);
 
-/* The same for one judgement, of bytes that are read for 64 of them at once. Not before a fork:
- * both would go on alike. */
-void draw_words(uint32_t words[16]);
-
 /* The other end of a datagram, and at which address of this machine it came. */
 struct peer {
     struct sockaddr_storage name;
@@ -45,16 +41,19 @@ bool is_same(const stunp_address *one, const stunp_address *other);
 /* An address as `IPv4:PORT` or `[IPv6]:PORT`, until the next call. */
 const char *text_of(const stunp_address *address);
 
-/* The sockets of a server, on one port: of IPv6, of IPv4, or of both where the machine has both. */
-enum { MOST_SOCKETS = 2 };
+/* The sockets of a server, on one port: one for each of its addresses. */
+enum { MOST_SOCKETS = 16 };
 struct listener {
     int sockets[MOST_SOCKETS];
     int number;
 };
 
-/* Opens them, for epoll: no call waits on them. Port 0 becomes one that was free for each. A shared
- * port may have more listeners. False after it told why on standard error. */
-bool open_server(unsigned long *port, bool is_shared, struct listener *listener);
+/* Opens them, for epoll: no call waits on them. `at` are `count` addresses, of IPv4 or IPv6; without
+ * any they are all of this machine, of both families where it has both. `-` is the socket that is
+ * standard input, and has its port. Port 0 becomes one that was free for each. A shared port may
+ * have more listeners. False after it told why on standard error. */
+bool open_server(const char *const *at, int count, unsigned long *port, bool is_shared,
+                 struct listener *listener);
 void close_server(const struct listener *listener);
 
 /* Finds a server, and opens a socket of its kind, whose own address it writes. Of several addresses
@@ -76,5 +75,16 @@ bool receive(int socket, struct datagram *got);
 /* Sends a datagram from the address that the peer's came to. What is lost here is as what is lost
  * on the way. */
 void send_to(int socket, const uint8_t *bytes, size_t length, const struct peer *peer);
+
+/* The same of several datagrams in one call of the system: takes those that wait, and answers how
+ * many; one for which there was no room has length 0. And sends an answer to each of these that has
+ * one, which is one whose length is not 0. */
+enum { BATCH = 32 };
+struct answer {
+    uint8_t bytes[MOST_BYTES];
+    size_t length;
+};
+int receive_some(int socket, struct datagram got[BATCH]);
+void answer_some(int socket, const struct datagram *got, const struct answer *answers, int number);
 
 #endif

@@ -11,19 +11,19 @@
 #include <sys/wait.h>
 #include <unistd.h>
 
-volatile sig_atomic_t is_ending;
+volatile sig_atomic_t is_ending, hangups, reports;
 
-static void end(int number) {
-    (void)number;
-    is_ending = 1;
+static void hear(int number) {
+    if (number == SIGHUP) hangups++;
+    else if (number == SIGUSR1) reports++;
+    else is_ending = 1;
 }
 
-void end_at_signals(void) {
-    struct sigaction action = {.sa_handler = end}, nothing = {.sa_handler = SIG_IGN};
-    sigaction(SIGTERM, &action, NULL);
-    sigaction(SIGINT, &action, NULL);
-    sigaction(SIGHUP, &nothing, NULL);
-    sigaction(SIGPIPE, &nothing, NULL);
+void hear_signals(void) {
+    static const int heard[] = {SIGTERM, SIGINT, SIGHUP, SIGUSR1};
+    for (size_t i = 0; i < sizeof heard / sizeof *heard; i++)
+        sigaction(heard[i], &(struct sigaction){.sa_handler = hear}, NULL);
+    sigaction(SIGPIPE, &(struct sigaction){.sa_handler = SIG_IGN}, NULL);
 }
 
 /* A pipe that can be written to has room for a whole line, so that it is not torn. */
@@ -40,50 +40,71 @@ void say(const char *format, ...) {
     if (write(STDOUT_FILENO, line, (size_t)length) < 0) return; /* nobody reads it */
 }
 
-static int serve_alone(unsigned long port, serve_call *serve) {
+static int serve_alone(const struct service *service) {
     struct listener listener;
-    if (!open_server(&port, false, &listener)) return 1;
+    unsigned long port = service->port;
+    if (!open_server(service->at, service->count, &port, service->is_shared, &listener)) return 1;
     say("port %lu\n", port);
-    bool is_right = serve(&listener);
+    bool is_right = service->serve(&listener, 0);
     close_server(&listener);
     return is_right ? 0 : 1;
 }
 
-/* Answers the number of a new process that serves, or -1. The port is found by the first one. */
-static pid_t start_worker(unsigned long *port, serve_call *serve) {
+/* Whether nobody else has the port; the sockets of workers share it, and would share it with others
+ * too. Port 0 becomes one that was free. */
+static bool is_free(const struct service *service, unsigned long *port) {
+    struct listener listener;
+    if (!open_server(service->at, service->count, port, false, &listener)) return false;
+    close_server(&listener);
+    return true;
+}
+
+/* Answers the number of a new process that serves, or -1. */
+static pid_t start_worker(const struct service *service, unsigned long port,
+                          unsigned long number) {
     pid_t parent = getpid();
     struct listener listener;
-    if (!open_server(port, true, &listener)) return -1;
+    if (!open_server(service->at, service->count, &port, true, &listener)) return -1;
     pid_t worker = fork();
     if (worker == 0) {
         prctl(PR_SET_PDEATHSIG, SIGTERM);
         if (getppid() != parent) exit(1);
-        exit(serve(&listener) ? 0 : 1);
+        exit(service->serve(&listener, number) ? 0 : 1);
     }
     close_server(&listener);
     return worker;
 }
 
-/* Waits for a signal, or until a worker ended, and then has all end. One that ended is not waited
- * for before, so that its number is nobody else's when the others are told. */
-static int end_together(const pid_t *workers, unsigned long processes) {
+static void tell_all(const pid_t *workers, unsigned long processes, int number) {
+    for (unsigned long i = 0; i < processes; i++) kill(workers[i], number);
+}
+
+/* Waits for a signal to end, or until a worker ended, and then has all end. One that ended is not
+ * waited for before, so that its number is nobody else's when the others are told. */
+static int end_together(const struct service *service, const pid_t *workers) {
     siginfo_t ended = {0};
     int status = 0, one;
+    sig_atomic_t passed_on = hangups;
     pid_t reaped;
     while (!is_ending && ended.si_pid == 0) {
         usleep(100000);
+        if (passed_on != hangups) tell_all(workers, service->processes, SIGHUP);
+        passed_on = hangups;
+        service->look();
         waitid(P_ALL, 0, &ended, WEXITED | WNOHANG | WNOWAIT);
     }
-    for (unsigned long i = 0; i < processes; i++) kill(workers[i], SIGTERM);
+    tell_all(workers, service->processes, SIGTERM);
     while ((reaped = waitpid(-1, &one, 0)) > 0 || errno == EINTR) status |= reaped > 0 ? one : 0;
     return status != 0 || !is_ending;
 }
 
-int serve_in_processes(unsigned long processes, unsigned long port, serve_call *serve) {
+int serve_in_processes(const struct service *service) {
     pid_t workers[MOST_PROCESSES];
-    if (processes == 1) return serve_alone(port, serve);
-    for (unsigned long i = 0; i < processes; i++)
-        if ((workers[i] = start_worker(&port, serve)) < 0) return 1;
+    unsigned long port = service->port;
+    if (service->processes == 1) return serve_alone(service);
+    if ((!service->is_shared || port == 0) && !is_free(service, &port)) return 1;
+    for (unsigned long i = 0; i < service->processes; i++)
+        if ((workers[i] = start_worker(service, port, i)) < 0) return 1;
     say("port %lu\n", port);
-    return end_together(workers, processes);
+    return end_together(service, workers);
 }

@@ -1,190 +1,264 @@
-/* A STUN server on UDP (RFC 8489), with users, two sockets by epoll, workers, and bounds.
+/* A STUN server on UDP (RFC 8489), IPv4 and IPv6, with users, over stunp_endpoint.h.
  *
- * It tells who asks the address that it sees, over IPv4 and IPv6. Where it has a realm and users,
- * it answers nobody else (section 9.2.4).
+ * It tells who asks the address that it sees. Where it has a realm and users, it answers nobody else
+ * (section 9.2.4). It stores nothing of an address, so that a flood takes no memory, and any number
+ * of processes and machines can serve the same clients if they have the same secret.
  *
- *     udp_server PORT [REALM [NAME PASSWORD]..] [OPTION]..
+ *     udp_server PORT [REALM [NAME PASSWORD].. [--users FILE]] [OPTION]..
  *
- * --users FILE        takes users of a file, a line `NAME PASSWORD` each; `-` is standard input
- * --sha256            offers HMAC-SHA256 beside HMAC-SHA1
- * --expiry SECONDS    how long a nonce lasts: 3600, and 30 at least
- * --addresses N       for how many addresses each process keeps a nonce: 131072, and 16 at least
- * --workers N         so many processes on one port
- * --ahead SECONDS     SIGUSR1 moves the clock so far ahead, to see nonces expire (for tests)
- * --any-method        judges requests of other methods too, and answers them 508 once validated, or
- *                     400 where they are malformed
- * -v                  prints a line for each datagram: from where, the answer, and who had signed
- * --                  what follows is no option, as a PASSWORD that begins with `-`
- *
- * Port 0 is any free one. The first line of output is `port N`. SIGTERM ends it with status 0. */
+ * `--help` lists the options. SIGHUP has it read the file of users again, SIGUSR1 has it print its
+ * counters, and SIGTERM ends it with status 0. */
 #define _GNU_SOURCE
 #include "heap.h"
 #include "net.h"
-#include "places.h"
 #include "processes.h"
 #include "request.h"
+#include "stunp_endpoint.h"
+#include "users.h"
 #include "words.h"
 #include <stdio.h>
 #include <string.h>
 #include <sys/epoll.h>
+#include <sys/mman.h>
+#include <time.h>
 #include <unistd.h>
 
-/* Nonces that expired are looked for so often, some at a time and not all in one pause. */
-static const uint64_t PERIOD = 10 * SECOND, PAUSE = SECOND / 50;
+static const char usage[] =
+    "usage: udp_server PORT [REALM [NAME PASSWORD].. [--users FILE]] [OPTION]..\n";
+static const char help[] =
+    "\n"
+    "Tells everybody who asks the address that it sees or, if it has a REALM, the users of that realm\n"
+    "alone. PORT 0 is any free one. The first line of output is `port N`.\n"
+    "\n"
+    "  --users FILE      users of a file, or of standard input if it is -. A line is `NAME PASSWORD` or\n"
+    "                    `NAME 0xKEY [0xKEY]` with stored keys of 16 bytes (HMAC-SHA1) and 32 bytes\n"
+    "                    (HMAC-SHA256) in hexadecimal; `#` begins a comment. SIGHUP reads it again\n"
+    "  --secret FILE     what nonces are made of: 32 bytes, or 64 hexadecimal digits. Servers with the\n"
+    "                    same secret serve each other's clients. Random unless given\n"
+    "  --sha256          offer HMAC-SHA256 beside HMAC-SHA1\n"
+    "  --expiry SECONDS  how long a nonce is sent, from 30; it is accepted for up to twice as long. 3600\n"
+    "                    unless given\n"
+    "  --at ADDRESS      an IP address to serve; may be repeated. `-` is the socket that is standard\n"
+    "                    input. All of this machine unless given\n"
+    "  --workers N       so many processes: 1 unless given\n"
+    "  --shared          let other servers have the port too (SO_REUSEPORT)\n"
+    "  --any-method      judge requests of other methods too, and answer them 508 if they are accepted,\n"
+    "                    or 400 if they are malformed\n"
+    "  --counts SECONDS  print a line of counters so often; SIGUSR1 prints one at once\n"
+    "  --ahead SECONDS   SIGUSR2 moves the clock so far ahead, to see nonces expire (for tests)\n"
+    "  -v                print a line for each datagram: from where, the answer, and who had signed\n"
+    "  --                what follows is no option, as a PASSWORD that begins with `-`\n"
+    "  --help, --version\n";
 
-enum { AT_ONCE = 256, AT_ONCE_IDLE = 4096 };
-enum { IN_TURN = 64 /* datagrams of one socket */, MOST_WAIT = 1000 /* milliseconds */ };
-enum { MEMORY_FOR_ADDRESS = 512, MEMORY_BESIDE = 16 << 20 }; /* of one process, at most */
+enum { MOST_BATCHES = 4 /* of one socket in turn */, MOST_WAIT = 1000 /* milliseconds */ };
+enum { MEMORY = 1 << 30 /* of one process, at most: users, and one answer */ };
 
 static struct {
-    unsigned long port, workers, addresses;
-    uint64_t expiry, ahead;
-    const char *file;
-    bool has_users, has_sha256, is_verbose, takes_any_method;
-} settings = {.workers = 1, .addresses = 1 << 17, .expiry = 3600 * SECOND};
+    unsigned long port, workers, expiry, ahead, counts;
+    const char *file, *secret;
+    struct texts at;
+    bool has_users, has_sha256, is_verbose, is_shared, takes_any_method, wants_help, wants_version;
+} settings = {.workers = 1, .expiry = 3600};
 
 static const struct option options[] = {
     {"-v", .flag = &settings.is_verbose},
     {"--users", .text = &settings.file},
+    {"--secret", .text = &settings.secret},
+    {"--at", .texts = &settings.at},
     {"--sha256", .flag = &settings.has_sha256},
+    {"--shared", .flag = &settings.is_shared},
     {"--any-method", .flag = &settings.takes_any_method},
     {"--workers", .number = &settings.workers, .least = 1, .most = MOST_PROCESSES},
-    {"--addresses", .number = &settings.addresses, .least = SHARES, .most = 1 << 24},
-    {"--expiry", .nanoseconds = &settings.expiry, .least = 30, .most = 1000000},
-    {"--ahead", .nanoseconds = &settings.ahead, .least = 0, .most = 1000000},
+    {"--expiry", .number = &settings.expiry, .least = 30, .most = 1000000},
+    {"--counts", .number = &settings.counts, .least = 1, .most = 1000000},
+    {"--ahead", .number = &settings.ahead, .least = 0, .most = 1000000},
+    {"--help", .flag = &settings.wants_help},
+    {"--version", .flag = &settings.wants_version},
     {.name = NULL},
 };
 
-static stunp_server server;
+static stunp_endpoint_server server;
+static stunp_endpoint_users users;
+static struct { char **texts; int count; } words_of_users;
 static volatile sig_atomic_t jumps;
 
-static void jump(int number) { jumps += number == SIGUSR1; }
+static void jump(int number) { jumps += number == SIGUSR2; }
 
-static uint64_t now(void) { return moment() + (uint64_t)jumps * settings.ahead; }
+static uint64_t now(void) { return (uint64_t)time(NULL) + (uint64_t)jumps * settings.ahead; }
 
-/* Nonces are kept for as long again as they last, so that a client that comes late is told 438 and
- * not 401 or 400. */
-static void forget_now_and_then(bool is_idle) {
-    static uint64_t due;
-    static stunp_address next;
-    if (!settings.has_users || now() < due) return;
-    int64_t more = stunp_server_forget_expired_within(&server, now(), settings.expiry, &next,
-                                                     is_idle ? AT_ONCE_IDLE : AT_ONCE);
-    due = now() + (more > 0 ? PAUSE : PERIOD);
+/* ---- Counters, of each process in memory that all share */
+
+enum { REFUSALS = 4, REASONS = 6 };
+static const uint32_t codes[REFUSALS] = {400, 401, 420, 438};
+static const char *const reasons[REASONS] = {"NotStun", "Malformed", "WrongFingerprint",
+                                             "UnknownAttribute", "OutOfMemory", "Other"};
+static struct counts {
+    uint64_t answered, refused[REFUSALS], dropped[REASONS], others;
+} *all_counts, *counts;
+
+static void count(uint64_t *number) { __atomic_fetch_add(number, 1, __ATOMIC_RELAXED); }
+
+static uint64_t sum(size_t offset) {
+    uint64_t whole = 0;
+    for (unsigned long i = 0; i < settings.workers; i++)
+        whole += __atomic_load_n((uint64_t *)((char *)&all_counts[i] + offset), __ATOMIC_RELAXED);
+    return whole;
 }
 
-/* The server keeps a nonce for no address without a place, so for no more than there are places. */
-static void make_room(const stunp_address *from) {
-    stunp_address gone;
-    if (settings.has_users && take_place(from, &gone)) stunp_server_forget(&server, &gone);
+static void tell_counts(void) {
+    char line[512];
+    int end = snprintf(line, sizeof line, "answered %llu; refused",
+                       (unsigned long long)sum(offsetof(struct counts, answered)));
+    for (int i = 0; i < REFUSALS; i++)
+        end += snprintf(line + end, sizeof line - (size_t)end, " %u: %llu", codes[i],
+                        (unsigned long long)sum(offsetof(struct counts, refused[i])));
+    end += snprintf(line + end, sizeof line - (size_t)end, "; dropped");
+    for (int i = 0; i < REASONS; i++)
+        end += snprintf(line + end, sizeof line - (size_t)end, " %s: %llu", reasons[i],
+                        (unsigned long long)sum(offsetof(struct counts, dropped[i])));
+    say("%s; no Binding request: %llu\n", line,
+        (unsigned long long)sum(offsetof(struct counts, others)));
 }
 
-static bool has_nonce(const stunp_address *at) {
-    uint8_t nonce[64];
-    return stunp_server_nonce(&server, at, nonce, sizeof nonce) > 0;
+static void count_code(uint32_t code) {
+    for (int i = 0; i < REFUSALS; i++)
+        if (codes[i] == code) {
+            count(&counts->refused[i]);
+            return;
+        }
+    count(code == 200 ? &counts->answered : &counts->others);
 }
 
-/* Who signed a request: an algorithm, 0 where nobody need sign, or why it is refused. An address
- * may have no nonce, as after a start of the server or under another port. A request from there
- * that repeats an offer is a bad one for the library, which keeps no such offer. It is told that
- * its nonce is stale: a 400 the client would take for a forgery, and ask for ever. */
-static int64_t validate(const struct message *request) {
-    const struct datagram *got = request->got;
-    uint32_t words[16];
-    if (!settings.has_users) return 0;
-    bool is_new = request->has_algorithms && !has_nonce(&got->from);
-    draw_words(words);
-    int64_t verdict =
-        stunp_server_validate(&server, got->bytes, got->length, &got->from, now(), words);
-    bool is_stale = verdict == STUNP_BAD_REQUEST && is_new && has_nonce(&got->from);
-    return is_stale ? STUNP_STALE_NONCE : verdict;
-}
+/* ---- Answers */
 
 /* Whether a request lacks what its method must have: an Allocate without REQUESTED-TRANSPORT (RFC
  * 8656, section 7.2). */
-static bool is_malformed(const struct message *request) {
-    const struct datagram *got = request->got;
-    size_t value_length;
-    return request->header.method == STUNP_ALLOCATE
-        && stunp_find(got->bytes, got->length, STUNP_REQUESTED_TRANSPORT, &value_length) < 0;
+static bool is_malformed(const struct datagram *got, uint32_t method) {
+    return method == STUNP_ALLOCATE
+        && stunp_find(got->bytes, got->length, STUNP_REQUESTED_TRANSPORT, &(size_t){0}) < 0;
 }
 
-/* The code that a judged request draws: 200 for a success, 0 where there is no answer. */
-static uint32_t code_of(int64_t verdict, const struct message *request) {
-    if (verdict == STUNP_BAD_REQUEST) return 400;
-    if (verdict == STUNP_UNAUTHORIZED) return 401;
-    if (verdict == STUNP_STALE_NONCE) return 438;
-    if (verdict < 0) return 0;
-    if (!request->is_understood) return 420;
-    if (is_malformed(request)) return 400;
-    return request->header.method == STUNP_BINDING ? 200 : 508;
+/* Answers an accepted request: with the address of the client, or with 400 or 508. */
+static uint32_t write_reply(const struct datagram *got, const stunp_received *received,
+                            struct answer *answer) {
+    const stunp_reply *reply = &received->reply;
+    const stunp_address *from = &got->from;
+    bool is_binding = received->method == STUNP_BINDING;
+    uint32_t code = is_binding ? 200 : is_malformed(got, received->method) ? 400 : 508;
+    stunp_writer writer =
+        code == 200   ? stunp_reply_success(reply, answer->bytes, sizeof answer->bytes)
+        : code == 400 ? stunp_reply_error(reply, 400, "Bad Request", answer->bytes, MOST_BYTES)
+                      : stunp_reply_error(reply, 508, "Insufficient Capacity", answer->bytes,
+                                          MOST_BYTES);
+    if (is_binding)
+        stunp_write_xor_address(&writer, STUNP_XOR_MAPPED_ADDRESS, from->octets, from->length,
+                                from->port);
+    int64_t length = stunp_reply_finish(reply, &writer);
+    answer->length = length < 0 ? 0 : (size_t)length;
+    return code;
 }
 
-/* Each answer is signed but the one to a request that failed authentication by its form (section
- * 9.2.4). The 400 to a malformed request of a known user is: its client drops an unsigned one. */
-static stunp_writer write_answer(const struct message *request, int64_t verdict, uint32_t code,
-                                 uint8_t *out, size_t room) {
-    stunp_writer answer = begin_answer(request, code, out, room);
-    if (settings.has_users && verdict != STUNP_BAD_REQUEST)
-        stunp_write_server_sign(&answer, &server, &request->got->from);
-    if (request->has_fingerprint) stunp_write_fingerprint(&answer);
-    return answer;
-}
-
-/* Who was validated at an address is what the server tells, and not the USERNAME of a message. */
-static void tell(const stunp_address *from, uint32_t code, int64_t verdict) {
-    char name[513];
-    size_t length = 0;
-    const char *algorithm = verdict == STUNP_SHA256 ? "SHA256" : "SHA1";
+/* Whom the library accepted is who it is told, and not the USERNAME of a message. */
+static void tell(const stunp_address *from, uint32_t code, const stunp_received *received) {
+    count_code(code);
     if (!settings.is_verbose) return;
-    if (!stunp_is_authentic(verdict)
-        || stunp_server_client(&server, from, (uint8_t *)name, sizeof name, &length) < 0) {
-        say("%s %u\n", text_of(from), code);
-        return;
-    }
-    say("%s %u %s %.*s\n", text_of(from), code, algorithm, (int)length, name);
+    if (received == NULL || received->kind != STUNP_IS_REQUEST) say("%s %u\n", text_of(from), code);
+    else
+        say("%s %u %s %.*s\n", text_of(from), code,
+            received->algorithm == STUNP_SHA256 ? "SHA256" : "SHA1", (int)received->name_length,
+            (const char *)received->name);
 }
 
-/* Why a request is dropped before it is judged, or NULL. */
-static const char *why_dropped(const struct message *request) {
-    if (request->header.message_class != STUNP_REQUEST) return "not a request";
-    bool is_judged = request->header.method == STUNP_BINDING || settings.takes_any_method;
-    return is_judged ? NULL : "not a Binding request";
+static void drop(const stunp_address *from, uint64_t *number, const char *why) {
+    count(number);
+    if (settings.is_verbose) say("%s dropped: %s\n", text_of(from), why);
 }
 
-/* Sends back what a datagram draws, and answers NULL, or why it is dropped. A request is judged,
- * the server says who asked, the answer is signed, and the client is forgotten. No request needs an
- * earlier one. Were the client kept, one that starts anew at its address would be told no
- * algorithms, and give up. */
-static const char *answer(int socket, const struct datagram *got) {
-    static uint8_t bytes[MOST_BYTES];
+/* What a datagram gets at a server of users. */
+static void answer_user(const struct datagram *got, struct answer *answer) {
+    static stunp_received received = STUNP_INIT(stunp_received);
+    int64_t kind = stunp_endpoint_server_receive(&server, &users, got->bytes, got->length, &got->from,
+                                                 now(), answer->bytes, sizeof answer->bytes,
+                                                 &received);
+    if (kind == STUNP_ANSWER) {
+        answer->length = received.length;
+        tell(&got->from, received.code, &received);
+    } else if (kind == STUNP_IS_REQUEST) {
+        tell(&got->from, write_reply(got, &received, answer), &received);
+        stunp_reply_wipe(&received.reply);
+    } else if (kind == STUNP_DROPPED)
+        drop(&got->from, &counts->dropped[received.why - 1], stunp_drop_text(received.why));
+    else if (kind < 0)
+        drop(&got->from, &counts->dropped[kind == STUNP_OUT_OF_MEMORY ? 4 : 5], stunp_strerror(kind));
+    else drop(&got->from, &counts->others, "not a request");
+}
+
+/* What a datagram gets at a server that everybody may ask. */
+static void answer_anybody(const struct datagram *got, struct answer *answer) {
     struct message request;
     const char *why = read_message(got, &request);
-    if (why == NULL) why = why_dropped(&request);
-    if (why != NULL) return why;
-    make_room(&got->from);
-    int64_t verdict = validate(&request);
-    uint32_t code = code_of(verdict, &request);
-    if (code == 0) return stunp_strerror(verdict);
-    tell(&got->from, code, verdict);
-    stunp_writer answer = write_answer(&request, verdict, code, bytes, sizeof bytes);
-    if (stunp_is_authentic(verdict)) {
-        keep_place(&got->from);
-        stunp_server_remove_client(&server, &got->from);
+    if (why != NULL) {
+        drop(&got->from, &counts->dropped[stunp_is_stun(got->bytes, got->length) ? 1 : 0], why);
+        return;
     }
-    if (stunp_written(&answer) < 0) return stunp_strerror(stunp_written(&answer));
-    send_to(socket, bytes, answer.length, &got->peer); /* who gets no answer asks again */
-    return NULL;
+    if (request.header.message_class != STUNP_REQUEST) {
+        drop(&got->from, &counts->others, "not a request");
+        return;
+    }
+    uint32_t code = !request.is_understood                          ? 420
+                    : is_malformed(got, request.header.method)      ? 400
+                    : request.header.method == STUNP_BINDING        ? 200
+                                                                    : 508;
+    stunp_writer writer = begin_answer(&request, code, answer->bytes, sizeof answer->bytes);
+    if (request.has_fingerprint) stunp_write_fingerprint(&writer);
+    answer->length = stunp_written(&writer) < 0 ? 0 : writer.length;
+    tell(&got->from, code, NULL);
+}
+
+static void answer_one(const struct datagram *got, struct answer *answer) {
+    int64_t method = stunp_method(got->bytes, got->length);
+    answer->length = 0;
+    if (method >= 0 && method != STUNP_BINDING && !settings.takes_any_method)
+        drop(&got->from, &counts->others, "not a Binding request");
+    else if (settings.has_users) answer_user(got, answer);
+    else answer_anybody(got, answer);
+}
+
+/* ---- Users */
+
+/* Fills a table with the users of words and of the file. */
+static bool fill(stunp_endpoint_users *table, const char *what) {
+    int64_t answer = stunp_endpoint_users_new(table, &server);
+    if (answer < 0) {
+        fprintf(stderr, "udp_server: %s%s\n", what, stunp_strerror(answer));
+        return false;
+    }
+    if (add_words(table, words_of_users.texts, words_of_users.count)
+        && (settings.file == NULL || add_file(table, settings.file, what)))
+        return true;
+    stunp_endpoint_users_free(table);
+    return false;
+}
+
+/* SIGHUP came: the file is read again. A bad one changes nothing. */
+static void reload(void) {
+    stunp_endpoint_users again = {0};
+    if (!settings.has_users || settings.file == NULL || strcmp(settings.file, "-") == 0) return;
+    if (!fill(&again, "users stay as they were: ")) return;
+    stunp_endpoint_users_free(&users);
+    users = again;
 }
 
 /* ---- The sockets */
 
-/* Answers what waits at a socket; some of it, so that the other socket has its turn. */
+/* Answers what waits at a socket; some of it, so that the other sockets have their turn. */
 static void serve_some(int socket) {
-    static struct datagram got;
-    for (int taken = 0; taken < IN_TURN && receive(socket, &got); taken++) {
-        const char *why = answer(socket, &got);
-        if (why != NULL && settings.is_verbose) say("%s dropped: %s\n", text_of(&got.from), why);
+    static struct datagram got[BATCH];
+    static struct answer answers[BATCH];
+    for (int batch = 0, number = BATCH; batch < MOST_BATCHES && number == BATCH; batch++) {
+        number = receive_some(socket, got);
+        for (int i = 0; i < number; i++) answer_one(&got[i], &answers[i]);
+        answer_some(socket, got, answers, number);
     }
 }
 
@@ -198,61 +272,87 @@ static int watch(const struct listener *listener) {
     return queue;
 }
 
-static bool serve(const struct listener *listener) {
+/* What the process that began does now and then: it tells the counters. */
+static void look(void) {
+    static sig_atomic_t told;
+    static uint64_t due;
+    bool is_due = settings.counts > 0 && moment() >= due;
+    if (is_due) due = (due == 0 ? moment() : due) + settings.counts * SECOND;
+    if (told != reports || is_due) tell_counts();
+    told = reports;
+}
+
+static bool serve(const struct listener *listener, unsigned long number) {
     struct epoll_event ready[MOST_SOCKETS];
     int queue = watch(listener);
+    sig_atomic_t read_at = hangups;
+    counts = &all_counts[number];
     if (queue < 0) perror("epoll");
     while (queue >= 0 && !is_ending) {
-        int number = epoll_wait(queue, ready, MOST_SOCKETS, MOST_WAIT);
-        for (int i = 0; i < number; i++) serve_some(ready[i].data.fd);
-        forget_now_and_then(number <= 0);
+        int events = epoll_wait(queue, ready, MOST_SOCKETS, MOST_WAIT);
+        for (int i = 0; i < events; i++) serve_some(ready[i].data.fd);
+        if (read_at != hangups) reload();
+        read_at = hangups;
+        if (settings.workers == 1) look();
     }
     return queue >= 0 && close(queue) == 0;
 }
 
 /* ---- Settings */
 
-static int64_t take(void *taker, const char *name, const char *password) {
-    return stunp_server_add_user(taker, name, strlen(name), password, strlen(password));
-}
-
-/* The server of a realm and its users. */
-static int64_t begin(const char *realm, int count, char **words) {
-    if (!make_places(settings.addresses)) return STUNP_OUT_OF_MEMORY;
-    int64_t answer = stunp_server_new(&server, realm, strlen(realm));
-    if (answer >= 0 && settings.has_sha256)
-        answer = stunp_server_set_algorithms(&server, STUNP_SHA1 | STUNP_SHA256);
-    if (answer >= 0) answer = stunp_server_set_nonce_expiry(&server, settings.expiry);
-    if (answer >= 0) answer = take_words(words, count, take, &server);
-    if (answer >= 0 && settings.file != NULL) answer = take_file(settings.file, take, &server);
-    return answer;
+/* The server of a realm, and its users. */
+static bool begin(const char *realm) {
+    uint8_t secret[32];
+    stunp_endpoint_server_settings wanted = STUNP_INIT(stunp_endpoint_server_settings);
+    if (settings.secret == NULL) fill_randomly(secret, sizeof secret);
+    else if (!read_secret(settings.secret, secret)) return false;
+    wanted.realm = realm, wanted.secret = secret;
+    wanted.nonce_seconds = settings.expiry;
+    wanted.algorithms = settings.has_sha256 ? STUNP_SHA1 | STUNP_SHA256 : STUNP_SHA1;
+    int64_t answer = stunp_endpoint_server_new(&server, &wanted);
+    explicit_bzero(secret, sizeof secret);
+    if (answer >= 0) return fill(&users, "");
+    fprintf(stderr, "udp_server: %s\n", stunp_strerror(answer));
+    return false;
 }
 
 /* A port, and where there is a realm, users of words or of a file. */
-static bool has_right_words(int count, char **words) {
-    bool has_rest =
-        count == 1 ? settings.file == NULL : count % 2 == 0 && (count > 2 || settings.file != NULL);
-    return count >= 1 && has_rest && read_number(words[0], 0, 65535, &settings.port);
+static bool has_right_words(int number, char **words) {
+    bool has_rest = number == 1 ? settings.file == NULL
+                                : number % 2 == 0 && (number > 2 || settings.file != NULL);
+    return number >= 1 && has_rest && read_number(words[0], 0, 65535, &settings.port);
 }
 
-int main(int count, char **words) {
-    count = read_options(count, words, options);
-    if (!has_right_words(count, words)) {
-        fprintf(stderr, "usage: udp_server PORT [REALM [NAME PASSWORD].. [--users FILE]] "
-                        "[--sha256] [--expiry SECONDS]"
-                        " [--addresses N] [--workers N] [--ahead SECONDS] [--any-method] [-v]\n");
+int main(int number, char **words) {
+    number = read_options(number, words, options);
+    if (settings.wants_help || settings.wants_version) {
+        if (settings.wants_help) printf("%s%s", usage, help);
+        else
+            printf("udp_server %d.%d.%d\n", STUNP_VERSION / 10000, STUNP_VERSION / 100 % 100,
+                   STUNP_VERSION % 100);
+        return 0;
+    }
+    if (!has_right_words(number, words)) {
+        fprintf(stderr, "%s`udp_server --help` lists the options.\n", usage);
         return 2;
     }
-    stunp_heap_bound(MEMORY_BESIDE + MEMORY_FOR_ADDRESS * settings.addresses);
-    settings.has_users = count > 1;
-    int64_t answer = settings.has_users ? begin(words[1], count - 2, words + 2) : 0;
-    if (answer < 0) {
-        if (answer != NOT_READ) fprintf(stderr, "udp_server: %s\n", stunp_strerror(answer));
+    stunp_heap_bound(MEMORY);
+    all_counts = mmap(NULL, settings.workers * sizeof *all_counts, PROT_READ | PROT_WRITE,
+                      MAP_SHARED | MAP_ANONYMOUS, -1, 0);
+    settings.has_users = number > 1;
+    words_of_users.count = settings.has_users ? number - 2 : 0;
+    words_of_users.texts = hidden_words(words + 2, words_of_users.count);
+    if (all_counts == MAP_FAILED || words_of_users.texts == NULL) {
+        perror("udp_server");
         return 1;
     }
-    end_at_signals();
-    sigaction(SIGUSR1, &(struct sigaction){.sa_handler = jump}, NULL);
-    int status = serve_in_processes(settings.workers, settings.port, serve);
-    stunp_server_free(&server);
+    if (settings.has_users && !begin(words[1])) return 1;
+    hear_signals();
+    sigaction(SIGUSR2, &(struct sigaction){.sa_handler = jump}, NULL);
+    int status = serve_in_processes(&(struct service){
+        settings.at.texts, settings.at.count, settings.port, settings.workers, settings.is_shared,
+        serve, look});
+    stunp_endpoint_users_free(&users);
+    stunp_endpoint_server_free(&server);
     return status;
 }

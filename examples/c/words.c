@@ -32,6 +32,11 @@ static bool read_seconds(const char *word, unsigned long least, unsigned long mo
 /* What follows an option. */
 static bool read_value(const char *word, const struct option *option) {
     if (option->text != NULL) return (*option->text = word) != NULL;
+    if (option->texts != NULL) {
+        bool has_room = word != NULL && option->texts->count < MOST_TEXTS;
+        if (has_room) option->texts->texts[option->texts->count++] = word;
+        return has_room;
+    }
     if (option->number != NULL)
         return read_number(word, option->least, option->most, option->number);
     return read_seconds(word, option->least, option->most, option->nanoseconds);

@@ -6,11 +6,19 @@
 #include <stddef.h>
 #include <stdint.h>
 
-/* An option: a flag, or what follows it, a text, a number or seconds within bounds. */
+/* Texts of an option that may come again. */
+enum { MOST_TEXTS = 16 };
+struct texts {
+    const char *texts[MOST_TEXTS];
+    int count;
+};
+
+/* An option: a flag, or what follows it, a text, one more text, a number or seconds within bounds. */
 struct option {
     const char *name;
     bool *flag;
     const char **text;
+    struct texts *texts;
     unsigned long *number;
     uint64_t *nanoseconds;
     unsigned long least, most;

@@ -309,7 +309,7 @@ bool receive(int socket, struct datagram *got) {
     return was_read(&message, (size_t)length, got);
 }
 
-int receive_some(int socket, struct datagram got[BATCH]) {
+int receive_batch(int socket, struct datagram got[BATCH]) {
     struct iovec data[BATCH];
     struct mmsghdr messages[BATCH];
     for (int i = 0; i < BATCH; i++) {
@@ -338,7 +338,7 @@ void send_to(int socket, const uint8_t *bytes, size_t length, const struct peer 
     sendmsg(socket, &message, 0);
 }
 
-void answer_some(int socket, const struct datagram *got, const struct answer *answers, int number) {
+void answer_batch(int socket, const struct datagram *got, const struct answer *answers, int number) {
     static struct peer to[BATCH];
     struct iovec data[BATCH];
     struct mmsghdr messages[BATCH];

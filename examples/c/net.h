@@ -84,7 +84,7 @@ struct answer {
     uint8_t bytes[MOST_BYTES];
     size_t length;
 };
-int receive_some(int socket, struct datagram got[BATCH]);
-void answer_some(int socket, const struct datagram *got, const struct answer *answers, int number);
+int receive_batch(int socket, struct datagram got[BATCH]);
+void answer_batch(int socket, const struct datagram *got, const struct answer *answers, int number);
 
 #endif

@@ -256,9 +256,9 @@ static void serve_some(int socket) {
     static struct datagram got[BATCH];
     static struct answer answers[BATCH];
     for (int batch = 0, number = BATCH; batch < MOST_BATCHES && number == BATCH; batch++) {
-        number = receive_some(socket, got);
+        number = receive_batch(socket, got);
         for (int i = 0; i < number; i++) answer_one(&got[i], &answers[i]);
-        answer_some(socket, got, answers, number);
+        answer_batch(socket, got, answers, number);
     }
 }
 

@@ -43,11 +43,12 @@ use crate::exported::stun_types::attribute::{Attribute, XorMappedAddress};
 use crate::exported::stun_types::message::{
     self as proved, IntegrityAlgorithm, Method, StunWriteError,
 };
-use crate::exported::stun_types::prelude::MessageWriteExt as Proved;
+use crate::exported::stun_types::prelude::{MessageWrite, MessageWriteExt as Proved};
 use crate::kit::alloc::{AllocError, Global};
 use crate::kit::prelude::Vec as KitVec;
 use crate::message::Message;
 use crate::transaction::TransactionId;
+use crate::write::check_appended;
 use alloc::string::String;
 use alloc::sync::Arc;
 use alloc::vec::Vec;
@@ -601,8 +602,11 @@ impl Reply {
 #[must_use = "a response is written by `finish`"]
 pub struct ReplyWriter {
     reply: Reply,
-    page: Result<proved::MessageWriteVec<Global>, StunWriteError>,
+    page: Result<Page, StunWriteError>,
 }
+
+type Page = proved::MessageWriteVec<Global>;
+type Added = Result<(), StunWriteError>;
 
 impl fmt::Debug for ReplyWriter {
     fn fmt(&self, f: &mut fmt::Formatter<'_>) -> fmt::Result {
@@ -612,11 +616,55 @@ impl fmt::Debug for ReplyWriter {
 
 impl ReplyWriter {
     /// Adds an attribute.
+    ///
+    /// # Panics
+    ///
+    /// If [`Attribute::write_into`] of an attribute type of your own appends something else than
+    /// the attribute that `get_type` and `length` describe.
     #[allow(clippy::should_implement_trait)] // `Add` is for numbers.
-    pub fn add<A: Attribute>(mut self, attribute: &A) -> ReplyWriter {
+    pub fn add<A: Attribute>(self, attribute: &A) -> ReplyWriter {
+        self.added(attribute, |page| Proved::add_attribute(page, attribute))
+    }
+
+    /// Like [`add`](Self::add), but also if the response has an attribute of this type already.
+    ///
+    /// Use it for the types that may repeat, such as XOR-PEER-ADDRESS (RFC 8656, section 9.1). A
+    /// reader sees only the first attribute of any other type (RFC 8489, section 14).
+    ///
+    /// # Examples
+    ///
+    /// ```
+    /// use seatcrane_stun::endpoint::Reply;
+    /// use seatcrane_stun::extra::attribute::XorPeerAddress;
+    /// use seatcrane_stun::types::message::StunWriteError;
+    /// use std::net::SocketAddr;
+    ///
+    /// fn with_peers(reply: &Reply, peers: &[SocketAddr]) -> Result<Vec<u8>, StunWriteError> {
+    ///     let mut response = reply.success();
+    ///     for peer in peers {
+    ///         let attribute = XorPeerAddress::new(*peer, reply.transaction_id());
+    ///         response = response.add_another(&attribute);
+    ///     }
+    ///     response.finish()
+    /// }
+    /// ```
+    ///
+    /// # Panics
+    ///
+    /// As [`add`](Self::add) does.
+    pub fn add_another<A: Attribute>(self, attribute: &A) -> ReplyWriter {
+        self.added(attribute, |page| {
+            Proved::add_another_attribute(page, attribute)
+        })
+    }
+
+    /// Adds an attribute by this call, unless one failed before.
+    fn added<A: Attribute>(mut self, attribute: &A, add: impl Fn(&mut Page) -> Added) -> Self {
         if let Ok(page) = &mut self.page {
-            if let Err(error) = Proved::add_attribute(page, attribute) {
-                self.page = Err(error);
+            let before = page.data().len();
+            match add(page) {
+                Ok(()) => check_appended(page.data(), before, attribute),
+                Err(error) => self.page = Err(error),
             }
         }
         self

@@ -2,7 +2,7 @@
 
 use seatcrane_stun::auth::{LongTermClientAuth, LongTermClientValidation, StoredKeys};
 use seatcrane_stun::endpoint::*;
-use seatcrane_stun::extra::attribute::{AlternateServer, Lifetime};
+use seatcrane_stun::extra::attribute::{AlternateServer, Lifetime, XorPeerAddress};
 use seatcrane_stun::extra::{Fingerprint, check_fingerprint, finish_with_fingerprint};
 use seatcrane_stun::types::attribute::*;
 use seatcrane_stun::types::message::IntegrityAlgorithm::{Sha1, Sha256};
@@ -365,6 +365,52 @@ fn what_cannot_be_added_is_told_at_the_end() {
         reply.success().add(&forged).finish(),
         Err(StunWriteError::NotAllowed)
     );
+    assert_eq!(
+        reply.success().add_another(&forged).finish(),
+        Err(StunWriteError::NotAllowed)
+    );
+}
+
+#[test]
+fn a_type_may_repeat_if_you_say_so() {
+    let from = at("192.0.2.1:4242");
+    let (server, users) = with_users(Server::builder(settings(1, &BOTH)).understands(types::TURN));
+    let mut client = client("wonderland", &BOTH);
+    let challenge = answer(server.receive(&binding(&mut client), from, secs(0), &users));
+    let message = Message::from_bytes(challenge.bytes()).unwrap();
+    client.validate_incoming_message(&message).unwrap();
+    let peers = [at("192.0.2.7:5000"), at("[2001:db8::7]:5001")];
+    // CreatePermission for two peers (RFC 8656, section 9.1).
+    let create = Method::new(8).unwrap();
+    let mut page = Message::builder_request_with_id(create, id(4), MessageWriteVec::new());
+    for peer in peers {
+        page.add_another_attribute(&XorPeerAddress::new(peer, id(4)))
+            .unwrap();
+    }
+    let request = client.sign_outgoing_message(page).unwrap().finish();
+    let Received::Request(request) = server.receive(&request, from, secs(0), &users) else {
+        panic!("no request");
+    };
+    let peers_of = |message: &Message<'_>| -> Vec<SocketAddr> {
+        let found = message.iter_attributes().filter_map(|(_, raw)| {
+            let peer = XorPeerAddress::from_raw(raw).ok()?;
+            Some(peer.addr(message.transaction_id()))
+        });
+        found.collect()
+    };
+    assert_eq!(peers_of(request.message()), peers);
+    let reply = request.reply();
+    let mut response = reply.success();
+    for peer in peers {
+        response = response.add_another(&XorPeerAddress::new(peer, reply.transaction_id()));
+    }
+    let response = response.finish().unwrap();
+    let response = Message::from_bytes(&response).unwrap();
+    assert_eq!(peers_of(&response), peers);
+    assert!(matches!(
+        client.validate_incoming_message(&response),
+        Ok(LongTermClientValidation::Validated(Sha256))
+    ));
 }
 
 #[test]

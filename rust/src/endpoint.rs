@@ -18,7 +18,7 @@
 //! let secret: [u8; 32] = random_bytes();
 //! let server = Server::builder(LongTerm::new("example.org", secret)).answer_binding().build()?;
 //! let mut users = server.users(); // keys depend on the realm, so the server makes the table
-//! users.add(LongTermCredentials::new("alice".to_string(), "wonderland".to_string()));
+//! users.add(LongTermCredentials::new("alice".to_string(), "wonderland".to_string()))?;
 //!
 //! let socket = UdpSocket::bind("0.0.0.0:3478")?;
 //! let mut buffer = [0; 2048];
@@ -356,6 +356,30 @@ impl fmt::Debug for User {
     }
 }
 
+/// Why a user was not added.
+#[derive(Clone, Copy, Debug, PartialEq, Eq)]
+#[non_exhaustive]
+pub enum UserError {
+    /// An allocation failed.
+    OutOfMemory,
+}
+
+impl fmt::Display for UserError {
+    fn fmt(&self, f: &mut fmt::Formatter<'_>) -> fmt::Result {
+        f.write_str(match self {
+            UserError::OutOfMemory => "an allocation failed",
+        })
+    }
+}
+
+impl core::error::Error for UserError {}
+
+impl From<AllocError> for UserError {
+    fn from(_: AllocError) -> UserError {
+        UserError::OutOfMemory
+    }
+}
+
 /// The users of a realm. [`Server::users`] makes an empty table.
 pub struct Users(users::Users<Global>);
 
@@ -367,9 +391,45 @@ impl fmt::Debug for Users {
 
 impl Users {
     /// Adds a user, and derives a key for each algorithm of the server. A user of that name gets
-    /// this password in place of the one before.
-    pub fn add(&mut self, credentials: LongTermCredentials) {
-        granted(self.0.add(credentials.0));
+    /// this password in place of what it had before.
+    ///
+    /// # Errors
+    ///
+    /// [`UserError::OutOfMemory`]: an allocation failed. The table is unchanged.
+    pub fn add(&mut self, credentials: LongTermCredentials) -> Result<(), UserError> {
+        self.0.add(credentials.0).map_err(UserError::from)
+    }
+
+    /// Like [`add`](Self::add), with keys that are stored in place of the password. They must have
+    /// been made for this server's realm.
+    ///
+    /// # Errors
+    ///
+    /// [`UserError::OutOfMemory`]: an allocation failed. The table is unchanged.
+    ///
+    /// # Examples
+    ///
+    /// ```
+    /// use seatcrane_stun::auth::StoredKeys;
+    /// use seatcrane_stun::endpoint::{LongTerm, Server};
+    /// use seatcrane_stun::types::message::{IntegrityAlgorithm, long_term_key};
+    ///
+    /// # fn main() -> Result<(), Box<dyn std::error::Error>> {
+    /// let server = Server::builder(LongTerm::new("example.org", [7; 32])).build()?;
+    /// let key = long_term_key(IntegrityAlgorithm::Sha256, "alice", "example.org", "wonderland");
+    /// let keys = StoredKeys { sha1: None, sha256: Some(key.as_bytes().try_into()?) };
+    /// let mut users = server.users();
+    /// users.add_with_keys("alice", keys)?; // she cannot sign by HMAC-SHA1
+    /// # Ok(())
+    /// # }
+    /// ```
+    pub fn add_with_keys(
+        &mut self,
+        name: impl Into<String>,
+        keys: StoredKeys,
+    ) -> Result<(), UserError> {
+        let added = self.0.add_with_keys(text(name.into()), keys);
+        added.map_err(UserError::from)
     }
 
     /// Removes a user, so that requests of that name are refused from now on.
@@ -412,6 +472,15 @@ pub enum DropReason {
 }
 
 impl DropReason {
+    /// All reasons, each at its [`index`](Self::index).
+    pub const ALL: [DropReason; DropReason::COUNT] = [
+        DropReason::NotStun,
+        DropReason::Malformed,
+        DropReason::WrongFingerprint,
+        DropReason::UnknownAttribute,
+        DropReason::OutOfMemory,
+    ];
+
     /// How many reasons there are.
     pub const COUNT: usize = 5;
 

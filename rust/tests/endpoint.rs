@@ -36,7 +36,7 @@ fn server(secret: u8, algorithms: &[IntegrityAlgorithm]) -> (Server, Users) {
 fn with_users(builder: ServerBuilder) -> (Server, Users) {
     let server = builder.build().unwrap();
     let mut users = server.users();
-    users.add(alice());
+    users.add(alice()).unwrap();
     (server, users)
 }
 
@@ -134,7 +134,7 @@ fn a_wrong_password_gets_401_and_an_unknown_user_too() {
     users.add(LongTermCredentials::new(
         "bob".to_string(),
         "wonderland".to_string(),
-    ));
+    )).unwrap();
     let server = (server.0, users);
     assert_eq!(
         exchange(&mut client("wonderland", &BOTH), &server, from, secs(0)),
@@ -451,6 +451,10 @@ fn one_user_who_was_looked_up_is_enough() {
             .try_into()
             .ok(),
     };
+    let mut table = server.users();
+    table.add_with_keys("alice", keys).unwrap();
+    let by_keys = answer(server.receive(&request, from, secs(0), &table));
+    assert_eq!((code(&by_keys), by_keys.bytes()), (200, by_table.bytes()));
     let stored = server.user_with_keys("alice", keys);
     assert_eq!(
         code(&answer(server.receive_for(
@@ -587,6 +591,13 @@ fn answers_depend_on_no_earlier_datagram() {
         let one = format!("{:?}", server.receive(&bytes, from, now, &users));
         let other = format!("{:?}", fresh.receive(&bytes, from, now, &fresh_users));
         assert_eq!(one, other);
+    }
+}
+
+#[test]
+fn reasons_have_names_and_places_in_a_table_of_counters() {
+    for (index, why) in DropReason::ALL.into_iter().enumerate() {
+        assert_eq!((why.index(), why.name()), (index, &*format!("{why:?}")));
     }
 }
 

@@ -159,7 +159,7 @@ fn a_flood_takes_no_memory_and_shuts_nobody_out() {
     let long_term = LongTerm::new("example.org", [1; 32]).algorithms(&BOTH);
     let server = Server::builder(long_term).answer_binding().build().unwrap();
     let mut users = server.users();
-    users.add(alice());
+    users.add(alice()).unwrap();
     let mut net = Net {
         server,
         users,

@@ -102,7 +102,7 @@ fn no_unsigned_request_is_answered_with_many_times_its_bytes() {
     users.add(LongTermCredentials::new(
         "alice".to_string(),
         "wonderland".to_string(),
-    ));
+    )).unwrap();
     let mut table: String = TABLE.split_inclusive('\n').take(2).collect();
     for (what, bytes) in requests(&server.nonce_for(from, now)) {
         let answer = answer(server.receive(&bytes, from, now, &users));

@@ -131,10 +131,12 @@ fn a_wrong_password_gets_401_and_an_unknown_user_too() {
         [401, 401]
     );
     let mut users = server.0.users();
-    users.add(LongTermCredentials::new(
-        "bob".to_string(),
-        "wonderland".to_string(),
-    )).unwrap();
+    users
+        .add(LongTermCredentials::new(
+            "bob".to_string(),
+            "wonderland".to_string(),
+        ))
+        .unwrap();
     let server = (server.0, users);
     assert_eq!(
         exchange(&mut client("wonderland", &BOTH), &server, from, secs(0)),
@@ -604,12 +606,42 @@ fn reasons_have_names_and_places_in_a_table_of_counters() {
 #[test]
 fn everything_can_be_shared_among_threads() {
     fn shared<T: Send + Sync>() {}
-    shared::<Server>();
-    shared::<Users>();
-    shared::<Reply>();
-    shared::<Answer>();
+    fn kept<T: Send + Sync + 'static>() {}
+    kept::<LongTerm>();
+    kept::<ServerBuilder>();
+    kept::<Server>();
+    kept::<Users>();
+    kept::<User>();
+    kept::<Reply>();
+    kept::<ReplyWriter>();
+    kept::<Answer>();
+    kept::<UnixTime>();
     shared::<Received<'static>>();
-    let server = server(1, &BOTH).0;
-    let reply = format!("{server:?} {:?}", server.users());
-    assert_eq!(reply, "Server { .. } Users { .. }");
+    shared::<Request<'static>>();
+}
+
+#[test]
+fn debug_shows_no_secret() {
+    let from = at("192.0.2.1:4242");
+    let long_term = settings(171, &[Sha1]).previous_secret([171; 32]);
+    let builder = Server::builder(long_term.clone());
+    let mut told = format!("{long_term:?} {builder:?}");
+    let (server, users) = with_users(builder);
+    let mut client = client("wonderland", &[Sha1]);
+    let challenge = answer(server.receive(&binding(&mut client), from, secs(0), &users));
+    let message = Message::from_bytes(challenge.bytes()).unwrap();
+    client.validate_incoming_message(&message).unwrap();
+    let request = binding(&mut client);
+    let received = server.receive(&request, from, secs(0), &users);
+    let user = server.user(alice());
+    told += &format!("{server:?} {users:?} {user:?} {received:?}");
+    let Received::Request(request) = received else {
+        panic!("no request");
+    };
+    told += &format!("{:?} {:?}", request.reply(), request.reply().success());
+    let key = long_term_key(Sha1, "alice", "example.org", "wonderland");
+    let key = format!("{:?}", key.as_bytes());
+    let hidden = ["171", "wonderland", key.trim_matches(['[', ']'])];
+    assert!(hidden.iter().all(|one| !told.contains(one)), "{told}");
+    assert!(told.contains("Server { .. } Users { .. } User { .. }"));
 }

@@ -148,10 +148,10 @@ fn served(clients: &[Client], before: &[u16]) -> usize {
     clients.iter().filter(is_served).count()
 }
 
-/// 10,000 forged datagrams a second: each second one is from the flooded address, from a port that a
-/// client uses. Over the whole flood there are spread: 200 new clients, 200 new clients behind the
-/// flooded address, and the same numbers of clients that were validated before, and sign with the
-/// nonce that they were given then.
+/// 10,000 forged datagrams a second: every other one is from the flooded address, from all its ports
+/// in turn, and the rest from an address each. Spread over the flood there are 200 new clients, 200
+/// new clients behind the flooded address, and as many of each that were validated before, and sign
+/// with the nonce that they were given then.
 #[test]
 fn a_flood_takes_no_memory_and_shuts_nobody_out() {
     let count: u64 = std::env::var("FLOOD").map_or(20_000, |text| text.parse().unwrap());
@@ -180,15 +180,17 @@ fn a_flood_takes_no_memory_and_shuts_nobody_out() {
     (0..2 * clients).for_each(|old| net.ask(old, 0));
     net.deliver(u64::MAX);
     assert_eq!(served(&net.clients[..2 * clients], &[401]), 2 * clients);
-    net.clients.iter_mut().for_each(|client| client.codes.clear());
+    net.clients
+        .iter_mut()
+        .for_each(|client| client.codes.clear());
 
     let id = TransactionId::from([7; 12]);
     let bytes = Message::builder_request_with_id(BINDING, id, MessageWriteVec::new()).finish();
     let (mut before, mut asked) = (0, 0);
     for i in 0..count {
         let now = i / 10;
-        let from = match i % 10_000 {
-            0 => SocketAddr::new(FLOODED, 10_200 + (i / 10_000 % 600) as u16),
+        let from = match i % 2 {
+            0 => SocketAddr::new(FLOODED, (i / 2) as u16),
             _ => SocketAddr::from(((i as u32).to_be_bytes(), 1 + (i % 65535) as u16)),
         };
         net.forged(&bytes, from, now);

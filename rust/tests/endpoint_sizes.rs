@@ -99,10 +99,12 @@ fn no_unsigned_request_is_answered_with_many_times_its_bytes() {
     let long_term = LongTerm::new("example.org", [1; 32]);
     let server = Server::builder(long_term).answer_binding().build().unwrap();
     let mut users = server.users();
-    users.add(LongTermCredentials::new(
-        "alice".to_string(),
-        "wonderland".to_string(),
-    )).unwrap();
+    users
+        .add(LongTermCredentials::new(
+            "alice".to_string(),
+            "wonderland".to_string(),
+        ))
+        .unwrap();
     let mut table: String = TABLE.split_inclusive('\n').take(2).collect();
     for (what, bytes) in requests(&server.nonce_for(from, now)) {
         let answer = answer(server.receive(&bytes, from, now, &users));

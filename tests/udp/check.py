@@ -68,7 +68,7 @@ def over_the_endpoint(server, exhausted):
     """The others keep nothing of an address (endpoint.py)."""
     one = lambda what, *words: named(label(server), what, server, *words)
     for what in (endpoint.tells, endpoint.counters, endpoint.addresses, endpoint.bad_lines,
-                 endpoint.many_users, endpoint.reloaded):
+                 endpoint.many_users, endpoint.reloaded, endpoint.too_many_users):
         yield one(what)
     for words in BOTH:
         for what in (endpoint.restarted, endpoint.behind_one_port, endpoint.one_socket,

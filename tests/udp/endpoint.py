@@ -5,6 +5,7 @@ import hashlib
 import os
 import pathlib
 import re
+import resource
 import socket
 import subprocess
 import tempfile
@@ -271,6 +272,30 @@ def reloaded(server):
 
 
 # ---- Memory that ends (exhausted.c)
+
+
+def too_many_users(server):
+    """A file of more users than there is memory for changes nothing."""
+    with tempfile.TemporaryDirectory() as folder:
+        file = pathlib.Path(folder) / "users"
+        file.write_text(f"{NAME} {PASSWORD}\n")
+        told = f"udp_server: users stay as they were: {file}, line "
+        with Server(server, REALM, "--users", str(file), told=None) as running:
+            with Peer(running.port) as peer:
+                challenge = peer.ask(stun.message(stun.REQUEST))
+                pid = running.process.pid
+                pages = int(pathlib.Path(f"/proc/{pid}/statm").read_text().split()[0])
+                most = pages * os.sysconf("SC_PAGE_SIZE") + (16 << 20)
+                resource.prlimit(pid, resource.RLIMIT_AS, (most, most))
+                lines = (f"user{number} pass{number}\n" for number in range(200000))
+                file.write_text("".join(lines))
+                end = time.monotonic() + 60
+                while not running.told().endswith("an allocation failed\n"):
+                    assert time.monotonic() < end, running.told()
+                    assert stun.code_of(peer.ask(answering(challenge))) == 200
+                    time.sleep(0.1)
+                assert running.told().startswith(told), running.told()
+                assert stun.code_of(peer.ask(answering(challenge))) == 200
 
 
 def no_memory(server, library):

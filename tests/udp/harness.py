@@ -80,8 +80,8 @@ def build_helpers(folder):
 
 
 class Server:
-    """A running server, which is ended at the end, and has then told no errors but these. Its lines
-    are read, or only the first."""
+    """A running server, which is ended at the end, and has then told no errors but these, or any
+    where they are None. Its lines are read, or only the first."""
 
     def __init__(self, program, *words, port=0, within=(), environment=(), told="", is_read=True,
                  stdin=None):
@@ -123,7 +123,8 @@ class Server:
         except subprocess.TimeoutExpired:
             self.process.kill()
             status = self.process.wait()
-        is_fine = status in (0, -signal.SIGTERM) and self.told() == self.may_tell
+        is_told = self.may_tell is None or self.told() == self.may_tell
+        is_fine = status in (0, -signal.SIGTERM) and is_told
         assert kind is not None or is_fine, f"the server ended with {status}: {self.told()}"
 
 

@@ -57,7 +57,10 @@ fn read(mut users: Users, path: &str, mut lines: impl BufRead) -> Result<Users, 
                 eprintln!("udp_server: {path}, line {number}: no `NAME PASSWORD`");
                 bad += 1;
             }
-            Err(error) => return Err(format!("{path}, line {number}: {error}")),
+            Err(error) => {
+                drop(users); // there is memory for the text then
+                return Err(format!("{path}, line {number}: {error}"));
+            }
         }
     }
     line.fill(0); // passwords do not stay in memory that is given back

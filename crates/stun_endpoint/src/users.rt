@@ -2,13 +2,12 @@
 
 ghost use Rattle.std.specs.Prelude.{◌≡◌, Some, OnOk, OnErr, codes};
 ghost use Rattle.std.specs.Fmt.{WritesOnOk, WritesStyledOnOk};
-ghost use Rattle.std.specs.String.{string_bytes};
-ghost use Rattle.stun_auth.specs.Registered.{with_user, with_user_by_keys, without_user};
+ghost use Rattle.stun_auth.specs.Registered.{with_user, without_user};
 
 use std::alloc::{AllocError, Allocator, Global};
 use std::fmt;
 use std::marker::Model;
-use stun_auth::auth::{LongTermServerAuth, StoredKeys};
+use stun_auth::auth::LongTermServerAuth;
 use stun_base::credentials::LongTermCredentials;
 
 /// The users of a realm, found by name and by hash. `Server::users` makes an empty table.
@@ -60,19 +59,6 @@ impl<A: Allocator + Copy> Users<A> {
         ensures err { OnErr result (self.new ≡ self.old) }
     {
         self.auth.add_user(credentials)
-    }
-
-    /// Adds a user with keys that were stored in place of a password. They must have been made for
-    /// this server's realm. A user of that name gets these keys in place of what it had before.
-    ///
-    /// Fails if an allocation fails. The table is then unchanged.
-    pub fn add_with_keys(&mut self, name: String<A>, keys: StoredKeys) -> Result<(), AllocError>
-        ensures ok { OnOk result (self.new ≡ record self.old {
-          registered = with_user_by_keys self.old.registered (string_bytes name) keys;
-        }) }
-        ensures err { OnErr result (self.new ≡ self.old) }
-    {
-        self.auth.add_user_with_keys(name, keys)
     }
 
     /// Removes a user, so that requests of that name are refused from now on.

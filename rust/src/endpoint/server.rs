@@ -368,7 +368,7 @@ impl Users {
         name: impl Into<String>,
         keys: StoredKeys,
     ) -> Result<(), UserError> {
-        let added = self.0.add_with_keys(text(name.into()), keys);
+        let added = self.0.auth.add_user_with_keys(text(name.into()), keys);
         added.map_err(UserError::from)
     }
 

@@ -225,7 +225,7 @@ fn secret(settings: &Settings) -> Result<[u8; 32], Box<dyn Error>> {
     };
     let bytes = fs::read(path).map_err(|error| format!("{path}: {error}"))?;
     let raw = <[u8; 32]>::try_from(&bytes[..]).ok();
-    let digits = str::from_utf8(&bytes).unwrap_or_default().trim();
+    let digits = std::str::from_utf8(&bytes).unwrap_or_default().trim();
     let found = raw.or_else(|| users::bytes_of(digits));
     Ok(found.ok_or_else(|| format!("{path}: a secret is 32 bytes, or 64 hexadecimal digits"))?)
 }

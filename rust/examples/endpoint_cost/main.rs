@@ -84,7 +84,7 @@ impl Loop {
 }
 
 enum Kind {
-    Endpoint(Server, Users),
+    Endpoint(Box<Server>, Users),
     Loop(Loop),
 }
 
@@ -106,7 +106,7 @@ impl Kind {
         let server = Server::builder(long_term).answer_binding().build().unwrap();
         let mut users = server.users();
         users.add(alice()).unwrap();
-        Kind::Endpoint(server, users)
+        Kind::Endpoint(Box::new(server), users)
     }
 
     fn answer(&mut self, bytes: &[u8], from: SocketAddr, seconds: u64) -> Vec<u8> {

@@ -47,7 +47,7 @@ fn read(mut users: Users, path: &str, mut lines: impl BufRead) -> Result<Users, 
         }
         number += 1;
         let is_cut = line.len() == LONGEST && !line.ends_with(b"\n");
-        let added = match str::from_utf8(&line) {
+        let added = match std::str::from_utf8(&line) {
             Ok(text) if !is_cut => add_line(&mut users, text.trim_end_matches(['\r', '\n'])),
             _ => return Err(format!("{path}, line {number}: too long, or not UTF-8")),
         };

@@ -4,7 +4,8 @@ a word where a bar is missed.
 
     bench/bars.py
 
-It reads the sources of bench.c, state.py, agent.py and growth.c, and runs none of them. Status 1,
+It reads the sources of bench.c, state.py, agent.py, growth.c and endpoint.py, and runs none of
+them. Status 1,
 and a line for each difference.
 """
 
@@ -123,8 +124,20 @@ def of_growth():
     yield from same_rows("growth.c", re.findall(r'^    \{"(`[^"]*)", \w+\},$', source, re.M), rows)
 
 
+def of_endpoint():
+    rows = table("A datagram at a server", "`endpoint::Server`")
+    yield from same_rows("endpoint.py", [title for title, _, _ in value("endpoint.py", "ROWS")],
+                         rows)
+    for title, _, bar in value("endpoint.py", "ROWS"):
+        cells = rows.get(title, ["", "", ""])
+        if number(cells[-1]) != bar:
+            yield f"endpoint.py, {title}: at most {bar}, README.md has `{cells[-1]}`"
+        yield from told("endpoint.py", title, number(cells[0]), bar)
+
+
 def main():
-    differences = [one for part in (of_bench, of_state, of_agent, of_growth) for one in part()]
+    parts = (of_bench, of_state, of_agent, of_growth, of_endpoint)
+    differences = [one for part in parts for one in part()]
     for one in differences:
         print(f"bars: {one}", file=sys.stderr)
     if differences:

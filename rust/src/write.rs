@@ -295,7 +295,7 @@ impl<W: MessageWrite> MessageWriteExt for W {}
 ///
 /// The attributes of this crate are proved to append themselves. One of a type of the user's own
 /// could append other bytes, and would change how a reader takes what follows it.
-fn check_appended<A: Attribute>(message: &[u8], at: usize, attribute: &A) {
+pub(crate) fn check_appended<A: Attribute>(message: &[u8], at: usize, attribute: &A) {
     let length = attribute.length();
     let [k0, k1] = attribute.get_type().value().to_be_bytes();
     let [n0, n1] = (length as u16).to_be_bytes();

@@ -2,7 +2,7 @@
 
 use seatcrane_stun::auth::{LongTermClientAuth, LongTermClientValidation, StoredKeys};
 use seatcrane_stun::endpoint::*;
-use seatcrane_stun::extra::attribute::{AlternateServer, Lifetime};
+use seatcrane_stun::extra::attribute::{AlternateServer, Lifetime, XorPeerAddress};
 use seatcrane_stun::extra::{Fingerprint, check_fingerprint, finish_with_fingerprint};
 use seatcrane_stun::types::attribute::*;
 use seatcrane_stun::types::message::IntegrityAlgorithm::{Sha1, Sha256};
@@ -36,7 +36,7 @@ fn server(secret: u8, algorithms: &[IntegrityAlgorithm]) -> (Server, Users) {
 fn with_users(builder: ServerBuilder) -> (Server, Users) {
     let server = builder.build().unwrap();
     let mut users = server.users();
-    users.add(alice());
+    users.add(alice()).unwrap();
     (server, users)
 }
 
@@ -131,10 +131,12 @@ fn a_wrong_password_gets_401_and_an_unknown_user_too() {
         [401, 401]
     );
     let mut users = server.0.users();
-    users.add(LongTermCredentials::new(
-        "bob".to_string(),
-        "wonderland".to_string(),
-    ));
+    users
+        .add(LongTermCredentials::new(
+            "bob".to_string(),
+            "wonderland".to_string(),
+        ))
+        .unwrap();
     let server = (server.0, users);
     assert_eq!(
         exchange(&mut client("wonderland", &BOTH), &server, from, secs(0)),
@@ -365,6 +367,52 @@ fn what_cannot_be_added_is_told_at_the_end() {
         reply.success().add(&forged).finish(),
         Err(StunWriteError::NotAllowed)
     );
+    assert_eq!(
+        reply.success().add_another(&forged).finish(),
+        Err(StunWriteError::NotAllowed)
+    );
+}
+
+#[test]
+fn a_type_may_repeat_if_you_say_so() {
+    let from = at("192.0.2.1:4242");
+    let (server, users) = with_users(Server::builder(settings(1, &BOTH)).understands(types::TURN));
+    let mut client = client("wonderland", &BOTH);
+    let challenge = answer(server.receive(&binding(&mut client), from, secs(0), &users));
+    let message = Message::from_bytes(challenge.bytes()).unwrap();
+    client.validate_incoming_message(&message).unwrap();
+    let peers = [at("192.0.2.7:5000"), at("[2001:db8::7]:5001")];
+    // CreatePermission for two peers (RFC 8656, section 9.1).
+    let create = Method::new(8).unwrap();
+    let mut page = Message::builder_request_with_id(create, id(4), MessageWriteVec::new());
+    for peer in peers {
+        page.add_another_attribute(&XorPeerAddress::new(peer, id(4)))
+            .unwrap();
+    }
+    let request = client.sign_outgoing_message(page).unwrap().finish();
+    let Received::Request(request) = server.receive(&request, from, secs(0), &users) else {
+        panic!("no request");
+    };
+    let peers_of = |message: &Message<'_>| -> Vec<SocketAddr> {
+        let found = message.iter_attributes().filter_map(|(_, raw)| {
+            let peer = XorPeerAddress::from_raw(raw).ok()?;
+            Some(peer.addr(message.transaction_id()))
+        });
+        found.collect()
+    };
+    assert_eq!(peers_of(request.message()), peers);
+    let reply = request.reply();
+    let mut response = reply.success();
+    for peer in peers {
+        response = response.add_another(&XorPeerAddress::new(peer, reply.transaction_id()));
+    }
+    let response = response.finish().unwrap();
+    let response = Message::from_bytes(&response).unwrap();
+    assert_eq!(peers_of(&response), peers);
+    assert!(matches!(
+        client.validate_incoming_message(&response),
+        Ok(LongTermClientValidation::Validated(Sha256))
+    ));
 }
 
 #[test]
@@ -405,6 +453,10 @@ fn one_user_who_was_looked_up_is_enough() {
             .try_into()
             .ok(),
     };
+    let mut table = server.users();
+    table.add_with_keys("alice", keys).unwrap();
+    let by_keys = answer(server.receive(&request, from, secs(0), &table));
+    assert_eq!((code(&by_keys), by_keys.bytes()), (200, by_table.bytes()));
     let stored = server.user_with_keys("alice", keys);
     assert_eq!(
         code(&answer(server.receive_for(
@@ -545,14 +597,51 @@ fn answers_depend_on_no_earlier_datagram() {
 }
 
 #[test]
+fn reasons_have_names_and_places_in_a_table_of_counters() {
+    for (index, why) in DropReason::ALL.into_iter().enumerate() {
+        assert_eq!((why.index(), why.name()), (index, &*format!("{why:?}")));
+    }
+}
+
+#[test]
 fn everything_can_be_shared_among_threads() {
     fn shared<T: Send + Sync>() {}
-    shared::<Server>();
-    shared::<Users>();
-    shared::<Reply>();
-    shared::<Answer>();
+    fn kept<T: Send + Sync + 'static>() {}
+    kept::<LongTerm>();
+    kept::<ServerBuilder>();
+    kept::<Server>();
+    kept::<Users>();
+    kept::<User>();
+    kept::<Reply>();
+    kept::<ReplyWriter>();
+    kept::<Answer>();
+    kept::<UnixTime>();
     shared::<Received<'static>>();
-    let server = server(1, &BOTH).0;
-    let reply = format!("{server:?} {:?}", server.users());
-    assert_eq!(reply, "Server { .. } Users { .. }");
+    shared::<Request<'static>>();
+}
+
+#[test]
+fn debug_shows_no_secret() {
+    let from = at("192.0.2.1:4242");
+    let long_term = settings(171, &[Sha1]).previous_secret([171; 32]);
+    let builder = Server::builder(long_term.clone());
+    let mut told = format!("{long_term:?} {builder:?}");
+    let (server, users) = with_users(builder);
+    let mut client = client("wonderland", &[Sha1]);
+    let challenge = answer(server.receive(&binding(&mut client), from, secs(0), &users));
+    let message = Message::from_bytes(challenge.bytes()).unwrap();
+    client.validate_incoming_message(&message).unwrap();
+    let request = binding(&mut client);
+    let received = server.receive(&request, from, secs(0), &users);
+    let user = server.user(alice());
+    told += &format!("{server:?} {users:?} {user:?} {received:?}");
+    let Received::Request(request) = received else {
+        panic!("no request");
+    };
+    told += &format!("{:?} {:?}", request.reply(), request.reply().success());
+    let key = long_term_key(Sha1, "alice", "example.org", "wonderland");
+    let key = format!("{:?}", key.as_bytes());
+    let hidden = ["171", "wonderland", key.trim_matches(['[', ']'])];
+    assert!(hidden.iter().all(|one| !told.contains(one)), "{told}");
+    assert!(told.contains("Server { .. } Users { .. } User { .. }"));
 }

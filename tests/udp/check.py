@@ -4,10 +4,11 @@
     check.py [--server PROGRAM].. [--client PROGRAM]..
 
 The programs of examples/c are built with all warnings, and with sanitizers where the compiler has
-them. Programs that are named take the same words (examples/c/udp_server.c, examples/c/udp_client.c)
-and are tried too: each client against each server (pairs.py), and each alone (alone.py). What goes
-over the wire is judged by stun.py, which shares nothing with the library. Every port is a free one,
-every wait has an end, and only processes of its own are ended.
+them. Programs that are named take the same words (examples/c/udp_server.c,
+examples/c/udp_client.c), a server those of rust/examples/udp_server.rs too. They are tried as well:
+each client against each server (pairs.py), and each alone (alone.py, endpoint.py). What goes over
+the wire is judged by stun.py, which shares nothing with the library. Every port is a free one, every
+wait has an end, and only processes of its own are ended.
 
 The last line says what was checked. Without a compiler or the archive it says so, with status 0.
 """
@@ -17,6 +18,7 @@ import pathlib
 import sys
 
 import alone
+import endpoint
 import harness
 import pairs
 from harness import STATE, STATELESS, TOP, USER, Server, stun
@@ -38,25 +40,41 @@ def named(name, what, *words):
 
 def of_server(server, first):
     """The first server has what the others need not: other methods than Binding, nonces that expire
-    at a signal, the address that was asked, a large buffer, and no fear of faults but sleep."""
+    at a signal, a table of addresses, the address that was asked, a large buffer, and no fear of
+    faults but sleep."""
     one = lambda what, *words: named(label(server), what, server, *words)
     for what in (alone.unknown_attributes, alone.choices, alone.many_attributes, alone.fingerprints,
-                 alone.workers, alone.begins_again, alone.new_address, alone.three_hosts):
+                 alone.workers, alone.begins_again, alone.new_address):
         yield one(what)
     yield from (one(alone.hostile, ()), one(alone.hostile, USER))
     yield one(alone.wrong_words, *WRONG_SERVER_WORDS)
     for words, algorithm in zip(BOTH, (stun.SHA1, stun.SHA256)):
         yield one(alone.unknown_and_signed, words, algorithm)
         yield one(alone.challenges, words, algorithm)
-        yield one(alone.many_addresses, words, algorithm)
     yield one(alone.slept, str(pathlib.Path(first).parent / "faults.so"))
     if server == first:
         for words, algorithm in zip(BOTH, (stun.SHA1, stun.SHA256)):
             yield one(alone.malformed, words, algorithm)
-        for what in (alone.another_address, alone.crowded, alone.burst, alone.stopped_reader,
+            yield one(alone.many_addresses, words, algorithm)
+        for what in (alone.three_hosts, alone.another_address, alone.crowded, alone.burst, alone.stopped_reader,
                      alone.hidden_words, alone.wiped, alone.failing_reads, alone.no_ipv6,
                      alone.few_reads):
             yield one(what)
+    else:
+        yield from over_the_endpoint(server, str(pathlib.Path(first).parent / "exhausted.so"))
+
+
+def over_the_endpoint(server, exhausted):
+    """The others keep nothing of an address (endpoint.py)."""
+    one = lambda what, *words: named(label(server), what, server, *words)
+    for what in (endpoint.tells, endpoint.counters, endpoint.addresses, endpoint.bad_lines,
+                 endpoint.many_users, endpoint.reloaded, endpoint.too_many_users):
+        yield one(what)
+    for words in BOTH:
+        for what in (endpoint.restarted, endpoint.behind_one_port, endpoint.one_socket,
+                     endpoint.streams, endpoint.stored_keys):
+            yield one(what, words)
+    yield one(endpoint.no_memory, exhausted)
 
 
 def of_client(client):

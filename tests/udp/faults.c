@@ -2,8 +2,8 @@
  *
  * FAILING_READS=N    so many calls of recvmsg fail by ENOBUFS
  * NO_IPV6=1          no socket is of IPv6
- * SLEPT=FILE         once it is there the machine has slept a minute, by CLOCK_BOOTTIME alone, and
- *                    /proc/uptime has what the file has
+ * SLEPT=FILE         once it is there the machine has slept a minute, by CLOCK_BOOTTIME and
+ *                    CLOCK_REALTIME, and /proc/uptime has what the file has
  * COUNTED=FILE       gets a byte for each call of getrandom */
 #define _GNU_SOURCE
 #include <dlfcn.h>
@@ -50,7 +50,8 @@ int clock_gettime(clockid_t clock, struct timespec *now) {
     int (*call)(clockid_t, struct timespec *) =
         (int (*)(clockid_t, struct timespec *))dlsym(RTLD_NEXT, "clock_gettime");
     int status = call(clock, now);
-    if (clock == CLOCK_BOOTTIME && slept() != NULL) now->tv_sec += 60;
+    int goes_on = clock == CLOCK_BOOTTIME || clock == CLOCK_REALTIME;
+    if (goes_on && slept() != NULL) now->tv_sec += 60;
     return status;
 }
 

@@ -78,18 +78,20 @@ def build_helpers(folder):
     places = (*(parts / name for name in ("places.c", "net.c", "heap.c")), *archives)
     crowded = (HERE / "crowded.c", *places, "-o", folder / "crowded")
     subprocess.run([*command, *crowded], check=True)
-    faults = ("-shared", "-fPIC", HERE / "faults.c", "-o", folder / "faults.so", "-ldl")
-    subprocess.run([*command, *faults], check=True)
+    for name in ("faults", "exhausted"):
+        library = ("-shared", "-fPIC", HERE / f"{name}.c", "-o", folder / f"{name}.so", "-ldl")
+        subprocess.run([*command, *library], check=True)
 
 
 class Server:
-    """A running server, which is ended at the end, and has then told no errors but these. Its lines
-    are read, or only the first."""
+    """A running server, which is ended at the end, and has then told no errors but these, or any
+    where they are None. Its lines are read, or only the first."""
 
-    def __init__(self, program, *words, port=0, within=(), environment=(), told="", is_read=True):
+    def __init__(self, program, *words, port=0, within=(), environment=(), told="", is_read=True,
+                 stdin=None):
         self.errors, self.may_tell, self.is_read = tempfile.TemporaryFile("w+"), told, is_read
         words = [*within, program, str(port), *words]
-        pipes = dict(stdout=subprocess.PIPE, stderr=self.errors, text=True)
+        pipes = dict(stdin=stdin, stdout=subprocess.PIPE, stderr=self.errors, text=True)
         self.process = subprocess.Popen(words, env={**os.environ, **dict(environment)}, **pipes)
         self.lines, self.is_up = [], threading.Event()
         threading.Thread(target=self.listen, daemon=True).start()
@@ -125,7 +127,8 @@ class Server:
         except subprocess.TimeoutExpired:
             self.process.kill()
             status = self.process.wait()
-        is_fine = status in (0, -signal.SIGTERM) and self.told() == self.may_tell
+        is_told = self.may_tell is None or self.told() == self.may_tell
+        is_fine = status in (0, -signal.SIGTERM) and is_told
         assert kind is not None or is_fine, f"the server ended with {status}: {self.told()}"
 
 

@@ -55,8 +55,8 @@
 //! You own the socket, the clock and the source of random numbers. After every call that can change
 //! the agent, call both polls again: `poll_transmit` until it returns `None`, and then `poll`.
 //! Their order matters, because only `poll_transmit` advances the retransmission timers. A loop
-//! that calls `poll` alone never retransmits and never times out. The test `client_loop` of the
-//! crate `api_tests` runs the loop above.
+//! that calls `poll` alone never retransmits and never times out. The test
+//! `rust/checks/src/api/client_loop.rs` runs the loop above.
 ghost use Rattle.std.specs.Prelude.{◌≡◌};
 ghost use Rattle.std.specs.Borrow.{sem};
 ghost use Rattle.std.specs.Option.{option_copied, option_copied_mut};

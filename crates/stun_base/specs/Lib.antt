@@ -12,6 +12,8 @@ pub mod Words
 pub mod Attributes
 -- the texts of these types
 pub mod AttributeText
+-- two texts whose bytes are read in pairs
+pub mod Pairs
 -- the keyed hash (RFC 2104)
 pub mod Hmac
 -- the digests of message integrity (RFC 8489, sections 14.5 and 14.6)

@@ -1,0 +1,62 @@
+#!/usr/bin/env python3
+"""Counts what a datagram costs at a server of the exported crate.
+
+    bench/endpoint.py
+
+Each row is counted at `endpoint::Server` and at a loop of calls by hand with its table of addresses
+(rust/examples/endpoint_cost): 1,000 and 3,000 datagrams each, and the difference through 2,000 is
+one: instructions by callgrind. It wants `make rust` before, cargo and valgrind. It prints the table
+of README.md; status 1 if a bar is missed.
+"""
+
+import concurrent.futures
+import os
+import pathlib
+import re
+import subprocess
+import sys
+
+EXPORT = pathlib.Path(__file__).resolve().parent.parent / "target/export"
+FEW, MANY = 1000, 3000
+
+# The row's title, its words, and the bar on the endpoint's instructions, if it has one.
+ROWS = [
+    ("a signed request, HMAC-SHA1", ("sha1", "signed"), 20500),
+    ("a signed request, HMAC-SHA256", ("sha256", "signed"), 34000),
+    ("an unsigned request from a new address: 401", ("sha256", "new"), 10000),
+    ("the same, where the server has HMAC-SHA1 alone", ("sha1", "new"), None),
+    ("a request with an expired nonce: 438", ("sha256", "stale"), None),
+]
+
+
+def counted(words):
+    """The instructions of a run."""
+    command = ["valgrind", "--tool=callgrind", "--callgrind-out-file=/dev/null", *words]
+    run = subprocess.run(command, capture_output=True, text=True, check=False)
+    found = re.search(r"Collected : (\d+)", run.stderr)
+    if run.returncode or not found:
+        sys.exit(f"bench: status {run.returncode}: {' '.join(words)}\n{run.stderr}")
+    return int(found[1])
+
+
+def main():
+    build = ["cargo", "build", "--quiet", "--release", "--example", "endpoint_cost"]
+    subprocess.run(build, cwd=EXPORT, check=True)
+    program = str(EXPORT / "target/release/examples/endpoint_cost")
+    runs = [(program, kind, *words, str(times)) for _, words, _ in ROWS
+            for kind in ("endpoint", "loop") for times in (FEW, MANY)]
+    with concurrent.futures.ThreadPoolExecutor(min(4, os.cpu_count() or 1)) as pool:
+        counts = iter(list(pool.map(counted, runs)))
+    print("| A datagram at a server | `endpoint::Server` | a loop with a table | at most |")
+    print("|---|---|---|---|")
+    missed = 0
+    for title, _, most in ROWS:
+        few, many, loop_few, loop_many = (next(counts) for _ in range(4))
+        endpoint, by_hand = ((many - few) // (MANY - FEW), (loop_many - loop_few) // (MANY - FEW))
+        missed += most is not None and endpoint > most
+        print(f"| {title} | {endpoint:,} | {by_hand:,} | {f'{most:,}' if most else ''} |")
+    return 1 if missed else 0
+
+
+if __name__ == "__main__":
+    sys.exit(main())

@@ -1,0 +1,150 @@
+//! A server where memory ends, alone in a process: it drops the datagram, and loses nothing.
+
+use seatcrane_stun::auth::LongTermClientAuth;
+use seatcrane_stun::endpoint::*;
+use seatcrane_stun::types::attribute::*;
+use seatcrane_stun::types::message::*;
+use seatcrane_stun::types::prelude::*;
+use std::alloc::{GlobalAlloc, Layout, System};
+use std::cell::Cell;
+use std::net::SocketAddr;
+
+/// The system's memory, of which each thread may have a number of blocks more than it has.
+struct Limited;
+
+thread_local! {
+    static LEFT: Cell<usize> = const { Cell::new(usize::MAX) };
+}
+
+/// Takes a block of what is left, if there is one.
+fn take() -> bool {
+    LEFT.with(|left| match left.get() {
+        0 => false,
+        usize::MAX => true,
+        some => {
+            left.set(some - 1);
+            true
+        }
+    })
+}
+
+// SAFETY: all is passed on to the system, or refused.
+unsafe impl GlobalAlloc for Limited {
+    unsafe fn alloc(&self, layout: Layout) -> *mut u8 {
+        match take() {
+            true => unsafe { System.alloc(layout) },
+            false => std::ptr::null_mut(),
+        }
+    }
+
+    unsafe fn dealloc(&self, block: *mut u8, layout: Layout) {
+        LEFT.with(|left| left.set(left.get().saturating_add(1)));
+        unsafe { System.dealloc(block, layout) }
+    }
+
+    unsafe fn realloc(&self, block: *mut u8, layout: Layout, length: usize) -> *mut u8 {
+        match LEFT.with(Cell::get) {
+            0 => std::ptr::null_mut(),
+            _ => unsafe { System.realloc(block, layout, length) },
+        }
+    }
+}
+
+#[global_allocator]
+static MEMORY: Limited = Limited;
+
+/// Makes a call with so few blocks.
+fn within<T>(blocks: usize, call: impl FnOnce() -> T) -> T {
+    LEFT.with(|left| left.set(blocks));
+    let result = call();
+    LEFT.with(|left| left.set(usize::MAX));
+    result
+}
+
+fn alice() -> LongTermCredentials {
+    LongTermCredentials::new("alice".to_string(), "wonderland".to_string())
+}
+
+fn request(client: &mut LongTermClientAuth, method: u16, kind: u16) -> Vec<u8> {
+    let (method, id) = (Method::new(method).unwrap(), TransactionId::from([7; 12]));
+    let mut page = Message::builder_request_with_id(method, id, MessageWriteVec::new());
+    page.add_attribute(&RawAttribute::new(AttributeType(kind), b"odd"))
+        .unwrap();
+    client.sign_outgoing_message(page).unwrap().finish()
+}
+
+/// What a datagram comes to, as bytes to compare: a request is answered.
+fn bytes_of(received: Received<'_>) -> Result<Vec<u8>, DropReason> {
+    match received {
+        Received::Answer(answer) => Ok(answer.into_bytes()),
+        Received::Request(request) => Ok(request.reply().error(508, "Full").finish().unwrap()),
+        Received::Dropped(why) => Err(why),
+        other => panic!("{other:?}"),
+    }
+}
+
+#[test]
+fn where_memory_ends_a_datagram_is_dropped() {
+    let from: SocketAddr = "192.0.2.1:4242".parse().unwrap();
+    let (now, later) = (UnixTime::from_secs(7200), UnixTime::from_secs(14400));
+    let long_term = LongTerm::new("example.org", [1; 32]).previous_secret([2; 32]);
+    let builder = Server::builder(long_term)
+        .answer_binding()
+        .software("tested");
+    let server = builder.build().unwrap();
+    let mut users = server.users();
+    users.add(alice()).unwrap();
+    let mut client = LongTermClientAuth::new();
+    client.add_supported_integrity(IntegrityAlgorithm::Sha256);
+    client.set_credentials(alice());
+    let unsigned = request(&mut client, 1, 0x8fff);
+    let challenge = bytes_of(server.receive(&unsigned, from, now, &users)).unwrap();
+    let challenge = Message::from_bytes(&challenge).unwrap();
+    client.validate_incoming_message(&challenge).unwrap();
+    let [binding, unknown, allocate] =
+        [(1, 0x8fff), (1, 0x7fff), (3, 0x8fff)].map(|(m, kind)| request(&mut client, m, kind));
+    for (bytes, now, code) in [
+        (&unsigned, now, Some(401)),
+        (&binding, now, None),
+        (&binding, later, Some(438)),
+        (&unknown, now, Some(420)),
+        (&allocate, now, Some(508)),
+    ] {
+        let wanted = bytes_of(server.receive(bytes, from, now, &users)).unwrap();
+        assert_eq!(
+            Message::from_bytes(&wanted).unwrap().error_code().ok(),
+            code
+        );
+        let mut blocks = 0;
+        loop {
+            let received = within(blocks, || server.receive(bytes, from, now, &users));
+            match bytes_of(received) {
+                Err(why) => assert_eq!(why, DropReason::OutOfMemory),
+                Ok(answer) => {
+                    assert_eq!(answer, wanted, "{code:?} with {blocks} blocks");
+                    break;
+                }
+            }
+            blocks += 1;
+        }
+        assert!((1..30).contains(&blocks), "{blocks} blocks");
+    }
+}
+
+#[test]
+fn where_memory_ends_the_users_stay_as_they_were() {
+    let server = Server::builder(LongTerm::new("example.org", [1; 32]))
+        .build()
+        .unwrap();
+    let mut users = server.users();
+    let mut blocks = 0;
+    loop {
+        let alice = alice();
+        match within(blocks, || users.add(alice)) {
+            Err(why) => assert_eq!(why, UserError::OutOfMemory),
+            Ok(()) => break,
+        }
+        blocks += 1;
+    }
+    assert!(blocks > 0);
+}

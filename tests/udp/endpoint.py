@@ -1,0 +1,320 @@
+"""Cases of a server that keeps nothing of an address: its nonces are a function of a secret, the
+address and the time (rust/examples/udp_server.rs)."""
+import contextlib
+import hashlib
+import os
+import pathlib
+import re
+import resource
+import socket
+import subprocess
+import tempfile
+import time
+
+from alone import answering
+from harness import NAME, PASSWORD, REALM, USER, Peer, Server, stun
+
+CLIENTS = 20
+
+
+@contextlib.contextmanager
+def file_of(content):
+    with tempfile.NamedTemporaryFile() as file:
+        file.write(content if isinstance(content, bytes) else content.encode())
+        file.flush()
+        yield file.name
+
+
+def algorithm_of(words):
+    return stun.SHA256 if "--sha256" in words else stun.SHA1
+
+
+def challenged(peers, algorithm):
+    """A signed request for the challenge of each of these, who ask for the first time."""
+    challenges = [peer.ask(stun.message(stun.REQUEST)) for peer in peers]
+    assert all(stun.code_of(one) == 401 for one in challenges)
+    return [answering(one, algorithm) for one in challenges]
+
+
+def are_served(peers, requests):
+    """Each of these requests draws a success at once."""
+    codes = [stun.code_of(peer.ask(request)) for peer, request in zip(peers, requests)]
+    assert codes == [200] * len(peers), codes
+
+
+def peers_of(held, port):
+    return [held.enter_context(Peer(port)) for _ in range(CLIENTS)]
+
+
+# ---- One secret
+
+
+def restarted(server, words):
+    """A server that starts anew with its secret accepts the nonces of before: raw or in
+    hexadecimal, it is one secret."""
+    secret, algorithm = os.urandom(32), algorithm_of(words)
+    with file_of(secret) as raw, file_of(f"{secret.hex()}\n") as digits:
+        with Server(server, *USER, *words, "--secret", raw) as first, contextlib.ExitStack() as held:
+            peers = peers_of(held, first.port)
+            requests = challenged(peers, algorithm)
+            first.process.terminate()
+            first.process.wait(20)
+            with Server(server, *USER, *words, "--secret", digits, port=first.port):
+                are_served(peers, requests)
+    with file_of(b"short") as short:
+        run = subprocess.run([server, "0", *USER, "--secret", short], capture_output=True, text=True)
+        assert run.returncode == 1 and "a secret is 32 bytes" in run.stderr, run
+
+
+def bound(port=0):
+    one = socket.socket(socket.AF_INET, socket.SOCK_DGRAM)
+    one.setsockopt(socket.SOL_SOCKET, socket.SO_REUSEPORT, 1)
+    one.bind(("127.0.0.1", port))
+    return one
+
+
+def behind_one_port(server, words):
+    """Two processes behind one port, by SO_REUSEPORT: a client whose datagrams go from one to the
+    other is served by either. Which process gets an address is the kernel's choice, and once one is
+    gone, all get the other."""
+    algorithm = algorithm_of(words)
+    with file_of(os.urandom(32)) as secret, contextlib.ExitStack() as held:
+        first = bound()
+        second = bound(first.getsockname()[1])
+        words = (*USER, *words, "--secret", secret, "--at", "-", "--counts", "1")
+        one = Server(server, *words, stdin=first)
+        other = held.enter_context(Server(server, *words, stdin=second))
+        first.close()
+        second.close()
+        peers = peers_of(held, one.port)
+        with one:
+            requests = challenged(peers, algorithm)
+            are_served(peers, requests)
+            have_both = [until(running, r"401: [1-9]") for running in (one, other)]
+            assert all(have_both), "the kernel gave one process all"
+        are_served(peers, requests)
+
+
+def one_socket(server, words):
+    """So do processes that read one socket, any of which gets any datagram."""
+    algorithm = algorithm_of(words)
+    with file_of(os.urandom(32)) as secret, contextlib.ExitStack() as held:
+        shared = bound()
+        words = (*USER, *words, "--secret", secret, "--at", "-")
+        for _ in range(2):
+            held.enter_context(Server(server, *words, stdin=shared))
+        peers = peers_of(held, shared.getsockname()[1])
+        for _ in range(3):
+            are_served(peers, challenged(peers, algorithm))
+
+
+# ---- Options
+
+
+def until(running, pattern, seconds=10):
+    """Whether a line of a server comes to match."""
+    end = time.monotonic() + seconds
+    while time.monotonic() < end:
+        if any(re.search(pattern, line) for line in running.lines):
+            return True
+        time.sleep(0.05)
+    return False
+
+
+def tells(server):
+    for word, wanted in (("--help", "usage: udp_server PORT"), ("--version", "udp_server ")):
+        run = subprocess.run([server, word], capture_output=True, text=True, timeout=20)
+        assert run.returncode == 0 and run.stdout.startswith(wanted) and run.stderr == "", run
+
+
+def counters(server):
+    with Server(server, *USER, "--counts", "1") as running, Peer(running.port) as peer:
+        challenge = peer.ask(stun.message(stun.REQUEST))
+        assert stun.code_of(peer.ask(answering(challenge))) == 200
+        peer.is_dropped(b"none", stun.message(stun.INDICATION), stun.message(0x0003))
+        wanted = ("answered 1; refused 400: 0 401: 2 420: 0 438: 0; dropped NotStun: 1 .*; "
+                  "no Binding request: 2$")
+        assert until(running, wanted), running.lines
+
+
+def addresses(server):
+    """It serves each address that is named, over UDP and TCP, and none else."""
+    words = ("--tcp", "--at", "127.0.0.2", "--at", "127.0.0.3")
+    with Server(server, *words) as running:
+        for host in ("127.0.0.2", "127.0.0.3"):
+            with Peer(running.port, host) as peer:
+                assert stun.code_of(peer.ask(stun.message(stun.REQUEST))) == 200
+            with socket.create_connection((host, running.port), 10) as stream:
+                assert stun.code_of(asked_over(stream, stun.message(stun.REQUEST))) == 200
+        try:
+            socket.create_connection(("127.0.0.1", running.port), 10).close()
+            raise AssertionError("it listens at 127.0.0.1")
+        except ConnectionRefusedError:
+            pass
+
+
+# ---- TCP
+
+
+def message_of(stream):
+    head = b""
+    while len(head) < 20 or len(head) < 20 + int.from_bytes(head[2:4], "big"):
+        more = stream.recv(4096)
+        assert more, "the connection ended"
+        head += more
+    length = 20 + int.from_bytes(head[2:4], "big")
+    assert len(head) == length, "more than one message"
+    return head
+
+
+def asked_over(stream, request):
+    stream.sendall(request)
+    return message_of(stream)
+
+
+def streams(server, words):
+    """A connection has any number of requests, in any pieces; it ends where no STUN begins."""
+    algorithm = algorithm_of(words)
+    with Server(server, *USER, *words, "--tcp") as running:
+        where = ("127.0.0.1", running.port)
+        with socket.create_connection(where, 10) as stream:
+            challenge = asked_over(stream, stun.message(stun.REQUEST))
+            assert stun.code_of(challenge) == 401
+            request = answering(challenge, algorithm)
+            for byte in request:
+                stream.sendall(bytes([byte]))
+            success = message_of(stream)
+            assert stun.code_of(success) == 200
+            octets, port = stun.mapped_address(success)
+            assert (octets, port) == (b"\x7f\0\0\1", stream.getsockname()[1])
+            stream.sendall(request + request[:30])
+            assert stun.code_of(message_of(stream)) == 200
+            assert stun.code_of(asked_over(stream, request[30:])) == 200
+        for wrong in (b"GET / HTTP/1.1\r\n", b"\0\1\xff\xfc" + stun.message(stun.REQUEST)[4:]):
+            with socket.create_connection(where, 10) as stream:
+                stream.sendall(wrong)
+                with contextlib.suppress(ConnectionResetError):
+                    assert stream.recv(4096) == b"", "the connection goes on"
+        with socket.create_connection(where, 10) as stream:
+            assert stun.code_of(asked_over(stream, stun.message(stun.REQUEST))) == 401
+
+
+# ---- The file of users
+
+
+def bad_lines(server):
+    """Each line that is no user is told by its number, and nobody is served."""
+    text = f"# who may ask\n{NAME} {PASSWORD}\nbob\n\n x\n{'n' * 514} p\n"
+    with file_of(text) as file:
+        words = [server, "0", REALM, "--users", file]
+        run = subprocess.run(words, capture_output=True, text=True, timeout=20)
+        numbers = re.findall(r"line (\d+)", run.stderr)
+        assert run.returncode == 1 and numbers == ["3", "5", "6"] and run.stdout == "", run
+    with file_of(b"a b\n\xff c\n") as file:
+        words = [server, "0", REALM, "--users", file]
+        run = subprocess.run(words, capture_output=True, text=True, timeout=20)
+        assert run.returncode == 1 and "line 2" in run.stderr, run
+
+
+def stored_keys(server, words):
+    """A line may have keys in the place of a password."""
+    algorithm = algorithm_of(words)
+    keys = [stun.key_of(one, NAME, REALM, PASSWORD) for one in (stun.SHA1, stun.SHA256)]
+    line = f"{NAME} 0x{keys[0].hex()} 0x{keys[1].hex()}\nbob 0x12\n"
+    with file_of(line) as file, Server(server, REALM, "--users", file, *words) as running:
+        with Peer(running.port) as peer:
+            are_served([peer], challenged([peer], algorithm))
+            challenge = peer.ask(stun.message(stun.REQUEST))
+            bob = answering(challenge, algorithm, (), "bob", "0x12")
+            assert stun.code_of(peer.ask(bob)) == 200, "a password may begin so"
+
+
+def many_users(server):
+    """A file of any size: the last of 20,000 is served."""
+    lines = "".join(f"user{number} pass{number}\n" for number in range(20000))
+    with file_of(lines) as file, Server(server, REALM, "--users", file) as running:
+        with Peer(running.port) as peer:
+            challenge = peer.ask(stun.message(stun.REQUEST))
+            request = answering(challenge, stun.SHA1, (), "user19999", "pass19999")
+            assert stun.code_of(peer.ask(request)) == 200
+
+
+def reloaded(server):
+    """The file is read again when it changes; a bad one changes nothing."""
+    with tempfile.TemporaryDirectory() as folder:
+        file = pathlib.Path(folder) / "users"
+        file.write_text(f"{NAME} {PASSWORD}\n")
+        told = (f"udp_server: {file}, line 1: no `NAME PASSWORD`\n"
+                f"udp_server: users stay as they were: {file}: 1 lines are no users\n")
+        with Server(server, REALM, "--users", str(file), told=told) as running:
+            with Peer(running.port) as peer:
+                challenge = peer.ask(stun.message(stun.REQUEST))
+                alice = answering(challenge)
+                bob = answering(challenge, stun.SHA1, (), "bob", "builder")
+
+                def become(request, code):
+                    end = time.monotonic() + 10
+                    while stun.code_of(peer.ask(request)) != code:
+                        assert time.monotonic() < end, f"no {code}"
+                        time.sleep(0.1)
+
+                become(alice, 200)
+                become(bob, 401)
+                file.write_text("bob builder\n# and nobody else\n")
+                become(bob, 200)
+                become(alice, 401)
+                file.write_text("nobody\n")
+                end = time.monotonic() + 10
+                while running.told() != told:
+                    assert time.monotonic() < end, running.told()
+                    time.sleep(0.1)
+                become(bob, 200)
+
+
+# ---- Memory that ends (exhausted.c)
+
+
+def too_many_users(server):
+    """A file of more users than there is memory for changes nothing."""
+    with tempfile.TemporaryDirectory() as folder:
+        file = pathlib.Path(folder) / "users"
+        file.write_text(f"{NAME} {PASSWORD}\n")
+        told = f"udp_server: users stay as they were: {file}, line "
+        with Server(server, REALM, "--users", str(file), told=None) as running:
+            with Peer(running.port) as peer:
+                challenge = peer.ask(stun.message(stun.REQUEST))
+                pid = running.process.pid
+                pages = int(pathlib.Path(f"/proc/{pid}/statm").read_text().split()[0])
+                most = pages * os.sysconf("SC_PAGE_SIZE") + (16 << 20)
+                resource.prlimit(pid, resource.RLIMIT_AS, (most, most))
+                lines = (f"user{number} pass{number}\n" for number in range(200000))
+                file.write_text("".join(lines))
+                end = time.monotonic() + 60
+                while not running.told().endswith("an allocation failed\n"):
+                    assert time.monotonic() < end, running.told()
+                    assert stun.code_of(peer.ask(answering(challenge))) == 200
+                    time.sleep(0.1)
+                assert running.told().startswith(told), running.told()
+                assert stun.code_of(peer.ask(answering(challenge))) == 200
+
+
+def no_memory(server, library):
+    """Where no memory is left a datagram is dropped, and the server goes on."""
+    with tempfile.TemporaryDirectory() as folder:
+        file = pathlib.Path(folder) / "exhausted"
+        environment = {"LD_PRELOAD": library, "EXHAUSTED": str(file)}
+        with Server(server, *USER, "--counts", "1", environment=environment) as running:
+            with Peer(running.port) as peer:
+                challenge = peer.ask(stun.message(stun.REQUEST))
+                file.touch()
+                peer.socket.settimeout(0.5)
+                for request in (stun.message(stun.REQUEST), answering(challenge)):
+                    try:
+                        peer.ask(request)
+                        raise AssertionError("it has memory")
+                    except TimeoutError:
+                        pass
+                file.unlink()
+                peer.socket.settimeout(10)
+                assert stun.code_of(peer.ask(answering(challenge))) == 200
+                assert until(running, "OutOfMemory: 2;"), running.lines

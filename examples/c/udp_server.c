@@ -84,7 +84,12 @@ static volatile sig_atomic_t jumps;
 
 static void jump(int number) { jumps += number == SIGUSR2; }
 
-static uint64_t now(void) { return (uint64_t)time(NULL) + (uint64_t)jumps * settings.ahead; }
+/* Seconds of the wall clock: by another one, nonces of an earlier run could be current again. */
+static uint64_t now(void) {
+    struct timespec now;
+    clock_gettime(CLOCK_REALTIME, &now);
+    return (uint64_t)now.tv_sec + (uint64_t)jumps * settings.ahead;
+}
 
 /* ---- Counters, of each process in memory that all share */
 

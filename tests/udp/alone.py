@@ -152,39 +152,25 @@ def another_address(server):
         assert stun.mapped_address(answer) == (b"\x7f\0\0\1", peer.socket.getsockname()[1])
 
 
-# ---- More addresses than a server has room for
+# ---- Many addresses
 
 
-def crowd(running, *hosts, ports=1):
-    """An unsigned request of each port of each of these hosts. Each twentieth is waited for, the
-    last too, so that none is lost. Ports are held until then, so that none draws another's
-    answer."""
+def crowd(running, *hosts):
+    """An unsigned request of each of these hosts. The last is waited for, so that none is lost."""
     with contextlib.ExitStack() as held:
-        for left in reversed(range(ports * len(hosts))):
-            peer = held.enter_context(Peer(running.port, here=hosts[left // ports]))
-            if left % 20 == 0:
+        for left, host in zip(reversed(range(len(hosts))), hosts):
+            peer = held.enter_context(Peer(running.port, here=host))
+            if left == 0:
                 assert stun.code_of(peer.ask(stun.message(stun.REQUEST))) == 401
             else:
                 peer.socket.sendto(stun.message(stun.REQUEST), peer.target)
 
 
-def three_hosts(server):
-    """Few hosts with many ports each take no place of another host."""
-    with Server(server, *USER, "--addresses", "64") as running:
-        with Peer(running.port, here="127.0.0.5") as fourth:
-            challenge = fourth.ask(stun.message(stun.REQUEST))
-            crowd(running, "127.0.0.2", "127.0.0.3", "127.0.0.4", ports=100)
-            assert stun.code_of(fourth.ask(answering(challenge))) == 200
-        with Peer(running.port, here="127.0.0.5") as fourth:
-            assert stun.code_of(fourth.ask(stun.message(stun.REQUEST))) == 401
-
-
 def many_addresses(server, words, algorithm):
-    """While a flood of addresses comes, who is new is served. Who was validated keeps its place;
-    who was not loses it, and is told a fresh nonce."""
+    """While a flood of addresses comes, who is new is served, and nobody loses a nonce."""
     flood = [f"127.1.{i // 200}.{i % 200 + 1}" for i in range(600)]
     few = (flood[i:i + 20] for i in range(0, len(flood), 20))
-    with Server(server, *USER, "--addresses", "64", *words) as running:
+    with Server(server, *USER, *words) as running:
         client, stranger = (Peer(running.port, here=f"127.0.0.{host}") for host in (2, 3))
         with client, stranger:
             challenge = client.ask(stun.message(stun.REQUEST))
@@ -196,21 +182,11 @@ def many_addresses(server, words, algorithm):
                     crowd(running, *hosts)
                     assert stun.code_of(new.ask(answering(told, algorithm))) == 200
             assert stun.code_of(client.ask(answering(challenge, algorithm))) == 200
-            fresh = stranger.ask(answering(early, algorithm))
-            assert stun.code_of(fresh) == 438
-            assert stun.code_of(stranger.ask(answering(fresh, algorithm))) == 200
-
-
-def crowded(server):
-    """The right place is given up, as a plain list has it (crowded.c)."""
-    program = pathlib.Path(server).parent / "crowded"
-    for words in (("16", "1"), ("33", "2"), ("64", "3")):
-        run = subprocess.run([program, *words], capture_output=True, text=True, timeout=60)
-        assert run.stdout == "crowded: passed\n", run
+            assert stun.code_of(stranger.ask(answering(early, algorithm))) == 200
 
 
 def workers(server):
-    """An address is one worker's, so none is challenged twice."""
+    """Each worker accepts the nonces of all, so nobody is challenged twice."""
     with Server(server, *USER, "--workers", "2") as running:
         for _ in range(20):
             with Peer(running.port) as peer:
@@ -354,10 +330,35 @@ def slept(server, library):
                 time.sleep(0.1)
 
 
-def few_reads(server):
-    """Random bytes are read for many requests at once."""
-    with tempfile.NamedTemporaryFile() as counted:
-        with with_fault(server, *USER, COUNTED=counted.name) as running, Peer(running.port) as peer:
-            for _ in range(100):
-                assert stun.code_of(peer.ask(stun.message(stun.REQUEST))) == 401
-        assert 1 <= len(counted.read()) <= 10
+# ---- One port
+
+
+def one_server(server):
+    """A second server on the same port is refused, also where both have workers, unless it is asked
+    for."""
+    for words in ((), ("--workers", "2")):
+        with Server(server, *words) as running:
+            told = "socket: Address already in use\n"
+            for others in ((), ("--workers", "2")):
+                run = subprocess.run([server, str(running.port), *others], capture_output=True,
+                                     text=True, timeout=20)
+                assert (run.returncode, run.stdout, run.stderr) == (1, "", told), run
+    with Server(server, "--shared") as running:
+        with Server(server, "--shared", "--workers", "2", port=running.port) as second:
+            assert second.port == running.port
+            with Peer(running.port) as peer:
+                assert stun.code_of(peer.ask(stun.message(stun.REQUEST))) == 200
+
+
+def counted(server):
+    """SIGUSR1 has it print what all its workers counted."""
+    for words in ((), ("--workers", "3")):
+        with Server(server, *words) as running:
+            for _ in range(20):
+                with Peer(running.port) as peer:
+                    assert stun.code_of(peer.ask(stun.message(stun.REQUEST))) == 200
+            running.process.send_signal(signal.SIGUSR1)
+            end = time.monotonic() + 10
+            while not any(line.startswith("answered 20; ") for line in running.lines):
+                assert time.monotonic() < end, running.lines
+                time.sleep(0.05)

@@ -39,9 +39,10 @@ def named(name, what, *words):
 
 
 def of_server(server, first):
-    """The first server has what the others need not: other methods than Binding, nonces that expire
-    at a signal, a table of addresses, the address that was asked, a large buffer, and no fear of
-    faults but sleep."""
+    """Each keeps nothing of an address (endpoint.py). The first server has what the others need not:
+    other methods than Binding, nonces that expire at a signal, the address that was asked, a large
+    buffer, no fear of faults but sleep, a port of its own, and users and counters at a signal. The
+    others have TCP, and look at the file themselves."""
     one = lambda what, *words: named(label(server), what, server, *words)
     for what in (alone.unknown_attributes, alone.choices, alone.many_attributes, alone.fingerprints,
                  alone.workers, alone.begins_again, alone.new_address):
@@ -51,29 +52,30 @@ def of_server(server, first):
     for words, algorithm in zip(BOTH, (stun.SHA1, stun.SHA256)):
         yield one(alone.unknown_and_signed, words, algorithm)
         yield one(alone.challenges, words, algorithm)
+        yield one(alone.many_addresses, words, algorithm)
     yield one(alone.slept, str(pathlib.Path(first).parent / "faults.so"))
     if server == first:
         for words, algorithm in zip(BOTH, (stun.SHA1, stun.SHA256)):
             yield one(alone.malformed, words, algorithm)
-            yield one(alone.many_addresses, words, algorithm)
-        for what in (alone.three_hosts, alone.another_address, alone.crowded, alone.burst, alone.stopped_reader,
-                     alone.hidden_words, alone.wiped, alone.failing_reads, alone.no_ipv6,
-                     alone.few_reads):
+        for what in (alone.another_address, alone.burst, alone.stopped_reader, alone.hidden_words,
+                     alone.wiped, alone.failing_reads, alone.no_ipv6, alone.one_server,
+                     alone.counted, endpoint.addresses, endpoint.reloaded_at_a_signal):
             yield one(what)
     else:
-        yield from over_the_endpoint(server, str(pathlib.Path(first).parent / "exhausted.so"))
-
-
-def over_the_endpoint(server, exhausted):
-    """The others keep nothing of an address (endpoint.py)."""
-    one = lambda what, *words: named(label(server), what, server, *words)
-    for what in (endpoint.tells, endpoint.counters, endpoint.addresses, endpoint.bad_lines,
-                 endpoint.many_users, endpoint.reloaded, endpoint.too_many_users):
+        yield from of_others(server, str(pathlib.Path(first).parent / "exhausted.so"))
+    for what in (endpoint.tells, endpoint.counters, endpoint.bad_lines, endpoint.many_users):
         yield one(what)
     for words in BOTH:
         for what in (endpoint.restarted, endpoint.behind_one_port, endpoint.one_socket,
-                     endpoint.streams, endpoint.stored_keys):
+                     endpoint.stored_keys):
             yield one(what, words)
+
+
+def of_others(server, exhausted):
+    one = lambda what, *words: named(label(server), what, server, *words)
+    for what in (endpoint.addresses_of_both, endpoint.reloaded, endpoint.too_many_users):
+        yield one(what)
+    yield from (one(endpoint.streams, words) for words in BOTH)
     yield one(endpoint.no_memory, exhausted)
 
 
@@ -99,7 +101,7 @@ def of_pair(server, client, hosts, is_first):
                      pairs.changed_request, pairs.restarted, pairs.new_port, pairs.dealt_in_turn):
             yield two(what, words)
         if is_first:
-            yield from (two(pairs.expired, words, "35"), two(pairs.expired, words, "300"))
+            yield from (two(pairs.expired, words, "61"), two(pairs.expired, words, "300"))
 
 
 def cases(servers, clients, hosts):

@@ -1,18 +1,19 @@
 """Cases of a server that keeps nothing of an address: its nonces are a function of a secret, the
-address and the time (rust/examples/udp_server.rs)."""
+address and the time (examples/c/udp_server.c, rust/examples/udp_server.rs)."""
 import contextlib
 import hashlib
 import os
 import pathlib
 import re
 import resource
+import signal
 import socket
 import subprocess
 import tempfile
 import time
 
 from alone import answering
-from harness import NAME, PASSWORD, REALM, USER, Peer, Server, stun
+from harness import NAME, PASSWORD, REALM, USER, Peer, Server, has_ipv6, stun
 
 CLIENTS = 20
 
@@ -138,6 +139,25 @@ def counters(server):
 
 
 def addresses(server):
+    """It serves each address that is named, of both families, and no other."""
+    others = ("--at", "::1") if has_ipv6() else ()
+    with Server(server, "--at", "127.0.0.2", "--at", "127.0.0.3", *others) as running:
+        for host in ("127.0.0.2", "127.0.0.3", *others[1:]):
+            with Peer(running.port, host) as peer:
+                assert stun.code_of(peer.ask(stun.message(stun.REQUEST))) == 200
+        with Peer(running.port) as peer:
+            peer.socket.settimeout(0.3)
+            try:
+                peer.ask(stun.message(stun.REQUEST))
+                raise AssertionError("it serves 127.0.0.1")
+            except (TimeoutError, ConnectionRefusedError):
+                pass
+    for wrong in ("here", "127.0.0.256", "192.0.2.1"):
+        run = subprocess.run([server, "0", "--at", wrong], capture_output=True, timeout=20)
+        assert run.returncode == 1 and run.stdout == b"", run
+
+
+def addresses_of_both(server):
     """It serves each address that is named, over UDP and TCP, and none else."""
     words = ("--tcp", "--at", "127.0.0.2", "--at", "127.0.0.3")
     with Server(server, *words) as running:
@@ -241,12 +261,25 @@ def many_users(server):
 
 def reloaded(server):
     """The file is read again when it changes; a bad one changes nothing."""
+    read_again(server, (), lambda running: None)
+
+
+def reloaded_at_a_signal(server):
+    """The same at SIGHUP, by each worker."""
+    for words in ((), ("--workers", "2")):
+        hang_up = lambda running: running.process.send_signal(signal.SIGHUP)
+        read_again(server, words, hang_up)
+
+
+def read_again(server, words, signalled):
     with tempfile.TemporaryDirectory() as folder:
         file = pathlib.Path(folder) / "users"
         file.write_text(f"{NAME} {PASSWORD}\n")
         told = (f"udp_server: {file}, line 1: no `NAME PASSWORD`\n"
                 f"udp_server: users stay as they were: {file}: 1 lines are no users\n")
-        with Server(server, REALM, "--users", str(file), told=told) as running:
+        number = 2 if words else 1  # each worker tells it
+        with Server(server, REALM, "--users", str(file), *words,
+                    told=None if words else told) as running:
             with Peer(running.port) as peer:
                 challenge = peer.ask(stun.message(stun.REQUEST))
                 alice = answering(challenge)
@@ -261,11 +294,13 @@ def reloaded(server):
                 become(alice, 200)
                 become(bob, 401)
                 file.write_text("bob builder\n# and nobody else\n")
+                signalled(running)
                 become(bob, 200)
                 become(alice, 401)
                 file.write_text("nobody\n")
+                signalled(running)
                 end = time.monotonic() + 10
-                while running.told() != told:
+                while sorted(running.told()) != sorted(told * number):
                     assert time.monotonic() < end, running.told()
                     time.sleep(0.1)
                 become(bob, 200)

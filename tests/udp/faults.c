@@ -1,6 +1,6 @@
 /* Has system calls fail or tell otherwise, as LD_PRELOAD, by what the environment says:
  *
- * FAILING_READS=N    so many calls of recvmsg fail by ENOBUFS
+ * FAILING_READS=N    so many calls of recvmsg and recvmmsg fail by ENOBUFS
  * NO_IPV6=1          no socket is of IPv6
  * SLEPT=FILE         once it is there the machine has slept a minute, by CLOCK_BOOTTIME and
  *                    CLOCK_REALTIME, and /proc/uptime has what the file has
@@ -17,15 +17,26 @@
 #include <time.h>
 #include <unistd.h>
 
-ssize_t recvmsg(int fd, struct msghdr *message, int flags) {
+/* Whether this read is one of those that fail. */
+static int fails(void) {
     static long left = -1;
     const char *number = getenv("FAILING_READS");
     if (left < 0) left = number == NULL ? 0 : atol(number);
-    if (left > 0) {
-        left--;
-        errno = ENOBUFS;
-        return -1;
-    }
+    if (left == 0) return 0;
+    left--;
+    errno = ENOBUFS;
+    return 1;
+}
+
+int recvmmsg(int fd, struct mmsghdr *messages, unsigned number, int flags, struct timespec *until) {
+    int (*call)(int, struct mmsghdr *, unsigned, int, struct timespec *) =
+        (int (*)(int, struct mmsghdr *, unsigned, int, struct timespec *))dlsym(RTLD_NEXT,
+                                                                                "recvmmsg");
+    return fails() ? -1 : call(fd, messages, number, flags, until);
+}
+
+ssize_t recvmsg(int fd, struct msghdr *message, int flags) {
+    if (fails()) return -1;
     ssize_t (*call)(int, struct msghdr *, int) =
         (ssize_t(*)(int, struct msghdr *, int))dlsym(RTLD_NEXT, "recvmsg");
     return call(fd, message, flags);

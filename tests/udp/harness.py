@@ -75,9 +75,6 @@ def build_helpers(folder):
     client = (parts / name for name in ("request.c", "net.c", "words.c", "heap.c"))
     drained = (HERE / "drained.c", *client, *archives, "-o", folder / "drained")
     subprocess.run([*command, *drained], check=True)
-    places = (*(parts / name for name in ("places.c", "net.c", "heap.c")), *archives)
-    crowded = (HERE / "crowded.c", *places, "-o", folder / "crowded")
-    subprocess.run([*command, *crowded], check=True)
     for name in ("faults", "exhausted"):
         library = ("-shared", "-fPIC", HERE / f"{name}.c", "-o", folder / f"{name}.so", "-ldl")
         subprocess.run([*command, *library], check=True)

@@ -187,7 +187,7 @@ def starts_anew(relay, first, second):
 
 def forgets(relay, first, second):
     """The nonce expired for so long that its record goes."""
-    first.process.send_signal(signal.SIGUSR1)
+    first.process.send_signal(signal.SIGUSR2)
     time.sleep(0.1)
 
 

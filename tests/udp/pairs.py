@@ -167,7 +167,7 @@ def expired(server, client, words, ahead):
 
     def rule(relay, is_request, number, data):
         if is_request and number == 2:
-            relay.server.process.send_signal(signal.SIGUSR1)
+            relay.server.process.send_signal(signal.SIGUSR2)
             time.sleep(0.1)
         return [data]
 

@@ -1,7 +1,7 @@
 /* The calls of the endpoint: what only C can pass, each refusal in its order, what a datagram comes
  * to, replies, and memory that is refused. */
 #include "fixture.h"
-#include "stunp_endpoint.h"
+#include "serve.h" /* the worked example of stunp_endpoint.h, which check.sh takes out of it */
 
 static const uint64_t NOW = 1700000000, LAST = 1099511627776;
 
@@ -351,6 +351,32 @@ static void each_allocation(void) {
     free_realm(&realm);
 }
 
+/* The worked example: its one user is answered, and a method that it does not know is refused. */
+static void worked(void) {
+    stunp_endpoint_server server = {0};
+    stunp_endpoint_users users = {0};
+    stunp_client client = {0};
+    want("set up", set_up(&server, &users, secret), 0);
+    want("client", stunp_client_new(&client), 0);
+    want("credentials", stunp_client_set_credentials(&client, "alice", 5, "wonderland", 10), 0);
+    for (uint32_t i = 0; i < 3; i++) {
+        const uint8_t id[STUNP_ID_LENGTH] = {(uint8_t)i};
+        uint8_t bytes[512];
+        stunp_writer request = stunp_write(STUNP_REQUEST, i == 2 ? STUNP_ALLOCATE : STUNP_BINDING,
+                                           id, bytes, sizeof bytes);
+        stunp_write_client_sign(&request, &client);
+        size_t length = serve(&server, &users, bytes, request.length, &from, NOW, out, sizeof out);
+        int64_t wanted = i == 0 ? STUNP_RESEND : STUNP_SHA1;
+        want("judged", stunp_client_validate(&client, out, length), wanted);
+        const int64_t codes[] = {401, STUNP_MISSING_ATTRIBUTE, 400};
+        want("code", stunp_error_code(out, length), codes[i]);
+    }
+    want("nothing to send", (int64_t)serve(&server, &users, out, 1, &from, NOW, out, sizeof out), 0);
+    stunp_client_free(&client);
+    stunp_endpoint_users_free(&users);
+    stunp_endpoint_server_free(&server);
+}
+
 int main(void) {
     want("version", stunp_endpoint_version(), STUNP_VERSION);
     want("release", stunp_endpoint_release_0_2(), STUNP_VERSION);
@@ -363,6 +389,7 @@ int main(void) {
         replies(algorithms, false);
     }
     whole_server();
+    worked();
     each_allocation();
     want_no_blocks("in the end");
     puts("endpoint: passed");

@@ -1,10 +1,12 @@
 /* Handles that go from thread to thread. They are made in main and handed to threads by a queue
- * with a mutex. One set of them goes through four threads in turn. And the memory of heap.c, of
- * which four threads take at once. check.sh runs it plain, and under ThreadSanitizer and helgrind
+ * with a mutex. One set of them goes through four threads in turn. One server of the endpoint is used
+ * by four threads at once, with users that are replaced meanwhile. And the memory of heap.c, of which
+ * four threads take at once. check.sh runs it plain, and under ThreadSanitizer and helgrind
  * where they are there.
  *
  *     threads [ROUNDS] */
 #include "fixture.h"
+#include "stunp_endpoint.h"
 #include <pthread.h>
 
 enum { THREADS = 4, SETS = 6, LONGEST = 200 };
@@ -150,6 +152,75 @@ static void in_turn(void) {
     want_no_blocks("in turn");
 }
 
+/* ---- One server that all threads share, and users that main replaces while they judge by them. */
+
+static struct {
+    stunp_endpoint_server server;
+    stunp_endpoint_users tables[2];
+    pthread_mutex_t mutex; /* of which table is used */
+    const stunp_endpoint_users *users;
+} shared = {.mutex = PTHREAD_MUTEX_INITIALIZER};
+
+static const stunp_endpoint_users *shared_users(const stunp_endpoint_users *others) {
+    pthread_mutex_lock(&shared.mutex);
+    if (others != NULL) shared.users = others;
+    const stunp_endpoint_users *users = shared.users;
+    pthread_mutex_unlock(&shared.mutex);
+    return users;
+}
+
+/* A request of the client, and what the server answers it. */
+static uint32_t judge(stunp_client *client, int own, uint32_t number, uint8_t *out,
+                      stunp_received *received) {
+    stunp_address from = address_of(200u + (uint32_t)own);
+    struct message request = message_of(STUNP_REQUEST, number);
+    const stunp_endpoint_users *users = shared_users(NULL);
+    int64_t length = stunp_client_sign(client, request.bytes, sizeof request.bytes, request.length);
+    want("signed", length < STUNP_HEADER_LENGTH ? length : 0, 0);
+    want("answered", stunp_endpoint_server_receive(&shared.server, users, request.bytes,
+         (size_t)length, &from, 1000, out, STUNP_ANSWER_MAX, received), STUNP_ANSWER);
+    return received->code;
+}
+
+static void *work_shared(void *number) {
+    int own = *(int *)number;
+    uint8_t *out = malloc(STUNP_ANSWER_MAX);
+    stunp_client client = {0};
+    stunp_received received = STUNP_INIT(stunp_received);
+    want("client", stunp_client_new(&client), 0);
+    want("algorithms", stunp_client_set_algorithms(&client, STUNP_SHA1 | STUNP_SHA256), 0);
+    want("credentials", stunp_client_set_credentials(&client, "name", 4, "password", 8), 0);
+    want("401", judge(&client, own, 1, out, &received), 401);
+    want("a 401", stunp_client_validate(&client, out, received.length), STUNP_RESEND);
+    for (uint32_t i = 0; i < rounds; i++) {
+        want("success", judge(&client, own, i + 2, out, &received), 0);
+        want("signed", stunp_client_validate(&client, out, received.length), STUNP_SHA256);
+    }
+    stunp_client_free(&client);
+    free(out);
+    return number;
+}
+
+static void share(void) {
+    pthread_t threads[THREADS];
+    int numbers[THREADS];
+    const uint8_t secret[32] = {5};
+    stunp_endpoint_server_settings settings = STUNP_INIT(stunp_endpoint_server_settings);
+    settings.realm = "realm", settings.secret = secret, settings.answers_binding = true;
+    want("server", stunp_endpoint_server_new(&shared.server, &settings), 0);
+    for (int i = 0; i < 2; i++) {
+        stunp_endpoint_users *table = &shared.tables[i];
+        want("users", stunp_endpoint_users_new(table, &shared.server), 0);
+        want("user", stunp_endpoint_users_add(table, "name", 4, "password", 8), 0);
+        shared_users(table);
+        if (i == 0) start_all(threads, work_shared, numbers);
+    }
+    for (int i = 0; i < THREADS; i++) want("pthread_join", pthread_join(threads[i], NULL), 0);
+    for (int i = 0; i < 2; i++) stunp_endpoint_users_free(&shared.tables[i]);
+    stunp_endpoint_server_free(&shared.server);
+    want_no_blocks("shared");
+}
+
 /* ---- The memory. */
 
 static size_t bound;
@@ -216,6 +287,7 @@ int main(int words_count, char **words) {
     want("rounds", rounds > 1, true);
     through_a_queue();
     in_turn();
+    share();
     memory();
     puts("threads: passed");
     return 0;

@@ -41,7 +41,6 @@ mod kit;
 mod message;
 mod names;
 mod nonce;
-#[cfg(feature = "rand")]
 mod random;
 pub mod replay;
 pub mod stats;

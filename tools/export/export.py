@@ -41,6 +41,7 @@ PATHS = {
     "std::sync::ledger": "crate::kit::ledger",
     "base64::engine::general_purpose": "crate::kit::base64",
     "base64::DecodeAllocError": "crate::kit::base64::DecodeAllocError",
+    "byteorder": "crate::kit::bytes",
     "hex": "crate::host::hex",
     "linked_list_allocator": "crate::host",
     "md5": "crate::kit::hashes",

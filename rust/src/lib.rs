@@ -41,6 +41,7 @@ mod kit;
 mod message;
 mod names;
 mod nonce;
+mod ported;
 mod random;
 pub mod replay;
 pub mod stats;

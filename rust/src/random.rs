@@ -135,7 +135,10 @@ mod tests {
         let mut reads = Reads::default();
         let mut source = for_an_id(|bytes| reads.fill(bytes));
         assert_eq!(source.next_u32(), u32::from_le_bytes([1, 2, 3, 4]));
-        assert_eq!(source.next_u64(), u64::from_le_bytes([5, 6, 7, 8, 9, 10, 11, 12]));
+        assert_eq!(
+            source.next_u64(),
+            u64::from_le_bytes([5, 6, 7, 8, 9, 10, 11, 12])
+        );
         assert_eq!(source.next_u32(), u32::from_le_bytes([13, 14, 15, 16]));
         assert_eq!(reads.lengths, [12, 12]);
     }

@@ -239,7 +239,10 @@ fn a_generator_of_ones_own_makes_ids_and_nonces() {
     };
     let id = TransactionId::generate_with(&mut fill);
     // Three numbers of 32 bits, the lowest byte of each first.
-    assert_eq!(id, TransactionId::from([4, 3, 2, 1, 8, 7, 6, 5, 12, 11, 10, 9]));
+    assert_eq!(
+        id,
+        TransactionId::from([4, 3, 2, 1, 8, 7, 6, 5, 12, 11, 10, 9])
+    );
     let request = Message::builder_request_with_id(BINDING, id, MessageWriteVec::new()).finish();
     let request = Message::from_bytes(&request).unwrap();
     let from = "192.0.2.1:1".parse().unwrap();
@@ -259,7 +262,11 @@ fn a_generator_of_ones_own_makes_ids_and_nonces() {
             .is_err()
     );
     assert_eq!(other.nonce_for_client(from), server.nonce_for_client(from));
-    assert_eq!(asked, [12, 64], "one read for an ID, one for a nonce, none for the next request");
+    assert_eq!(
+        asked,
+        [12, 64],
+        "one read for an ID, one for a nonce, none for the next request"
+    );
 }
 
 #[test]
@@ -278,10 +285,7 @@ fn texts_are_types_apart_with_constructors() {
     assert_ne!(nonce, Nonce::new("another").unwrap());
     assert_eq!(format!("{realm:?}"), r#"Realm { text: "example.org" }"#);
     let long = "x".repeat(764);
-    assert_eq!(
-        Username::new(&long[..514]),
-        Err(StunWriteError::TooLarge)
-    );
+    assert_eq!(Username::new(&long[..514]), Err(StunWriteError::TooLarge));
     assert_eq!(Realm::new(&long), Err(StunWriteError::TooLarge));
     assert_eq!(Nonce::try_from(&*long), Err(StunWriteError::TooLarge));
     // A name that says which type it is, and not the type of a text that has such a number.
@@ -290,7 +294,10 @@ fn texts_are_types_apart_with_constructors() {
         (core::any::type_name::<Realm>(), "Realm"),
         (core::any::type_name::<Nonce>(), "Nonce"),
     ] {
-        assert!(told.ends_with(wanted) || told.contains(&format!("{wanted}<")), "{told}");
+        assert!(
+            told.ends_with(wanted) || told.contains(&format!("{wanted}<")),
+            "{told}"
+        );
     }
 }
 

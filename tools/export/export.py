@@ -228,6 +228,12 @@ def rewrite_signatures(text):
     text = in_code(text, r"fn fmt<W: fmt::Write>\(&self, f: &mut fmt::Formatter<W>\)",
                    "fn fmt(&self, f: &mut fmt::Formatter<'_>)")
     text = in_code(text, r"\bfinal fn\b", "fn")
+    # A proof needs the number from a call. Here the constant says it.
+    text = in_code(text, r"^( *fn static_type\(\) -> AttributeType)\s*;",
+                   r"\1 { Self::TYPE }")
+    # A later version may have more reasons.
+    text = in_code(text, r"(?<!#\[non_exhaustive\]\n)^(pub enum \w+(?:Error|Reason|Refusal)\b)",
+                   "#[non_exhaustive]\n" r"\1")
     text = in_code(text, r"#\[rattlefmt::skip\]", "#[rustfmt::skip]")
     text = in_code(text, r"^fn main\(rt: HostRuntime\) -> ExitCode \{",
                    "/// Runs the program.\npub fn main() -> ExitCode {\n    let rt = HostRuntime;")

@@ -30,7 +30,9 @@ pub enum LittleEndian {}
 
 /// The first `N` bytes of a slice.
 fn first<const N: usize>(bytes: &[u8]) -> [u8; N] {
-    *bytes.first_chunk().expect("a slice that is as long as the number")
+    *bytes
+        .first_chunk()
+        .expect("a slice that is as long as the number")
 }
 
 macro_rules! order {
@@ -71,5 +73,17 @@ macro_rules! order {
     };
 }
 
-order!(BigEndian, from_be_bytes, to_be_bytes, |length| 16 - length.., |length| 16 - length..);
-order!(LittleEndian, from_le_bytes, to_le_bytes, |length| ..length, |length| ..length);
+order!(
+    BigEndian,
+    from_be_bytes,
+    to_be_bytes,
+    |length| 16 - length..,
+    |length| 16 - length..
+);
+order!(
+    LittleEndian,
+    from_le_bytes,
+    to_le_bytes,
+    |length| ..length,
+    |length| ..length
+);

@@ -23,7 +23,6 @@ mod open;
 mod users;
 
 use counts::Counts;
-use rand_core::{OsRng, RngCore};
 use seatcrane_stun::endpoint::{LongTerm, Received, Server, UnixTime, Users};
 use seatcrane_stun::extra::{Frame, next_frame};
 use seatcrane_stun::types::message::*;
@@ -220,7 +219,7 @@ impl Service {
 fn secret(settings: &Settings) -> Result<[u8; 32], Box<dyn Error>> {
     let mut secret = [0; 32];
     let Some(path) = &settings.secret else {
-        OsRng.fill_bytes(&mut secret);
+        getrandom::getrandom(&mut secret).map_err(|error| error.to_string())?;
         return Ok(secret);
     };
     let bytes = fs::read(path).map_err(|error| format!("{path}: {error}"))?;

@@ -232,7 +232,7 @@ def rewrite_signatures(text):
     text = in_code(text, r"^( *fn static_type\(\) -> AttributeType)\s*;",
                    r"\1 { Self::TYPE }")
     # A later version may have more reasons.
-    text = in_code(text, r"(?<!#\[non_exhaustive\]\n)^(pub enum \w+(?:Error|Reason|Refusal)\b)",
+    text = in_code(text, r"(?<!#\[non_exhaustive\]\n)^(pub enum \w+(?:Error|Reason)\b)",
                    "#[non_exhaustive]\n" r"\1")
     text = in_code(text, r"#\[rattlefmt::skip\]", "#[rustfmt::skip]")
     text = in_code(text, r"^fn main\(rt: HostRuntime\) -> ExitCode \{",
@@ -323,7 +323,7 @@ def main():
     if len(sys.argv) != 2:
         sys.exit(__doc__)
     out = Path(sys.argv[1])
-    for folder in ("src", "checks"):
+    for folder in ("src", "checks", "examples", "tests"):
         shutil.rmtree(out / folder, ignore_errors=True)
     shutil.copytree(ROOT / "rust", out, dirs_exist_ok=True)
     uses = crates_known()

@@ -60,6 +60,7 @@ export RUSTFLAGS="-D warnings" RUSTDOCFLAGS="-D warnings"
 if cargo clippy --version > /dev/null 2>&1; then
     cargo clippy --quiet --workspace --all-targets --all-features
     cargo clippy --quiet --no-default-features
+    python3 ../../tests/export/argued.py .
 else
     echo "No clippy is there: its warnings are left out." >&2
 fi

@@ -11,7 +11,6 @@
 //! | [`endpoint`] | a server as one value: what to do with a datagram, without records of addresses |
 //! | [`extra`] | FINGERPRINT, unknown attributes, framing over TCP, attributes of ICE and TURN |
 //! | [`stats`] | what an agent has counted |
-//! | [`replay`] | whole runs of calls, and the core as it is exported |
 //!
 //! [`Instant`] is the type of all times: no call reads a clock.
 //!
@@ -43,6 +42,8 @@ mod names;
 mod nonce;
 mod ported;
 mod random;
+// For tests that compare the crate with the proved sources.
+#[doc(hidden)]
 pub mod replay;
 pub mod stats;
 mod text;

@@ -41,7 +41,7 @@ passes() {
 [ $# -gt 0 ] || set -- i686 armv7 aarch64 s390x
 fetched || { echo "Debian's rustc-web $least cannot be fetched here." >&2; exit 1; }
 export RUSTC="$at/usr/bin/rustc" CARGO_TARGET_DIR="$PWD/target/foreign"
-export CARGO_PROFILE_DEV_DEBUG=0 CARGO_INCREMENTAL=0
+export CARGO_PROFILE_DEV_DEBUG=0 CARGO_PROFILE_DEV_OPT_LEVEL=1 CARGO_INCREMENTAL=0
 libraries=$at/usr/lib/x86_64-linux-gnu
 export LD_LIBRARY_PATH="$libraries${LD_LIBRARY_PATH:+:$LD_LIBRARY_PATH}"
 for target; do

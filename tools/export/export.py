@@ -16,6 +16,7 @@ import subprocess
 import sys
 from pathlib import Path
 
+import export_argued
 import export_c
 from export_derives import rewrite_derives
 from export_text import DOCS, Unknown, closing, erase, in_code, in_docs, mask
@@ -305,7 +306,7 @@ def with_used(uses, wanted):
     return wanted
 
 
-def export_crate(crate, places, folder):
+def export_crate(crate, places, folder, commit):
     source = ROOT / "crates" / crate / "src"
     for path in sorted(source.rglob("*.rt")):
         if path.name in ("laws.rt", "derives.rt"):
@@ -314,7 +315,10 @@ def export_crate(crate, places, folder):
         target = (folder / crate / name).with_suffix(".rs")
         target.parent.mkdir(parents=True, exist_ok=True)
         try:
-            target.write_text(exported(path.read_text(), crate, places))
+            text, of = path.read_text(), path.relative_to(ROOT)
+            text = export_argued.argued(text, of) if crate in LIBRARY else text
+            text = export_argued.closed(exported(text, crate, places))
+            target.write_text(export_argued.head(of, commit) + text)
         except Unknown as unknown:
             sys.exit(f"{path}: {unknown}")
 
@@ -332,8 +336,9 @@ def main():
     places = {crate: f"crate::{'exported' if crate in LIBRARY else 'programs'}::{crate}"
               for crate in crates}
     library, programs = out / "src" / "exported", out / "checks" / "src" / "programs"
+    commit = export_argued.commit_of(ROOT)
     for crate in crates:
-        export_crate(crate, places, library if crate in LIBRARY else programs)
+        export_crate(crate, places, library if crate in LIBRARY else programs, commit)
     shown = with_used(uses, PROGRAMS)
     for folder, words, names in (
             (library, "crates of the library", LIBRARY),

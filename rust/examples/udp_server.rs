@@ -267,7 +267,7 @@ fn run(settings: &Settings) -> Result<(), Box<dyn Error>> {
     for socket in sockets.iter().filter(|_| settings.has_tcp) {
         listeners.push(TcpListener::bind(socket.local_addr()?)?);
     }
-    println!("port {}", sockets[0].local_addr()?.port());
+    let port = sockets[0].local_addr()?.port();
     thread::scope(|scope| {
         if settings.file.as_deref().is_some_and(|file| file != "-") {
             scope.spawn(|| service.reload(settings));
@@ -288,6 +288,7 @@ fn run(settings: &Settings) -> Result<(), Box<dyn Error>> {
             let others = settings.workers - u64::from(number == 0);
             (0..others).for_each(|_| drop(scope.spawn(|| service.serve(socket))));
         }
+        println!("port {port}");
         service.serve(&sockets[0]);
     });
     Ok(())

@@ -344,8 +344,9 @@ pub trait MessageWriteExt: MessageWrite + Sized {
         if length > MAX_LENGTH {
             return Err(StunWriteError::TooLarge);
         }
+        let length = u16::try_from(length).map_err(|_| StunWriteError::TooLarge)?;
         self.reserve(FINGERPRINT_LENGTH)?;
-        self.set_length(length as u16);
+        self.set_length(length);
         let value = (crc32(self.data()) ^ FINGERPRINT_XOR).to_be_bytes();
         RawAttribute::new(kind, &value).write_into(self);
         Ok(())
@@ -361,7 +362,7 @@ impl<W: MessageWrite> MessageWriteExt for W {}
 pub(crate) fn check_appended<A: Attribute>(message: &[u8], at: usize, attribute: &A) {
     let length = attribute.length();
     let [k0, k1] = attribute.get_type().value().to_be_bytes();
-    let [n0, n1] = (length as u16).to_be_bytes();
+    let [n0, n1] = u16::try_from(length).unwrap_or_default().to_be_bytes();
     assert!(
         message.len() == at.saturating_add(attribute_length(length))
             && message[at..].starts_with(&[k0, k1, n0, n1])

@@ -7,8 +7,7 @@
 set -eu
 cd "$(dirname "$0")/.."
 out=target/export
-packages="librust-byteorder-dev librust-getrandom-dev librust-md-5-dev librust-rand-core-dev \
-librust-sha1-dev librust-sha2-dev"
+packages="librust-getrandom-dev librust-md-5-dev librust-sha1-dev librust-sha2-dev"
 
 has_packages() {
     command -v dpkg > /dev/null && dpkg -s $packages > /dev/null 2>&1
@@ -61,6 +60,7 @@ export RUSTFLAGS="-D warnings" RUSTDOCFLAGS="-D warnings"
 if cargo clippy --version > /dev/null 2>&1; then
     cargo clippy --quiet --workspace --all-targets --all-features
     cargo clippy --quiet --no-default-features
+    python3 ../../tests/export/argued.py .
 else
     echo "No clippy is there: its warnings are left out." >&2
 fi

@@ -23,7 +23,6 @@ mod open;
 mod users;
 
 use counts::Counts;
-use rand_core::{OsRng, RngCore};
 use seatcrane_stun::endpoint::{LongTerm, Received, Server, UnixTime, Users};
 use seatcrane_stun::extra::{Frame, next_frame};
 use seatcrane_stun::types::message::*;
@@ -220,7 +219,7 @@ impl Service {
 fn secret(settings: &Settings) -> Result<[u8; 32], Box<dyn Error>> {
     let mut secret = [0; 32];
     let Some(path) = &settings.secret else {
-        OsRng.fill_bytes(&mut secret);
+        getrandom::getrandom(&mut secret).map_err(|error| error.to_string())?;
         return Ok(secret);
     };
     let bytes = fs::read(path).map_err(|error| format!("{path}: {error}"))?;
@@ -268,7 +267,7 @@ fn run(settings: &Settings) -> Result<(), Box<dyn Error>> {
     for socket in sockets.iter().filter(|_| settings.has_tcp) {
         listeners.push(TcpListener::bind(socket.local_addr()?)?);
     }
-    println!("port {}", sockets[0].local_addr()?.port());
+    let port = sockets[0].local_addr()?.port();
     thread::scope(|scope| {
         if settings.file.as_deref().is_some_and(|file| file != "-") {
             scope.spawn(|| service.reload(settings));
@@ -289,6 +288,7 @@ fn run(settings: &Settings) -> Result<(), Box<dyn Error>> {
             let others = settings.workers - u64::from(number == 0);
             (0..others).for_each(|_| drop(scope.spawn(|| service.serve(socket))));
         }
+        println!("port {port}");
         service.serve(&sockets[0]);
     });
     Ok(())

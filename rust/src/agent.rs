@@ -647,6 +647,7 @@ impl StunRequestMut<'_> {
     /// The request ends at the time at which it would otherwise have timed out, and
     /// [`StunAgent::poll`] then reports it as canceled. An ICE agent uses this when a check has
     /// become pointless but its answer is still welcome.
+    #[allow(clippy::redundant_closure_for_method_calls, reason = "the path is of one lifetime")]
     pub fn cancel_retransmissions(&mut self) {
         self.change(|request| request.cancel_retransmissions());
     }
@@ -656,6 +657,7 @@ impl StunRequestMut<'_> {
     ///
     /// Until that poll the request is still outstanding: its transaction ID cannot be reused, and a
     /// response that arrives earlier is accepted.
+    #[allow(clippy::redundant_closure_for_method_calls, reason = "the path is of one lifetime")]
     pub fn cancel(&mut self) {
         self.change(|request| request.cancel());
     }

@@ -904,20 +904,22 @@ impl LongTermServerAuth {
     /// # let from = "192.0.2.1:4242".parse().unwrap();
     /// # assert_eq!(code(&mut auth, &request, from, Instant::ZERO), Some(401));
     /// ```
-    #[cfg(all(feature = "std", feature = "rand"))]
-    #[cfg_attr(docsrs, doc(cfg(all(feature = "std", feature = "rand"))))]
+    #[cfg(feature = "rand")]
+    #[cfg_attr(docsrs, doc(cfg(feature = "rand")))]
     pub fn validate_incoming_message(
         &mut self,
         message: &Message<'_>,
         from: SocketAddr,
         now: Instant,
     ) -> Result<LongTermServerValidation, LongTermServerAuthError> {
-        let mut source = crate::random::for_a_nonce();
+        let mut source = crate::random::for_a_nonce(crate::random::system);
         self.proved
             .validate_incoming_message(&message.0, from, now, &mut source)
     }
 
-    /// Like `validate_incoming_message`, with random numbers from `rng`.
+    /// Like `validate_incoming_message`, with random numbers of a generator of yours: `fill` fills a
+    /// slice with random bytes, for example `|bytes| rng.fill_bytes(bytes)` with the crate `rand`. It
+    /// is called once if a nonce is made, and otherwise not at all.
     ///
     /// Whoever can predict these numbers can predict nonces, so use a cryptographically secure
     /// generator.
@@ -925,16 +927,14 @@ impl LongTermServerAuth {
     /// # Errors
     ///
     /// See `validate_incoming_message`, which lists every reason with the response to send.
-    #[cfg(feature = "rand")]
-    #[cfg_attr(docsrs, doc(cfg(feature = "rand")))]
-    pub fn validate_incoming_message_with_rng<R: rand_core::RngCore>(
+    pub fn validate_incoming_message_with_rng(
         &mut self,
         message: &Message<'_>,
         from: SocketAddr,
         now: Instant,
-        rng: &mut R,
+        fill: impl FnMut(&mut [u8]),
     ) -> Result<LongTermServerValidation, LongTermServerAuthError> {
-        let mut source = crate::random::Source(rng);
+        let mut source = crate::random::for_a_nonce(fill);
         self.proved
             .validate_incoming_message(&message.0, from, now, &mut source)
     }
@@ -1225,7 +1225,8 @@ impl LongTermServerAuth {
         self.proved.add_challenge(with_header(message)?, nonce)
     }
 
-    /// Judges a message like a server whose only user is `user`, with random numbers from `rng`.
+    /// Judges a message like a server whose only user is `user`, with random numbers of a generator
+    /// of yours: `fill` fills a slice with random bytes, for example `|bytes| rng.fill_bytes(bytes)`.
     ///
     /// The server's own users are ignored. If `user` is the one that
     /// [`named_user`](Self::named_user) returned, the verdict is the same as that of a server that
@@ -1236,17 +1237,15 @@ impl LongTermServerAuth {
     /// # Errors
     ///
     /// See `validate_incoming_message`, which lists every reason with the response to send.
-    #[cfg(feature = "rand")]
-    #[cfg_attr(docsrs, doc(cfg(feature = "rand")))]
-    pub fn validate_incoming_message_of_with_rng<R: rand_core::RngCore>(
+    pub fn validate_incoming_message_of_with_rng(
         &mut self,
         message: &Message<'_>,
         from: SocketAddr,
         now: Instant,
-        rng: &mut R,
+        fill: impl FnMut(&mut [u8]),
         user: &mut LongTermServerUser,
     ) -> Result<LongTermServerValidation, LongTermServerAuthError> {
-        let mut source = crate::random::Source(rng);
+        let mut source = crate::random::for_a_nonce(fill);
         self.proved.validate_incoming_message_of(
             &message.0,
             from,

@@ -44,6 +44,8 @@ use crate::exported::stun_types::prelude::MessageWrite;
 use crate::message::Message;
 use crate::write::with_header;
 
+pub use crate::ported::TcpBuffer;
+
 pub use crate::exported::stun_extra::crc32::crc32;
 pub use crate::exported::stun_extra::fingerprint::{FINGERPRINT_LENGTH, Fingerprint};
 pub use crate::exported::stun_extra::framing::{

@@ -11,7 +11,6 @@
 //! | [`endpoint`] | a server as one value: what to do with a datagram, without records of addresses |
 //! | [`extra`] | FINGERPRINT, unknown attributes, framing over TCP, attributes of ICE and TURN |
 //! | [`stats`] | what an agent has counted |
-//! | [`replay`] | whole runs of calls, and the core as it is exported |
 //!
 //! [`Instant`] is the type of all times: no call reads a clock.
 //!
@@ -20,6 +19,10 @@
 #![cfg_attr(docsrs, feature(doc_cfg))]
 #![forbid(unsafe_code)]
 #![deny(missing_docs)]
+#![warn(clippy::pedantic)]
+#![allow(clippy::doc_markdown, reason = "names of the protocol, such as XOR-MAPPED-ADDRESS, are no code")]
+#![allow(clippy::must_use_candidate, reason = "whoever calls a getter in vain sees it")]
+#![allow(clippy::return_self_not_must_use, reason = "builders are taken and returned by value")]
 
 extern crate alloc;
 #[cfg(feature = "std")]
@@ -32,17 +35,22 @@ mod copies;
 mod credentials;
 // The public modules export a part of these.
 #[allow(dead_code, unused_imports)]
+#[allow(clippy::pedantic, reason = "these are the words of another language, written by a program")]
 mod exported;
 pub mod endpoint;
 pub mod extra;
 mod instant;
 #[allow(dead_code, unused_imports)]
+#[allow(clippy::missing_errors_doc, reason = "each error is that an allocation failed")]
+#[allow(clippy::unused_self, reason = "the calls are those of other crates")]
 mod kit;
 mod message;
 mod names;
 mod nonce;
-#[cfg(feature = "rand")]
+mod ported;
 mod random;
+// For tests that compare the crate with the proved sources.
+#[doc(hidden)]
 pub mod replay;
 pub mod stats;
 mod text;

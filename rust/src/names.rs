@@ -16,6 +16,26 @@ impl AttributeType {
     pub const MAPPED_ADDRESS: AttributeType = AttributeType(0x0001);
     /// UNKNOWN-ATTRIBUTES (section 14.13).
     pub const UNKNOWN_ATTRIBUTES: AttributeType = AttributeType(0x000A);
+    /// CHANNEL-NUMBER (RFC 8656, section 18.1).
+    pub const CHANNEL_NUMBER: AttributeType = AttributeType(0x000C);
+    /// LIFETIME (RFC 8656, section 18.2).
+    pub const LIFETIME: AttributeType = AttributeType(0x000D);
+    /// XOR-PEER-ADDRESS (RFC 8656, section 18.3).
+    pub const XOR_PEER_ADDRESS: AttributeType = AttributeType(0x0012);
+    /// DATA (RFC 8656, section 18.4).
+    pub const DATA: AttributeType = AttributeType(0x0013);
+    /// XOR-RELAYED-ADDRESS (RFC 8656, section 18.5).
+    pub const XOR_RELAYED_ADDRESS: AttributeType = AttributeType(0x0016);
+    /// REQUESTED-ADDRESS-FAMILY (RFC 8656, section 18.6).
+    pub const REQUESTED_ADDRESS_FAMILY: AttributeType = AttributeType(0x0017);
+    /// EVEN-PORT (RFC 8656, section 18.7).
+    pub const EVEN_PORT: AttributeType = AttributeType(0x0018);
+    /// REQUESTED-TRANSPORT (RFC 8656, section 18.8).
+    pub const REQUESTED_TRANSPORT: AttributeType = AttributeType(0x0019);
+    /// DONT-FRAGMENT (RFC 8656, section 18.9).
+    pub const DONT_FRAGMENT: AttributeType = AttributeType(0x001A);
+    /// RESERVATION-TOKEN (RFC 8656, section 18.10).
+    pub const RESERVATION_TOKEN: AttributeType = AttributeType(0x0022);
     /// PRIORITY (RFC 8445, section 16.1).
     pub const PRIORITY: AttributeType = AttributeType(0x0024);
     /// USE-CANDIDATE (RFC 8445, section 16.1).

@@ -1,66 +1,57 @@
-//! Random number generators of the crate `rand_core`.
+//! Random numbers: those of the operating system, and those of a generator of the caller.
 
 use crate::kit::random::Rng;
-use rand_core::RngCore;
 
-/// Passes the numbers of such a generator on to the core.
-pub(crate) struct Source<'a, R: RngCore>(pub(crate) &'a mut R);
-
-impl<R: RngCore> Rng for Source<'_, R> {
-    fn next_u32(&mut self) -> u32 {
-        self.0.next_u32()
-    }
-
-    fn next_u64(&mut self) -> u64 {
-        self.0.next_u64()
-    }
-
-    fn fill_bytes(&mut self, dst: &mut [u8]) {
-        self.0.fill_bytes(dst);
-    }
-}
-
-/// A generator whose every read is costly, such as that of the operating system. The first number
-/// that is asked for reads as many bytes as one call of the core can need, `LENGTH`; a call that
+/// Random numbers from a function that fills a slice with random bytes.
+///
+/// A read of such a function can be costly, as one of the operating system is. So the first number
+/// that is needed reads as many bytes as one call of the core can need, `LENGTH`, and a call that
 /// needs no random number reads nothing.
-#[cfg(any(feature = "std", test))]
-pub(crate) struct Once<R: RngCore, const LENGTH: usize> {
-    source: R,
+pub(crate) struct Once<F: FnMut(&mut [u8]), const LENGTH: usize> {
+    fill: F,
     bytes: [u8; LENGTH],
     /// How many of the bytes have been used.
     used: usize,
 }
 
-#[cfg(any(feature = "std", test))]
-impl<R: RngCore, const LENGTH: usize> Once<R, LENGTH> {
+/// The random numbers for one nonce: 16 of 32 bits.
+pub(crate) fn for_a_nonce<F: FnMut(&mut [u8])>(fill: F) -> Once<F, 64> {
+    Once::new(fill)
+}
+
+/// The random numbers for one transaction ID: 3 of 32 bits.
+pub(crate) fn for_an_id<F: FnMut(&mut [u8])>(fill: F) -> Once<F, 12> {
+    Once::new(fill)
+}
+
+impl<F: FnMut(&mut [u8]), const LENGTH: usize> Once<F, LENGTH> {
     /// Creates a source that has read nothing yet.
-    pub(crate) fn new(source: R) -> Once<R, LENGTH> {
+    fn new(fill: F) -> Once<F, LENGTH> {
         Once {
-            source,
+            fill,
             bytes: [0; LENGTH],
             used: LENGTH,
         }
     }
 }
 
-#[cfg(any(feature = "std", test))]
-impl<R: RngCore, const LENGTH: usize> Rng for Once<R, LENGTH> {
+impl<F: FnMut(&mut [u8]), const LENGTH: usize> Rng for Once<F, LENGTH> {
     fn next_u32(&mut self) -> u32 {
         let mut four = [0; 4];
         self.fill_bytes(&mut four);
-        u32::from_ne_bytes(four)
+        u32::from_le_bytes(four)
     }
 
     fn next_u64(&mut self) -> u64 {
         let mut eight = [0; 8];
         self.fill_bytes(&mut eight);
-        u64::from_ne_bytes(eight)
+        u64::from_le_bytes(eight)
     }
 
     fn fill_bytes(&mut self, dst: &mut [u8]) {
         for byte in dst {
             if self.used == LENGTH {
-                self.source.fill_bytes(&mut self.bytes);
+                (self.fill)(&mut self.bytes);
                 self.used = 0;
             }
             *byte = self.bytes[self.used];
@@ -69,16 +60,10 @@ impl<R: RngCore, const LENGTH: usize> Rng for Once<R, LENGTH> {
     }
 }
 
-/// The random numbers of the operating system for one nonce: 16 of 32 bits.
-#[cfg(feature = "std")]
-pub(crate) fn for_a_nonce() -> Once<rand_core::OsRng, 64> {
-    Once::new(rand_core::OsRng)
-}
-
-/// The random numbers of the operating system for one transaction ID: 3 of 32 bits.
-#[cfg(feature = "std")]
-pub(crate) fn for_an_id() -> Once<rand_core::OsRng, 12> {
-    Once::new(rand_core::OsRng)
+/// Fills a slice with random bytes of the operating system, and panics if it has none.
+#[cfg(feature = "rand")]
+pub(crate) fn system(bytes: &mut [u8]) {
+    getrandom::getrandom(bytes).expect("the operating system provides no random numbers");
 }
 
 #[cfg(test)]
@@ -99,33 +84,20 @@ mod tests {
         last: u8,
     }
 
-    impl RngCore for &mut Reads {
-        fn next_u32(&mut self) -> u32 {
-            panic!("a number of 32 bits is read by itself")
-        }
-
-        fn next_u64(&mut self) -> u64 {
-            panic!("a number of 64 bits is read by itself")
-        }
-
-        fn fill_bytes(&mut self, bytes: &mut [u8]) {
+    impl Reads {
+        fn fill(&mut self, bytes: &mut [u8]) {
             self.lengths.push(bytes.len());
             for byte in bytes {
                 self.last = self.last.wrapping_add(1);
                 *byte = self.last;
             }
         }
-
-        fn try_fill_bytes(&mut self, bytes: &mut [u8]) -> Result<(), rand_core::Error> {
-            self.fill_bytes(bytes);
-            Ok(())
-        }
     }
 
     #[test]
     fn an_id_is_made_with_one_read() {
         let mut reads = Reads::default();
-        let mut source = Once::<_, 12>::new(&mut reads);
+        let mut source = for_an_id(|bytes| reads.fill(bytes));
         let id = TransactionId::generate(&mut source);
         let other = TransactionId::generate(&mut source);
         assert_ne!(id, other);
@@ -140,7 +112,7 @@ mod tests {
         let mut auth = LongTermServerAuth::new(Global, realm);
         let mut reads = Reads::default();
         let mut validate = |from: &str, reads: &mut Reads| {
-            let mut source = Once::<_, 64>::new(reads);
+            let mut source = for_a_nonce(|bytes| reads.fill(bytes));
             auth.validate_incoming_message(
                 &request,
                 from.parse().unwrap(),
@@ -161,10 +133,13 @@ mod tests {
     #[test]
     fn numbers_are_those_of_the_source_in_order() {
         let mut reads = Reads::default();
-        let mut source = Once::<_, 12>::new(&mut reads);
-        assert_eq!(source.next_u32(), u32::from_ne_bytes([1, 2, 3, 4]));
-        assert_eq!(source.next_u64(), u64::from_ne_bytes([5, 6, 7, 8, 9, 10, 11, 12]));
-        assert_eq!(source.next_u32(), u32::from_ne_bytes([13, 14, 15, 16]));
+        let mut source = for_an_id(|bytes| reads.fill(bytes));
+        assert_eq!(source.next_u32(), u32::from_le_bytes([1, 2, 3, 4]));
+        assert_eq!(
+            source.next_u64(),
+            u64::from_le_bytes([5, 6, 7, 8, 9, 10, 11, 12])
+        );
+        assert_eq!(source.next_u32(), u32::from_le_bytes([13, 14, 15, 16]));
         assert_eq!(reads.lengths, [12, 12]);
     }
 }

@@ -33,15 +33,14 @@ impl TransactionId {
     /// # Panics
     ///
     /// If the operating system provides no random numbers.
-    #[cfg(all(feature = "std", feature = "rand"))]
-    #[cfg_attr(docsrs, doc(cfg(all(feature = "std", feature = "rand"))))]
+    #[cfg(feature = "rand")]
+    #[cfg_attr(docsrs, doc(cfg(feature = "rand")))]
     pub fn generate() -> TransactionId {
-        TransactionId(proved::TransactionId::generate(
-            &mut crate::random::for_an_id(),
-        ))
+        TransactionId::generate_with(crate::random::system)
     }
 
-    /// Creates a random transaction ID from the next three numbers of 32 bits of `rng`.
+    /// Creates a random transaction ID from twelve random bytes. `fill` fills a slice with random
+    /// bytes, and is called once.
     ///
     /// Use a cryptographically secure generator, because an attacker who can predict its numbers
     /// can predict transaction IDs.
@@ -51,16 +50,16 @@ impl TransactionId {
     /// ```
     /// use seatcrane_stun::types::message::TransactionId;
     ///
-    /// fn new_id(rng: &mut (impl rand_core::RngCore + rand_core::CryptoRng)) -> TransactionId {
-    ///     TransactionId::generate_with(rng)
+    /// // `fill` is `|bytes| rng.fill_bytes(bytes)` for a generator `rng` of the crate `rand`.
+    /// fn new_id(fill: impl FnMut(&mut [u8])) -> TransactionId {
+    ///     TransactionId::generate_with(fill)
     /// }
+    /// # assert_ne!(new_id(|bytes| bytes.fill(1)), new_id(|bytes| bytes.fill(2)));
     /// ```
-    #[cfg(feature = "rand")]
-    #[cfg_attr(docsrs, doc(cfg(feature = "rand")))]
-    pub fn generate_with<R: rand_core::RngCore>(rng: &mut R) -> TransactionId {
-        TransactionId(proved::TransactionId::generate(&mut crate::random::Source(
-            rng,
-        )))
+    pub fn generate_with(fill: impl FnMut(&mut [u8])) -> TransactionId {
+        TransactionId(proved::TransactionId::generate(
+            &mut crate::random::for_an_id(fill),
+        ))
     }
 
     /// Creates a transaction ID from a number. Returns `None` if the number does not fit in 96

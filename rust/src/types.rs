@@ -1,22 +1,31 @@
 //! Messages and what they are made of: attributes, writers and credentials.
 //!
 //! - [`message`] parses, verifies, builds and signs messages.
-//! - [`attribute`] has the attributes of STUN. Those of ICE and TURN are in
-//!   [`extra::attribute`](crate::extra::attribute).
+//! - [`attribute`] has the attributes of STUN, ICE and TURN.
+//! - [`STUN`], [`ICE`] and [`TURN`] list the attribute types that each of them must understand.
 //! - [`prelude`] has the traits whose methods you call on messages and attributes. Import all of
 //!   it.
 
 pub use crate::exported::stun_base::transport::TransportType;
+pub use crate::ported::{ICE, STUN, TURN};
 
 /// Attributes: their types, their values and their raw form.
 pub mod attribute {
     pub use crate::address::XorMappedAddress;
+    pub use crate::exported::stun_extra::attribute::Software;
     pub use crate::exported::stun_types::attribute::{
         ATTRIBUTE_HEADER_LENGTH, Attribute, AttributeFromRaw, AttributeStaticType, AttributeType,
         ErrorCode, ErrorCodeBuilder, MessageIntegrity, MessageIntegritySha256, PasswordAlgorithm,
         PasswordAlgorithmValue, PasswordAlgorithms, RawAttribute, Userhash,
     };
-    pub use crate::exported::stun_extra::attribute::Software;
+    // The crate `stun-types` has all of them here. Their pages are those of `extra::attribute`.
+    #[doc(no_inline)]
+    pub use crate::extra::attribute::{
+        AdditionalAddressFamily, AddressFamily, AlternateDomain, AlternateServer, ChannelNumber,
+        DOMAIN_LIMIT, Data, DontFragment, EvenPort, IceControlled, IceControlling, Lifetime,
+        MappedAddress, Priority, RequestedAddressFamily, RequestedTransport, ReservationToken,
+        UnknownAttributes, UseCandidate, XorPeerAddress, XorRelayedAddress,
+    };
     pub use crate::names::AttributeExt;
     pub use crate::text::{Nonce, Realm, Username};
 }
@@ -30,10 +39,10 @@ pub mod message {
     pub use crate::exported::stun_types::message::{
         BINDING, IntegrityAlgorithm, IntegrityKey, MessageAttributesIter, MessageClass,
         MessageType, MessageWriteMutSlice, Method, PreparedKey, StunParseError, StunWriteError,
-        ValidateError,
-        hmac_sha1, hmac_sha256,
+        ValidateError, hmac_sha1, hmac_sha256,
     };
     pub use crate::message::{Message, MessageHeader};
+    pub use crate::ported::MAGIC_COOKIE;
     pub use crate::transaction::TransactionId;
     pub use crate::write::MessageWriteVec;
     // The crate `stun-proto` has them here too.

@@ -3,9 +3,12 @@
 use crate::copies::granted;
 use crate::credentials::MessageIntegrityCredentials;
 use crate::exported::stun_base::header::HEADER_LENGTH;
+use crate::exported::stun_extra::crc32::crc32;
+use crate::exported::stun_extra::fingerprint::{FINGERPRINT_LENGTH, FINGERPRINT_XOR};
 use crate::exported::stun_types::attribute::{
-    Attribute, AttributeType, ErrorCode, attribute_length,
+    Attribute, AttributeType, ErrorCode, RawAttribute, attribute_length,
 };
+use crate::exported::stun_types::limits::MAX_LENGTH;
 use crate::exported::stun_types::message::{
     self as proved, IntegrityAlgorithm, MessageClass, MessageType, MessageWriteMutSlice, Method,
     PreparedKey, StunWriteError,
@@ -14,6 +17,7 @@ use crate::exported::stun_types::prelude::MessageWrite;
 use crate::exported::stun_types::prelude::MessageWriteExt as Proved;
 use crate::kit::alloc::{AllocError, Global};
 use crate::message::MessageHeader;
+use crate::ported::not_after_fingerprint;
 use crate::transaction::TransactionId;
 use crate::types::attribute::XorMappedAddress;
 use alloc::vec::Vec;
@@ -24,10 +28,10 @@ use core::ops::Deref;
 /// The calls that every writer has: they inspect the message in the writer, add attributes to it,
 /// and sign it. A call that fails leaves the message unchanged.
 ///
-/// The writer must hold a message without FINGERPRINT. The builders of
-/// [`Message`](crate::types::message::Message) start such a message, and these calls keep it that
-/// way. FINGERPRINT comes last, with
-/// [`finish_with_fingerprint`](crate::extra::finish_with_fingerprint).
+/// The writer must hold a message: start one with the builders of
+/// [`Message`](crate::types::message::Message). FINGERPRINT comes last, with
+/// [`add_fingerprint`](MessageWriteExt::add_fingerprint): after it, every call that adds something
+/// fails with [`StunWriteError::AttributeExists`].
 ///
 /// On an empty writer these calls panic, with two exceptions:
 /// [`has_attribute`](MessageWriteExt::has_attribute) returns `false`, and an error that is tested
@@ -98,9 +102,10 @@ pub trait MessageWriteExt: MessageWrite + Sized {
     ///
     /// The first of these that applies:
     ///
+    /// - [`StunWriteError::AttributeExists`]: the message has a FINGERPRINT, which comes last.
     /// - [`StunWriteError::NotAllowed`]: it is an integrity attribute, for which there is
     ///   [`add_message_integrity`](MessageWriteExt::add_message_integrity), or FINGERPRINT, for
-    ///   which there is [`finish_with_fingerprint`](crate::extra::finish_with_fingerprint).
+    ///   which there is [`add_fingerprint`](MessageWriteExt::add_fingerprint).
     /// - [`StunWriteError::MessageIntegrityExists`]: the message has an integrity attribute.
     /// - [`StunWriteError::AttributeExists`]: the message has an attribute of this type.
     /// - [`StunWriteError::TooLarge`]: the message would have more than 65532 bytes after its
@@ -130,6 +135,7 @@ pub trait MessageWriteExt: MessageWrite + Sized {
     /// # Ok::<(), StunWriteError>(())
     /// ```
     fn add_attribute<A: Attribute>(&mut self, attribute: &A) -> Result<(), StunWriteError> {
+        not_after_fingerprint(self)?;
         let before = self.data().len();
         Proved::add_attribute(self, attribute)?;
         check_appended(self.data(), before, attribute);
@@ -147,9 +153,10 @@ pub trait MessageWriteExt: MessageWrite + Sized {
     ///
     /// The first of these that applies:
     ///
+    /// - [`StunWriteError::AttributeExists`]: the message has a FINGERPRINT, which comes last.
     /// - [`StunWriteError::NotAllowed`]: it is an integrity attribute, for which there is
     ///   [`add_message_integrity`](MessageWriteExt::add_message_integrity), or FINGERPRINT, for
-    ///   which there is [`finish_with_fingerprint`](crate::extra::finish_with_fingerprint).
+    ///   which there is [`add_fingerprint`](MessageWriteExt::add_fingerprint).
     /// - [`StunWriteError::MessageIntegrityExists`]: the message has an integrity attribute.
     /// - [`StunWriteError::TooLarge`]: the message would have more than 65532 bytes after its
     ///   header.
@@ -183,6 +190,7 @@ pub trait MessageWriteExt: MessageWrite + Sized {
     /// # }
     /// ```
     fn add_another_attribute<A: Attribute>(&mut self, attribute: &A) -> Result<(), StunWriteError> {
+        not_after_fingerprint(self)?;
         let before = self.data().len();
         Proved::add_another_attribute(self, attribute)?;
         check_appended(self.data(), before, attribute);
@@ -199,6 +207,7 @@ pub trait MessageWriteExt: MessageWrite + Sized {
     ///
     /// The first of these that applies:
     ///
+    /// - [`StunWriteError::AttributeExists`]: the message has a FINGERPRINT, which comes last.
     /// - [`StunWriteError::MessageIntegrityExists`]: the message has an integrity attribute.
     /// - [`StunWriteError::TooLarge`]: the message would have more than 65532 bytes after its
     ///   header.
@@ -226,6 +235,7 @@ pub trait MessageWriteExt: MessageWrite + Sized {
         credentials: &MessageIntegrityCredentials,
         algorithm: IntegrityAlgorithm,
     ) -> Result<(), StunWriteError> {
+        not_after_fingerprint(self)?;
         Proved::add_message_integrity(self, credentials.proved(), algorithm)
     }
 
@@ -236,6 +246,7 @@ pub trait MessageWriteExt: MessageWrite + Sized {
     ///
     /// The first of these that applies:
     ///
+    /// - [`StunWriteError::AttributeExists`]: the message has a FINGERPRINT, which comes last.
     /// - [`StunWriteError::MessageIntegrityExists`]: the message has an integrity attribute.
     /// - [`StunWriteError::TooLarge`]: the message would have more than 65532 bytes after its
     ///   header.
@@ -246,6 +257,7 @@ pub trait MessageWriteExt: MessageWrite + Sized {
         key: &K,
         algorithm: IntegrityAlgorithm,
     ) -> Result<(), StunWriteError> {
+        not_after_fingerprint(self)?;
         Proved::add_message_integrity_with_key_bytes(self, key.as_ref(), algorithm)
     }
 
@@ -261,6 +273,7 @@ pub trait MessageWriteExt: MessageWrite + Sized {
         key: &PreparedKey,
         algorithm: IntegrityAlgorithm,
     ) -> Result<(), StunWriteError> {
+        not_after_fingerprint(self)?;
         Proved::add_message_integrity_with_prepared_key(self, key, algorithm)
     }
 
@@ -271,6 +284,7 @@ pub trait MessageWriteExt: MessageWrite + Sized {
     ///
     /// The errors of [`add_attribute`](MessageWriteExt::add_attribute).
     fn add_xor_mapped_address(&mut self, address: SocketAddr) -> Result<(), StunWriteError> {
+        not_after_fingerprint(self)?;
         let id = MessageWriteExt::transaction_id(self);
         Proved::add_attribute(self, &XorMappedAddress::new(address, id))
     }
@@ -285,7 +299,57 @@ pub trait MessageWriteExt: MessageWrite + Sized {
     /// - [`StunWriteError::TooLarge`]: the reason has more than 763 bytes.
     /// - The errors of [`add_attribute`](MessageWriteExt::add_attribute).
     fn add_error_code(&mut self, code: u16, reason: &str) -> Result<(), StunWriteError> {
-        Proved::add_attribute(self, &ErrorCode::new(code, reason)?)
+        let error = ErrorCode::new(code, reason)?;
+        not_after_fingerprint(self)?;
+        Proved::add_attribute(self, &error)
+    }
+
+    /// Adds FINGERPRINT (RFC 8489, section 14.7), after which nothing can be added. Sign the message
+    /// first if you want to sign it. Its signature stays valid.
+    ///
+    /// # Errors
+    ///
+    /// The first of these that applies:
+    ///
+    /// - [`StunWriteError::NotAllowed`]: the writer holds no message.
+    /// - [`StunWriteError::AttributeExists`]: the message has a FINGERPRINT already.
+    /// - [`StunWriteError::TooLarge`]: the message would have more than 65532 bytes after its
+    ///   header.
+    /// - [`StunWriteError::TooSmall`]: the writer has room for fewer than 8 bytes.
+    /// - [`StunWriteError::OutOfMemory`]: an allocation failed.
+    ///
+    /// # Examples
+    ///
+    /// ```
+    /// use seatcrane_stun::types::attribute::{AttributeType, Software};
+    /// use seatcrane_stun::types::message::*;
+    /// use seatcrane_stun::types::prelude::*;
+    ///
+    /// # let id = TransactionId::from(*b"any 12 bytes");
+    /// let mut check = Message::builder_request_with_id(BINDING, id, MessageWriteVec::new());
+    /// check.add_message_integrity_with_key(b"their password", IntegrityAlgorithm::Sha1)?;
+    /// check.add_fingerprint()?;
+    ///
+    /// let more = check.add_attribute(&Software::new("example 1.0")?);
+    /// assert_eq!(more, Err(StunWriteError::AttributeExists(AttributeType::FINGERPRINT)));
+    /// # Ok::<(), StunWriteError>(())
+    /// ```
+    fn add_fingerprint(&mut self) -> Result<(), StunWriteError> {
+        MessageHeader::from_bytes(self.data()).map_err(|_| StunWriteError::NotAllowed)?;
+        let kind = AttributeType::FINGERPRINT;
+        if Proved::has_attribute(self, kind) {
+            return Err(StunWriteError::AttributeExists(kind));
+        }
+        let length = self.data().len() - HEADER_LENGTH + FINGERPRINT_LENGTH;
+        if length > MAX_LENGTH {
+            return Err(StunWriteError::TooLarge);
+        }
+        let length = u16::try_from(length).map_err(|_| StunWriteError::TooLarge)?;
+        self.reserve(FINGERPRINT_LENGTH)?;
+        self.set_length(length);
+        let value = (crc32(self.data()) ^ FINGERPRINT_XOR).to_be_bytes();
+        RawAttribute::new(kind, &value).write_into(self);
+        Ok(())
     }
 }
 
@@ -298,7 +362,7 @@ impl<W: MessageWrite> MessageWriteExt for W {}
 pub(crate) fn check_appended<A: Attribute>(message: &[u8], at: usize, attribute: &A) {
     let length = attribute.length();
     let [k0, k1] = attribute.get_type().value().to_be_bytes();
-    let [n0, n1] = (length as u16).to_be_bytes();
+    let [n0, n1] = u16::try_from(length).unwrap_or_default().to_be_bytes();
     assert!(
         message.len() == at.saturating_add(attribute_length(length))
             && message[at..].starts_with(&[k0, k1, n0, n1])

@@ -226,48 +226,47 @@ fn steps_of_runs_are_compared_by_each_field() {
     }
 }
 
-#[cfg(feature = "rand")]
 #[test]
-fn a_source_of_random_numbers_makes_ids_and_nonces() {
-    /// Counts, for a test.
-    struct Counted(u32);
-    impl rand_core::RngCore for Counted {
-        fn next_u32(&mut self) -> u32 {
-            self.0 += 1;
-            self.0
+fn a_generator_of_ones_own_makes_ids_and_nonces() {
+    // A function that fills a slice with 1, 2, 3 and so on, and notes what it is asked for.
+    let (mut last, mut asked) = (0, Vec::new());
+    let mut fill = |bytes: &mut [u8]| {
+        asked.push(bytes.len());
+        for byte in bytes {
+            last += 1;
+            *byte = last;
         }
-        fn next_u64(&mut self) -> u64 {
-            unreachable!()
-        }
-        fn fill_bytes(&mut self, _: &mut [u8]) {
-            unreachable!()
-        }
-        fn try_fill_bytes(&mut self, _: &mut [u8]) -> Result<(), rand_core::Error> {
-            unreachable!()
-        }
-    }
-    let mut rng = Counted(0);
-    let id = TransactionId::generate_with(&mut rng);
+    };
+    let id = TransactionId::generate_with(&mut fill);
+    // Three numbers of 32 bits, the lowest byte of each first.
     assert_eq!(
         id,
-        TransactionId::from([0, 0, 0, 1, 0, 0, 0, 2, 0, 0, 0, 3])
+        TransactionId::from([4, 3, 2, 1, 8, 7, 6, 5, 12, 11, 10, 9])
     );
     let request = Message::builder_request_with_id(BINDING, id, MessageWriteVec::new()).finish();
     let request = Message::from_bytes(&request).unwrap();
     let from = "192.0.2.1:1".parse().unwrap();
     let mut server = LongTermServerAuth::new("realm".to_string());
-    let refused =
-        server.validate_incoming_message_with_rng(&request, from, Instant::ZERO, &mut rng);
-    assert!(refused.is_err());
-    assert_eq!(rng.0, 3 + 16, "a nonce takes sixteen words");
+    let now = Instant::ZERO;
+    for _ in 0..2 {
+        let refused = server.validate_incoming_message_with_rng(&request, from, now, &mut fill);
+        assert!(refused.is_err());
+    }
     let mut other = LongTermServerAuth::new("realm".to_string());
-    let words = core::array::from_fn(|i| 4 + i as u32);
+    let words = core::array::from_fn(|i| {
+        u32::from_le_bytes(core::array::from_fn(|j| (13 + 4 * i + j) as u8))
+    });
     assert!(
         other
-            .validate_incoming_message_with_words(&request, from, Instant::ZERO, words)
+            .validate_incoming_message_with_words(&request, from, now, words)
             .is_err()
     );
     assert_eq!(other.nonce_for_client(from), server.nonce_for_client(from));
+    assert_eq!(
+        asked,
+        [12, 64],
+        "one read for an ID, one for a nonce, none for the next request"
+    );
 }
 
 #[test]
@@ -286,10 +285,7 @@ fn texts_are_types_apart_with_constructors() {
     assert_ne!(nonce, Nonce::new("another").unwrap());
     assert_eq!(format!("{realm:?}"), r#"Realm { text: "example.org" }"#);
     let long = "x".repeat(764);
-    assert_eq!(
-        Username::new(&long[..514]),
-        Err(StunWriteError::TooLarge)
-    );
+    assert_eq!(Username::new(&long[..514]), Err(StunWriteError::TooLarge));
     assert_eq!(Realm::new(&long), Err(StunWriteError::TooLarge));
     assert_eq!(Nonce::try_from(&*long), Err(StunWriteError::TooLarge));
     // A name that says which type it is, and not the type of a text that has such a number.
@@ -298,7 +294,10 @@ fn texts_are_types_apart_with_constructors() {
         (core::any::type_name::<Realm>(), "Realm"),
         (core::any::type_name::<Nonce>(), "Nonce"),
     ] {
-        assert!(told.ends_with(wanted) || told.contains(&format!("{wanted}<")), "{told}");
+        assert!(
+            told.ends_with(wanted) || told.contains(&format!("{wanted}<")),
+            "{told}"
+        );
     }
 }
 

@@ -341,6 +341,7 @@ def no_memory(server, library):
         with Server(server, *USER, "--counts", "1", environment=environment) as running:
             with Peer(running.port) as peer:
                 challenge = peer.ask(stun.message(stun.REQUEST))
+                assert until(running, "answered 0; .* 401: 1 "), "its threads run"
                 file.touch()
                 peer.socket.settimeout(0.5)
                 for request in (stun.message(stun.REQUEST), answering(challenge)):

@@ -16,6 +16,7 @@ import subprocess
 import sys
 from pathlib import Path
 
+import export_argued
 import export_c
 from export_derives import rewrite_derives
 from export_text import DOCS, Unknown, closing, erase, in_code, in_docs, mask
@@ -41,6 +42,7 @@ PATHS = {
     "std::sync::ledger": "crate::kit::ledger",
     "base64::engine::general_purpose": "crate::kit::base64",
     "base64::DecodeAllocError": "crate::kit::base64::DecodeAllocError",
+    "byteorder": "crate::kit::bytes",
     "hex": "crate::host::hex",
     "linked_list_allocator": "crate::host",
     "md5": "crate::kit::hashes",
@@ -227,6 +229,12 @@ def rewrite_signatures(text):
     text = in_code(text, r"fn fmt<W: fmt::Write>\(&self, f: &mut fmt::Formatter<W>\)",
                    "fn fmt(&self, f: &mut fmt::Formatter<'_>)")
     text = in_code(text, r"\bfinal fn\b", "fn")
+    # A proof needs the number from a call. Here the constant says it.
+    text = in_code(text, r"^( *fn static_type\(\) -> AttributeType)\s*;",
+                   r"\1 { Self::TYPE }")
+    # A later version may have more reasons.
+    text = in_code(text, r"(?<!#\[non_exhaustive\]\n)^(pub enum \w+(?:Error|Reason)\b)",
+                   "#[non_exhaustive]\n" r"\1")
     text = in_code(text, r"#\[rattlefmt::skip\]", "#[rustfmt::skip]")
     text = in_code(text, r"^fn main\(rt: HostRuntime\) -> ExitCode \{",
                    "/// Runs the program.\npub fn main() -> ExitCode {\n    let rt = HostRuntime;")
@@ -298,7 +306,7 @@ def with_used(uses, wanted):
     return wanted
 
 
-def export_crate(crate, places, folder):
+def export_crate(crate, places, folder, commit):
     source = ROOT / "crates" / crate / "src"
     for path in sorted(source.rglob("*.rt")):
         if path.name in ("laws.rt", "derives.rt"):
@@ -307,7 +315,10 @@ def export_crate(crate, places, folder):
         target = (folder / crate / name).with_suffix(".rs")
         target.parent.mkdir(parents=True, exist_ok=True)
         try:
-            target.write_text(exported(path.read_text(), crate, places))
+            text, of = path.read_text(), path.relative_to(ROOT)
+            text = export_argued.argued(text, of) if crate in LIBRARY else text
+            text = export_argued.closed(exported(text, crate, places))
+            target.write_text(export_argued.head(of, commit) + text)
         except Unknown as unknown:
             sys.exit(f"{path}: {unknown}")
 
@@ -316,7 +327,7 @@ def main():
     if len(sys.argv) != 2:
         sys.exit(__doc__)
     out = Path(sys.argv[1])
-    for folder in ("src", "checks"):
+    for folder in ("src", "checks", "examples", "tests"):
         shutil.rmtree(out / folder, ignore_errors=True)
     shutil.copytree(ROOT / "rust", out, dirs_exist_ok=True)
     uses = crates_known()
@@ -325,8 +336,9 @@ def main():
     places = {crate: f"crate::{'exported' if crate in LIBRARY else 'programs'}::{crate}"
               for crate in crates}
     library, programs = out / "src" / "exported", out / "checks" / "src" / "programs"
+    commit = export_argued.commit_of(ROOT)
     for crate in crates:
-        export_crate(crate, places, library if crate in LIBRARY else programs)
+        export_crate(crate, places, library if crate in LIBRARY else programs, commit)
     shown = with_used(uses, PROGRAMS)
     for folder, words, names in (
             (library, "crates of the library", LIBRARY),

@@ -357,13 +357,6 @@ fn a_block_is_tested_at_each_place() {
     }
 }
 
-/// The proofs are of sizes of 64 bits, and no test runs where a build is refused.
-#[test]
-fn other_sizes_are_refused() {
-    let refusal = "#[cfg(not(target_pointer_width = \"64\"))]\ncompile_error!(";
-    assert!(usize::BITS == 64 && include_str!("mod.rs").contains(refusal));
-}
-
 /// What the process cannot give is refused, and then the allocator is told.
 #[test]
 fn what_the_process_refuses_is_given_back() {

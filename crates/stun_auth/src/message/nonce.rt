@@ -22,6 +22,9 @@ pub const LONG_TERM_RFC8489_NONCE_COOKIE: &str = "obMatJos2";
 /// How many bytes the cookie and the four letters after it have.
 const FRONT_LENGTH: usize = 13;
 
+/// How many random letters a nonce has.
+const LETTERS: usize = 16;
+
 /// The bit of the first byte that asks for password algorithms (section 18.1).
 const PASSWORD_ALGORITHMS: u8 = 0x80;
 
@@ -88,14 +91,22 @@ impl NonceSecurityBits {
 
     /// Returns the 13 bytes with which a nonce with these bits begins: the cookie, and the bits as
     /// four characters of base64. Fails if an allocation fails.
-    #[tactic(auto, unfolding(crate::specs::Nonces::spelled_bits))]
     pub fn as_string<A: Allocator>(&self, alloc: A) -> Result<String<A>, AllocError>
         ensures { IfOk result (λ text. string_bytes text ≡ spelled_bits self.now) }
     {
-        let mut text = String::new(alloc);
-        text.push_str(LONG_TERM_RFC8489_NONCE_COOKIE)?;
-        STANDARD.encode_string(&self.bytes, &mut text)?;
+        let mut text = String::with_capacity(alloc, FRONT_LENGTH)?;
+        self.push_to(&mut text)?;
         Ok(text)
+    }
+
+    /// Appends the 13 bytes.
+    #[tactic(auto, unfolding(crate::specs::Nonces::spelled_bits))]
+    fn push_to<A: Allocator>(&self, text: &mut String<A>) -> Result<(), AllocError>
+        ensures { OnOk result (string_bytes text.new
+            ≡ string_bytes text.old ++ spelled_bits self.now) }
+    {
+        text.push_str(LONG_TERM_RFC8489_NONCE_COOKIE)?;
+        STANDARD.encode_string(&self.bytes, text)
     }
 
     /// Returns true if the client is to choose among password algorithms (RFC 8489, section 18.1).
@@ -203,7 +214,7 @@ fn security_byte(algorithms: AlgorithmSet, feature: Feature) -> u8
     for_algorithms + for_userhash
 }
 
-/// The nonce that is made of sixteen random words.
+/// The nonce that is made of sixteen random words. It allocates once.
 pub(crate) fn nonce_of_words<A: Allocator + Copy>(
     alloc: A,
     algorithms: AlgorithmSet,
@@ -214,11 +225,12 @@ pub(crate) fn nonce_of_words<A: Allocator + Copy>(
 {
     let byte = security_byte(algorithms, feature);
     if byte != 0 {
-        let mut text = NonceSecurityBits::from_bytes([byte, 0, 0]).as_string(alloc)?;
+        let mut text = String::with_capacity(alloc, FRONT_LENGTH + LETTERS)?;
+        NonceSecurityBits::from_bytes([byte, 0, 0]).push_to(&mut text)?;
         push_letters(&mut text, words)?;
         return Ok(text);
     }
-    let mut text = String::new(alloc);
+    let mut text = String::with_capacity(alloc, LETTERS)?;
     push_letters(&mut text, words)?;
     if !begins_with_cookie(text.as_bytes()) {
         return Ok(text);

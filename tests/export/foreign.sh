@@ -1,0 +1,56 @@
+#!/bin/sh
+# Runs the tests and the transcripts of target/export as programs for other processors, under qemu:
+# usage: tests/export/foreign.sh [i686|armv7|aarch64|s390x] ..; all four where none is named. The
+# first two have sizes of 32 bits, and the last has the other order of bytes. It takes what Debian
+# has: its rustc of the least Rust that is promised and the standard libraries for it (fetched, not
+# installed), linkers and qemu-user, which it installs where root runs it.
+set -eu
+cd "$(dirname "$0")/../.."
+. tests/export/debian_rust.sh
+
+# names TARGET: the target of rustc, Debian's architecture, the name of its tools, and qemu's.
+names() {
+    case $1 in
+    i686) echo i686-unknown-linux-gnu i386 i686-linux-gnu i386 ;;
+    armv7) echo armv7-unknown-linux-gnueabihf armhf arm-linux-gnueabihf arm ;;
+    aarch64) echo aarch64-unknown-linux-gnu arm64 aarch64-linux-gnu aarch64 ;;
+    s390x) echo s390x-unknown-linux-gnu s390x s390x-linux-gnu s390x ;;
+    *) echo "usage: tests/export/foreign.sh [i686|armv7|aarch64|s390x] .." >&2; return 1 ;;
+    esac
+}
+
+# passes TARGET RUSTC'S-TARGET ARCHITECTURE TOOLS QEMU'S-NAME
+passes() {
+    packages="qemu-user gcc-$4"
+    dpkg -s $packages >/dev/null 2>&1 ||
+        apt-get install -qq -y --no-install-recommends $packages libc6-dev-"$3"-cross >/dev/null
+    sysroot=$(library "$3")
+    upper=$(echo "$2" | tr a-z- A-Z_)
+    qemu="qemu-$5 -L /usr/$4"
+    export "CARGO_TARGET_${upper}_LINKER=$4-gcc" "CARGO_TARGET_${upper}_RUNNER=$qemu" \
+        "CARGO_TARGET_${upper}_RUSTFLAGS=--sysroot $sysroot"
+    # Tests of pages would want a rustdoc of the same version. The calls for C are linked by a
+    # program alone.
+    (cd target/export
+     cargo test --quiet --workspace --exclude seatcrane-stun-c --all-features --lib --tests \
+        --target "$2"
+     cargo build --quiet --package seatcrane-checks --target "$2"
+     $qemu "$CARGO_TARGET_DIR/$2/debug/transcripts" ../../crates/transcripts/data/*.txt)
+}
+
+[ $# -gt 0 ] || set -- i686 armv7 aarch64 s390x
+fetched || { echo "Debian's rustc-web $least cannot be fetched here." >&2; exit 1; }
+export RUSTC="$at/usr/bin/rustc" CARGO_TARGET_DIR="$PWD/target/foreign"
+export CARGO_PROFILE_DEV_DEBUG=0 CARGO_PROFILE_DEV_OPT_LEVEL=1 CARGO_INCREMENTAL=0
+libraries=$at/usr/lib/x86_64-linux-gnu
+export LD_LIBRARY_PATH="$libraries${LD_LIBRARY_PATH:+:$LD_LIBRARY_PATH}"
+for target; do
+    of=$(names "$target")
+    passes "$target" $of >"$CARGO_TARGET_DIR.$target.log" 2>&1 || {
+        cat "$CARGO_TARGET_DIR.$target.log" >&2
+        exit 1
+    }
+    tests=$(sed -n 's/^test result: ok\. \([0-9]*\) passed.*/\1/p' "$CARGO_TARGET_DIR.$target.log" |
+        paste -sd+ | bc)
+    echo "$target: $tests tests passed; $(tail -n 1 "$CARGO_TARGET_DIR.$target.log")"
+done

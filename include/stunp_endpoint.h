@@ -6,9 +6,10 @@
  *
  *   stunp_endpoint_server  the settings of a server with long-term credentials (section 9.2)
  *   stunp_endpoint_users   the users of its realm, by password or by stored keys
- *   stunp_endpoint_server_receive
- *                          judges a datagram. It writes the answer, or hands you an accepted request
- *   stunp_reply            answers that request, now or later, on any thread
+ *   stunp_reply            answers an accepted request, now or later, on any thread
+ *
+ * stunp_endpoint_server_receive judges a datagram: it writes the answer, or hands you an accepted
+ * request.
  *
  * None of them performs I/O. You own the sockets, the clock, the threads and the random numbers.
  * Sections without an RFC are those of RFC 8489.

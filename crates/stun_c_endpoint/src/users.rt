@@ -91,12 +91,7 @@ fn remove(users: &mut Users<Global>, name: &[u8]) -> Result<(), Refusal>
 }
 
 /// Adds a user with a password to the table of a handle.
-pub fn add_to(
-    alloc: Global,
-    kept: &mut Kept,
-    name: &[u8],
-    password: &[u8],
-) -> Result<(), Refusal>
+pub fn add_to(alloc: Global, kept: &mut Kept, name: &[u8], password: &[u8]) -> Result<(), Refusal>
     ensures { LeavesTableOr (at_table (users_of kept.old) (λ u. adding u name.now password.now))
         (done_answer result) (Some kept.old) (Some kept.new) }
 {

@@ -41,16 +41,16 @@ pub extern "C" fn stunp_endpoint_server_new_with(
     ensures full { IfSome server.old.kept (λ kept. (result ≡ refusal_number Refusal.FullHandle)
         × (server.new.kept ≡ Some kept)) }
     ensures made { IfNone server.old.kept (let given = record {
-          realm = realm.now;
-          software = software.now;
-          secret = secret.now;
-          previous_secret = if has_previous_secret then Some previous_secret.now else None;
-          understood = understood.now;
-          nonce_seconds = nonce_seconds;
-          algorithms = algorithms;
-          anonymous_username = anonymous_username;
-          answers_binding = answers_binding;
-        } in MatchOption (given_refusal given)
+      realm = realm.now;
+      software = software.now;
+      secret = secret.now;
+      previous_secret = if has_previous_secret then Some previous_secret.now else None;
+      understood = understood.now;
+      nonce_seconds = nonce_seconds;
+      algorithms = algorithms;
+      anonymous_username = anonymous_username;
+      answers_binding = answers_binding;
+    } in MatchOption (given_refusal given)
         (OrOutOfMemory result None server.new.kept (pos 0) (Some (Server (server_given given))))
         (λ refusal. (result ≡ refusal_number refusal) × (server.new.kept ≡ None))) }
 {

@@ -281,7 +281,9 @@
  *   answered 438 and can continue.
  * - Bound the number of addresses. With stunp_server_set_most_addresses alone, an attacker who
  *   forges that many source addresses shuts the server to new clients, for up to two nonce
- *   lifetimes. examples/c/places.h replaces the oldest addresses in place of that.
+ *   lifetimes. Replace the oldest addresses in place of that.
+ *
+ * The server of stunp_endpoint.h keeps nothing of an address, and so has neither duty.
  */
 #ifndef STUNP_STATE_H
 #define STUNP_STATE_H
@@ -758,8 +760,8 @@ int64_t stunp_server_set_nonce_expiry(stunp_server *server, uint64_t nanoseconds
  * from `most` addresses, or forge that many source addresses, fills it with one datagram each.
  * After that every new client is refused until records are removed, which takes up to two nonce
  * lifetimes if you remove them as stunp_server_forget_expired advises. To go on serving new
- * clients, remove the oldest records without a client yourself (stunp_server_forget), as
- * examples/c/places.h does.
+ * clients, remove the oldest records without a client yourself (stunp_server_forget), or use
+ * stunp_endpoint.h, whose server has no records.
  *
  * This call removes no record, even if there are more than `most`.
  *

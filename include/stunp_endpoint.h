@@ -259,8 +259,8 @@ typedef struct {
  *
  * Returns 0. Errors:
  *   STUNP_FULL_HANDLE    the handle is not empty
- *   STUNP_BAD_ARGUMENT   the realm is empty, `algorithms` is above 3, `anonymous_username` is above 2,
- *                        or `nonce_seconds` is below 30 and not 0
+ *   STUNP_BAD_ARGUMENT   `algorithms` is above 3, `anonymous_username` is above 2, or `nonce_seconds`
+ *                        is below 30 and not 0
  *   STUNP_NOT_TEXT       the realm or SOFTWARE is not UTF-8
  *   STUNP_TEXT_TOO_LONG  the realm or SOFTWARE has more than 763 bytes
  *   STUNP_OUT_OF_MEMORY  an allocation failed */

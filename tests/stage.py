@@ -25,7 +25,7 @@ TELLING = (
     "attribute rewrites", "attribute takes", "attribute writes", "client hashes", "client size",
     "client supported", "client user", "digest hmac", "digest same", "memory", "message attribute",
     "message digest-lengths", "message header", "message ids", "message prefixes", "message tails",
-    "server expiry", "server hashes", "server realm", "server sizes", "server supported",
+    "endpoint server nonce", "server expiry", "server hashes", "server realm", "server sizes", "server supported",
     "write room",
 )
 # Objects whose calls may write a message that is kept.
@@ -33,9 +33,19 @@ WRITERS = ("agent", "client", "meet", "serve", "server", "short-term", "write")
 # The calls of the archive that may allocate.
 ALLOCATING = (
     "agent-handle", "agent-new", "agent-new-with", "agent-send-request", "agent-validated-peer",
-    "client-new", "client-set-credentials", "client-sign", "client-validate", "server-add-user",
-    "server-new", "server-sign", "server-validate",
+    "client-new", "client-set-credentials", "client-sign", "client-validate",
+    "endpoint-build", "endpoint-server-receive", "endpoint-users-add", "endpoint-users-add-keys",
+    "server-add-user", "server-new", "server-sign", "server-validate",
 )
+# How a server of the endpoint refuses a request, and why it drops a datagram.
+ENDPOINT_REFUSALS = {400: "BadRequest", 401: "Unauthenticated", 420: "UnknownAttribute",
+                     438: "StaleNonce"}
+ENDPOINT_DROPS = {1: "NotStun", 2: "Malformed", 3: "WrongFingerprint", 4: "UnknownAttribute"}
+# What stunp_received begins with, and where its name is.
+RECEIVED = struct.Struct("@N3I2H2N")
+NAME_IN_RECEIVED = 122
+# The settings of an endpoint that are yes or no.
+YES_OR_NO = {"yes": True, "no": False}
 
 
 class Left(Exception):
@@ -80,6 +90,7 @@ class Stage:
         self.algorithms = {"server": 1, "client": 1}
         self.counts = self.is_untimed = False
         self.writer = self.room = None
+        self.settings, self.built, self.has_request = {}, None, False
         child.reset()
         self.ask("server-new", b"")
         self.ask("client-new")
@@ -290,6 +301,142 @@ class Stage:
 
     def client_signs_length(self, *words):
         return length_of(self.client_signs(*words))
+
+    # ---- A server of the endpoint.
+
+    def endpoint_server(self, what, *words):
+        made = getattr(self, "endpoint_" + what.replace("-", "_"), None)
+        if made is None:
+            raise Left(f"endpoint server {what}")
+        if what in ("hears", "add-user", "remove-user", "responds") and not self.built:
+            raise Words("nothing is built")
+        return made(*words)
+
+    def endpoint_realm(self, realm):
+        self.settings = {"realm": text(realm), "secret": bytes(32), "previous": b"",
+                         "software": b"", "seconds": 3600, "algorithms": 3, "names": 0,
+                         "binding": False, "types": b""}
+        return ""
+
+    def endpoint_set(self, name, value):
+        if not self.settings:
+            raise Words("no settings")
+        self.settings[name] = value
+        return ""
+
+    def endpoint_secret(self, word, name="secret"):
+        octets = unhex(word)
+        return self.endpoint_set(name, octets * 32 if len(octets) == 1 else octets)
+
+    def endpoint_previous_secret(self, word):
+        return self.endpoint_secret(word, "previous")
+
+    def endpoint_algorithms(self, word):
+        names = [] if word == "-" else word.split(",")
+        return self.endpoint_set("algorithms", sum(ALGORITHM_NUMBERS[name] for name in names))
+
+    def endpoint_hashes(self, word):
+        return self.endpoint_set("names", 0 if self.yes(word) else 2)
+
+    def endpoint_binding(self, word):
+        return self.endpoint_set("binding", self.yes(word))
+
+    def yes(self, word):
+        if word not in YES_OR_NO:
+            raise Words(word)
+        return YES_OR_NO[word]
+
+    def endpoint_lifetime(self, word):
+        return self.endpoint_set("seconds", nanos(word) // 10**9)
+
+    def endpoint_software(self, word):
+        return self.endpoint_set("software", text(word))
+
+    def endpoint_understands(self, word):
+        kinds = [] if word == "-" else word.split(",")
+        types = b"".join(attribute_type(kind).to_bytes(2, "big") for kind in kinds)
+        return self.endpoint_set("types", types)
+
+    def endpoint_build(self):
+        """C does not say which text is too long, and has no set of no algorithms and no lifetime of
+        0."""
+        if not self.settings:
+            raise Words("no settings")
+        wanted = self.settings
+        if wanted["algorithms"] == 0 or wanted["seconds"] == 0:
+            raise Left("endpoint server build")
+        answer, _ = self.ask("endpoint-build", wanted["realm"], wanted["software"],
+                             wanted["secret"], wanted["previous"], wanted["types"],
+                             wanted["seconds"], wanted["algorithms"], wanted["names"],
+                             int(wanted["binding"]))
+        if answer == 0:
+            self.built = dict(wanted)
+        names = {0: "", -17: "OutOfMemory", -7: "NonceLifetime", -9: "RealmTooLong"}
+        if answer == -9 and self.written == "SoftwareTooLong":
+            return "SoftwareTooLong"
+        return names[answer]
+
+    def endpoint_add_user(self, name, password):
+        return self.asked_for("endpoint-users-add", text(name), text(password))
+
+    def endpoint_remove_user(self, name):
+        return self.asked_for("endpoint-users-remove", text(name))
+
+    def spelled(self, before, response):
+        """A response in the written words, if those spell its bytes."""
+        front = f"{before}: "
+        if self.written.startswith(front):
+            try:
+                if self.message(self.written[len(front):].split()) == response:
+                    return self.written
+            except Words:
+                pass
+        return front + response.hex()
+
+    def endpoint_hears(self, *words):
+        message = self.message(words)
+        kind, outputs = self.ask("endpoint-server-receive", message, wide(self.origin),
+                                 self.now // 10**9, 1 << 16)
+        if kind < 0:
+            return REFUSALS[kind]
+        told = outputs[-1]
+        _, _, why, code, _, algorithm, _, length = RECEIVED.unpack_from(told)
+        if kind == 1:
+            refusal = f"{code} {ENDPOINT_REFUSALS[code]}" if code else "answer"
+            return self.spelled(refusal, outputs[0])
+        if kind == 2:
+            self.has_request = True
+            name = told[NAME_IN_RECEIVED:NAME_IN_RECEIVED + length]
+            return f"request {shown(name)} {VERDICTS[algorithm]}"
+        return {0: f"dropped {ENDPOINT_DROPS.get(why)}", 3: "indication", 4: "response"}[kind]
+
+    def endpoint_responds(self, what, *words):
+        if not self.has_request:
+            raise Words("no request")
+        code, phrase = (0, b"") if what == "success" else (number(what), text(words[0]))
+        answer = self.ask("reply-begin", code, phrase, AMPLE)
+        for word in words if what == "success" else words[1:]:
+            if answer[0] >= 0:
+                answer = self.added(answer[1][0], word)
+        if answer[0] >= 0 and self.built["software"]:
+            answer = self.ask("add", 2 * AMPLE, answer[1][0], 0x8022, self.built["software"])
+        if answer[0] >= 0:
+            answer = self.ask("reply-finish", 2 * AMPLE, answer[1][0])
+        if answer[0] < 0:
+            return REFUSALS[answer[0]]
+        try:
+            is_same = self.message(self.written.split()) == answer[1][0]
+        except (Words, IndexError):
+            is_same = False
+        return self.written if is_same else answer[1][0].hex()
+
+    def added(self, page, word):
+        name, _, value = word.partition("=")
+        room = len(page) + 2 * AMPLE
+        if name == "XOR-MAPPED-ADDRESS":
+            return self.ask("add-xor-mapped-address", room, page, *address(value))
+        spelling = Spelling()
+        return self.ask("add", room, page, attribute_type(name), spelling.value_of(name, value))
 
     # ---- The agent.
 

@@ -16,12 +16,13 @@
  * nothing was changed but what was written: nothing where the call refuses. A line that it cannot
  * read, or a byte that was changed, ends it. */
 #include "heap.h"
+#include "stunp_endpoint.h"
 #include "stunp_state.h"
 #include <stdio.h>
 #include <stdlib.h>
 #include <string.h>
 
-enum { LONGEST_LINE = 1 << 20, MOST_BLOCKS = 8, PATTERN = 0xa5 };
+enum { LONGEST_LINE = 1 << 20, MOST_BLOCKS = 10, PATTERN = 0xa5 };
 
 static char line[LONGEST_LINE];
 
@@ -325,6 +326,95 @@ CALL(client_sign, block *message = buffer(),
      wrote(message, stunp_client_sign(&client, USED(message))))
 CALL(client_validate, block *message = bytes(), stunp_client_validate(&client, ALL(message)))
 
+/* ---- The calls of the endpoint. The reply is that to the last request that was handed out. */
+
+static stunp_endpoint_server endpoint_server;
+static stunp_endpoint_users endpoint_users;
+static stunp_reply reply;
+
+/* A number of 16 bits of each two bytes. */
+static block *numbers(block *pairs) {
+    block *made = block_of(pairs->length);
+    for (size_t i = 0; i + 1 < pairs->length; i += 2) {
+        uint16_t one = (uint16_t)(pairs->at[i] << 8 | pairs->at[i + 1]);
+        for (size_t j = 0; j < sizeof one; j++) fill(made, i + j, ((const uint8_t *)&one)[j]);
+    }
+    return made;
+}
+
+/* Makes a server and its table, or neither. */
+static int64_t endpoint_build(void) {
+    block *realm = bytes(), *software = bytes(), *secret = bytes(), *previous = bytes();
+    block *types = numbers(bytes());
+    uint64_t seconds = number();
+    uint32_t algorithms = short_number(), names = short_number();
+    bool answers_binding = number() != 0;
+    if (secret->length != 32) fail("no secret");
+    stunp_endpoint_server fresh = {false, NULL};
+    stunp_endpoint_users table = {false, NULL};
+    int64_t answer = stunp_endpoint_server_new_with(
+        &fresh, ALL(realm), ALL(software), secret->at,
+        previous->length == 0 ? secret->at : previous->at, previous->length != 0,
+        VALUE(uint16_t, types), types->length / 2, seconds, algorithms, names, answers_binding);
+    if (fresh.is_full != (answer == 0)) fail("a handle that is not made");
+    if (answer == 0) answer = stunp_endpoint_users_new(&table, &fresh);
+    if (table.is_full != (answer == 0)) fail("a table that is not made");
+    stunp_endpoint_server_free(answer == 0 ? &endpoint_server : &fresh);
+    if (answer < 0) return answer;
+    stunp_endpoint_users_free(&endpoint_users);
+    endpoint_server = fresh, endpoint_users = table;
+    return answer;
+}
+
+CALL(endpoint_users_add, block *name = bytes(); block *password = bytes(),
+     stunp_endpoint_users_add(&endpoint_users, ALL(name), ALL(password)))
+CALL(endpoint_users_add_keys, block *name = bytes(); block *sha1 = bytes(); block *sha256 = bytes(),
+     stunp_endpoint_users_add_keys(&endpoint_users, ALL(name), ALL(sha1), ALL(sha256)))
+CALL(endpoint_users_remove, block *name = bytes(),
+     stunp_endpoint_users_remove(&endpoint_users, ALL(name)))
+
+/* Answers why a datagram is dropped, the code of a response and the response, or the algorithm and
+ * the name of a request, after the number of the kind. */
+static int64_t endpoint_server_receive(void) {
+    static const stunp_received fresh = STUNP_INIT(stunp_received);
+    block *message = bytes();
+    const stunp_address *from = address();
+    uint64_t seconds = number();
+    block *out = output(), *told = block_of_value(&fresh, sizeof fresh);
+    stunp_received *received = VALUE(stunp_received, told);
+    int64_t kind = stunp_endpoint_server_receive(&endpoint_server, &endpoint_users, ALL(message),
+                                                 from, seconds, ALL(out), received);
+    wrote_all(told, kind >= 0);
+    if (kind != STUNP_ANSWER && kind >= 0 && received->length != 0) fail("a length of nothing");
+    out->written = kind == STUNP_ANSWER ? received->length : 0;
+    if (kind == STUNP_IS_REQUEST) reply = received->reply;
+    return kind;
+}
+
+/* Begins a response: 0 is a success. */
+static int64_t reply_begin(void) {
+    uint32_t code = short_number();
+    block *phrase = bytes(), *out = output();
+    char reason[1024];
+    snprintf(reason, sizeof reason, "%.*s", (int)phrase->length, (const char *)phrase->at);
+    stunp_writer writer = code == 0 ? stunp_reply_success(&reply, ALL(out))
+                                    : stunp_reply_error(&reply, code, reason, ALL(out));
+    int64_t refusal = stunp_written(&writer);
+    if (refusal < 0) { /* the front of a message that is not wanted */
+        memcpy(out->before, out->at, out->length);
+        return refusal;
+    }
+    return wrote(out, (int64_t)writer.length);
+}
+
+static int64_t reply_finish(void) {
+    block *message = buffer();
+    stunp_writer writer = stunp_write_on((int64_t)message->used, message->at, message->length);
+    int64_t answer = stunp_reply_finish(&reply, &writer);
+    if (answer < 0) memcpy(message->before, message->at, message->length);
+    return wrote(message, answer);
+}
+
 /* ---- Lines. */
 
 static const struct { const char *name; int64_t (*call)(void); } calls[] = {
@@ -353,7 +443,12 @@ static const struct { const char *name; int64_t (*call)(void); } calls[] = {
     {"client-set-algorithms", client_set_algorithms},
     {"client-set-anonymous-username", client_set_anonymous_username},
     {"client-signing-algorithm", client_signing_algorithm}, {"client-sign", client_sign},
-    {"client-validate", client_validate},
+    {"client-validate", client_validate}, {"endpoint-build", endpoint_build},
+    {"endpoint-users-add", endpoint_users_add},
+    {"endpoint-users-add-keys", endpoint_users_add_keys},
+    {"endpoint-users-remove", endpoint_users_remove},
+    {"endpoint-server-receive", endpoint_server_receive}, {"reply-begin", reply_begin},
+    {"reply-finish", reply_finish},
 };
 
 static void print_bytes(const uint8_t *at, size_t length) {
@@ -385,10 +480,13 @@ static void make(int64_t (*call)(void)) {
     stunp_agent old_agent = agent;
     stunp_server old_server = server;
     stunp_client old_client = client;
+    stunp_endpoint_server old_endpoint = endpoint_server;
+    stunp_endpoint_users old_users = endpoint_users;
     size_t asked = stunp_heap_asked();
     int64_t answer = call();
     if (answer < 0 && !(IS_SAME(agent, old_agent) && IS_SAME(server, old_server)
-                        && IS_SAME(client, old_client)))
+                        && IS_SAME(client, old_client) && IS_SAME(endpoint_server, old_endpoint)
+                        && IS_SAME(endpoint_users, old_users)))
         fail("a refusal changes a handle");
     printf("%lld %zu", (long long)answer, stunp_heap_asked() - asked);
     finish(answer);
@@ -404,6 +502,8 @@ static void play(const char *name) {
         stunp_agent_free(&agent);
         stunp_server_free(&server);
         stunp_client_free(&client);
+        stunp_endpoint_server_free(&endpoint_server);
+        stunp_endpoint_users_free(&endpoint_users);
     }
     if (strcmp(name, "reset") == 0 || strcmp(name, "blocks") == 0) {
         printf("%zu %zu", stunp_heap_blocks(), stunp_heap_bytes());

@@ -34,11 +34,11 @@ has_sha1 number = not (number == 2)
 abbrev pub has_sha256 : ℕ → Bool
 has_sha256 number = not (number == 1)
 
--- whether a number is none that is taken, or the realm has no bytes
+-- whether a number is none that is taken
 abbrev pub is_out_of_range : Given → Bool
 is_out_of_range g =
     nat_lt 3 g.algorithms || (nat_lt 2 g.anonymous_username
-    || ((length g.realm == 0) || nat_lt (nonce_seconds g.nonce_seconds) 30))
+    || nat_lt (nonce_seconds g.nonce_seconds) 30)
 
 -- why no server is made, the first reason that holds
 abbrev pub given_refusal : Given → Option Refusal

@@ -100,13 +100,12 @@ fn text_if_any(alloc: Global, text: &str) -> Result<Option<String<Global>>, Allo
 }
 
 impl<'a> Given<'a> {
-    /// Whether a number is none that is taken, or the realm has no bytes.
+    /// Whether a number is none that is taken.
     fn is_out_of_range(&self) -> bool
         ensures { result ≡ is_out_of_range self.now }
     {
         self.algorithms > MOST_ALGORITHMS
             || self.anonymous_username > DISABLED
-            || self.realm.len() == 0
             || nonce_seconds(self.nonce_seconds) < SHORTEST_NONCE_LIFETIME
     }
 

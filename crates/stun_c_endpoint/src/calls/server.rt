@@ -20,8 +20,8 @@ use stun_numbers::refusal::Refusal;
 /// Creates a server with long-term credentials. A number of seconds that is 0 is an hour, algorithms
 /// that are 0 are both, and a text of SOFTWARE without bytes is none.
 ///
-/// Fails with `FullHandle`, then with `BadArgument` for an empty realm, for algorithms above 3, for
-/// a feature above 2 or for less than 30 seconds. Then come `NotText` for the realm or SOFTWARE,
+/// Fails with `FullHandle`, then with `BadArgument` for algorithms above 3, for a feature above 2 or
+/// for less than 30 seconds. Then come `NotText` for the realm or SOFTWARE,
 /// `TextTooLong` for more than 763 bytes of either, and `OutOfMemory`.
 #[unsafe(no_mangle)]
 pub extern "C" fn stunp_endpoint_server_new_with(

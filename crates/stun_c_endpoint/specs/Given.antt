@@ -1,5 +1,5 @@
 -- The settings of a server as a caller in C gives them, and the server of them.
-use Rattle.std.specs.Prelude.{ℕ, List, ◌++◌, Bool, ◌&&◌, ◌||◌, ◌==◌, not, length, nat_lt}
+use Rattle.std.specs.Prelude.{◌≡◌, ℕ, ℤ, pos, MatchOption, List, ◌++◌, Bool, ◌&&◌, ◌||◌, ◌==◌, not, length, nat_lt}
 use Rattle.std.specs.Prelude.{if◌then◌else◌, Option, Some, None}
 use Rattle.std.specs.Str.{is_utf8}
 use Rattle.stun_types.specs.Limits.{TEXT_LIMIT}
@@ -7,9 +7,13 @@ use Rattle.stun_extra.specs.Unknown.{types_of}
 use Rattle.stun_endpoint.specs.Realm.{algorithms_for, feature_for}
 use Rattle.stun_endpoint.specs.Settings.{Settings}
 use Rattle.stun_endpoint.specs.declared.server.settings.TheConstants.{STUN_ATTRIBUTES}
+use Rattle.stun_handles.specs.Numbers.{OrOutOfMemory}
+use Rattle.stun_numbers.specs.Refusals.{refusal_number}
 use Rattle.stun_numbers.specs.declared.refusal.Refusal.{Refusal}
 use Rattle.stun_numbers.specs.declared.refusal.Refusal.TheVariants.{BadArgument, NotText}
 use Rattle.stun_numbers.specs.declared.refusal.Refusal.TheVariants.{TextTooLong}
+use Rattle.stun_c_endpoint.specs.declared.handle.endpoint.Kept.{Kept}
+use Rattle.stun_c_endpoint.specs.declared.handle.endpoint.Kept.TheVariants.{Server}
 
 -- what a caller gives: texts and keys as bytes, and types, algorithms and the feature as numbers
 pub record Given : Type 0 where
@@ -66,3 +70,11 @@ server_given g = record {
   software = if_any g.software;
   answers_binding = g.answers_binding;
 }
+
+-- a call makes the server of what is given in an empty handle and returns 0, or returns the first
+-- refusal; or an allocation failed
+abbrev pub MakesServer : Given → ℤ → Option Kept → Type 0
+MakesServer g result now =
+    MatchOption (given_refusal g)
+    (OrOutOfMemory result None now (pos 0) (Some (Server (server_given g))))
+    (λ refusal. (result ≡ refusal_number refusal) × (now ≡ None))

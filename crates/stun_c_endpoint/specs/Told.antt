@@ -100,7 +100,7 @@ NAME_PLACE = 516
 -- bytes at the front of a place, no more than a number of them, and zeros after them
 abbrev pub at_front : ℕ → ℕ → List ℕ → List ℕ
 at_front place most bytes =
-    take most bytes ++ drop (min most (length bytes)) (replicate place 0)
+    take (min (length bytes) most) bytes ++ drop (min (length bytes) most) (replicate place 0)
 
 -- the number of an integrity attribute, and 0 of none
 abbrev pub integrity_number : Option IntegrityAlgorithm → ℕ
@@ -120,7 +120,7 @@ reply_told y = record {
   id = big_bytes 12 y.id;
   key = at_front KEY_ROOM KEY_ROOM (key_of y.ending.signature);
   method = y.method;
-  key_length = min KEY_ROOM (length (key_of y.ending.signature));
+  key_length = min (length (key_of y.ending.signature)) KEY_ROOM;
   integrity = integrity_number (integrity_of y.ending.signature);
   has_fingerprint = y.ending.has_fingerprint;
 }

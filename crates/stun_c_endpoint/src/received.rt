@@ -10,7 +10,6 @@ use byteorder::{BigEndian, ByteOrder};
 use std::alloc::Global;
 use stun_endpoint::received::{DropReason, Request};
 use stun_endpoint::reply::Reply as EndpointReply;
-use stun_numbers::algorithm::algorithm_number;
 use stun_types::message::{IntegrityAlgorithm, Message, TransactionId};
 
 /// The longest key that a reply has room for.
@@ -90,7 +89,8 @@ fn integrity_number(algorithm: Option<IntegrityAlgorithm>) -> u8
     ensures { result ≡ integrity_number algorithm }
 {
     match algorithm {
-        Some(algorithm) => algorithm_number(algorithm) as u8,
+        Some(IntegrityAlgorithm::Sha1) => 1,
+        Some(IntegrityAlgorithm::Sha256) => 2,
         None => 0,
     }
 }
@@ -121,6 +121,8 @@ pub fn drop_number(why: DropReason) -> u32
         DropReason::Malformed => 2,
         DropReason::WrongFingerprint => 3,
         DropReason::UnknownAttribute => 4,
+        // There is no other one in this release.
+        _ => 0,
     }
 }
 
@@ -162,7 +164,7 @@ impl Received {
         self.begin(2);
         let name = request.user().as_bytes();
         self.method = request.reply().method().value();
-        self.algorithm = algorithm_number(request.algorithm()) as u16;
+        self.algorithm = u16::from(integrity_number(Some(request.algorithm())));
         self.name_length = name.len();
         self.name = front(name, NAME_ROOM);
         self.reply = Reply::of(request.reply());

@@ -5,12 +5,15 @@ ghost use Rattle.stun_handles.specs.Numbers.{number_answer};
 ghost use Rattle.stun_endpoint.specs.Outcomes.{outcome_of};
 ghost use Rattle.stun_endpoint.specs.Received.{answered};
 ghost use Rattle.stun_c_endpoint.specs.Told.{IsTold, ReceivesAs, code_told, judged_outcome};
+ghost use Rattle.stun_c_endpoint.specs.Told.{with_users};
 
 use crate::handle::endpoint::Kept;
 use crate::received::{RECEIVED_SIZE, Received};
 use std::alloc::Global;
 use stun_endpoint::received::{Answer, Received as Outcome, Refusal as Refused};
+use stun_endpoint::server::Server;
 use stun_endpoint::unix_time::UnixTime;
+use stun_endpoint::users::Users;
 use stun_handles::address::Address;
 use stun_numbers::buffer::put;
 use stun_numbers::refusal::Refusal;
@@ -58,13 +61,26 @@ fn tell(
         received.new }
 {
     match outcome {
-        Outcome::Answer(answer) => return answered(answer, out, received),
-        Outcome::Request(request) => received.requested(request),
-        Outcome::Indication(message) => received.indicated(message),
-        Outcome::Response(message) => received.responded(message),
-        Outcome::Dropped(why) => received.dropped(*why),
+        Outcome::Answer(answer) => answered(answer, out, received),
+        Outcome::Request(request) => {
+            received.requested(request);
+            Ok(2)
+        }
+        Outcome::Indication(message) => {
+            received.indicated(message);
+            Ok(3)
+        }
+        Outcome::Response(message) => {
+            received.responded(message);
+            Ok(4)
+        }
+        Outcome::Dropped(why) => {
+            received.dropped(*why);
+            Ok(0)
+        }
+        // There is no other outcome in this release.
+        _ => Err(Refusal::BadArgument),
     }
-    Ok(received.kind)
 }
 
 /// Judges a datagram by a server and a table of users, and tells what it comes to.
@@ -81,12 +97,27 @@ pub fn receive(
         message.now received.old) (number_answer result) out.old out.new received.old
         received.new }
 {
-    let Kept::Server(server) = server else {
-        return Err(Refusal::EmptyHandle);
-    };
-    let Kept::Users(users) = users else {
-        return Err(Refusal::EmptyHandle);
-    };
+    match (server, users) {
+        (Kept::Server(server), Kept::Users(users)) => {
+            judge(server, users, message, from, unix_seconds, out, received)
+        }
+        _ => Err(Refusal::EmptyHandle),
+    }
+}
+
+/// The same by the server and the table.
+fn judge(
+    server: &Server<Global>,
+    users: &Users<Global>,
+    message: &[u8],
+    from: &Address,
+    unix_seconds: u64,
+    out: &mut [u8],
+    received: &mut Received,
+) -> Result<u32, Refusal>
+    ensures { ReceivesAs (with_users server.now (Some users.now) from.now unix_seconds message.now
+        received.old) (number_answer result) out.old out.new received.old received.new }
+{
     if received.size != RECEIVED_SIZE || unix_seconds > LAST_SECOND {
         return Err(Refusal::BadArgument);
     }

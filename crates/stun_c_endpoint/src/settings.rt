@@ -29,6 +29,7 @@ const MOST_ALGORITHMS: u32 = 3;
 const DISABLED: u32 = 2;
 
 /// What a caller gives. Contracts see bytes and numbers.
+#[derive(Drop)]
 pub struct Given<'a> {
     pub realm: &'a [u8],
     pub software: &'a [u8],

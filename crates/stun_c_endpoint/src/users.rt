@@ -35,13 +35,15 @@ pub fn table(alloc: Global, server: &Kept) -> Result<Box<Kept, Global>, Refusal>
     ensures made { IfSome (server_of server.now) (λ s. MatchResult result
         (λ made. made.value ≡ Users (table_of s)) (λ refusal. refusal ≡ Refusal.OutOfMemory)) }
 {
-    let Kept::Server(server) = server else {
-        return Err(Refusal::EmptyHandle);
-    };
-    let users = server.users()?;
-    match Box::new(alloc, Kept::Users(users)) {
-        Ok(made) => Ok(made),
-        Err(_) => Err(Refusal::OutOfMemory),
+    match server {
+        Kept::Server(server) => {
+            let users = server.users()?;
+            match Box::new(alloc, Kept::Users(users)) {
+                Ok(made) => Ok(made),
+                Err(_) => Err(Refusal::OutOfMemory),
+            }
+        }
+        Kept::Users(_) => Err(Refusal::EmptyHandle),
     }
 }
 

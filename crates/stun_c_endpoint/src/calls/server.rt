@@ -1,12 +1,9 @@
 //! The calls on a server (RFC 8489, sections 6.3 and 9.2.4).
 
-ghost use Rattle.std.specs.Prelude.{◌≡◌, pos, MatchOption, Some, None, IfNone, IfSome};
-ghost use Rattle.std.specs.Prelude.{if◌then◌else◌};
-ghost use Rattle.stun_handles.specs.Numbers.{OrOutOfMemory};
+ghost use Rattle.std.specs.Prelude.{◌≡◌, Some, None, IfNone, IfSome, if◌then◌else◌};
 ghost use Rattle.stun_numbers.specs.Refusals.{refusal_number};
-ghost use Rattle.stun_c_endpoint.specs.Given.{given_refusal, server_given};
+ghost use Rattle.stun_c_endpoint.specs.Given.{MakesServer};
 ghost use Rattle.stun_c_endpoint.specs.Told.{ReceivesAs, judged_outcome};
-ghost use Rattle.stun_c_endpoint.specs.declared.handle.endpoint.Kept.TheVariants.{Server};
 
 use crate::handle::endpoint::{EndpointHandle, Kept};
 use crate::received::Received;
@@ -40,7 +37,7 @@ pub extern "C" fn stunp_endpoint_server_new_with(
 ) -> i64
     ensures full { IfSome server.old.kept (λ kept. (result ≡ refusal_number Refusal.FullHandle)
         × (server.new.kept ≡ Some kept)) }
-    ensures made { IfNone server.old.kept (let given = record {
+    ensures made { IfNone server.old.kept (MakesServer (record {
       realm = realm.now;
       software = software.now;
       secret = secret.now;
@@ -50,9 +47,7 @@ pub extern "C" fn stunp_endpoint_server_new_with(
       algorithms = algorithms;
       anonymous_username = anonymous_username;
       answers_binding = answers_binding;
-    } in MatchOption (given_refusal given)
-        (OrOutOfMemory result None server.new.kept (pos 0) (Some (Server (server_given given))))
-        (λ refusal. (result ≡ refusal_number refusal) × (server.new.kept ≡ None))) }
+    }) result server.new.kept) }
 {
     if let Some(kept) = server.take(alloc) {
         server.put(alloc, kept);

@@ -15,7 +15,8 @@ TYPES = {
     "USERHASH": 0x001E, "XOR-MAPPED-ADDRESS": 0x0020, "PASSWORD-ALGORITHMS": 0x8002,
     "SOFTWARE": 0x8022, "FINGERPRINT": 0x8028,
 }
-PHRASES = {"400": "Bad Request", "401": "Unauthorized", "438": "Stale Nonce"}
+PHRASES = {"400": "Bad Request", "401": "Unauthorized", "438": "Stale Nonce",
+           "420": "Unknown Attribute"}
 ALGORITHMS = {"MD5": b"\0\1\0\0", "SHA256": b"\0\2\0\0"}
 FOREVER = 2**64 - 1
 

@@ -22,10 +22,12 @@ TELLING = (
     "agent built", "agent counts", "agent next-awaited", "agent next-transmit", "agent rto",
     "agent sends-data", "attribute algorithm", "attribute code", "attribute is-digest",
     "attribute lengths", "attribute makes", "attribute number", "attribute reads",
-    "attribute rewrites", "attribute takes", "attribute writes", "client hashes", "client size",
-    "client supported", "client user", "digest hmac", "digest same", "memory", "message attribute",
+    "attribute rewrites", "attribute takes", "attribute writes", "client hashes",
+    "client signs-unchecked", "client size", "client supported", "client user", "digest hmac",
+    "digest same", "memory", "message attribute",
     "message digest-lengths", "message header", "message ids", "message prefixes", "message tails",
-    "endpoint server nonce", "server expiry", "server hashes", "server realm", "server sizes", "server supported",
+    "endpoint server nonce", "server expiry", "server hashes", "server realm",
+    "server signs-unchecked", "server sizes", "server supported",
     "write room",
 )
 # Objects whose calls may write a message that is kept.

@@ -17,7 +17,7 @@ import sys
 
 from definitions import Repository, crates, sources
 
-TEST_CRATES = ("tests", "test_support", "fail_alloc")
+TEST_CRATES = ("tests", "fail_alloc")
 
 
 def place(definition):

@@ -7,7 +7,7 @@
 set -eu
 cd "$(dirname "$0")/.."
 out=target/export
-packages="librust-getrandom-dev librust-md-5-dev librust-sha1-dev librust-sha2-dev"
+packages="librust-getrandom-dev librust-md-5-dev librust-sha1-dev librust-sha2-dev librust-tracing-dev"
 
 has_packages() {
     command -v dpkg > /dev/null && dpkg -s $packages > /dev/null 2>&1

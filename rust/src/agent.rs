@@ -62,6 +62,7 @@ use crate::exported::stun_types::message::IntegrityAlgorithm;
 use crate::kit::alloc::Global;
 use crate::message::Message;
 use crate::stats::StunAgentStats;
+use crate::trace::event;
 use crate::transaction::TransactionId;
 use crate::transmit::{Data, Lent};
 use core::fmt;
@@ -348,6 +349,7 @@ impl StunAgent {
         now: Instant,
     ) -> Result<Transmit<Data<'_>>, StunError> {
         let sent = self.0.send_request(Lent(message), to, now)?;
+        event!(%to, bytes = sent.data.len(), "sent a request");
         Ok(Transmit::new(
             Data::Borrowed(sent.data),
             sent.transport,
@@ -387,7 +389,9 @@ impl StunAgent {
     /// not measure the round-trip time.
     #[must_use = "a message that is not taken is to be dropped"]
     pub fn handle_stun_message(&mut self, message: &Message<'_>, from: SocketAddr) -> bool {
-        granted(self.0.handle_stun_message(&message.0, from))
+        let is_accepted = granted(self.0.handle_stun_message(&message.0, from));
+        event!(id = %message.transaction_id(), %from, is_accepted, "got a message");
+        is_accepted
     }
 
     /// Processes a message that arrived from `from`, and returns whether the agent accepts it. Drop
@@ -447,7 +451,9 @@ impl StunAgent {
         from: SocketAddr,
         now: Instant,
     ) -> bool {
-        granted(self.0.handle_stun_message_with_time(&message.0, from, now))
+        let is_accepted = granted(self.0.handle_stun_message_with_time(&message.0, from, now));
+        event!(id = %message.transaction_id(), %from, is_accepted, "got a message");
+        is_accepted
     }
 
     /// Returns the outstanding request with this transaction ID, if there is one.
@@ -512,9 +518,11 @@ impl StunAgent {
         use proved::StunAgentPollRet as Proved;
         match self.0.poll(now) {
             Proved::TransactionTimedOut(id) => {
+                event!(id = %TransactionId(id), "a request timed out");
                 StunAgentPollRet::TransactionTimedOut(TransactionId(id))
             }
             Proved::TransactionCancelled(id) => {
+                event!(id = %TransactionId(id), "a request was canceled");
                 StunAgentPollRet::TransactionCancelled(TransactionId(id))
             }
             Proved::WaitUntil(moment) => StunAgentPollRet::WaitUntil(moment),
@@ -531,6 +539,7 @@ impl StunAgent {
     /// request comes from [`send_request`](StunAgent::send_request) and is not returned here.
     pub fn poll_transmit(&mut self, now: Instant) -> Option<Transmit<&[u8]>> {
         let sent = self.0.poll_transmit(now)?;
+        event!(to = %sent.to, bytes = sent.data.len(), "sent a request again");
         Some(Transmit::new(sent.data, sent.transport, sent.from, sent.to))
     }
 }

@@ -70,6 +70,7 @@ use crate::exported::stun_types::prelude::MessageWrite;
 use crate::kit::alloc::Global;
 use crate::message::Message;
 use crate::replay::WordSource;
+use crate::trace::judged;
 use crate::write::with_header;
 use alloc::string::String;
 use core::fmt;
@@ -248,7 +249,7 @@ impl ShortTermAuth {
         &mut self,
         message: &Message<'_>,
     ) -> Result<Option<IntegrityAlgorithm>, ValidateError> {
-        self.proved.validate_incoming_message(&message.0)
+        judged(message, self.proved.validate_incoming_message(&message.0))
     }
 }
 
@@ -515,7 +516,7 @@ impl LongTermClientAuth {
         &mut self,
         message: &Message<'_>,
     ) -> Result<LongTermClientValidation, LongTermClientAuthError> {
-        self.proved.validate_incoming_message(&message.0)
+        judged(message, self.proved.validate_incoming_message(&message.0))
     }
 }
 
@@ -913,8 +914,10 @@ impl LongTermServerAuth {
         now: Instant,
     ) -> Result<LongTermServerValidation, LongTermServerAuthError> {
         let mut source = crate::random::for_a_nonce(crate::random::system);
-        self.proved
-            .validate_incoming_message(&message.0, from, now, &mut source)
+        let verdict =
+            self.proved
+                .validate_incoming_message(&message.0, from, now, &mut source);
+        judged(message, verdict)
     }
 
     /// Like `validate_incoming_message`, with random numbers of a generator of yours: `fill` fills a
@@ -935,8 +938,10 @@ impl LongTermServerAuth {
         fill: impl FnMut(&mut [u8]),
     ) -> Result<LongTermServerValidation, LongTermServerAuthError> {
         let mut source = crate::random::for_a_nonce(fill);
-        self.proved
-            .validate_incoming_message(&message.0, from, now, &mut source)
+        let verdict =
+            self.proved
+                .validate_incoming_message(&message.0, from, now, &mut source);
+        judged(message, verdict)
     }
 
     /// Like `validate_incoming_message`, with sixteen random numbers of your own.
@@ -957,8 +962,10 @@ impl LongTermServerAuth {
         words: [u32; 16],
     ) -> Result<LongTermServerValidation, LongTermServerAuthError> {
         let mut source = WordSource::new(words);
-        self.proved
-            .validate_incoming_message(&message.0, from, now, &mut source)
+        let verdict =
+            self.proved
+                .validate_incoming_message(&message.0, from, now, &mut source);
+        judged(message, verdict)
     }
 
     /// Returns the user whose key a message will be verified with, so that you can look that user
@@ -1128,7 +1135,7 @@ impl LongTermServerAuth {
         message: &'a Message<'_>,
         nonce: &str,
     ) -> Result<Accepted<'a>, VerdictRefusal> {
-        self.proved.judge(&message.0, nonce)
+        judged(message, self.proved.judge(&message.0, nonce))
     }
 
     /// Judges a request or an indication like [`judge`](Self::judge), as a server whose only user
@@ -1147,7 +1154,7 @@ impl LongTermServerAuth {
         nonce: &str,
         user: &'a LongTermServerUser,
     ) -> Result<Accepted<'a>, VerdictRefusal> {
-        self.proved.judge_of(&message.0, nonce, &user.proved)
+        judged(message, self.proved.judge_of(&message.0, nonce, &user.proved))
     }
 
     /// Adds to a response what a client needs to sign its next request under a nonce: NONCE, REALM
@@ -1246,13 +1253,14 @@ impl LongTermServerAuth {
         user: &mut LongTermServerUser,
     ) -> Result<LongTermServerValidation, LongTermServerAuthError> {
         let mut source = crate::random::for_a_nonce(fill);
-        self.proved.validate_incoming_message_of(
+        let verdict = self.proved.validate_incoming_message_of(
             &message.0,
             from,
             now,
             &mut source,
             &mut user.proved,
-        )
+        );
+        judged(message, verdict)
     }
 
     /// Judges a message like a server whose only user is `user`, with sixteen random numbers of
@@ -1280,13 +1288,14 @@ impl LongTermServerAuth {
         user: &mut LongTermServerUser,
     ) -> Result<LongTermServerValidation, LongTermServerAuthError> {
         let mut source = WordSource::new(words);
-        self.proved.validate_incoming_message_of(
+        let verdict = self.proved.validate_incoming_message_of(
             &message.0,
             from,
             now,
             &mut source,
             &mut user.proved,
-        )
+        );
+        judged(message, verdict)
     }
 
     /// Like [`sign_outgoing_message`](Self::sign_outgoing_message), with the key of `user`.

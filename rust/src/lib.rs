@@ -54,6 +54,7 @@ mod random;
 pub mod replay;
 pub mod stats;
 mod text;
+mod trace;
 mod transaction;
 mod transmit;
 pub mod types;

@@ -6,7 +6,8 @@ use crate::names::{OUT_OF_MEMORY, algorithm_name, feature_name};
 use crate::signing::{Side, sign, sign_in_slice, sign_length};
 use crate::stage::Stage;
 use crate::trouble::Trouble;
-use crate::words::{algorithm, feature, text};
+use crate::unchecked::sign_unchecked;
+use crate::words::{algorithm, feature};
 use stun_auth::auth::{
     LongTermClientAuth, LongTermClientAuthErrorReason, LongTermClientValidation,
 };
@@ -28,6 +29,7 @@ pub fn call(
         "signs" => sign(stage, Side::Client, words, answer),
         "signs-length" => sign_length(stage, Side::Client, words, answer),
         "signs-in" => sign_in_slice(stage, Side::Client, words, answer),
+        "signs-unchecked" => sign_unchecked(stage, Side::Client, words, answer),
         name => tell(stage, name, words, answer),
     }
 }
@@ -68,10 +70,8 @@ fn user(stage: &mut Stage<'_>, words: &[&str], answer: &mut String) -> Result<()
 }
 
 fn set_user(stage: &mut Stage<'_>, name: &str, password: &str) -> Result<(), Trouble> {
-    let name = text(stage.source.alloc, name)?;
-    let name = String::from_str(stage.heap, name.as_str())?;
-    let password = text(stage.source.alloc, password)?;
-    let password = String::from_str(stage.heap, password.as_str())?;
+    let name = stage.text(name)?;
+    let password = stage.text(password)?;
     stage.begin();
     stage
         .client

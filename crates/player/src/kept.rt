@@ -111,20 +111,31 @@ fn change(
     }
 }
 
+/// The message that words spell: `CLASS NAME=VALUE ..`; or `None` where they begin with no class.
+pub fn spelled(source: Source<'_>, words: &[&str]) -> Result<Option<Vec<u8>>, Trouble> {
+    let [first, words @ ..] = words else {
+        return Err(Trouble::Words);
+    };
+    let Some(class) = class(first) else {
+        return Ok(None);
+    };
+    let mut spelling = Spelling::new(source.alloc, class);
+    add_words(source, &mut spelling, words)?;
+    Ok(Some(spelling.finish()?))
+}
+
 /// The message that words spell: `CLASS NAME=VALUE ..`, `bytes HEX ..`, or `NAME`, which is kept,
 /// and how it is changed.
 pub fn message(stage: &Stage<'_>, words: &[&str]) -> Result<Vec<u8>, Trouble> {
     let source = stage.source;
+    if let Some(message) = spelled(source, words)? {
+        return Ok(message);
+    }
     let [first, words @ ..] = words else {
         return Err(Trouble::Words);
     };
     if *first == "bytes" {
         return joined(source.alloc, words);
-    }
-    if let Some(class) = class(first) {
-        let mut spelling = Spelling::new(source.alloc, class);
-        add_words(source, &mut spelling, words)?;
-        return spelling.finish();
     }
     match stage.messages.find(first) {
         Some(message) => changed(source, message, words),

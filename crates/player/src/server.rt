@@ -6,6 +6,7 @@ use crate::names::{OUT_OF_MEMORY, algorithm_name, feature_name, server_reason_na
 use crate::signing::{Side, sign, sign_in_slice, sign_length};
 use crate::stage::Stage;
 use crate::trouble::Trouble;
+use crate::unchecked::sign_unchecked;
 use crate::words::{address, algorithm, feature, nanos, size, text};
 use std::time::Duration;
 use stun_auth::auth::{
@@ -35,6 +36,7 @@ pub fn call(
         "signs" => sign(stage, Side::Server, words, answer),
         "signs-length" => sign_length(stage, Side::Server, words, answer),
         "signs-in" => sign_in_slice(stage, Side::Server, words, answer),
+        "signs-unchecked" => sign_unchecked(stage, Side::Server, words, answer),
         name => tell(stage, name, words, answer),
     }
 }
@@ -66,8 +68,7 @@ fn begin(stage: &mut Stage<'_>, words: &[&str]) -> Result<(), Trouble> {
     let [realm] = words else {
         return Err(Trouble::Words);
     };
-    let realm = text(stage.source.alloc, realm)?;
-    let realm = String::from_str(stage.heap, realm.as_str())?;
+    let realm = stage.text(realm)?;
     stage.begin();
     stage.server = LongTermServerAuth::new(stage.heap, realm);
     Ok(())
@@ -78,8 +79,7 @@ fn add_user(stage: &mut Stage<'_>, words: &[&str], answer: &mut String) -> Resul
     let [name, password] = words else {
         return Err(Trouble::Words);
     };
-    let name = text(stage.source.alloc, name)?;
-    let name = String::from_str(stage.heap, name.as_str())?;
+    let name = stage.text(name)?;
     let password = String::from_str(stage.heap, password)?;
     stage.begin();
     if stage

@@ -7,6 +7,7 @@ use crate::phrases::{phrase, push_refusal};
 use crate::signing::{Side, push_bytes, sign, sign_in_slice};
 use crate::stage::Stage;
 use crate::trouble::Trouble;
+use crate::unchecked::sign_unchecked;
 use crate::words::algorithm;
 use stun_auth::auth::ShortTermAuth;
 use stun_types::message::{IntegrityAlgorithm, Message, ShortTermCredentials, ValidateError};
@@ -23,6 +24,7 @@ pub fn call(
         "hears" => hear(stage, words, answer),
         "signs" => sign(stage, Side::ShortTerm, words, answer),
         "signs-in" => sign_in_slice(stage, Side::ShortTerm, words, answer),
+        "signs-unchecked" => sign_unchecked(stage, Side::ShortTerm, words, answer),
         name => tell(stage, name, words, answer),
     }
 }

@@ -161,7 +161,7 @@ fn is_of(attribute: &[u8], kind: AttributeType) -> bool {
 }
 
 /// The first attribute with its padding, and what follows it.
-fn first_of(bytes: &[u8]) -> Option<(&[u8], &[u8])> {
+pub fn first_of(bytes: &[u8]) -> Option<(&[u8], &[u8])> {
     let [_, _, high, low, ..] = bytes else {
         return None;
     };
@@ -201,6 +201,7 @@ fn phrase_of(code: &str) -> &'static str {
     match code {
         "400" => "Bad Request",
         "401" => "Unauthorized",
+        "420" => "Unknown Attribute",
         "438" => "Stale Nonce",
         _ => "-",
     }

@@ -1,6 +1,8 @@
 //! Where calls are made: the objects of the library, and what surrounds them.
 
 use crate::kept::Messages;
+use crate::trouble::Trouble;
+use crate::words::text;
 use fail_alloc::RefusingAllocator;
 use std::alloc::Global;
 use std::net::{IpAddr, Ipv4Addr, SocketAddr};
@@ -76,6 +78,12 @@ impl<'a> Stage<'a> {
             work: NONE,
             before: None,
         }
+    }
+
+    /// The text of a word, on the heap.
+    pub fn text(&self, word: &str) -> Result<String<&'a Heap>, Trouble> {
+        let text = text(self.source.alloc, word)?;
+        Ok(String::from_str(self.heap, text.as_str())?)
     }
 
     fn blocks(&self) -> Blocks {

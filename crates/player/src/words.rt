@@ -44,6 +44,14 @@ pub fn short_number(word: &str) -> Result<u32, Trouble> {
     }
 }
 
+/// The words behind the first, if that is this one.
+pub fn behind<'w, 'a>(first: &str, words: &'w [&'a str]) -> Option<&'w [&'a str]> {
+    match words {
+        [word, rest @ ..] if *word == first => Some(rest),
+        _ => None,
+    }
+}
+
 /// A number of bytes.
 pub fn size(word: &str) -> Result<usize, Trouble> {
     match usize::try_from(number(word)?) {
@@ -195,9 +203,9 @@ pub fn text(alloc: Global, word: &str) -> Result<String, Trouble> {
 
 /// Up to sixteen numbers, with zeros after them; `all` and one number are sixteen of these.
 pub fn draws(words: &[&str]) -> Result<[u32; 16], Trouble> {
-    match words {
-        ["all", word] => Ok([short_number(word)?; 16]),
-        words => listed_draws(words),
+    match behind("all", words) {
+        Some([word]) => Ok([short_number(word)?; 16]),
+        _ => listed_draws(words),
     }
 }
 

@@ -1,7 +1,8 @@
 //! The settings of a server as a caller gives them.
 
 ghost use Rattle.std.specs.Option.{option_map};
-ghost use Rattle.std.specs.Prelude.{◌≡◌, IfOk, IsOkUnless, MatchOption, None, Err, length};
+ghost use Rattle.std.specs.Prelude.{◌≡◌, ◌==◌, IfOk, IsOkUnless, MatchOption, None, Err, length};
+ghost use Rattle.std.specs.Prelude.{not};
 ghost use Rattle.std.specs.String.{string_bytes};
 ghost use Rattle.stun_extra.specs.Unknown.{types_of};
 ghost use Rattle.stun_c_endpoint.specs.Given.{given_refusal, has_sha1, has_sha256, if_any};

@@ -7,7 +7,7 @@ ghost use Rattle.stun_endpoint.specs.Realm.{table_of};
 ghost use Rattle.stun_c_endpoint.specs.Kept.{server_of, users_of};
 ghost use Rattle.stun_c_endpoint.specs.Users.{LeavesTable, LeavesTableOr, adding, adding_keys};
 ghost use Rattle.stun_c_endpoint.specs.Users.{at_table, name_refusal, removing};
-ghost use Rattle.stun_c_endpoint.specs.declared.handle.endpoint.Kept.TheVariants.{Users};
+ghost use Rattle.stun_c_endpoint.specs.declared.handle.endpoint.Kept.TheVariants as kind;
 
 use crate::handle::endpoint::Kept;
 use std::alloc::Global;
@@ -33,7 +33,7 @@ fn check_name(name: &str) -> Result<(), Refusal>
 pub fn table(alloc: Global, server: &Kept) -> Result<Box<Kept, Global>, Refusal>
     ensures none { IfNone (server_of server.now) (result ≡ Err Refusal.EmptyHandle) }
     ensures made { IfSome (server_of server.now) (λ s. MatchResult result
-        (λ made. made.value ≡ Users (table_of s)) (λ refusal. refusal ≡ Refusal.OutOfMemory)) }
+        (λ made. made.value ≡ kind.Users (table_of s)) (λ refusal. refusal ≡ Refusal.OutOfMemory)) }
 {
     match server {
         Kept::Server(server) => {
@@ -55,7 +55,7 @@ fn add(
     password: &[u8],
 ) -> Result<(), Refusal>
     ensures { LeavesTableOr (adding users.old name.now password.now) (done_answer result)
-        (Some (Users users.old)) (Some (Users users.new)) }
+        (Some (kind.Users users.old)) (Some (kind.Users users.new)) }
 {
     let name = text(name)?;
     let password = text(password)?;
@@ -74,7 +74,7 @@ fn add_keys(
     sha256: &[u8],
 ) -> Result<(), Refusal>
     ensures { LeavesTableOr (adding_keys users.old name.now sha1.now sha256.now)
-        (done_answer result) (Some (Users users.old)) (Some (Users users.new)) }
+        (done_answer result) (Some (kind.Users users.old)) (Some (kind.Users users.new)) }
 {
     let name = text(name)?;
     check_name(name)?;
@@ -85,7 +85,7 @@ fn add_keys(
 /// Removes a user.
 fn remove(users: &mut Users<Global>, name: &[u8]) -> Result<(), Refusal>
     ensures { LeavesTable (removing users.old name.now) (done_answer result)
-        (Some (Users users.old)) (Some (Users users.new)) }
+        (Some (kind.Users users.old)) (Some (kind.Users users.new)) }
 {
     let name = text(name)?;
     users.remove(name);

@@ -1,13 +1,14 @@
 //! Which call a line is.
 
+use crate::endpoint::server as endpoint_server;
 use crate::runs::Runs;
 use crate::{drive, meeting, serve};
 use player::kept::{joined, message};
 use player::trouble::Trouble;
 use player::words::{address, draws, is_moment, moment};
-use player::{client, server, short_term};
-use player_messages::{attribute, digest, message as reading, nonce};
-use player_scene::{agent, secret, write};
+use player::{
+    agent, attribute, client, digest, message as reading, nonce, secret, server, short_term, write,
+};
 use std::alloc::{AllocError, Global};
 
 /// What is answered to a line that is not understood.
@@ -64,6 +65,20 @@ fn call_of(
         "serve" => serve::call(runs, name, words, answer),
         "meet" => meeting::call(runs, name, words, answer),
         "drive" => drive::call(runs, name, words, answer),
+        "endpoint" => endpoint(runs, name, words, answer),
+        _ => Err(Trouble::Words),
+    }
+}
+
+/// `endpoint server WORD ..`
+fn endpoint(
+    runs: &mut Runs<'_>,
+    name: &str,
+    words: &[&str],
+    answer: &mut String,
+) -> Result<(), Trouble> {
+    match name {
+        "server" => endpoint_server::call(runs, words, answer),
         _ => Err(Trouble::Words),
     }
 }
@@ -102,39 +117,55 @@ fn keep(
     words: &[&str],
     answer: &mut String,
 ) -> Result<(), Trouble> {
-    match words {
-        [object, call, words @ ..] if is_object(object) => {
+    if let [object, call, words @ ..] = words {
+        if is_object(object) {
             let mut told = String::new(runs.scene.stage.source.alloc);
             call_of(runs, object, (call, words), &mut told)?;
-            keep_answer(runs, name, told.as_str(), answer)
-        }
-        words => {
-            let bytes = message(&runs.scene.stage, words)?;
-            Ok(runs.scene.stage.messages.keep(name, bytes)?)
+            return keep_answer(runs, name, told.as_str(), answer);
         }
     }
+    let bytes = message(&runs.scene.stage, words)?;
+    Ok(runs.scene.stage.messages.keep(name, bytes)?)
 }
 
 /// The words after the time, which is passed to, if the first word is one.
 fn at_time<'w, 'a>(runs: &mut Runs<'_>, words: &'w [&'a str]) -> Result<&'w [&'a str], Trouble> {
-    match words {
-        [time, rest @ ..] if is_moment(time) || *time == "max" => {
-            runs.scene.stage.now = moment(time)?;
-            Ok(rest)
-        }
-        words => Ok(words),
+    let [time, rest @ ..] = words else {
+        return Ok(words);
+    };
+    if !is_moment(time) && *time != "max" {
+        return Ok(words);
     }
+    runs.scene.stage.now = moment(time)?;
+    Ok(rest)
 }
 
 fn make(runs: &mut Runs<'_>, words: &[&str], answer: &mut String) -> Result<(), Trouble> {
-    match at_time(runs, words)? {
-        [] => Ok(()),
-        ["from", words @ ..] => place(runs, words),
-        ["draw", words @ ..] => draw(runs, words),
-        ["memory", words @ ..] => memory(runs, words, answer),
-        [name, "=", words @ ..] => keep(runs, name, words, answer),
-        [object, name, words @ ..] => call_of(runs, object, (name, words), answer),
-        _ => Err(Trouble::Words),
+    let [first, words @ ..] = at_time(runs, words)? else {
+        return Ok(());
+    };
+    match *first {
+        "from" => place(runs, words),
+        "draw" => draw(runs, words),
+        "memory" => memory(runs, words, answer),
+        first => call_or_keep(runs, first, words, answer),
+    }
+}
+
+/// `NAME = ..` or `OBJECT NAME WORD ..`
+fn call_or_keep(
+    runs: &mut Runs<'_>,
+    first: &str,
+    words: &[&str],
+    answer: &mut String,
+) -> Result<(), Trouble> {
+    let [name, words @ ..] = words else {
+        return Err(Trouble::Words);
+    };
+    if *name == "=" {
+        keep(runs, first, words, answer)
+    } else {
+        call_of(runs, first, (name, words), answer)
     }
 }
 

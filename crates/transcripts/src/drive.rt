@@ -16,12 +16,12 @@ use crate::drive::event::event;
 use crate::drive::order::run_over;
 use crate::drive::step::{push_moment, text_of};
 use crate::runs::Runs;
+use player::agent::answers::error_name;
 use player::kept::message;
 use player::names::OUT_OF_MEMORY;
 use player::stage::Heap;
 use player::trouble::Trouble;
 use player::words::{address, moment};
-use player_scene::agent::answers::error_name;
 use std::alloc::{Allocator, Global};
 use std::net::{IpAddr, Ipv4Addr, SocketAddr};
 use stun_agent::agent::{StunAgent, StunError};
@@ -149,19 +149,42 @@ pub fn call(
     words: &[&str],
     answer: &mut String,
 ) -> Result<(), Trouble> {
-    match (name, words) {
-        ("udp", []) => begin(runs, TransportType::Udp),
-        ("tcp", []) => begin(runs, TransportType::Tcp),
-        ("event", words) => {
+    match name {
+        "event" => {
             let event = event(&runs.scene.stage, words)?;
             runs.drive.add(runs.scene.stage.now, event)
         }
-        ("asks", words) => ask(runs, words, answer),
-        ("until", [word]) => run(runs, moment(word)?, answer),
-        ("step", []) => tell_step(&mut runs.drive, answer),
-        ("awaited", []) => awaited(&runs.drive, answer),
-        ("is-validated", [word]) => is_validated(&runs.drive, word, answer),
-        ("by-hand", ["until", word]) => compare(&runs.drive, moment(word)?, answer),
+        "asks" => ask(runs, words, answer),
+        "by-hand" => compare(&runs.drive, words, answer),
+        name if words.is_empty() => call_alone(runs, name, answer),
+        name => call_with(runs, name, words, answer),
+    }
+}
+
+/// What has no words.
+fn call_alone(runs: &mut Runs<'_>, name: &str, answer: &mut String) -> Result<(), Trouble> {
+    match name {
+        "udp" => begin(runs, TransportType::Udp),
+        "tcp" => begin(runs, TransportType::Tcp),
+        "step" => tell_step(&mut runs.drive, answer),
+        "awaited" => awaited(&runs.drive, answer),
+        _ => Err(Trouble::Words),
+    }
+}
+
+/// What has one word.
+fn call_with(
+    runs: &mut Runs<'_>,
+    name: &str,
+    words: &[&str],
+    answer: &mut String,
+) -> Result<(), Trouble> {
+    let [word] = words else {
+        return Err(Trouble::Words);
+    };
+    match name {
+        "until" => run(runs, moment(word)?, answer),
+        "is-validated" => is_validated(&runs.drive, word, answer),
         _ => Err(Trouble::Words),
     }
 }
@@ -251,7 +274,14 @@ fn is_validated(drive: &Drive<'_>, word: &str, answer: &mut String) -> Result<()
 
 /// `drive by-hand until TIME`: a new agent meets all events, each by a call of its own. It must
 /// take the same steps, count the same statistics and await the same moment.
-fn compare(drive: &Drive<'_>, until: Instant, answer: &mut String) -> Result<(), Trouble> {
+fn compare(drive: &Drive<'_>, words: &[&str], answer: &mut String) -> Result<(), Trouble> {
+    let [preposition, word] = words else {
+        return Err(Trouble::Words);
+    };
+    if *preposition != "until" {
+        return Err(Trouble::Words);
+    }
+    let until = moment(word)?;
     let mut agent = new_agent(drive.alloc, drive.transport);
     let events = drive.events.as_slice();
     let steps = run_by_hand(drive.alloc, &mut agent, events, until)?;

@@ -4,6 +4,7 @@
 
 mod calls;
 mod drive;
+mod endpoint;
 mod meeting;
 mod play;
 mod refusing;

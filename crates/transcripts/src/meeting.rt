@@ -49,27 +49,28 @@ pub fn call(
     words: &[&str],
     answer: &mut String,
 ) -> Result<(), Trouble> {
-    match (name, words) {
-        ("before-challenge", words) => {
+    match name {
+        "before-challenge" => {
             let call = server_call(&runs.scene.stage, words)?;
             add(&mut runs.meeting.before_challenge, call)
         }
-        ("before-second", words) => {
+        "before-second" => {
             let call = server_call(&runs.scene.stage, words)?;
             add(&mut runs.meeting.before_second, call)
         }
-        ("run", [first, second, read_first, read_second]) => {
-            let ids = [id(first)?, id(second)?];
-            run(
-                runs,
-                ids,
-                [moment(read_first)?, moment(read_second)?],
-                answer,
-            )
-        }
-        ("pair", words) => pair(runs, words, answer),
+        "run" => run_of(runs, words, answer),
+        "pair" => pair(runs, words, answer),
         _ => Err(Trouble::Words),
     }
+}
+
+fn run_of(runs: &mut Runs<'_>, words: &[&str], answer: &mut String) -> Result<(), Trouble> {
+    let [first, second, read_first, read_second] = words else {
+        return Err(Trouble::Words);
+    };
+    let ids = [id(first)?, id(second)?];
+    let moments = [moment(read_first)?, moment(read_second)?];
+    run(runs, ids, moments, answer)
 }
 
 fn add(calls: &mut Vec<ServerCall>, call: ServerCall) -> Result<(), Trouble> {

@@ -1,10 +1,12 @@
 //! A scene with what the calls of runs keep.
 
 use crate::drive::Drive;
+use crate::endpoint::server::Endpoint;
 use crate::meeting::Meeting;
 use crate::serve::Serving;
+use player::scene::Scene;
 use player::stage::{Heap, Source};
-use player_scene::scene::Scene;
+use stun_proto::laws;
 
 /// What a paragraph is played in.
 #[derive(Drop)]
@@ -13,17 +15,22 @@ pub struct Runs<'a> {
     pub drive: Drive<'a>,
     pub serving: Serving,
     pub meeting: Meeting,
+    pub endpoint: Endpoint<'a>,
 }
 
 impl<'a> Runs<'a> {
     /// A new scene, with no run begun.
     pub fn new(source: Source<'a>, heap: &'a Heap) -> Self {
+        // Programs reach the laws of runs by this path.
+        laws::runs_are_determined();
+        laws::best_is_strongest();
         let alloc = source.alloc;
         Runs {
             scene: Scene::new(source, heap),
             drive: Drive::new(alloc, heap),
             serving: Serving::new(alloc),
             meeting: Meeting::new(alloc),
+            endpoint: Endpoint::new(alloc),
         }
     }
 }

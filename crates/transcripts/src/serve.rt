@@ -112,20 +112,23 @@ pub fn call(
     words: &[&str],
     answer: &mut String,
 ) -> Result<(), Trouble> {
-    match (name, words) {
-        ("new", [realm]) => begin(runs, realm),
-        ("call", words) => {
+    match name {
+        "new" => begin(runs, words),
+        "call" => {
             let call = server_call(&runs.scene.stage, words)?;
             runs.serving.add(call)
         }
-        ("run", []) => run(runs, answer),
-        ("reply", []) => tell_reply(&mut runs.serving, answer),
+        "run" if words.is_empty() => run(runs, answer),
+        "reply" if words.is_empty() => tell_reply(&mut runs.serving, answer),
         _ => Err(Trouble::Words),
     }
 }
 
 /// `serve new REALM`: a new server, as by `server new`, and its twin.
-fn begin(runs: &mut Runs<'_>, realm: &str) -> Result<(), Trouble> {
+fn begin(runs: &mut Runs<'_>, words: &[&str]) -> Result<(), Trouble> {
+    let [realm] = words else {
+        return Err(Trouble::Words);
+    };
     let realm = text(runs.scene.stage.source.alloc, realm)?;
     let copy = String::from_str(runs.scene.stage.heap, realm.as_str())?;
     runs.serving = Serving::new(runs.scene.stage.source.alloc);

@@ -16,3 +16,5 @@ pub mod host;
 #[path = "../../src/kit/mod.rs"]
 pub mod kit;
 pub mod programs;
+#[cfg(test)]
+mod test_support;

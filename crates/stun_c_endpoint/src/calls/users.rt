@@ -9,7 +9,7 @@ ghost use Rattle.stun_endpoint.specs.Realm.{table_of};
 ghost use Rattle.stun_c_endpoint.specs.Kept.{server_in, users_in};
 ghost use Rattle.stun_c_endpoint.specs.Users.{LeavesTable, LeavesTableOr, adding, adding_keys};
 ghost use Rattle.stun_c_endpoint.specs.Users.{at_table, removing};
-ghost use Rattle.stun_c_endpoint.specs.declared.handle.endpoint.Kept.TheVariants.{Users};
+ghost use Rattle.stun_c_endpoint.specs.declared.handle.endpoint.Kept.TheVariants as kind;
 
 use crate::handle::endpoint::{EndpointHandle, Kept};
 use crate::users;
@@ -30,7 +30,7 @@ pub extern "C" fn stunp_endpoint_users_new_own(
     ensures none { IfNone users.old.kept (IfNone (server_in server.old.kept)
         ((result ≡ refusal_number Refusal.EmptyHandle) × (users.new.kept ≡ None))) }
     ensures made { IfNone users.old.kept (IfSome (server_in server.old.kept)
-        (λ s. OrOutOfMemory result None users.new.kept (pos 0) (Some (Users (table_of s))))) }
+        (λ s. OrOutOfMemory result None users.new.kept (pos 0) (Some (kind.Users (table_of s))))) }
     ensures server { server.new.kept ≡ server.old.kept }
 {
     if let Some(kept) = users.take(alloc) {

@@ -9,37 +9,43 @@ use stun_proto::replay::AgentEvent;
 
 /// The event that words spell. All messages go to the usual peer or come from it.
 pub fn event(stage: &Stage<'_>, words: &[&str]) -> Result<AgentEvent, Trouble> {
-    match words {
-        ["ask", words @ ..] => Ok(AgentEvent::SendRequest {
+    let [name, words @ ..] = words else {
+        return Err(Trouble::Words);
+    };
+    match *name {
+        "ask" => Ok(AgentEvent::SendRequest {
             bytes: message(stage, words)?,
             to: usual_peer(),
         }),
-        ["tell", words @ ..] => Ok(AgentEvent::Send {
+        "tell" => Ok(AgentEvent::Send {
             bytes: message(stage, words)?,
             to: usual_peer(),
         }),
-        ["take", words @ ..] => Ok(AgentEvent::Receive {
+        "take" => Ok(AgentEvent::Receive {
             bytes: message(stage, words)?,
             from: usual_peer(),
         }),
-        words => change(words),
+        "timeouts" => timeouts(words),
+        name => change(name, words),
     }
 }
 
-/// What comes without a message.
-fn change(words: &[&str]) -> Result<AgentEvent, Trouble> {
-    match words {
-        ["cancel", number] => Ok(AgentEvent::Cancel(id(number)?)),
-        ["cancel-retransmissions", number] => Ok(AgentEvent::CancelRetransmissions(id(number)?)),
-        ["validate", peer] => Ok(AgentEvent::ValidatePeer(address(peer)?)),
-        ["timeouts", number, words @ ..] => timeouts(number, words),
+/// What comes with one word.
+fn change(name: &str, words: &[&str]) -> Result<AgentEvent, Trouble> {
+    let [word] = words else {
+        return Err(Trouble::Words);
+    };
+    match name {
+        "cancel" => Ok(AgentEvent::Cancel(id(word)?)),
+        "cancel-retransmissions" => Ok(AgentEvent::CancelRetransmissions(id(word)?)),
+        "validate" => Ok(AgentEvent::ValidatePeer(address(word)?)),
         _ => Err(Trouble::Words),
     }
 }
 
 /// `timeouts ID INITIAL TRANSMISSIONS LAST MAX`
-fn timeouts(number: &str, words: &[&str]) -> Result<AgentEvent, Trouble> {
-    let [initial, retransmits, last, max] = words else {
+fn timeouts(words: &[&str]) -> Result<AgentEvent, Trouble> {
+    let [number, initial, retransmits, last, max] = words else {
         return Err(Trouble::Words);
     };
     Ok(AgentEvent::Configure {

@@ -1,9 +1,9 @@
 //! What an agent did, told in words.
 
 use crate::drive::usual_peer;
+use player::agent::answers::error_name;
 use player::signing::push_bytes;
 use player::trouble::Trouble;
-use player_scene::agent::answers::error_name;
 use std::alloc::{Allocator, Global};
 use std::net::SocketAddr;
 use stun_base::instant::Instant;

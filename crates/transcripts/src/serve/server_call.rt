@@ -9,21 +9,26 @@ use stun_proto::replay::ServerCall;
 
 /// The call that words spell, at the stage's time, from its address and with its random words.
 pub fn server_call(stage: &Stage<'_>, words: &[&str]) -> Result<ServerCall, Trouble> {
-    match words {
-        ["hears", words @ ..] => hear(stage, words),
-        ["signs", words @ ..] => sign(stage, words),
-        ["add-user", name, password] => add_user(stage, name, password),
-        ["remove-user", name] => remove_user(stage, name),
-        ["remove-client"] => Ok(ServerCall::RemoveClient(stage.from)),
-        ["forget"] => Ok(ServerCall::ForgetExpired(stage.now)),
-        ["forget", word] => Ok(ServerCall::Forget(address(word)?)),
-        [name, word] => setting(name, word),
-        _ => Err(Trouble::Words),
+    let [name, words @ ..] = words else {
+        return Err(Trouble::Words);
+    };
+    match *name {
+        "hears" => hear(stage, words),
+        "signs" => sign(stage, words),
+        "add-user" => add_user(stage, words),
+        "remove-client" if words.is_empty() => Ok(ServerCall::RemoveClient(stage.from)),
+        "forget" if words.is_empty() => Ok(ServerCall::ForgetExpired(stage.now)),
+        name => setting(stage, name, words),
     }
 }
 
-fn setting(name: &str, word: &str) -> Result<ServerCall, Trouble> {
+fn setting(stage: &Stage<'_>, name: &str, words: &[&str]) -> Result<ServerCall, Trouble> {
+    let [word] = words else {
+        return Err(Trouble::Words);
+    };
     match name {
+        "remove-user" => Ok(ServerCall::RemoveUser(text(stage.source.alloc, word)?)),
+        "forget" => Ok(ServerCall::Forget(address(word)?)),
         "support" => Ok(ServerCall::AddIntegrity(algorithm(word)?)),
         "support-only" => Ok(ServerCall::SetIntegrity(algorithm(word)?)),
         "hashes" => Ok(ServerCall::SetAnonymous(feature(word)?)),
@@ -48,13 +53,12 @@ fn sign(stage: &Stage<'_>, words: &[&str]) -> Result<ServerCall, Trouble> {
     })
 }
 
-fn add_user(stage: &Stage<'_>, name: &str, password: &str) -> Result<ServerCall, Trouble> {
+fn add_user(stage: &Stage<'_>, words: &[&str]) -> Result<ServerCall, Trouble> {
+    let [name, password] = words else {
+        return Err(Trouble::Words);
+    };
     Ok(ServerCall::AddUser {
         name: text(stage.source.alloc, name)?,
         password: text(stage.source.alloc, password)?,
     })
-}
-
-fn remove_user(stage: &Stage<'_>, name: &str) -> Result<ServerCall, Trouble> {
-    Ok(ServerCall::RemoveUser(text(stage.source.alloc, name)?))
 }

@@ -19,7 +19,7 @@ use crate::kit::ledger::Brand;
 use crate::kit::ledger::{Blank, Ledger};
 use crate::kit::prelude::TryClone;
 use crate::programs::fail_alloc::RefusingAllocator;
-use crate::programs::test_support::datagrams::{REQUEST, at, id, local, message, peer};
+use crate::test_support::datagrams::{REQUEST, at, id, local, message, peer};
 use std::fmt::Display;
 use std::time::Duration;
 

@@ -20,10 +20,10 @@ use crate::host::Abort;
 use crate::host::Fail;
 use crate::kit::alloc::Global;
 use crate::kit::prelude::String;
-use crate::programs::test_support::client::{RESEND, SHA1, full_client, sha1_client, told};
-use crate::programs::test_support::parts::begin;
-use crate::programs::test_support::server::address;
-use crate::programs::test_support::spelled::bytes_of;
+use crate::test_support::client::{RESEND, SHA1, full_client, sha1_client, told};
+use crate::test_support::parts::begin;
+use crate::test_support::server::address;
+use crate::test_support::spelled::bytes_of;
 use std::fmt::Debug;
 
 /// Two passwords, and a byte of each key that is made of them.

@@ -21,7 +21,7 @@ use crate::host::Abort;
 use crate::host::Fail;
 use crate::kit::alloc::Global;
 use crate::kit::prelude::Vec;
-use crate::programs::test_support::datagrams::{local, peer};
+use crate::test_support::datagrams::{local, peer};
 use std::net::SocketAddr;
 
 /// How asking ends.

@@ -11,8 +11,8 @@ use crate::host::Fail;
 use crate::kit::alloc::{AllocError, Global};
 use crate::kit::prelude::String;
 use crate::kit::prelude::Vec;
-use crate::programs::test_support::datagrams::at;
-use crate::programs::test_support::spelled::bytes_of;
+use crate::test_support::datagrams::at;
+use crate::test_support::spelled::bytes_of;
 use std::net::SocketAddr;
 
 /// The first request, with the id of the words 1, 2 and 3.

@@ -11,6 +11,7 @@ mod attributes;
 mod client;
 mod client_loop;
 mod dialogue;
+mod heaps;
 mod messages;
 mod paths;
 mod secrets;
@@ -19,6 +20,7 @@ mod server_loop;
 mod short_term;
 mod shown;
 mod support;
+mod text_heaps;
 mod texts;
 mod writing;
 

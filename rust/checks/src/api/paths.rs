@@ -37,8 +37,8 @@ use crate::host::Fail;
 use crate::kit::alloc::Global;
 use crate::kit::prelude::String;
 use crate::kit::prelude::Vec;
-use crate::programs::test_support::datagrams::{id, local, peer};
-use crate::programs::test_support::parts::MD5_KEY;
+use crate::test_support::datagrams::{id, local, peer};
+use crate::test_support::parts::MD5_KEY;
 
 /// A Binding request with id 1 and USERNAME `a`.
 const REQUEST: [u8; 28] = [

@@ -15,11 +15,11 @@ use crate::exported::stun_types::prelude::*;
 use crate::host::Abort;
 use crate::host::Fail;
 use crate::kit::alloc::{Allocator, Global};
-use crate::programs::test_support::parts::{begin, message};
-use crate::programs::test_support::server::{
+use crate::test_support::parts::{begin, message};
+use crate::test_support::server::{
     FULL_REQUEST, SHA256, ZEROS, address, asked, offering_server, signed_for,
 };
-use crate::programs::test_support::spelled::bytes_of;
+use crate::test_support::spelled::bytes_of;
 
 /// A success to a client with HMAC-SHA256.
 const SUCCESS: &str = "0101005c 2112a442 000000000000000000000001

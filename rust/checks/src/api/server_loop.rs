@@ -20,7 +20,7 @@ use crate::host::Fail;
 use crate::kit::alloc::{AllocError, Global};
 use crate::kit::prelude::String;
 use crate::kit::prelude::Vec;
-use crate::programs::test_support::datagrams::local;
+use crate::test_support::datagrams::local;
 use std::net::SocketAddr;
 use std::time::Duration;
 

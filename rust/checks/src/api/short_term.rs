@@ -10,8 +10,8 @@ use crate::exported::stun_types::message::{
 use crate::exported::stun_types::prelude::*;
 use crate::kit::alloc::{AllocError, Global};
 use crate::kit::prelude::String;
-use crate::programs::test_support::parts::begin;
-use crate::programs::test_support::spelled::bytes_of;
+use crate::test_support::parts::begin;
+use crate::test_support::spelled::bytes_of;
 
 /// The same with MESSAGE-INTEGRITY-SHA256.
 const SIGNED_BY_SHA256: &str = "00010024 2112a442 000000000000000000000001

@@ -4,7 +4,7 @@ use crate::exported::stun_types::message::{MessageHeader, StunWriteError};
 use crate::exported::stun_types::prelude::*;
 use crate::host::Fail;
 use crate::kit::alloc::{Allocator, Global};
-use crate::programs::test_support::server::{ZEROS, address, knocked, sha1_server};
+use crate::test_support::server::{ZEROS, address, knocked, sha1_server};
 
 /// A message in a writer, signed.
 pub fn signed_by<A: Allocator, W: MessageWrite>(

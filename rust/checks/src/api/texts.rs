@@ -18,8 +18,8 @@ use crate::host::Fail;
 use crate::host::HostRuntime;
 use crate::kit::alloc::Global;
 use crate::kit::prelude::String;
-use crate::programs::test_support::datagrams::{address, at, id};
-use crate::programs::test_support::spelled::bytes_of;
+use crate::test_support::datagrams::{address, at, id};
+use crate::test_support::spelled::bytes_of;
 use std::fmt::{Debug, Display};
 use std::time::Duration;
 

@@ -10,8 +10,8 @@ use crate::exported::stun_types::message::{
 use crate::exported::stun_types::prelude::*;
 use crate::host::Abort;
 use crate::host::Fail;
-use crate::programs::test_support::parts::begin;
-use crate::programs::test_support::spelled::bytes_of;
+use crate::test_support::parts::begin;
+use crate::test_support::spelled::bytes_of;
 
 /// A Binding request with id 1 and USERNAME `a:b`.
 const REQUEST: &str = "00010008 2112a442 000000000000000000000001 00060003 613a6200";

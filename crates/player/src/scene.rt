@@ -1,0 +1,24 @@
+//! A stage with what the calls of agents and of writers keep.
+
+use crate::agent::Agent;
+use crate::stage::{Heap, Source, Stage};
+use crate::write::Writing;
+
+/// Where all calls are made but those of runs.
+#[derive(Drop)]
+pub struct Scene<'a> {
+    pub stage: Stage<'a>,
+    pub agent: Agent<'a>,
+    pub writing: Writing<'a>,
+}
+
+impl<'a> Scene<'a> {
+    /// A new stage, with an agent as it is made, and no message begun.
+    pub fn new(source: Source<'a>, heap: &'a Heap) -> Self {
+        Scene {
+            stage: Stage::new(source, heap),
+            agent: Agent::new(heap),
+            writing: Writing::new(),
+        }
+    }
+}

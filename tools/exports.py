@@ -242,7 +242,7 @@ def main():
     crates = read(*(f"crates/stun_c/src/{name}.rt" for name in ("lib", "header", "walk")),
                   *(f"crates/stun_state/src/{name}.rt"
                     for name in ("calls/agent", "calls/server", "calls/handed", "calls/client",
-                                 "calls/release", "agent")),
+                                 "calls/release", "address", "agent")),
                   "crates/stun_handles/src/address.rt",
                   *(f"crates/stun_c_endpoint/src/{name}.rt"
                     for name in ("calls/server", "calls/users", "release", "received")))

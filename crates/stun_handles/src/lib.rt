@@ -1,5 +1,6 @@
-//! What the archives for programs in C share: values on the heap that callers have handles of,
-//! addresses, texts, and the numbers that calls return.
+//! What an archive for programs in C needs beside its calls: values on the heap that callers have
+//! handles of, addresses, texts, stored keys, and the numbers that calls return. `stun_state` has its
+//! own yet.
 #![tactic(auto)]
 
 pub mod address;

@@ -15,7 +15,7 @@ use Rattle.stun_base.specs.declared.wire.error.StunParseError.TheVariants as Par
 use Rattle.stun_numbers.specs.Refusals.{message_refusal, refusal_or, refusal_of_parse}
 use Rattle.stun_numbers.specs.declared.refusal.Refusal.{Refusal}
 use Rattle.stun_state.specs.Agent.{done_unless, refusal_of_agent}
-use Rattle.stun_handles.specs.Answers.{ForRefusal, at_address}
+use Rattle.stun_state.specs.Answers.{ForRefusal, at_address}
 
 -- what is answered about a message of STUN and an address
 pub at_given : (given : Option SocketAddr) (to : SocketAddr) (why : Option StunParseError)

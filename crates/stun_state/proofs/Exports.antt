@@ -4,9 +4,9 @@ use Rattle.std.proofs.Common.{if◌then◌else◌, Option, Some, IfSome, Result,
 use Rattle.std.proofs.Common.{Err, OnOk, OnErr, refl, sym, subst, ap, inl, inr}
 use Rattle.std.specs.Prelude.{⊤}
 use lib.Dec.{leb-suc-zero}
-use Rattle.stun_handles.specs.Answers.{ForRefusal, CallUnlessMemory}
+use Rattle.stun_state.specs.Answers.{ForRefusal, CallUnlessMemory}
 use Rattle.stun_numbers.specs.Refusals.{refusal_number}
-use Rattle.stun_handles.specs.Numbers.{OrOutOfMemory, left_by, length_answer}
+use Rattle.stun_state.specs.Numbers.{OrOutOfMemory, left_by, length_answer}
 use Rattle.stun_numbers.specs.Buffers.{buffer_after, length_of}
 use Rattle.stun_numbers.specs.declared.refusal.Refusal.{Refusal}
 use Rattle.stun_numbers.specs.declared.refusal.Refusal.TheVariants.{Truncated, NotStun, TooLarge}

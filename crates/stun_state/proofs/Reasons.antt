@@ -13,7 +13,7 @@ use Rattle.stun_auth.specs.declared.server.reason.LongTermServerAuthErrorReason.
   OutOfMemory,
 }
 use Rattle.stun_numbers.specs.declared.refusal.Refusal.{Refusal}
-use Rattle.stun_handles.specs.Answers.{ForRefusal}
+use Rattle.stun_state.specs.Answers.{ForRefusal}
 use Rattle.stun_state.specs.Codes.{refusal_of_server}
 
 -- what follows from a fact about a reason, of its refusal

@@ -25,9 +25,9 @@ use Rattle.stun_numbers.specs.declared.refusal.Refusal.{Refusal}
 use Rattle.stun_numbers.specs.declared.refusal.Refusal.TheVariants.{AlreadyInProgress, BadArgument}
 use Rattle.stun_numbers.specs.declared.refusal.Refusal.TheVariants.{BufferTooSmall, NoWait}
 use Rattle.stun_numbers.specs.declared.refusal.Refusal.TheVariants.{ProtocolViolation, OutOfMemory}
-use Rattle.stun_handles.specs.Addresses.{caller_address, socket_address}
-use Rattle.stun_handles.specs.Answers.{after_address, kept_if_refused}
-use Rattle.stun_handles.specs.declared.address.Address.{Address}
+use Rattle.stun_state.specs.Addresses.{caller_address, socket_address}
+use Rattle.stun_state.specs.Answers.{after_address, kept_if_refused}
+use Rattle.stun_state.specs.declared.address.Address.{Address}
 use Rattle.stun_state.specs.declared.agent.Statistics.{Statistics}
 use Rattle.stun_state.specs.declared.agent.Timeouts.{Timeouts}
 

@@ -13,7 +13,7 @@ use Rattle.stun_auth.specs.ClientStep.{ClientAnswer, ClientStep, client_step}
 use Rattle.stun_auth.specs.Reading.{reading_of}
 use Rattle.stun_numbers.specs.Refusals.{message_refusal, refusal_or}
 use Rattle.stun_numbers.specs.declared.refusal.Refusal.{Refusal}
-use Rattle.stun_handles.specs.Answers.{kept_if_refused}
+use Rattle.stun_state.specs.Answers.{kept_if_refused}
 use Rattle.stun_state.specs.Codes.{refusal_of_client}
 
 -- the client that supports the algorithms of a set, the strongest first

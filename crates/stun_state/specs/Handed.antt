@@ -14,13 +14,13 @@ use Rattle.stun_numbers.specs.Refusals.{message_refusal, refusal_or}
 use Rattle.stun_numbers.specs.Buffers.{buffer_after, within_room}
 use Rattle.stun_numbers.specs.declared.refusal.Refusal.{Refusal}
 use Rattle.stun_numbers.specs.declared.refusal.Refusal.TheVariants.{BadArgument}
-use Rattle.stun_handles.specs.Addresses.{socket_address}
-use Rattle.stun_handles.specs.Answers.{after_address, at_address, kept_if_refused}
-use Rattle.stun_handles.specs.Answers.{text_refusal, texts_refusal}
+use Rattle.stun_state.specs.Addresses.{socket_address}
+use Rattle.stun_state.specs.Answers.{after_address, at_address, kept_if_refused}
+use Rattle.stun_state.specs.Answers.{text_refusal, texts_refusal}
 use Rattle.stun_state.specs.Numbers.{algorithm_answer}
 use Rattle.stun_state.specs.Server.{room_refusal, server_validation_answer}
 use Rattle.stun_state.specs.Signing.{kept_after_signing, signed_for}
-use Rattle.stun_handles.specs.declared.address.Address.{Address}
+use Rattle.stun_state.specs.declared.address.Address.{Address}
 use Rattle.stun_state.specs.declared.handle.server.Server.{Server as Kept}
 
 -- ---- who asks

@@ -2,10 +2,14 @@
 
 -- the refusals for the reasons of authenticators, and the numbers that callers give
 pub mod Codes
+-- the addresses that callers give and get
+pub mod Addresses
 -- the numbers that calls return
 pub mod Numbers
 -- what the calls on an agent return and leave
 pub mod Agent
+-- what the calls on authenticators share
+pub mod Answers
 -- what the calls on a server return and leave
 pub mod Server
 -- what signing makes of a message in a caller's buffer

@@ -11,7 +11,7 @@ use Rattle.stun_auth.specs.ClientStep.{IsResend}
 use Rattle.stun_auth.specs.Reading.{reading_of}
 use Rattle.stun_auth.specs.Validation.{ChangesNothing, sight}
 use Rattle.stun_state.specs.Agent.{request_answer}
-use Rattle.stun_handles.specs.Answers.{at_address}
+use Rattle.stun_state.specs.Answers.{at_address}
 use Rattle.stun_state.specs.Client.{step}
 use Rattle.stun_state.specs.Server.{room_refusal}
 use Rattle.stun_state.specs.declared.handle.server.Server.{Server as Kept}

@@ -16,9 +16,9 @@ use Rattle.stun_numbers.specs.declared.refusal.Refusal.{Refusal}
 use Rattle.stun_numbers.specs.declared.refusal.Refusal.TheVariants.{BufferTooSmall}
 use Rattle.stun_numbers.specs.Buffers.{within_room}
 use Rattle.stun_numbers.specs.Messages.{base_refusal}
-use Rattle.stun_handles.specs.Addresses.{socket_address}
-use Rattle.stun_handles.specs.Answers.{after_address, at_address}
-use Rattle.stun_handles.specs.declared.address.Address.{Address}
+use Rattle.stun_state.specs.Addresses.{socket_address}
+use Rattle.stun_state.specs.Answers.{after_address, at_address}
+use Rattle.stun_state.specs.declared.address.Address.{Address}
 
 -- whether a message that grows by so many bytes is longer than the length field can tell
 abbrev pub is_too_long : List ℕ → ℕ → Bool

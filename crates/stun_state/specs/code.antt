@@ -1,7 +1,7 @@
 -- Definitions that no clause of a public call cites: what private functions and representations
 -- alone cite.
 
--- the values that handles have
+-- what a handle owns
 pub mod Handle
 -- how much of its memory a message has taken
 pub mod Desk

@@ -1,12 +1,12 @@
 //! The numbers that calls return.
 
 ghost use Rattle.std.specs.Prelude.{◌≡◌, pos};
-ghost use Rattle.stun_state.specs.Numbers.{algorithm_answer, found_answer, is_resend_answer};
-ghost use Rattle.stun_state.specs.Numbers.{reading_answer, resend_number};
+ghost use Rattle.stun_state.specs.Numbers.{algorithm_answer, done_answer, found_answer};
+ghost use Rattle.stun_state.specs.Numbers.{is_resend_answer, length_answer};
+ghost use Rattle.stun_state.specs.Numbers.{number_answer, reading_answer, resend_number};
 
 use stun_auth::auth::LongTermClientValidation;
 use stun_base::algorithm::IntegrityAlgorithm;
-pub use stun_handles::answers::{done, length, number};
 use stun_numbers::algorithm::algorithm_number;
 use stun_numbers::refusal::Refusal;
 
@@ -15,6 +15,29 @@ const RESEND: i64 = 3;
 
 /// The greatest number of one whose digest verifies.
 const RESEND_SHA256: i64 = 5;
+
+/// The greatest number that a call returns.
+const MOST: usize = 9_223_372_036_854_775_807;
+
+/// 0, or the refusal.
+pub fn done(answer: Result<(), Refusal>) -> i64
+    ensures { result ≡ done_answer answer }
+{
+    match answer {
+        Ok(()) => 0,
+        Err(refusal) => refusal.code(),
+    }
+}
+
+/// A small number, or the refusal.
+pub fn number(answer: Result<u32, Refusal>) -> i64
+    ensures { result ≡ number_answer answer }
+{
+    match answer {
+        Ok(number) => i64::from(number),
+        Err(refusal) => refusal.code(),
+    }
+}
 
 /// The number of an algorithm, or the refusal.
 pub fn algorithm(answer: Result<IntegrityAlgorithm, Refusal>) -> i64
@@ -53,6 +76,16 @@ pub fn reading(answer: Result<LongTermClientValidation, Refusal>) -> i64
             algorithm,
         )),
         Ok(LongTermClientValidation::ResendRequest(signed_by)) => resend(signed_by),
+        Err(refusal) => refusal.code(),
+    }
+}
+
+/// How many bytes were written, or the refusal.
+pub fn length(answer: Result<usize, Refusal>) -> i64
+    ensures { result ≡ length_answer answer }
+{
+    match answer {
+        Ok(length) => length.min(MOST) as i64,
         Err(refusal) => refusal.code(),
     }
 }

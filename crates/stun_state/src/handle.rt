@@ -1,5 +1,86 @@
-//! What a caller in C has of an agent, a server or a client: a handle of a value on the heap.
+//! What a caller in C keeps of a value on the heap.
+//!
+//! A handle is a flag and a pointer, and has no `Drop`: what is in one cannot be lost by an
+//! assignment.
+ghost use Rattle.std.specs.Prelude.{◌≡◌, Some, None, Option, IfSome, IfNone};
+ghost use Rattle.std.specs.Coded.{coded_option};
+ghost use Rattle.stun_state.specs.code.Handle.{handle_owns};
 
 pub mod agent;
 pub mod client;
+mod parts;
 pub mod server;
+
+use parts::Parts;
+use std::alloc::Global;
+use std::marker::Model;
+
+/// A box, or none, as a flag and a pointer.
+pub struct Loose<T> {
+    is_full: bool,
+    at: *mut T,
+    pub ghost state: { Option T } by { coded_option T.code },
+}
+
+impl<T> Model for Loose<T> {
+    ghost also_owns = { λ h. handle_owns T.row h.is_full h.at h.state };
+}
+
+impl<T> Loose<T> {
+    /// No box.
+    pub fn none() -> Loose<T>
+        ensures { result.state ≡ None }
+    {
+        Loose {
+            is_full: false,
+            at: std::ptr::null_mut(),
+        }
+    }
+
+    fn of_parts(parts: Parts<T, Global>) -> Loose<T>
+        ensures { result.state ≡ Some parts.value }
+    {
+        let Parts { at, alloc: _ } = parts;
+        Loose { is_full: true, at }
+    }
+
+    fn into_parts(self, alloc: Global) -> Option<Parts<T, Global>>
+        ensures some { IfSome result (λ parts. self.state ≡ Some parts.value) }
+        ensures none { IfNone result (self.state ≡ None) }
+    {
+        let Loose { is_full, at } = self;
+        if is_full {
+            return Some(Parts { at, alloc });
+        }
+        None
+    }
+
+    /// A box in its parts.
+    pub fn of(state: Box<T, Global>) -> Loose<T>
+    where
+        T: Drop,
+        ensures { result.state ≡ Some state.value }
+    {
+        Loose::of_parts(Parts::of(state))
+    }
+
+    /// The box, if there is one.
+    pub fn into_box(self, alloc: Global) -> Option<Box<T, Global>>
+        ensures some { IfSome result (λ state. self.state ≡ Some state.value) }
+        ensures none { IfNone result (self.state ≡ None) }
+    {
+        match self.into_parts(alloc) {
+            Some(parts) => Some(parts.into_box()),
+            None => None,
+        }
+    }
+
+    /// Lets go of no box.
+    pub fn discard(self, alloc: Global)
+    where
+        T: Drop,
+        requires { self.state ≡ None }
+    {
+        let _none = self.into_box(alloc);
+    }
+}

@@ -5,6 +5,7 @@
 //! what the handle kept, and `handle.new` what it keeps.
 #![tactic(auto)]
 
+mod address;
 mod agent;
 mod answers;
 mod calls;
@@ -15,4 +16,5 @@ mod handed;
 mod handle;
 mod server;
 mod signing;
+mod text;
 mod users;

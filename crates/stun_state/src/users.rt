@@ -18,7 +18,7 @@ ghost use Rattle.stun_base.specs.Header.{BeginsWithHeader};
 ghost use Rattle.stun_base.specs.MessageType.{class_in, is_response};
 ghost use Rattle.stun_types.specs.Limits.{LENGTH_LIMIT as length_limit};
 ghost use Rattle.stun_numbers.specs.Buffers.{buffer_after, length_of};
-ghost use Rattle.stun_handles.specs.Answers.{CallUnlessMemory};
+ghost use Rattle.stun_state.specs.Answers.{CallUnlessMemory};
 ghost use Rattle.stun_state.specs.Server.{server_validation_answer};
 ghost use Rattle.stun_state.specs.Signing.{message_of, server_signs};
 ghost use Rattle.stun_state.specs.code.Measured.{IsMeasured};

@@ -11,7 +11,7 @@ ghost use Rattle.stun_agent.specs.Agent.{after_poll, after_poll_transmit};
 ghost use Rattle.stun_agent.specs.Agent.{after_send, poll_answer, sent_by_poll};
 ghost use Rattle.stun_agent.specs.Transactions.{with_cancellation, without_retransmissions};
 ghost use Rattle.stun_numbers.specs.Refusals.{refusal_number};
-ghost use Rattle.stun_handles.specs.Addresses.{socket_address};
+ghost use Rattle.stun_state.specs.Addresses.{socket_address};
 ghost use Rattle.stun_state.specs.Agent.{bytes_told, outstanding_answer, receiving_answer, id_in};
 ghost use Rattle.stun_state.specs.Agent.{id_told};
 ghost use Rattle.stun_state.specs.Agent.{kept_after_configuring, kept_after_forgetting};
@@ -22,16 +22,16 @@ ghost use Rattle.stun_state.specs.Agent.{request_answer, sending_answer, sent_ag
 ghost use Rattle.stun_state.specs.Agent.{statistics_answer};
 ghost use Rattle.stun_state.specs.Agent.{caller_statistics_after, transport_numbered};
 ghost use Rattle.stun_state.specs.Agent.{unless_untimed, with_changed};
-ghost use Rattle.stun_handles.specs.Answers.{at_address, done_if_given};
+ghost use Rattle.stun_state.specs.Answers.{at_address, done_if_given};
 ghost use Rattle.stun_state.specs.Memory.{IsRequestTaken, message_adds_none, naming_adds_none};
-ghost use Rattle.stun_handles.specs.Numbers.{IsOrOutOfMemory, OrOutOfMemory, done_answer};
-ghost use Rattle.stun_handles.specs.Numbers.{left_by, length_answer, number_answer};
+ghost use Rattle.stun_state.specs.Numbers.{IsOrOutOfMemory, OrOutOfMemory, done_answer};
+ghost use Rattle.stun_state.specs.Numbers.{left_by, length_answer, number_answer};
 
+use crate::address::Address;
 use crate::agent::{Statistics, Timeouts};
 use crate::handle::agent::{Agent, AgentHandle};
 use crate::{agent, answers};
 use std::alloc::Global;
-use stun_handles::address::Address;
 use stun_numbers::refusal::Refusal;
 
 /// Creates an agent that sends over a transport, 0 for UDP and 1 for TCP, from a local address.

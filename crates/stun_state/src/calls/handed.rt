@@ -8,20 +8,20 @@
 ghost use Rattle.std.specs.Prelude.{◌≡◌, length, Some, None, IfNone, IfSome};
 ghost use Rattle.stun_numbers.specs.Refusals.{refusal_number};
 ghost use Rattle.stun_numbers.specs.Buffers.{buffer_after, length_of};
-ghost use Rattle.stun_handles.specs.Addresses.{socket_address};
-ghost use Rattle.stun_handles.specs.Answers.{after_address, at_address};
+ghost use Rattle.stun_state.specs.Addresses.{socket_address};
+ghost use Rattle.stun_state.specs.Answers.{after_address, at_address};
 ghost use Rattle.stun_state.specs.Handed.{kept_after_handed_signing, kept_after_handed_validation};
 ghost use Rattle.stun_state.specs.Handed.{named_in_bytes, naming_answer, naming_length};
 ghost use Rattle.stun_state.specs.Handed.{naming_written, handed_signing, user_of_keys};
 ghost use Rattle.stun_state.specs.Handed.{user_of_password, handed_validation_number};
-ghost use Rattle.stun_handles.specs.Numbers.{IsOrOutOfMemory, OrOutOfMemory};
-ghost use Rattle.stun_handles.specs.Numbers.{left_by, length_answer, number_answer};
+ghost use Rattle.stun_state.specs.Numbers.{IsOrOutOfMemory, OrOutOfMemory};
+ghost use Rattle.stun_state.specs.Numbers.{left_by, length_answer, number_answer};
 
+use crate::address::Address;
 use crate::handed::Given;
 use crate::handle::server::ServerHandle;
 use crate::{answers, handed};
 use std::alloc::Global;
-use stun_handles::address::Address;
 use stun_numbers::refusal::Refusal;
 
 /// Determines with which user's key a message that arrived from an address will be verified.

@@ -13,15 +13,14 @@ ghost use Rattle.stun_auth.specs.Registered.{with_user};
 ghost use Rattle.stun_auth.specs.Validation.{client_at, new_server};
 ghost use Rattle.stun_numbers.specs.Refusals.{refusal_or, refusal_number};
 ghost use Rattle.stun_numbers.specs.Buffers.{buffer_after, length_of};
-ghost use Rattle.stun_handles.specs.Addresses.{socket_address, start_for, start_told};
-ghost use Rattle.stun_handles.specs.Answers.{after_address, after_start};
-ghost use Rattle.stun_handles.specs.Answers.{at_start, done_if_given, text_refusal};
-ghost use Rattle.stun_handles.specs.Answers.{texts_refusal};
+ghost use Rattle.stun_state.specs.Addresses.{socket_address, start_for, start_told};
+ghost use Rattle.stun_state.specs.Answers.{after_address, after_start};
+ghost use Rattle.stun_state.specs.Answers.{at_start, done_if_given, text_refusal};
+ghost use Rattle.stun_state.specs.Answers.{texts_refusal};
 ghost use Rattle.stun_state.specs.Codes.{algorithms_numbered, feature_numbered};
 ghost use Rattle.stun_state.specs.Memory.{LeavesServer};
-ghost use Rattle.stun_handles.specs.Numbers.{OrOutOfMemory, done_answer};
-ghost use Rattle.stun_handles.specs.Numbers.{left_by, length_answer, number_answer};
-ghost use Rattle.stun_state.specs.Numbers.{found_answer};
+ghost use Rattle.stun_state.specs.Numbers.{OrOutOfMemory, done_answer};
+ghost use Rattle.stun_state.specs.Numbers.{found_answer, left_by, length_answer, number_answer};
 ghost use Rattle.stun_state.specs.Server as on_server;
 ghost use Rattle.stun_state.specs.Server.{UNBOUNDED, client_found};
 ghost use Rattle.stun_state.specs.Server.{kept_after_validating, name_length_of};
@@ -30,10 +29,10 @@ ghost use Rattle.stun_state.specs.Server.{nonce_written, step_answer, validation
 ghost use Rattle.stun_state.specs.Server.{with_expiry, without_client, without_named};
 ghost use Rattle.stun_state.specs.Signing.{kept_after_signing, signed_for};
 
+use crate::address::Address;
 use crate::handle::server::{Server, ServerHandle};
 use crate::{answers, server};
 use std::alloc::Global;
-use stun_handles::address::Address;
 use stun_numbers::refusal::Refusal;
 
 /// Creates a server for a realm, without users and without a limit on addresses. Fails with

@@ -1,14 +1,13 @@
 //! The handle of an agent.
 ghost use Rattle.std.specs.Prelude.{◌≡◌, Some, None, Option, IfSome, IfNone};
 ghost use Rattle.stun_state.specs.declared.handle.agent.Agent.{Agent};
-ghost use Rattle.stun_handles.specs.code.Handle.{handle_owns};
-ghost use Rattle.stun_state.specs.code.Handle.{agent_row, agent_coded};
+ghost use Rattle.stun_state.specs.code.Handle.{handle_owns, agent_row, agent_coded};
 
+use super::Loose;
 use std::alloc::Global;
 use std::marker::Model;
 use std::mem::replace;
 use stun_agent::agent::StunAgent;
-use stun_handles::handle::Loose;
 
 /// An agent of the heap.
 #[derive(Drop)]

@@ -1,14 +1,13 @@
 //! The handle of a client.
 ghost use Rattle.std.specs.Prelude.{◌≡◌, Some, None, Option, IfSome, IfNone};
 ghost use Rattle.stun_state.specs.declared.handle.client.Client.{Client};
-ghost use Rattle.stun_handles.specs.code.Handle.{handle_owns};
-ghost use Rattle.stun_state.specs.code.Handle.{client_row, client_coded};
+ghost use Rattle.stun_state.specs.code.Handle.{handle_owns, client_row, client_coded};
 
+use super::Loose;
 use std::alloc::Global;
 use std::marker::Model;
 use std::mem::replace;
 use stun_auth::auth::LongTermClientAuth;
-use stun_handles::handle::Loose;
 
 /// A client of the heap.
 #[derive(Drop)]

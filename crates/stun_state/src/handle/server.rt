@@ -1,14 +1,13 @@
 //! The handle of a server.
 ghost use Rattle.std.specs.Prelude.{◌≡◌, Some, None, Option, IfSome, IfNone};
 ghost use Rattle.stun_state.specs.declared.handle.server.Server.{Server};
-ghost use Rattle.stun_handles.specs.code.Handle.{handle_owns};
-ghost use Rattle.stun_state.specs.code.Handle.{server_row, server_coded};
+ghost use Rattle.stun_state.specs.code.Handle.{handle_owns, server_row, server_coded};
 
+use super::Loose;
 use std::alloc::Global;
 use std::marker::Model;
 use std::mem::replace;
 use stun_auth::auth::LongTermServerAuth;
-use stun_handles::handle::Loose;
 
 /// A server of the heap.
 #[derive(Drop)]

@@ -1,15 +1,15 @@
 -- The flag and the pointer move, and what they own with them.
-use Rattle.stun_handles.proofs.Steps.{◌≡◌, List, [], ◌∷◌, ◌++◌, refl, sym, subst, proved_at}
-use Rattle.stun_handles.proofs.Steps.{leaves, SProp, ent, emp, id⊢, fact, fact_i, tables, WpFn}
-use Rattle.stun_handles.proofs.Steps.{Val, ‵, raw, ◌⊛◌, ◌$◌, ◌∵◌, !, qed, by, move, keep, use0}
-use Rattle.stun_handles.proofs.Steps.{use1, split, fsplit, fjoin, suffices, agg, sub, whole}
-use Rattle.stun_handles.proofs.Steps.{enter, of_opd, stop, fld, no_more, and_then, returns}
-use Rattle.stun_handles.proofs.Steps.{alloc_all, pass_all, free_all, look_at, get, get_in, sets}
-use Rattle.stun_handles.proofs.Steps.{env, yes, RattleType, owns, types_at, plain, nothing, alive}
-use Rattle.stun_handles.proofs.Steps.{Stays, stay_dropped, walk_of, Goes-dropped, Ptr-Good}
+use Rattle.stun_state.proofs.Steps.{◌≡◌, List, [], ◌∷◌, ◌++◌, refl, sym, subst, proved_at}
+use Rattle.stun_state.proofs.Steps.{leaves, SProp, ent, emp, id⊢, fact, fact_i, tables, WpFn}
+use Rattle.stun_state.proofs.Steps.{Val, ‵, raw, ◌⊛◌, ◌$◌, ◌∵◌, !, qed, by, move, keep, use0}
+use Rattle.stun_state.proofs.Steps.{use1, split, fsplit, fjoin, suffices, agg, sub, whole}
+use Rattle.stun_state.proofs.Steps.{enter, of_opd, stop, fld, no_more, and_then, returns}
+use Rattle.stun_state.proofs.Steps.{alloc_all, pass_all, free_all, look_at, get, get_in, sets}
+use Rattle.stun_state.proofs.Steps.{env, yes, RattleType, owns, types_at, plain, nothing, alive}
+use Rattle.stun_state.proofs.Steps.{Stays, stay_dropped, walk_of, Goes-dropped, Ptr-Good}
 use Rattle.stun_state.specs.code.Handle.{client_row as Kept}
-use Rattle.stun_handles.proofs.Words.{word, word_good, opened, closed}
-use Rattle.stun_handles.specs.contracts.handle.Loose as loose
+use Rattle.stun_state.proofs.Words.{word, word_good, opened, closed}
+use Rattle.stun_state.specs.contracts.handle.Loose as loose
 use Rattle.stun_state.specs.contracts.handle.client.ClientHandle as handle
 use Rattle.stun_state.specs.contracts.handle.client.ClientHandle.into_loose.{ended, clauses}
 use Rattle.stun_state.specs.contracts.handle.client.ClientHandle.into_loose.Key.{name as #self}

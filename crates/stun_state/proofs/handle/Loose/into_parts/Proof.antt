@@ -1,0 +1,103 @@
+-- The pointer moves out of a full handle, and what it owns with it.
+use Rattle.stun_state.proofs.Steps.{◌≡◌, List, [], ◌∷◌, ◌++◌, refl, sym, ◌∙◌, subst, lit<}
+use Rattle.stun_state.proofs.Steps.{proved_at, leaves, SProp, ent, emp, id⊢, fact, fact_i, tables}
+use Rattle.stun_state.proofs.Steps.{WpFn, a_type, inst_fn, Val, vcons, vnil, ‵, raw, ◌⊛◌, at_ret}
+use Rattle.stun_state.proofs.Steps.{◌$◌, ◌∵◌, !, qed, by, move, keep, use0, use1, split, join}
+use Rattle.stun_state.proofs.Steps.{fsplit, fjoin, suffices, live, agg, sub, whole, enter, of_opd}
+use Rattle.stun_state.proofs.Steps.{lit, stop, fld, no_more, and_then, first, branches, skips}
+use Rattle.stun_state.proofs.Steps.{exec, returns, returns_within, alloc_all, pass_all, free_all}
+use Rattle.stun_state.proofs.Steps.{look_at, get, get_in, sets, env, yes, no, param, layout}
+use Rattle.stun_state.proofs.Steps.{layouts, RattleType, owns, block_ptr, types_at, type_at, plain}
+use Rattle.stun_state.proofs.Steps.{nothing, alive, Stays, stay_dropped, walk_of, Goes-dropped}
+use Rattle.stun_state.proofs.Steps.{handle_tells, Ptr-Good, Good, true, false, Some, None, after}
+use Rattle.std_alloc.proofs.ResultValues.{and_tt}
+use Rattle.std_alloc.proofs.BoxSteps.Form.{D, word as box_word, box_typed}
+use Rattle.std_alloc.proofs.BoxSteps.Steps.{box_in}
+use Rattle.core.proofs.option.Made.{Some-of, none_of}
+use Rattle.std_heap.specs.contracts.GlobalAllocator.TheImpl.{ghosts}
+use Rattle.stun_state.proofs.AsBox.{as_box, Heap}
+use Rattle.stun_state.proofs.Words.{word, opened, either}
+use Rattle.stun_state.specs.contracts.handle.Loose as loose
+use Rattle.stun_state.specs.contracts.handle.parts.Parts as parts
+use Rattle.stun_state.specs.contracts.handle.Loose.into_parts.{ended, clauses}
+use Rattle.stun_state.specs.contracts.handle.Loose.into_parts.Key.{name as #self}
+use Rattle.stun_state.proofs.handle.Loose.into_parts.Statement.{statement}
+use Rattle.stun_state.proofs.handle.Loose.into_parts.Code as code
+
+pub into_parts_spec : {M : Type 1} → statement M
+into_parts_spec 𝓤 𝓛 𝓜 𝓡 wired T L =
+    let H = 𝓛.H in let 𝓣 = tables 𝓤 H 𝓜 𝓡 𝓡.env in let R : RattleType = param 0 T in let En =
+    ended T in let c = clauses T 𝓛 𝓜.mem 𝓡.returns in
+    let inst = layouts (a_type ∷ []) (T, tt) in let fn = inst_fn inst code.function in let E =
+    as_box T L in let From : RattleType = loose.the_row R in let To : RattleType =
+    parts.the_row R Heap ghosts in
+    let hs : Stays En.signature.params En.kept =
+    (stay_dropped (plain (λ _. From)) no, (stay_dropped (plain (λ _. Heap)) yes, tt)) in
+    proved_at 𝓛 En hs c 𝓜 𝓡 (
+      Goes-dropped 𝓛 1 (plain (λ _. From)) no (λ κs x f. refl),
+      (Goes-dropped 𝓛 1 (plain (λ _. Heap)) yes (λ κs x f. refl), tt),
+    ) (#self inst) fn (code.unfolded 𝓤 H 𝓜 𝓡 wired (T, tt)) (λ z are.
+    let κs = z.0.0 in let qs = z.0.1 in let h = z.0.3.0 in let a = z.0.3.1.0 in
+    let Out : RattleType = type_at En.signature.result κs in
+    let Post : Val → SProp 𝓤 = (walk_of 𝓛 En hs c).post z in let Run : List Val
+    → SProp 𝓤 = λ us. WpFn 𝓤 H 𝓣.C 𝓣.Λ fn us Post in
+    qed 𝓛 ((raw (alive 𝓛 En.signature κs qs)
+    ⊛ ‵ (owns (types_at En.signature.params κs) z.0.3 z.0.4)) ∷ raw ((c κs z.0.3).requires z.1)
+    ∷ []) ∵ split ! $ move ! (1 ∷ []) $ fsplit !
+    $ opened R ! h z.0.4.0
+    (λ is. move ! (1 ∷ []) $ fsplit !
+    $ handle_tells E.al ! a z.0.4.1.0 (λ ha ha_is fits. move ! (2 ∷ []) $
+    either R ! h.is_full h.at h.state
+    (λ g b o x full at state.
+    let w : Val = word true (block_ptr b o) in let w' : Val = box_word E ha b o in let good' =
+    box_typed E ha b o fits in let out : Val = live 1 (vcons w' vnil) in
+    let v : D E = record { ptr = block_ptr b o; alloc = a; value = x } in let made : To.Denot =
+    record { at = block_ptr b o; alloc = a; value = x } in
+    let good : Good (layout Out) out =
+    (and_tt _ good'.0, (record { fits = lit< tt }, (good'.1, tt))) in let us : List Val =
+    w ∷ ha ∷ [] in
+    suffices ! (Run us)
+    (subst (λ (vs : List Val). ent 𝓤 (Run us) (Run vs))
+    (sym (λ i. (is ∙ (λ j. word (full j) (at j) ∷ [])) i ++ (ha_is i ++ []))) (id⊢ 𝓤 _)) $
+    fsplit ! $ box_in E ! v b o x refl refl $ use1 𝓛 (‵ (To.own_val made (w' ∷ []))) (id⊢ 𝓤 _)
+    $ use1 𝓛 (‵ (Out.own_val (Some made) (out ∷ []))) (Some-of 𝓛 To made w') $
+    enter ! 𝓣.C 𝓣.Λ fn us Post
+    $ alloc_all ! (λ l. pass_all ! refl ((tt, (tt, (tt, tt))), (fits, tt)) $
+    sets ! (of_opd ! (get_in ! (fld ! refl (stop !)) (sub ! 0 refl (whole !)))) refl (tt, tt)
+    $ sets ! (of_opd ! (get_in ! (fld ! refl (stop !)) (sub ! 1 refl (whole !)))) refl (tt, tt) $
+    sets ! (of_opd ! (get ! refl)) refl (tt, tt) $ first ! $ branches ! (get ! refl)
+    (λ _. sets ! (agg ! (and_then ! (get ! refl) (and_then ! (get ! refl) (no_more !)))) refl good'
+    $ sets ! (agg ! (and_then ! (lit ! tt) (and_then ! (get ! refl) (no_more !)))) refl good $
+    returns_within ! Post refl (look_at ! 0 refl) $ free_all ! refl $
+    use0 𝓛 (raw (fact 𝓤 Unit)) (fact_i 𝓤 Unit (emp 𝓤) tt)
+    $ use0 𝓛 (raw (fact 𝓤 (h.state ≡ Some made.value))) (fact_i 𝓤 _ (emp 𝓤) state) $ join ! $
+    nothing ! $ nothing ! $ fjoin ! $ nothing ! $ fjoin !
+    $ keep ! (4 ∷ 0 ∷ 2 ∷ 1 ∷ [])
+    $ by ! (leaves 𝓛 En hs c z out (Some made) (tt, (tt, tt)) (tt, (tt, tt))))
+    (λ wrong. absurd wrong)))
+    (λ empty state.
+    let w : Val = word false h.at in let good_at = Ptr-Good h.at in let us : List Val =
+    w ∷ ha ∷ [] in let out : Val = live 0 vnil in
+    suffices ! (Run us)
+    (subst (λ (vs : List Val). ent 𝓤 (Run us) (Run vs))
+    (sym (λ i. (is ∙ (λ j. word (empty j) h.at ∷ [])) i ++ (ha_is i ++ []))) (id⊢ 𝓤 _)) $
+    enter ! 𝓣.C 𝓣.Λ fn us Post
+    $ alloc_all !
+    (λ l. pass_all ! refl ((and_tt _ good_at.0, (tt, (good_at.1, tt))), (fits, tt)) $ let Ev =
+    env fn.locals l in
+    sets ! (of_opd ! (get_in ! (fld ! refl (stop !)) (sub ! 0 refl (whole !)))) refl (tt, tt)
+    $ sets ! (of_opd ! (get_in ! (fld ! refl (stop !)) (sub ! 1 refl (whole !)))) refl good_at $
+    sets ! (of_opd ! (get ! refl)) refl (tt, tt) $ first ! $ branches ! (get ! refl)
+    (λ wrong. absurd wrong)
+    (λ _. skips ! $ exec ! 𝓣.C 𝓣.Λ Ev (after 4 fn.body) (at_ret Ev Post)
+    $ sets ! (agg ! (and_then ! (lit ! tt) (no_more !))) refl (
+      tt,
+      (record { fits = lit< tt }, tt),
+    ) $
+    use0 𝓛 (‵ (Out.own_val None (out ∷ []))) (none_of 𝓛 To) $ returns ! (look_at ! 0 refl)
+    $ free_all ! refl $
+    use0 𝓛 (raw (fact 𝓤 (h.state ≡ None))) (fact_i 𝓤 _ (emp 𝓤) state)
+    $ use0 𝓛 (raw (fact 𝓤 Unit)) (fact_i 𝓤 Unit (emp 𝓤) tt) $ join ! $
+    nothing ! $ nothing ! $ fjoin ! $ nothing ! $ fjoin !
+    $ keep ! (5 ∷ 0 ∷ 2 ∷ 1 ∷ [])
+    $ by ! (leaves 𝓛 En hs c z out None (tt, (tt, tt)) (tt, (tt, tt)))))))))

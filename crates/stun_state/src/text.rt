@@ -1,0 +1,12 @@
+//! Texts of a caller, copied.
+
+ghost use Rattle.std.specs.Prelude.{◌≡◌, IfOk, string_bytes};
+
+use std::alloc::{AllocError, Global};
+
+/// A text, copied.
+pub fn copied(alloc: Global, text: &str) -> Result<String<Global>, AllocError>
+    ensures { IfOk result (λ copy. string_bytes copy ≡ text.now) }
+{
+    String::from_str(alloc, text)
+}

@@ -6,7 +6,7 @@ pub mod Addresses
 pub mod Numbers
 -- the stored keys of a user
 pub mod Keys
--- what calls share: where an allocation may fail, an address that may be none, and texts
+-- what calls share: an address that may be none, and texts
 pub mod Answers
 -- what no clause of a public call cites: what representations alone use
 pub mod code

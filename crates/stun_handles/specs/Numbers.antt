@@ -1,5 +1,5 @@
 -- The numbers that calls return.
-use Rattle.std.specs.Prelude.{◌≡◌, ◌⊎◌, ℕ, ℤ, pos, int_lt, min, if◌then◌else◌, Result, Ok, Err}
+use Rattle.std.specs.Prelude.{◌≡◌, ◌⊎◌, ℕ, ℤ, pos, min, Result, Ok, Err}
 use Rattle.stun_numbers.specs.Refusals.{refusal_number}
 use Rattle.stun_numbers.specs.declared.refusal.Refusal.{Refusal}
 use Rattle.stun_numbers.specs.declared.refusal.Refusal.TheVariants.{OutOfMemory}
@@ -24,11 +24,3 @@ length_answer (Err refusal) = refusal_number refusal
 abbrev pub OrOutOfMemory : {S : Type 0} → ℤ → S → S → ℤ → S → Type 0
 OrOutOfMemory result before now number after =
     ((result ≡ number) × (now ≡ after)) ⊎ ((result ≡ refusal_number OutOfMemory) × (now ≡ before))
-
--- a call returns this number, or that of an allocation that failed
-abbrev pub IsOrOutOfMemory : ℤ → ℤ → Type 0
-IsOrOutOfMemory result number = (result ≡ number) ⊎ (result ≡ refusal_number OutOfMemory)
-
--- what a call leaves of what was there: a refusal, whose number is below zero, leaves all of it
-abbrev pub left_by : {S : Type 0} → ℤ → S → S → S
-left_by number before after = if int_lt number (pos 0) then before else after

@@ -2,7 +2,7 @@
 """endpoint_model.py [--write] FILE ..: plays the lines `endpoint server ..` of transcripts
 (docs/maintainers/TRANSCRIPTS.md) by a model of the server, and compares the answers.
 
-The model is written from RFC 8489 and from what docs/SERVER.md says of nonces, over Python's
+The model is written from RFC 8489, and of nonces from specs/Nonces.antt of stun_endpoint, over Python's
 hashlib, hmac and zlib. It shares no code with the library, so the answers come from outside it.
 With --write it fills in the answers that are empty. The status is 1 where an answer is wrong."""
 

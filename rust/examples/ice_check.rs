@@ -1,107 +1,104 @@
-//! One connectivity check of ICE (RFC 8445, section 7.2), both sides in one process, without a
-//! socket: a Binding request with USERNAME, PRIORITY, USE-CANDIDATE and the role, signed with the
-//! password of the other side and closed by FINGERPRINT, and its answer.
+//! A connectivity check of ICE in each direction (RFC 8445, section 7), both agents in one process,
+//! without a socket. Both begin as the controlling agent, so the first answer is a 487, and the
+//! agent that it goes to takes the other role. A `StunAgent` would send each check again until its
+//! answer arrives.
 
 use seatcrane_stun::Instant;
 use seatcrane_stun::agent::StunAgent;
-use seatcrane_stun::auth::ShortTermAuth;
-use seatcrane_stun::extra::attribute::{IceControlling, Priority, UseCandidate};
-use seatcrane_stun::extra::{Fingerprint, check_fingerprint, finish_with_fingerprint};
+use seatcrane_stun::endpoint::ice::{Check, Checker, Outcome, Received, Role};
 use seatcrane_stun::types::TransportType;
-use seatcrane_stun::types::attribute::*;
-use seatcrane_stun::types::message::*;
-use seatcrane_stun::types::prelude::*;
+use seatcrane_stun::types::message::TransactionId;
 use std::error::Error;
 use std::net::SocketAddr;
 
-/// What each side told the other over its signalling: a name and a password. In an agent both are
-/// random, of 24 bits at least and of 128 (RFC 8445, section 5.3), and so are the role's 64 bits.
-struct Side {
-    ufrag: &'static str,
-    password: &'static str,
+/// The priority of a peer-reflexive candidate (RFC 8445, section 5.1.2).
+const PRIORITY: u32 = 0x6e00_01ff;
+
+/// One agent with one pair: its own address, and that of the peer.
+struct Agent {
+    name: &'static str,
+    checker: Checker,
+    requests: StunAgent,
+    peer: SocketAddr,
+    check: Option<Check>,
 }
 
-impl Side {
-    fn auth(&self) -> ShortTermAuth {
-        let mut auth = ShortTermAuth::new();
-        let password = ShortTermCredentials::new(self.password.to_string());
-        auth.set_credentials(password, IntegrityAlgorithm::Sha1);
-        auth
+impl Agent {
+    /// Sends a check. The bytes go to the address of the peer.
+    fn send(&mut self, nominate: bool, now: Instant) -> Result<Vec<u8>, Box<dyn Error>> {
+        let id = TransactionId::generate();
+        let check = self.checker.check(id, self.peer, PRIORITY, nominate);
+        let sent = self.requests.send_request(check.bytes(), check.to(), now)?;
+        let bytes = sent.data.to_vec();
+        self.check = Some(check);
+        Ok(bytes)
+    }
+
+    /// Reads a datagram from the peer, and returns what to send back.
+    fn receive(&mut self, bytes: &[u8]) -> Option<Vec<u8>> {
+        match self.checker.receive(bytes, self.peer, self.check.as_ref()) {
+            Received::Check { answer, judged } => {
+                println!("{}: the check of the peer: {judged:?}", self.name);
+                return Some(answer);
+            }
+            Received::Response(outcome) => {
+                println!("{}: the answer to my check: {outcome:?}", self.name);
+                if let Outcome::RoleConflict { .. } = outcome {
+                    let [number, ..] = random_numbers();
+                    self.checker.set_tie_breaker(number); // RFC 8445, section 16.1
+                }
+                if let Some(check) = self.check.take() {
+                    if let Some(mut request) = self.requests.mut_request_transaction(check.id()) {
+                        request.cancel();
+                    }
+                }
+            }
+            other => println!("{}: {other:?}", self.name),
+        }
+        None
     }
 }
 
-/// The message that bytes are, if they end with the FINGERPRINT that they should have.
-fn printed(bytes: &[u8]) -> Result<Message<'_>, Box<dyn Error>> {
-    let message = Message::from_bytes(bytes)?;
-    match check_fingerprint(&message) {
-        Fingerprint::Right => Ok(message),
-        _ => Err("no FINGERPRINT that is right".into()),
-    }
-}
-
-/// The check that the controlling side sends.
-fn check(local: &Side, remote: &Side, priority: u32) -> Result<Vec<u8>, Box<dyn Error>> {
-    let mut request = Message::builder_request(BINDING, MessageWriteVec::new());
-    let name = format!("{}:{}", remote.ufrag, local.ufrag);
-    request.add_attribute(&Username::new(&name)?)?;
-    request.add_attribute(&Priority::new(priority))?;
-    request.add_attribute(&UseCandidate)?;
-    request.add_attribute(&IceControlling::new(0x0707_0707_0707_0707))?;
-    let request = remote.auth().sign_outgoing_message(request)?;
-    Ok(finish_with_fingerprint(request)?)
-}
-
-/// What the controlled side answers: the address that it sees, signed with its own password.
-fn answer(
-    local: &Side,
-    remote: &Side,
-    bytes: &[u8],
-    from: SocketAddr,
-) -> Result<Vec<u8>, Box<dyn Error>> {
-    let request = printed(bytes)?;
-    let mut auth = local.auth();
-    auth.validate_incoming_message(&request)?;
-    let name = request.attribute::<Username>()?;
-    if name.username() != format!("{}:{}", local.ufrag, remote.ufrag) {
-        return Err("a check of somebody else's".into());
-    }
-    let mut response = Message::builder_success(&request, MessageWriteVec::new());
-    response.add_xor_mapped_address(from)?;
-    Ok(finish_with_fingerprint(
-        auth.sign_outgoing_message(response)?,
-    )?)
+/// Two random numbers. Those of a transaction ID are as good as any.
+fn random_numbers() -> [u64; 2] {
+    let number = TransactionId::generate().as_u128();
+    [number as u64, (number >> 32) as u64]
 }
 
 fn main() -> Result<(), Box<dyn Error>> {
-    let controlling = Side {
-        ufrag: "evtj",
-        password: "asd88fgpdd777uzjYhagZg",
-    };
-    let controlled = Side {
-        ufrag: "h6vY",
-        password: "VOkJxbRl1RmTxUk/WvJxBt",
-    };
+    // What each side tells the other over its signalling: a name and a password. Both are random.
+    let (left, right) = (
+        ("evtj", "asd88fgpdd777uzjYhagZg"),
+        ("h6vY", "VOkJxbRl1RmTxUk/WvJxBt"),
+    );
     let (here, there): (SocketAddr, SocketAddr) =
         ("192.0.2.1:32853".parse()?, "198.51.100.7:3478".parse()?);
-    let mut agent = StunAgent::builder(TransportType::Udp, here).build();
+    let [one, other] = random_numbers();
+    let agent = |name, ours, theirs, number, from, peer| -> Result<Agent, Box<dyn Error>> {
+        Ok(Agent {
+            name,
+            checker: Checker::new(ours, theirs, number, Role::Controlling)?,
+            requests: StunAgent::builder(TransportType::Udp, from).build(),
+            peer,
+            check: None,
+        })
+    };
+    let mut left_agent = agent("left", left, right, one, here, there)?;
+    let mut right_agent = agent("right", right, left, other, there, here)?;
+    let now = Instant::ZERO;
 
-    // What is sent, and goes through a translator to the other side and back.
-    let request = check(&controlling, &controlled, 0x6e00_01ff)?;
-    let sent = agent
-        .send_request(request, there, Instant::ZERO)?
-        .into_owned();
-    let seen = "203.0.113.9:4242".parse()?;
-    let response = answer(&controlled, &controlling, &sent.data, seen)?;
-
-    // The response is signed with the password that the request was signed with.
-    let message = printed(&response)?;
-    controlled.auth().validate_incoming_message(&message)?;
-    if !agent.handle_stun_message_with_time(&message, there, Instant::from_nanos(20_000_000)) {
-        return Err("nobody asked for this response".into());
+    for nominate in [false, true] {
+        let check = left_agent.send(nominate, now)?;
+        let answer = right_agent.receive(&check).ok_or("no answer")?;
+        left_agent.receive(&answer);
+        let check = right_agent.send(nominate, now)?;
+        let answer = left_agent.receive(&check).ok_or("no answer")?;
+        right_agent.receive(&answer);
     }
-    println!(
-        "valid pair: {here} -> {there}, seen as {}",
-        message.xor_mapped_address()?
-    );
+    let (left_role, right_role) = (left_agent.checker.role(), right_agent.checker.role());
+    println!("left is {left_role:?}, and right is {right_role:?}");
+    if left_role == right_role {
+        return Err("both agents have one role".into());
+    }
     Ok(())
 }

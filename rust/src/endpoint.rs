@@ -39,6 +39,8 @@ use core::fmt;
 
 mod server;
 
+pub mod ice;
+
 pub use crate::exported::stun_endpoint::received::Refusal;
 pub use crate::exported::stun_endpoint::server::{
     BuildError, DEFAULT_NONCE_LIFETIME, SHORTEST_NONCE_LIFETIME,

@@ -5,9 +5,12 @@ ghost use Rattle.std.specs.Prelude.{◌≡◌, ◌==◌, IfOk, IsOkUnless, Match
 ghost use Rattle.std.specs.Prelude.{not};
 ghost use Rattle.std.specs.String.{string_bytes};
 ghost use Rattle.stun_extra.specs.Unknown.{types_of};
-ghost use Rattle.stun_c_endpoint.specs.Given.{given_refusal, has_sha1, has_sha256, if_any};
+ghost use Rattle.stun_c_endpoint.specs.Given.{MakesServer, given_refusal, has_sha1};
+ghost use Rattle.stun_c_endpoint.specs.Given.{has_sha256, if_any};
 ghost use Rattle.stun_c_endpoint.specs.Given.{is_out_of_range, nonce_seconds, server_given};
+ghost use Rattle.stun_c_endpoint.specs.declared.handle.endpoint.Kept.TheVariants as kind;
 
+use crate::handle::endpoint::{EndpointHandle, Kept};
 use std::alloc::{AllocError, Global};
 use std::marker::Model;
 use stun_base::attribute_type::AttributeType;
@@ -151,8 +154,36 @@ impl<'a> Given<'a> {
         })
     }
 
+    /// Builds the server, on the heap.
+    fn boxed(&self, alloc: Global) -> Result<Box<Kept, Global>, Refusal>
+        ensures refused { MatchOption (given_refusal self.now)
+            (IsOkUnless result Refusal.OutOfMemory) (λ refusal. result ≡ Err refusal) }
+        ensures built { IfOk result (λ made. made.value
+            ≡ kind.Server (server_given self.now)) }
+    {
+        let server = self.server(alloc)?;
+        match Box::new(alloc, Kept::Server(server)) {
+            Ok(made) => Ok(made),
+            Err(_) => Err(Refusal::OutOfMemory),
+        }
+    }
+
+    /// Builds the server in an empty handle, and returns 0 or the number of the refusal.
+    pub fn place(&self, alloc: Global, handle: &mut EndpointHandle) -> i64
+        requires { handle.old.kept ≡ None }
+        ensures { MakesServer self.now result handle.new.kept }
+    {
+        match self.boxed(alloc) {
+            Ok(made) => {
+                handle.put(alloc, made);
+                0
+            }
+            Err(refusal) => refusal.code(),
+        }
+    }
+
     /// Builds the server.
-    pub fn server(&self, alloc: Global) -> Result<Server<Global>, Refusal>
+    fn server(&self, alloc: Global) -> Result<Server<Global>, Refusal>
         ensures refused { MatchOption (given_refusal self.now)
             (IsOkUnless result Refusal.OutOfMemory) (λ refusal. result ≡ Err refusal) }
         ensures built { IfOk result (λ server. server ≡ server_given self.now) }

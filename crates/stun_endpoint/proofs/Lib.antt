@@ -5,3 +5,4 @@ pub mod AnswerLemmas
 pub mod OfferLemmas
 pub mod VerifyingLemmas
 pub mod PreviousLemmas
+pub mod UnderstoodLemmas

@@ -7,5 +7,6 @@ mod nonces;
 pub mod received;
 pub mod reply;
 pub mod server;
+mod understood;
 pub mod unix_time;
 pub mod users;

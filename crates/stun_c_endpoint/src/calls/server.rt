@@ -5,7 +5,7 @@ ghost use Rattle.stun_numbers.specs.Refusals.{refusal_number};
 ghost use Rattle.stun_c_endpoint.specs.Given.{MakesServer};
 ghost use Rattle.stun_c_endpoint.specs.Told.{ReceivesAs, judged_outcome};
 
-use crate::handle::endpoint::{EndpointHandle, Kept};
+use crate::handle::endpoint::EndpointHandle;
 use crate::received::Received;
 use crate::server;
 use crate::settings::Given;
@@ -64,17 +64,7 @@ pub extern "C" fn stunp_endpoint_server_new_with(
         anonymous_username,
         answers_binding,
     };
-    let made = match given.server(alloc) {
-        Ok(made) => made,
-        Err(refusal) => return refusal.code(),
-    };
-    match Box::new(alloc, Kept::Server(made)) {
-        Ok(kept) => {
-            server.put(alloc, kept);
-            0
-        }
-        Err(_) => Refusal::OutOfMemory.code(),
-    }
+    given.place(alloc, server)
 }
 
 /// The secret before, if there is one.

@@ -32,6 +32,7 @@ use crate::received::{Answer, DropReason, Received, Refusal, Request};
 use crate::reply::{Reply, Signature, finish_response};
 use crate::server::Server;
 use crate::server::judges::Judges;
+use crate::understood::are_understood;
 use crate::unix_time::UnixTime;
 use crate::users::Users;
 use std::alloc::{AllocError, Allocator};
@@ -40,7 +41,7 @@ use stun_auth::auth::{Accepted, LongTermServerUser, VerdictRefusal, told_refusal
 use stun_base::header::MessageHeader;
 use stun_base::prepared_key::PreparedKey;
 use stun_extra::fingerprint::{Fingerprint, check_fingerprint};
-use stun_extra::unknown::{answer_unknown, unknown_types};
+use stun_extra::unknown::answer_unknown;
 use stun_types::attribute::{
     ErrorCode, Nonce, PasswordAlgorithmValue, PasswordAlgorithms, Realm, XorMappedAddress,
 };
@@ -171,9 +172,7 @@ impl<A: Allocator + Copy> Server<A> {
     fn understands(&self, message: &Message<'_>) -> bool
         ensures { result ≡ is_empty (unknown_types self.now.known message.now) }
     {
-        unknown_types(message, self.known.as_slice())
-            .next()
-            .is_none()
+        are_understood(self.known.as_slice(), message)
     }
 
     /// What a request comes to.

@@ -1,0 +1,159 @@
+-- What the rule chooses: a supported algorithm, and the strongest that both sides support where a
+-- server's own list is chosen from.
+use Rattle.std.proofs.Common.{◌≡◌, Bool, true, false, ℕ, List, [], ◌∷◌, Option, Some, None, refl}
+use Rattle.std.proofs.Common.{◌∙◌, ap, subst, sym}
+use Rattle.std.specs.Prelude.{cond, find}
+use Rattle.std.specs.Option.{option_map}
+use Rattle.stun_base.specs.Credentials.{NameAndPassword}
+use Rattle.stun_base.specs.declared.keys.algorithm.IntegrityAlgorithm.{IntegrityAlgorithm}
+use Rattle.stun_base.specs.declared.keys.algorithm.IntegrityAlgorithm.TheVariants.{Sha1, Sha256}
+use Rattle.stun_auth.specs.Algorithms.{algorithms_of, contains}
+use Rattle.stun_auth.specs.Client.{Challenge}
+use Rattle.stun_auth.specs.ClientStep.{naming_of, new_challenge}
+use Rattle.stun_auth.specs.Nonces.{asks_for_algorithms}
+use Rattle.stun_auth.specs.Signed.{plain_name}
+use Rattle.stun_auth.specs.declared.algorithm_set.AlgorithmSet.{AlgorithmSet}
+use Rattle.stun_auth.specs.declared.algorithm_set.AlgorithmSet.TheVariants.{OnlySha1}
+use Rattle.stun_auth.specs.declared.algorithm_set.AlgorithmSet.TheVariants.{OnlySha256, Both}
+use Rattle.stun_client.specs.Challenges.{by_rule, by_rule_if, challenge_of, list_for, list_kept}
+use Rattle.stun_client.specs.Challenging.{is_challenge, nonce_in, realm_in}
+use Rattle.stun_client.specs.Downgrade.{IsStrongestOfBoth}
+use Rattle.stun_client.specs.Preferences.{supports}
+use Rattle.stun_client.specs.Rule.{IsByRule, IsChosen, chosen, is_hashed, lacks_userhash}
+use Rattle.stun_client.specs.declared.preferences.Preferences.{Preferences}
+
+-- one algorithm alone, where it is supported
+one : (b : Bool) (x a : IntegrityAlgorithm) → cond b (Some x) None ≡ Some a → (b ≡ true) × (x ≡ a)
+one true x a is = (refl, cc)
+one false x a is = cc
+
+-- the first that is supported of a server's own list is the strongest that both support
+pub strongest_found : (p : Preferences) (set : AlgorithmSet) (a : IntegrityAlgorithm)
+    → find (supports p) (algorithms_of set) ≡ Some a → contains a set ≡ true
+    → IsStrongestOfBoth p set a
+strongest_found p OnlySha1 a found there =
+    let is = one p.hmac_sha1 Sha1 a found in
+    record {
+      ours = ap (supports p) (sym is.1) ∙ is.0;
+      theirs = there;
+      strongest = λ ours theirs. cc;
+    }
+strongest_found p OnlySha256 a found there =
+    let is = one p.hmac_sha256 Sha256 a found in
+    record {
+      ours = ap (supports p) (sym is.1) ∙ is.0;
+      theirs = there;
+      strongest = λ ours theirs. sym is.1;
+    }
+strongest_found p Both a found there =
+    both p.hmac_sha256 refl found
+  where
+    both : (b : Bool) → p.hmac_sha256 ≡ b
+        → cond b (Some Sha256) (cond p.hmac_sha1 (Some Sha1) None) ≡ Some a
+        → IsStrongestOfBoth p Both a
+    both true is found =
+        let same : Sha256 ≡ a = cc in
+        record {
+          ours = ap (supports p) (sym same) ∙ is;
+          theirs = there;
+          strongest = λ ours theirs. sym same;
+        }
+    both false is found =
+        let found = one p.hmac_sha1 Sha1 a found in
+        record {
+          ours = ap (supports p) (sym found.1) ∙ found.0;
+          theirs = there;
+          strongest = λ ours theirs. cc;
+        }
+
+-- the list that a request repeats gives the same choice
+kept-same : (asks : Bool) (p : Preferences) (list : List IntegrityAlgorithm)
+    → cond asks (find (supports p) (cond asks list [])) (cond p.hmac_sha1 (Some Sha1) None)
+    ≡ cond asks (find (supports p) list) (cond p.hmac_sha1 (Some Sha1) None)
+kept-same true p list = refl
+kept-same false p list = refl
+
+pub chosen-kept : (p : Preferences) (nonce : List ℕ) (list : List IntegrityAlgorithm)
+    → chosen p nonce (list_kept nonce list) ≡ chosen p nonce list
+chosen-kept p nonce list = kept-same (asks_for_algorithms nonce) p list
+
+-- a challenge by the rule is chosen by it
+pub chosen_of_rule : (p : Preferences) (who : NameAndPassword) (c : Challenge)
+    → IsByRule p who c → IsChosen p c
+chosen_of_rule p who c h = record {
+  by_rule = h.algorithm;
+  hashed = λ hashes. ap plain_name h.naming
+      ∙ ap (λ b. plain_name (naming_of b who.username c.realm)) hashes;
+}
+
+module _ (p : Preferences) (who : NameAndPassword) (c : Challenge) where
+  made : (realm nonce : List ℕ) (list : List IntegrityAlgorithm) (o : Option IntegrityAlgorithm)
+      → chosen p nonce list ≡ o
+      → option_map (new_challenge p.anonymous_username who realm nonce
+      (Some (list_kept nonce list))) o ≡ Some c
+      → IsByRule p who c
+  made realm nonce list None is h = cc
+  made realm nonce list (Some a) is h =
+      let same : new_challenge p.anonymous_username who realm nonce (Some (list_kept nonce list)) a
+      ≡ c = cc in
+      subst (IsByRule p who) same
+      (record {
+        algorithm = chosen-kept p nonce list ∙ is;
+        naming = refl;
+        key = refl;
+      })
+
+  unless : (lacks : Bool) (realm nonce : List ℕ) (list : List IntegrityAlgorithm)
+      → cond lacks None (option_map (new_challenge p.anonymous_username who realm nonce
+      (Some (list_kept nonce list))) (chosen p nonce list)) ≡ Some c
+      → IsByRule p who c
+  unless true realm nonce list h = cc
+  unless false realm nonce list h = made realm nonce list (chosen p nonce list) refl h
+
+  of_parts : (realm nonce : Option (List ℕ)) (list : List IntegrityAlgorithm)
+      → by_rule_if p who realm nonce list ≡ Some c → IsByRule p who c
+  of_parts None nonce list h = cc
+  of_parts (Some realm) None list h = cc
+  of_parts (Some realm) (Some nonce) list h = unless (lacks_userhash p nonce) realm nonce list h
+
+  if_challenge : (b : Bool) (before : Option Challenge) (bytes : List ℕ)
+      → cond b (by_rule_if p who (realm_in bytes) (nonce_in bytes) (list_for before bytes)) None
+      ≡ Some c
+      → IsByRule p who c
+  if_challenge true before bytes h =
+      of_parts (realm_in bytes) (nonce_in bytes) (list_for before bytes) h
+  if_challenge false before bytes h = cc
+
+  -- each challenge of a message is by the rule
+  pub made_by_rule : (before : Option Challenge) (bytes : List ℕ)
+      → challenge_of p who before bytes ≡ Some c → IsByRule p who c
+  made_by_rule before bytes h = if_challenge (is_challenge bytes) before bytes h
+
+-- and a chosen one is
+pub chosen_new : (p : Preferences) (who : NameAndPassword) (realm nonce : List ℕ)
+    (list : List IntegrityAlgorithm) (a : IntegrityAlgorithm) (c : Challenge)
+    → chosen p nonce list ≡ Some a
+    → c ≡ new_challenge p.anonymous_username who realm nonce (Some (list_kept nonce list)) a
+    → IsChosen p c
+chosen_new p who realm nonce list a c is same =
+    subst (IsChosen p) (sym same)
+    (chosen_of_rule p who
+    (new_challenge p.anonymous_username who realm nonce (Some (list_kept nonce list)) a)
+    (record {
+      algorithm = chosen-kept p nonce list ∙ is;
+      naming = refl;
+      key = refl;
+    }))
+
+-- a message with a realm and a nonce is the challenge that the rule makes of them
+pub challenge_is : (p : Preferences) (who : NameAndPassword) (before : Option Challenge)
+    (bytes realm nonce : List ℕ) (list : List IntegrityAlgorithm)
+    → is_challenge bytes ≡ true → realm_in bytes ≡ Some realm → nonce_in bytes ≡ Some nonce
+    → list ≡ list_for before bytes
+    → by_rule p who realm nonce list ≡ challenge_of p who before bytes
+challenge_is p who before bytes realm nonce list challenges realm_is nonce_is list_is =
+    ap (by_rule p who realm nonce) list_is
+    ∙ sym (ap (λ n. by_rule_if p who (Some realm) n (list_for before bytes)) nonce_is)
+    ∙ sym (ap (λ r. by_rule_if p who r (nonce_in bytes) (list_for before bytes)) realm_is)
+    ∙ sym (ap (λ b. cond b
+    (by_rule_if p who (realm_in bytes) (nonce_in bytes) (list_for before bytes)) None) challenges)

@@ -1,0 +1,4 @@
+-- Lemmas of the crate.
+pub mod ChosenLemmas
+pub mod DowngradeLemmas
+pub mod SigningLemmas

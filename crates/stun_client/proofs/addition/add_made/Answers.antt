@@ -1,0 +1,14 @@
+-- The outcome of adding one attribute.
+use Rattle.stun_auth.proofs.Wanting.{added_by}
+use Rattle.stun_client.proofs.addition.add_made.Goals as goal
+
+pub returns-clause-added : goal.returns-clause-added
+returns-clause-added g c =
+    added_by g.W.MessageWrite.bytes g.W.MessageWrite.room
+    (record {
+      kind = g.M.Attribute.kind c.args.made.now;
+      value = g.M.Attribute.value c.args.made.now;
+    })
+    c.args.writer.now c.add_attribute.new.self _ _ c.add_attribute.result c.requires.within_limit
+    c.add_attribute.ensures.refused c.add_attribute.ensures.bytes c.add_attribute.ensures.room
+    c.add_attribute.ensures.reserved c.add_attribute.ensures.succeeds

@@ -1,0 +1,63 @@
+-- What was added is read back, and the challenge is by the rule.
+use Rattle.std.proofs.Common.{◌≡◌, ◌+◌, true, length, subst}
+use Rattle.std.specs.Prelude.{IfOk}
+use Rattle.stun_base.specs.MessageType.{class_in}
+use Rattle.stun_auth.specs.Additions.{WantsMemory, growth, page_in}
+use Rattle.stun_auth.specs.ClientSigning.{challenge_additions}
+use Rattle.stun_auth.specs.Reading.{error_code, reading_of}
+use Rattle.stun_auth.specs.Signed.{IsUnsigned, ReadsAs, added_under}
+use Rattle.stun_auth.proofs.Growth.{grown_answer}
+use Rattle.stun_client.specs.Challenges.{Answered}
+use Rattle.stun_client.specs.Downgrade.{IsNowhereBidDown}
+use Rattle.stun_client.specs.code.Kept.{challenge_seen}
+use Rattle.stun_client.proofs.SigningLemmas.{reads_signed, then_read}
+use Rattle.stun_client.proofs.challenge.Challenge.sign.Goals as goal
+
+pub returns-clause-grows : goal.returns-clause-grows
+returns-clause-grows g c =
+    let bytes = g.W.MessageWrite.bytes in
+    let room = g.W.MessageWrite.room in
+    let added = challenge_additions true (challenge_seen c.self.inside.kept) in
+    subst (λ (v : Answered). IfOk c.signed.result
+    (λ signed. length (bytes signed)
+    ≡ length (bytes c.args.writer) + growth (challenge_additions true v.challenge)))
+    c.self.view_is
+    (grown_answer bytes room added c.args.writer
+    (WantsMemory added (page_in bytes room c.args.writer) (g.W.MessageWrite.reserved c.args.writer))
+    c.signed.result c.requires c.signed.ensures)
+
+pub returns-clause-reads : goal.returns-clause-reads
+returns-clause-reads g c =
+    let bytes = g.W.MessageWrite.bytes in
+    let room = g.W.MessageWrite.room in
+    let kept = challenge_seen c.self.inside.kept in
+    subst (λ (v : Answered). IfOk c.signed.result
+    (λ signed. IsUnsigned (bytes c.args.writer)
+    → ReadsAs (class_in (bytes c.args.writer)) (error_code (bytes c.args.writer))
+    (added_under true v.challenge) (reading_of (bytes signed))))
+    c.self.view_is
+    (reads_signed c.signed_messages_are_read.ensures bytes room kept c.args.writer c.signed.result
+    (WantsMemory (challenge_additions true kept) (page_in bytes room c.args.writer)
+    (g.W.MessageWrite.reserved c.args.writer))
+    c.keeps_texts.ensures c.signed.ensures)
+
+pub returns-clause-not_bid_down : goal.returns-clause-not_bid_down
+returns-clause-not_bid_down g c =
+    let bytes = g.W.MessageWrite.bytes in
+    let room = g.W.MessageWrite.room in
+    let kept = challenge_seen c.self.inside.kept in
+    let class = class_in (bytes c.args.writer) in
+    let error = error_code (bytes c.args.writer) in
+    subst (λ (v : Answered). IfOk c.signed.result
+    (λ signed. IsUnsigned (bytes c.args.writer)
+    → IsNowhereBidDown v.preferences (reading_of (bytes signed))))
+    c.self.view_is
+    (then_read c.signed.result (IsUnsigned (bytes c.args.writer))
+    (λ signed. ReadsAs class error (added_under true kept) (reading_of (bytes signed)))
+    (λ signed. IsNowhereBidDown c.self.inside.preferences (reading_of (bytes signed)))
+    (λ signed reads. c.signed_requests_are_not_bid_down.ensures c.self.inside.preferences
+    kept class error (bytes signed) c.self.invariant reads)
+    (reads_signed c.signed_messages_are_read.ensures bytes room kept c.args.writer c.signed.result
+    (WantsMemory (challenge_additions true kept) (page_in bytes room c.args.writer)
+    (g.W.MessageWrite.reserved c.args.writer))
+    c.keeps_texts.ensures c.signed.ensures))

@@ -1,0 +1,59 @@
+-- A challenge of one message, by the rule (RFC 8489, section 9.2.5). A 401 and a 438 are read alike,
+-- and nonce, list, algorithm, key and name are of that one message.
+use Rattle.std.specs.Prelude.{ℕ, List, [], Bool, ◌&&◌, if◌then◌else◌, Option, Some, None}
+use Rattle.std.specs.Option.{is_none, is_some, option_map}
+use Rattle.stun_base.specs.Credentials.{NameAndPassword}
+use Rattle.stun_base.specs.declared.keys.algorithm.IntegrityAlgorithm.{IntegrityAlgorithm}
+use Rattle.stun_types.specs.Integrity.{verified_algorithm}
+use Rattle.stun_auth.specs.Client.{Challenge}
+use Rattle.stun_auth.specs.ClientStep.{STALE_NONCE, is_code, list_or_none, new_challenge}
+use Rattle.stun_auth.specs.Nonces.{asks_for_algorithms}
+use Rattle.stun_client.specs.Challenging.{code_in, is_challenge, list_in, nonce_in, realm_in}
+use Rattle.stun_client.specs.Rule.{chosen, lacks_userhash}
+use Rattle.stun_client.specs.declared.preferences.Preferences.{Preferences}
+
+-- a challenge, and the preferences by which it is answered
+pub record Answered : Type 0 where
+  pub preferences : Preferences
+  pub challenge : Challenge
+
+-- whether a message is a 438 without a list that is signed by the key of a challenge before
+abbrev pub is_renewal : Challenge → List ℕ → Bool
+is_renewal before bytes =
+    is_code STALE_NONCE (code_in bytes) && is_none (list_in bytes)
+    && is_some (verified_algorithm bytes before.key)
+
+-- the list that a message is judged by. It is the message's own. For a signed 438 without a list,
+-- the list of the challenge before stands in: the server that has the key kept what it offered
+abbrev pub list_for : Option Challenge → List ℕ → List IntegrityAlgorithm
+list_for None bytes = list_or_none (list_in bytes)
+list_for (Some before) bytes =
+    if is_renewal before bytes then before.algorithms else list_or_none (list_in bytes)
+
+-- the list that a request repeats: none, if the nonce does not ask for a choice
+abbrev pub list_kept : List ℕ → List IntegrityAlgorithm → List IntegrityAlgorithm
+list_kept nonce list = if asks_for_algorithms nonce then list else []
+
+-- a challenge with this realm, nonce and list, unless the rule ignores it
+abbrev pub by_rule : Preferences → NameAndPassword → List ℕ → List ℕ → List IntegrityAlgorithm
+    → Option Challenge
+by_rule p who realm nonce list =
+    if lacks_userhash p nonce then None
+    else option_map (new_challenge p.anonymous_username who realm nonce
+    (Some (list_kept nonce list))) (chosen p nonce list)
+
+-- the same where realm and nonce may be missing: then there is no challenge
+abbrev pub by_rule_if : Preferences → NameAndPassword → Option (List ℕ) → Option (List ℕ)
+    → List IntegrityAlgorithm
+    → Option Challenge
+by_rule_if p who None nonce list = None
+by_rule_if p who (Some realm) None list = None
+by_rule_if p who (Some realm) (Some nonce) list = by_rule p who realm nonce list
+
+-- the challenge that a message is, given the one before, unless the rule ignores it
+abbrev pub challenge_of : Preferences → NameAndPassword → Option Challenge → List ℕ
+    → Option Challenge
+challenge_of p who before bytes =
+    if is_challenge bytes
+    then by_rule_if p who (realm_in bytes) (nonce_in bytes) (list_for before bytes)
+    else None

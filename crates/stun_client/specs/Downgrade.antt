@@ -1,0 +1,48 @@
+-- No downgrade: what a long-term server accepts of a client that answers challenges by the rule.
+use Rattle.std.specs.Prelude.{◌≡◌, ◌⊎◌, ℕ, List, true, Option, Some, None}
+use Rattle.stun_base.specs.declared.keys.algorithm.IntegrityAlgorithm.{IntegrityAlgorithm}
+use Rattle.stun_base.specs.declared.keys.algorithm.IntegrityAlgorithm.TheVariants.{Sha256}
+use Rattle.stun_auth.specs.Algorithms.{contains}
+use Rattle.stun_auth.specs.Feature.{is_possible}
+use Rattle.stun_auth.specs.Nonces.{asks_for_algorithms, asks_for_userhash}
+use Rattle.stun_auth.specs.Reading.{Reading, verified_under}
+use Rattle.stun_auth.specs.Registered.{Registered}
+use Rattle.stun_auth.specs.Seen.{ClientSeen, PlaceSeen}
+use Rattle.stun_auth.specs.Server.{IsAccepted, Sight}
+use Rattle.stun_auth.specs.declared.algorithm_set.AlgorithmSet.{AlgorithmSet}
+use Rattle.stun_auth.specs.declared.feature.Feature.{Feature}
+use Rattle.stun_client.specs.Preferences.{supports}
+use Rattle.stun_client.specs.declared.preferences.Preferences.{Preferences}
+
+-- an algorithm is the strongest that a client and a server both support
+pub record IsStrongestOfBoth (p : Preferences) (server : AlgorithmSet)
+    (a : IntegrityAlgorithm) : Type 0 where
+  pub ours : supports p a ≡ true
+  pub theirs : contains a server ≡ true
+  pub strongest : p.hmac_sha256 ≡ true → contains Sha256 server ≡ true → a ≡ Sha256
+
+-- a server's nonce, and what it offered with it, are of the settings that it has
+pub record IsUpToDate (users : Registered) (feature : Feature) (nonce : List ℕ)
+    (offered : Option AlgorithmSet) : Type 0 where
+  pub algorithms : asks_for_algorithms nonce ≡ contains Sha256 users.algorithms
+  pub hashes : asks_for_userhash nonce ≡ is_possible feature
+  pub offer : (offered ≡ None) ⊎ (offered ≡ Some users.algorithms)
+
+-- whoever is accepted by what was read is not bid down. The algorithm is the strongest that both
+-- support, a digest that verifies under any key is of that algorithm, and the user is named by a
+-- hash alone if both sides take hashes
+pub record IsNotBidDown (p : Preferences) (users : Registered) (feature : Feature)
+    (nonce : List ℕ) (offered : Option AlgorithmSet) (r : Reading) : Type 0 where
+  pub strongest : (client : ClientSeen) → IsAccepted users feature nonce offered r client
+      → IsStrongestOfBoth p users.algorithms client.algorithm
+  pub digest : (client : ClientSeen) → IsAccepted users feature nonce offered r client
+      → (key : List ℕ) (a : IntegrityAlgorithm) → verified_under r key ≡ Some a
+      → a ≡ client.algorithm
+  pub hashed : (client : ClientSeen) → IsAccepted users feature nonce offered r client
+      → is_possible p.anonymous_username ≡ true → is_possible feature ≡ true → r.username ≡ None
+
+-- at each server whose nonce and offer are up to date
+abbrev pub IsNowhereBidDown : Preferences → Reading → Type 0
+IsNowhereBidDown p r = (users : Registered) (feature : Feature) (nonce : List ℕ)
+    (offered : Option AlgorithmSet) → IsUpToDate users feature nonce offered
+    → IsNotBidDown p users feature nonce offered r

@@ -1,0 +1,15 @@
+-- What the contracts of this crate say, in the order to read it.
+
+-- what a client supports
+pub mod Preferences
+-- the rule: which algorithm a challenge is answered with, and whether by a hashed name (RFC 8489,
+-- section 9.2.5)
+pub mod Rule
+-- what is read of a challenge
+pub mod Challenging
+-- a challenge of one message, by the rule
+pub mod Challenges
+-- no server accepts less than the strongest that both sides support
+pub mod Downgrade
+-- what no clause of a public call cites: views of the code's own structs
+pub mod code

@@ -1,0 +1,21 @@
+-- The parts of a challenge as contracts see them.
+use Rattle.std.specs.Prelude.{map, string_bytes}
+use Rattle.stun_types.specs.PasswordAlgorithms.{integrity_of}
+use Rattle.stun_auth.specs.Client.{Challenge, Naming, plain, hashed}
+use Rattle.stun_client.specs.declared.challenge.kept.KeptChallenge.{KeptChallenge}
+use Rattle.stun_client.specs.declared.challenge.kept.UserNaming.{UserNaming}
+use Rattle.stun_client.specs.declared.challenge.kept.UserNaming.TheVariants.{Plain, Hashed}
+
+abbrev pub naming_seen : {A : Type 0} → UserNaming A → Naming
+naming_seen (Plain name) = plain (string_bytes name)
+naming_seen (Hashed hash) = hashed hash
+
+abbrev pub challenge_seen : {A : Type 0} → KeptChallenge A → Challenge
+challenge_seen c = record {
+  naming = naming_seen c.naming;
+  realm = string_bytes c.realm.text;
+  nonce = string_bytes c.nonce.text;
+  algorithms = map integrity_of c.algorithms.items;
+  algorithm = c.algorithm;
+  key = c.key;
+}

@@ -1,0 +1,81 @@
+//! Adding attributes to a message, one after another, and integrity last.
+ghost use Rattle.std.specs.Prelude.{◌≡◌, ◌≤◌, ◌∷◌, [], false, length};
+ghost use Rattle.stun_client.specs.code.AddedAttribute.{attribute_of};
+ghost use Rattle.stun_auth.specs.Additions.{attribute, integrity, is_text_too_long, page_in};
+ghost use Rattle.stun_auth.specs.code.Additions.{IsAdded, IsOutcome};
+
+use std::alloc::Allocator;
+use stun_types::attribute::{
+    Nonce, PasswordAlgorithm, PasswordAlgorithmValue, PasswordAlgorithms, Realm, Userhash, Username,
+};
+use stun_types::message::{IntegrityAlgorithm, PreparedKey, StunWriteError};
+use stun_types::prelude::*;
+
+/// An attribute that signing adds before the integrity attribute.
+#[derive(Clone, Copy)]
+pub(crate) enum AddedAttribute<'a> {
+    Nonce(&'a str),
+    Realm(&'a str),
+    Username(&'a str),
+    Userhash([u8; 32]),
+    /// The algorithms that a server offers.
+    PasswordAlgorithms(&'a [PasswordAlgorithmValue]),
+    /// The algorithm whose key is used.
+    PasswordAlgorithm(IntegrityAlgorithm),
+}
+
+/// Adds an attribute. A text past its limit fails with `TooLarge`, before the writer is asked.
+pub(crate) fn add<W: MessageWrite>(
+    writer: &mut W,
+    added: AddedAttribute<'_>,
+) -> Result<(), StunWriteError>
+    requires { 20 ≤ length (W.bytes writer.old) }
+    ensures header { 20 ≤ length (W.bytes writer.new) }
+    ensures added { IsAdded (attribute (attribute_of added.entry) ∷ [])
+        (page_in W.bytes W.room writer.old) (W.reserved writer.old) result
+        (page_in W.bytes W.room writer.new) (W.reserved writer.new) }
+{
+    match added {
+        AddedAttribute::Nonce(text) => add_made(writer, &Nonce::new(text)?),
+        AddedAttribute::Realm(text) => add_made(writer, &Realm::new(text)?),
+        AddedAttribute::Username(text) => add_made(writer, &Username::new(text)?),
+        AddedAttribute::Userhash(hash) => add_made(writer, &Userhash::new(hash)),
+        AddedAttribute::PasswordAlgorithms(list) => {
+            add_made(writer, &PasswordAlgorithms::new(list))
+        }
+        AddedAttribute::PasswordAlgorithm(algorithm) => add_made(
+            writer,
+            &PasswordAlgorithm::new(PasswordAlgorithmValue::from_integrity(algorithm)),
+        ),
+    }
+}
+
+/// Adds an attribute that is within its limit.
+#[tactic(auto, unfolding(stun_auth::specs::Additions::added_one))]
+fn add_made<W: MessageWrite, M: Attribute>(writer: &mut W, made: &M) -> Result<(), StunWriteError>
+    requires header { 20 ≤ length (W.bytes writer.old) }
+    requires within_limit { is_text_too_long
+        (record { kind = M.kind made.now; value = M.value made.now }) ≡ false }
+    ensures header { 20 ≤ length (W.bytes writer.new) }
+    ensures added { IsAdded
+        (attribute (record { kind = M.kind made.now; value = M.value made.now }) ∷ [])
+        (page_in W.bytes W.room writer.old) (W.reserved writer.old) result
+        (page_in W.bytes W.room writer.new) (W.reserved writer.new) }
+{
+    writer.add_attribute(made)
+}
+
+/// Adds the integrity attribute of an algorithm under a key.
+#[tactic(auto, unfolding(stun_auth::specs::Additions::added_one))]
+pub(crate) fn add_integrity<W: MessageWrite, A: Allocator>(
+    writer: &mut W,
+    key: &PreparedKey<A>,
+    algorithm: IntegrityAlgorithm,
+) -> Result<(), StunWriteError>
+    requires { 20 ≤ length (W.bytes writer.old) }
+    ensures { IsOutcome (integrity algorithm key.now ∷ []) (page_in W.bytes W.room writer.old)
+        (W.reserved writer.old)
+        result (page_in W.bytes W.room writer.new) }
+{
+    writer.add_message_integrity_with_prepared_key(key, algorithm)
+}

@@ -1,0 +1,302 @@
+//! A server's challenge, and how a client answers it (RFC 8489, section 9.2.5).
+ghost use Rattle.std.specs.Prelude.{◌≡◌, ◌≤◌, IfOk, Ok, Some, length, map, codes};
+ghost use Rattle.std.specs.Fmt.{WritesOnOk, WritesStyledOnOk};
+ghost use Rattle.std.specs.Option.{IfSome, is_none, option_copied, option_map};
+ghost use Rattle.stun_types.specs.Integrity.{verified_algorithm};
+ghost use Rattle.stun_types.specs.Limits.{TEXT_LIMIT};
+ghost use Rattle.stun_types.specs.PasswordAlgorithms.{integrity_of};
+ghost use Rattle.stun_auth.specs.ClientStep.{list_or_none, new_challenge};
+ghost use Rattle.stun_auth.specs.Signed.{plain_name};
+ghost use Rattle.stun_client.specs.Challenges.{Answered, by_rule, challenge_of, is_renewal};
+ghost use Rattle.stun_client.specs.Challenges.{list_for, list_kept};
+ghost use Rattle.stun_client.specs.Challenging.{list_in};
+ghost use Rattle.stun_client.specs.code.Kept.{challenge_seen};
+
+mod kept;
+mod reading;
+mod rule;
+mod signing;
+
+use crate::challenge::kept::{KeptChallenge, UserNaming};
+use crate::challenge::reading::{code_of, is_challenge, list_of, nonce_of, realm_of};
+use crate::challenge::rule::{asks_for_algorithms, chosen, is_hashed, lacks_userhash, listed};
+use crate::limited_text::LimitedText;
+use crate::preferences::Preferences;
+use std::alloc::{AllocError, Allocator, Global};
+use std::fmt;
+use std::marker::Model;
+use stun_base::key::long_term_key;
+use stun_types::attribute::{ErrorCode, PasswordAlgorithmValue, PasswordAlgorithms};
+use stun_types::message::{IntegrityAlgorithm, LongTermCredentials, Message, PreparedKey};
+
+/// A server's challenge with the key that answers it: realm, nonce, the server's list of algorithms,
+/// the algorithm, the name of the user, and the key (RFC 8489, section 9.2.5).
+///
+/// All of it is of one message, a 401 or a 438, and is chosen by one rule:
+///
+/// 1. If the nonce asks for password algorithms, the algorithm is the first of the message's list
+///    that the client supports. A message without a list, or with none that is supported, is
+///    ignored.
+/// 2. If it does not, the algorithm is HMAC-SHA1, and the list is not looked at. If the client does
+///    not support HMAC-SHA1, the message is ignored.
+/// 3. The user name is sent as a hash if the nonce allows it and the client does it. A client that
+///    must do it ignores a nonce that does not allow it.
+///
+/// Nothing that was read before decides, so an attacker who forges challenges cannot make a request
+/// that the real server accepts by less than the strongest algorithm that both sides support.
+///
+/// `Debug` shows nothing of the contents.
+///
+/// Contracts: they see the preferences and the challenge.
+#[derive(Drop)]
+pub struct Challenge<A: Allocator = Global> {
+    preferences: Preferences,
+    kept: KeptChallenge<A>,
+}
+
+impl<A: Allocator> Model for Challenge<A> {
+    ghost use Rattle.stun_client.specs.Challenges.{Answered};
+    ghost use Rattle.stun_client.specs.Rule.{IsChosen};
+    ghost use Rattle.stun_client.specs.code.Kept.{challenge_seen};
+
+    ghost Value = { Answered };
+
+    ghost view = { λ c. record {
+      preferences = c.preferences;
+      challenge = challenge_seen c.kept;
+    } };
+
+    ghost invariant = { λ c. IsChosen c.preferences (challenge_seen c.kept) };
+}
+
+impl<A: Allocator> fmt::Debug for Challenge<A> {
+    ghost debug_output = { λ _. Some (codes "Challenge { .. }") };
+
+    fn fmt<W: fmt::Write>(&self, f: &mut fmt::Formatter<W>) -> fmt::Result
+        ensures writes { WritesOnOk W.write_str_gives f.old result
+            (codes "Challenge { .. }") f.new }
+
+        // It writes the same with every width, precision and other option.
+        ensures styled { WritesStyledOnOk W.write_str_gives f.old result
+            (codes "Challenge { .. }") f.new }
+    {
+        f.write_str("Challenge { .. }")
+    }
+}
+
+impl<A: Allocator + Copy> Challenge<A> {
+    /// Reads a challenge: a 401 or a 438 with REALM and NONCE (RFC 8489, section 9.2.5). Returns
+    /// `None` if the message is another one, or is ignored by the rule (see `Challenge`).
+    ///
+    /// `before` is the challenge that the request was signed for. It matters to a 438 without a list
+    /// of algorithms alone: if the message is signed with that challenge's key, its list stands in
+    /// for the missing one.
+    ///
+    /// Fails if an allocation fails.
+    #[tactic(auto, using(crate::proofs::ChosenLemmas::challenge_is))]
+    pub fn of(
+        alloc: A,
+        preferences: Preferences,
+        credentials: &LongTermCredentials<A>,
+        before: Option<&Challenge<A>>,
+        message: &Message<'_>,
+    ) -> Result<Option<Challenge<A>>, AllocError>
+        ensures challenge { IfOk result (λ read. option_map (λ c. c.challenge) read
+            ≡ challenge_of preferences credentials.now
+            (option_map (λ (b : Answered). b.challenge) (option_copied before.entry)) message.now) }
+        ensures preferences { IfOk result (λ read. IfSome read
+            (λ c. c.preferences ≡ preferences)) }
+    {
+        if !is_challenge(message) {
+            return Ok(None);
+        }
+        let Some(realm) = realm_of(message) else {
+            return Ok(None);
+        };
+        let Some(nonce) = nonce_of(message) else {
+            return Ok(None);
+        };
+        let list = list_for(before, message);
+        let read = Challenge::by_rule(alloc, preferences, credentials, realm, nonce, &list)?;
+        Ok(read)
+    }
+
+    /// Returns the challenge with this realm, nonce and list, unless the rule ignores it.
+    #[tactic(auto, using(crate::proofs::ChosenLemmas::chosen_new))]
+    fn by_rule(
+        alloc: A,
+        preferences: Preferences,
+        credentials: &LongTermCredentials<A>,
+        realm: &str,
+        nonce: &str,
+        list: &PasswordAlgorithms<'_>,
+    ) -> Result<Option<Challenge<A>>, AllocError>
+        requires realm { length realm.now ≤ TEXT_LIMIT }
+        requires nonce { length nonce.now ≤ TEXT_LIMIT }
+        ensures challenge { IfOk result (λ made. option_map (λ c. c.challenge) made
+            ≡ by_rule preferences credentials.now realm.now nonce.now (map integrity_of list.now)) }
+        ensures preferences { IfOk result (λ made. IfSome made
+            (λ c. c.preferences ≡ preferences)) }
+    {
+        if lacks_userhash(preferences, nonce) {
+            return Ok(None);
+        }
+        let Some(algorithm) = chosen(preferences, nonce, list) else {
+            return Ok(None);
+        };
+        let kept = parts_of(
+            alloc,
+            preferences,
+            credentials,
+            realm,
+            nonce,
+            list,
+            algorithm,
+        )?;
+        Ok(Some(Challenge { preferences, kept }))
+    }
+}
+
+/// Makes the parts of a challenge for which an algorithm was chosen.
+fn parts_of<A: Allocator + Copy>(
+    alloc: A,
+    preferences: Preferences,
+    credentials: &LongTermCredentials<A>,
+    realm: &str,
+    nonce: &str,
+    list: &PasswordAlgorithms<'_>,
+    algorithm: IntegrityAlgorithm,
+) -> Result<KeptChallenge<A>, AllocError>
+    requires realm { length realm.now ≤ TEXT_LIMIT }
+    requires nonce { length nonce.now ≤ TEXT_LIMIT }
+    ensures { IfOk result (λ kept. challenge_seen kept
+        ≡ new_challenge preferences.anonymous_username credentials.now realm.now nonce.now
+        (Some (list_kept nonce.now (map integrity_of list.now))) algorithm) }
+{
+    let username = credentials.username();
+    let naming = UserNaming::new(alloc, is_hashed(preferences, nonce), username, realm)?;
+    let realm_kept = LimitedText::copied(alloc, realm)?;
+    let nonce_kept = LimitedText::copied(alloc, nonce)?;
+    let algorithms = list_kept(alloc, nonce, list)?;
+    let key = long_term_key(alloc, algorithm, username, realm, credentials.password());
+    Ok(KeptChallenge {
+        naming,
+        realm: realm_kept,
+        nonce: nonce_kept,
+        algorithms,
+        algorithm,
+        key: PreparedKey::new(key, algorithm),
+    })
+}
+
+/// Copies the list that a request repeats: none, if the nonce does not ask for a choice.
+fn list_kept<A: Allocator>(
+    alloc: A,
+    nonce: &str,
+    list: &PasswordAlgorithms<'_>,
+) -> Result<Vec<PasswordAlgorithmValue, A>, AllocError>
+    ensures { IfOk result (λ copy. map integrity_of copy.items
+        ≡ list_kept nonce.now (map integrity_of list.now)) }
+{
+    if asks_for_algorithms(nonce) {
+        listed(alloc, list)
+    } else {
+        Ok(Vec::new(alloc))
+    }
+}
+
+/// Returns the list that a message is judged by: its own, or if it is a signed 438 without a list
+/// the one of the challenge before.
+fn list_for<'a, A: Allocator>(
+    before: Option<&'a Challenge<A>>,
+    message: &Message<'a>,
+) -> PasswordAlgorithms<'a>
+    ensures { map integrity_of result
+        ≡ list_for (option_map (λ (b : Answered). b.challenge) (option_copied before.entry)) message.now }
+{
+    match before {
+        Some(before) => list_after(before, message),
+        None => own_list(message),
+    }
+}
+
+/// Returns the list that a message is judged by after a challenge.
+fn list_after<'a, A: Allocator>(
+    before: &'a Challenge<A>,
+    message: &Message<'a>,
+) -> PasswordAlgorithms<'a>
+    ensures { map integrity_of result ≡ list_for (Some before.now.challenge) message.now }
+{
+    if is_renewal(before, message) {
+        before.list()
+    } else {
+        own_list(message)
+    }
+}
+
+/// Returns the list of a message, which is empty if the message has none.
+fn own_list<'a>(message: &Message<'a>) -> PasswordAlgorithms<'a>
+    ensures { map integrity_of result ≡ list_or_none (list_in message.now) }
+{
+    match list_of(message) {
+        Some(list) => list,
+        None => PasswordAlgorithms::new(&[]),
+    }
+}
+
+/// Returns whether a message is a 438 without a list that is signed by the key of a challenge.
+fn is_renewal<A: Allocator>(before: &Challenge<A>, message: &Message<'_>) -> bool
+    ensures { result ≡ is_renewal before.now.challenge message.now }
+{
+    code_of(message) == Some(ErrorCode::STALE_NONCE)
+        && list_of(message).is_none()
+        && before.verifies(message).is_some()
+}
+
+impl<A: Allocator> Challenge<A> {
+    /// Returns the algorithm that requests are signed with.
+    pub fn algorithm(&self) -> IntegrityAlgorithm
+        ensures { result ≡ self.now.challenge.algorithm }
+    {
+        self.kept.algorithm
+    }
+
+    /// Returns the realm.
+    pub fn realm(&self) -> &str
+        ensures { result.now ≡ self.now.challenge.realm }
+    {
+        self.kept.realm.as_str()
+    }
+
+    /// Returns the nonce.
+    pub fn nonce(&self) -> &str
+        ensures { result.now ≡ self.now.challenge.nonce }
+    {
+        self.kept.nonce.as_str()
+    }
+
+    /// Returns whether the user is named by a hash (RFC 8489, section 14.4).
+    pub fn is_hashed(&self) -> bool
+        ensures { result ≡ is_none (plain_name self.now.challenge.naming) }
+    {
+        matches!(&self.kept.naming, UserNaming::Hashed(_))
+    }
+
+    /// Returns the server's list, which is empty if the nonce does not ask for a choice.
+    fn list(&self) -> PasswordAlgorithms<'_>
+        ensures { map integrity_of result ≡ self.now.challenge.algorithms }
+    {
+        PasswordAlgorithms::new(self.kept.algorithms.as_slice())
+    }
+
+    /// Returns the algorithm of a message's signature if it is valid under the key, and `None`
+    /// otherwise. Does not allocate.
+    pub fn verifies(&self, message: &Message<'_>) -> Option<IntegrityAlgorithm>
+        ensures { result ≡ verified_algorithm message.now self.now.challenge.key }
+    {
+        match message.validate_integrity_with_prepared_key(&self.kept.key) {
+            Ok(algorithm) => Some(algorithm),
+            Err(_) => None,
+        }
+    }
+}

@@ -1,0 +1,65 @@
+//! What is read of a challenge: the first visible attribute of each type (RFC 8489, section 14).
+ghost use Rattle.std.specs.Prelude.{◌≡◌, ◌≤◌, length, map};
+ghost use Rattle.std.specs.Option.{option_copied, option_map, option_map_or};
+ghost use Rattle.stun_types.specs.Limits.{TEXT_LIMIT};
+ghost use Rattle.stun_types.specs.PasswordAlgorithms.{integrity_of};
+ghost use Rattle.stun_client.specs.Challenging.{code_in, is_challenge, list_in};
+ghost use Rattle.stun_client.specs.Challenging.{nonce_in, realm_in};
+
+use stun_types::attribute::{ErrorCode, Nonce, PasswordAlgorithms, Realm};
+use stun_types::message::{Message, MessageClass};
+
+/// Returns the code of an error response.
+pub(crate) fn code_of(message: &Message<'_>) -> Option<u16>
+    ensures { result ≡ code_in message.now }
+{
+    if message.class() != MessageClass::Error {
+        return None;
+    }
+    match message.attribute::<ErrorCode<'_>>() {
+        Ok(error) => Some(error.code()),
+        Err(_) => None,
+    }
+}
+
+/// Returns whether an error response asks for credentials, by 401 or by 438.
+pub(crate) fn is_challenge(message: &Message<'_>) -> bool
+    ensures { result ≡ is_challenge message.now }
+{
+    match code_of(message) {
+        Some(code) => code == ErrorCode::UNAUTHORIZED || code == ErrorCode::STALE_NONCE,
+        None => false,
+    }
+}
+
+/// Returns the text of REALM.
+pub(crate) fn realm_of<'a>(message: &Message<'a>) -> Option<&'a str>
+    ensures text { option_copied result ≡ realm_in message.now }
+    ensures short { option_map_or (λ text. length text.now) result 0 ≤ TEXT_LIMIT }
+{
+    match message.attribute::<Realm<'a>>() {
+        Ok(realm) => Some(realm.realm()),
+        Err(_) => None,
+    }
+}
+
+/// Returns the text of NONCE.
+pub(crate) fn nonce_of<'a>(message: &Message<'a>) -> Option<&'a str>
+    ensures text { option_copied result ≡ nonce_in message.now }
+    ensures short { option_map_or (λ text. length text.now) result 0 ≤ TEXT_LIMIT }
+{
+    match message.attribute::<Nonce<'a>>() {
+        Ok(nonce) => Some(nonce.nonce()),
+        Err(_) => None,
+    }
+}
+
+/// Returns the list of password algorithms.
+pub(crate) fn list_of<'a>(message: &Message<'a>) -> Option<PasswordAlgorithms<'a>>
+    ensures { option_map (map integrity_of) result ≡ list_in message.now }
+{
+    match message.attribute::<PasswordAlgorithms<'a>>() {
+        Ok(list) => Some(list),
+        Err(_) => None,
+    }
+}

@@ -1,0 +1,122 @@
+//! The rule by which a challenge is answered (RFC 8489, section 9.2.5).
+ghost use Rattle.std.specs.Prelude.{◌≡◌, IfOk, find, map};
+ghost use Rattle.stun_types.specs.PasswordAlgorithms.{integrity_of};
+ghost use Rattle.stun_auth.specs.ClientStep.{is_required};
+ghost use Rattle.stun_auth.specs.Feature.{is_possible};
+ghost use Rattle.stun_auth.specs.Nonces.{asks_for_algorithms, asks_for_userhash};
+ghost use Rattle.stun_client.specs.Preferences.{supports};
+ghost use Rattle.stun_client.specs.Rule.{chosen, is_hashed, lacks_userhash};
+
+use crate::preferences::Preferences;
+use std::alloc::{AllocError, Allocator};
+use stun_auth::auth::{Feature, NonceSecurityBits};
+use stun_types::attribute::{PasswordAlgorithmValue, PasswordAlgorithms};
+use stun_types::message::IntegrityAlgorithm;
+
+/// Returns whether a nonce asks for password algorithms.
+pub(crate) fn asks_for_algorithms(nonce: &str) -> bool
+    ensures { result ≡ asks_for_algorithms nonce.now }
+{
+    match NonceSecurityBits::from_nonce(nonce) {
+        Some(bits) => bits.password_algorithms(),
+        None => false,
+    }
+}
+
+/// Returns whether a nonce allows hashed user names.
+fn asks_for_userhash(nonce: &str) -> bool
+    ensures { result ≡ asks_for_userhash nonce.now }
+{
+    match NonceSecurityBits::from_nonce(nonce) {
+        Some(bits) => bits.username_anonymity(),
+        None => false,
+    }
+}
+
+/// Returns whether hashed user names are sent at all.
+fn is_possible(feature: Feature) -> bool
+    ensures { result ≡ is_possible feature }
+{
+    match feature {
+        Feature::Auto => true,
+        Feature::Required => true,
+        Feature::Disabled => false,
+    }
+}
+
+/// Returns whether user names must be hashed.
+fn is_required(feature: Feature) -> bool
+    ensures { result ≡ is_required feature }
+{
+    match feature {
+        Feature::Auto => false,
+        Feature::Required => true,
+        Feature::Disabled => false,
+    }
+}
+
+/// Returns whether the user is named by a hash.
+pub(crate) fn is_hashed(preferences: Preferences, nonce: &str) -> bool
+    ensures { result ≡ is_hashed preferences nonce.now }
+{
+    asks_for_userhash(nonce) && is_possible(preferences.anonymous_username)
+}
+
+/// Returns whether the user must be named by a hash, and the nonce does not allow it.
+pub(crate) fn lacks_userhash(preferences: Preferences, nonce: &str) -> bool
+    ensures { result ≡ lacks_userhash preferences nonce.now }
+{
+    is_required(preferences.anonymous_username) && !asks_for_userhash(nonce)
+}
+
+/// Returns the first algorithm of a list that is supported.
+fn first_supported(
+    preferences: Preferences,
+    list: &PasswordAlgorithms<'_>,
+) -> Option<IntegrityAlgorithm>
+    ensures { result ≡ find (supports preferences) (map integrity_of list.now) }
+{
+    for i in 0..list.len() {
+        if let Some(algorithm) = list.get(i) {
+            let integrity = algorithm.as_integrity();
+            if preferences.supports(integrity) {
+                return Some(integrity);
+            }
+        }
+    }
+    None
+}
+
+/// Returns the algorithm for a nonce and a list, and `None` if the challenge is ignored.
+pub(crate) fn chosen(
+    preferences: Preferences,
+    nonce: &str,
+    list: &PasswordAlgorithms<'_>,
+) -> Option<IntegrityAlgorithm>
+    ensures { result ≡ chosen preferences nonce.now (map integrity_of list.now) }
+{
+    if asks_for_algorithms(nonce) {
+        return first_supported(preferences, list);
+    }
+    if preferences.hmac_sha1 {
+        Some(IntegrityAlgorithm::Sha1)
+    } else {
+        None
+    }
+}
+
+/// Copies a list.
+pub(crate) fn listed<A: Allocator>(
+    alloc: A,
+    list: &PasswordAlgorithms<'_>,
+) -> Result<Vec<PasswordAlgorithmValue, A>, AllocError>
+    ensures { IfOk result (λ copy. copy.items ≡ list.now) }
+{
+    let mut copy = Vec::new(alloc);
+    for i in 0..list.len() {
+        if let Some(algorithm) = list.get(i) {
+            copy.push(algorithm)?;
+        }
+    }
+    Ok(copy)
+}

@@ -1,0 +1,157 @@
+//! Signing what a client sends for a challenge (RFC 8489, section 9.2.5).
+ghost use Rattle.std.specs.Prelude.{◌≡◌, ◌≤◌, ◌+◌, length, true, false, IfOk};
+ghost use Rattle.stun_base.specs.MessageType.{class_in};
+ghost use Rattle.stun_auth.specs.Additions.{UnlessMemory, WantsMemory};
+ghost use Rattle.stun_auth.specs.Additions.{added_all, growth, page_in, written_page};
+ghost use Rattle.stun_auth.specs.ClientSigning.{algorithm_choice, challenge_additions};
+ghost use Rattle.stun_auth.specs.ClientSigning.{identity, name_attribute};
+ghost use Rattle.stun_auth.specs.Reading.{error_code, reading_of};
+ghost use Rattle.stun_auth.specs.Signed.{IsText, IsUnsigned, ReadsAs, added_under};
+ghost use Rattle.stun_auth.specs.code.Additions.{IsAdded, IsOutcome};
+ghost use Rattle.stun_client.specs.Downgrade.{IsNowhereBidDown};
+ghost use Rattle.stun_client.specs.code.AddedAttribute.{attribute_of};
+ghost use Rattle.stun_client.specs.code.Kept.{challenge_seen, naming_seen};
+
+use crate::addition::{AddedAttribute, add, add_integrity};
+use crate::challenge::Challenge;
+use crate::challenge::kept::{KeptChallenge, UserNaming};
+use crate::laws::signed_requests_are_not_bid_down;
+use std::alloc::Allocator;
+use stun_types::message::{IntegrityAlgorithm, StunWriteError};
+use stun_types::prelude::*;
+
+impl<A: Allocator> UserNaming<A> {
+    /// Returns the attribute that names the user.
+    fn attribute(&self) -> AddedAttribute<'_>
+        ensures { attribute_of result ≡ name_attribute (naming_seen self.now) }
+    {
+        match self {
+            UserNaming::Plain(name) => AddedAttribute::Username(name.as_str()),
+            UserNaming::Hashed(hash) => AddedAttribute::Userhash(*hash),
+        }
+    }
+}
+
+impl<A: Allocator> KeptChallenge<A> {
+    /// Adds nonce, realm and the name of the user.
+    fn add_identity<W: MessageWrite>(&self, writer: &mut W) -> Result<(), StunWriteError>
+        requires { 20 ≤ length (W.bytes writer.old) }
+        ensures header { 20 ≤ length (W.bytes writer.new) }
+        ensures added { IsAdded (identity (challenge_seen self.now))
+            (page_in W.bytes W.room writer.old) (W.reserved writer.old)
+            result (page_in W.bytes W.room writer.new) (W.reserved writer.new) }
+    {
+        add(writer, AddedAttribute::Nonce(self.nonce.as_str()))?;
+        add(writer, AddedAttribute::Realm(self.realm.as_str()))?;
+        add(writer, self.naming.attribute())
+    }
+
+    /// Adds the server's list and the chosen algorithm, if they must be named.
+    fn add_algorithm_choice<W: MessageWrite>(&self, writer: &mut W) -> Result<(), StunWriteError>
+        requires { 20 ≤ length (W.bytes writer.old) }
+        ensures header { 20 ≤ length (W.bytes writer.new) }
+        ensures added { IsAdded (algorithm_choice
+            (challenge_seen self.now).algorithms self.now.algorithm)
+            (page_in W.bytes W.room writer.old) (W.reserved writer.old)
+            result (page_in W.bytes W.room writer.new) (W.reserved writer.new) }
+    {
+        let choice = AddedAttribute::PasswordAlgorithm(self.algorithm);
+        match self.algorithms.as_slice() {
+            [] => match self.algorithm {
+                IntegrityAlgorithm::Sha1 => Ok(()),
+                IntegrityAlgorithm::Sha256 => add(writer, choice),
+            },
+            list => {
+                add(writer, AddedAttribute::PasswordAlgorithms(list))?;
+                add(writer, choice)
+            }
+        }
+    }
+
+    /// Adds the choice of the algorithm and the integrity attribute.
+    fn add_protection<W: MessageWrite>(&self, writer: &mut W) -> Result<(), StunWriteError>
+        requires { 20 ≤ length (W.bytes writer.old) }
+        ensures { IsOutcome (challenge_additions false (challenge_seen self.now))
+            (page_in W.bytes W.room writer.old) (W.reserved writer.old)
+            result (page_in W.bytes W.room writer.new) }
+    {
+        self.add_algorithm_choice(writer)?;
+        add_integrity(writer, &self.key, self.algorithm)
+    }
+
+    /// Adds what a request needs, and the integrity attribute.
+    fn add_all<W: MessageWrite>(&self, writer: &mut W) -> Result<(), StunWriteError>
+        requires { 20 ≤ length (W.bytes writer.old) }
+        ensures { IsOutcome (challenge_additions true (challenge_seen self.now))
+            (page_in W.bytes W.room writer.old) (W.reserved writer.old)
+            result (page_in W.bytes W.room writer.new) }
+    {
+        self.add_identity(writer)?;
+        self.add_protection(writer)
+    }
+
+    /// Does nothing: the texts are UTF-8.
+    fn keeps_texts(&self)
+        ensures { IsText (added_under true (challenge_seen self.now)) }
+    {
+        self.naming.keeps_text();
+    }
+
+    /// Returns the message with what the challenge asks for.
+    fn signed<W: MessageWrite>(&self, writer: W) -> Result<W, StunWriteError>
+        requires { 20 ≤ length (W.bytes writer) }
+        ensures { UnlessMemory result (written_page W.bytes W.room result
+            ≡ added_all (challenge_additions true (challenge_seen self.now))
+            (page_in W.bytes W.room writer))
+            (WantsMemory (challenge_additions true (challenge_seen self.now))
+            (page_in W.bytes W.room writer) (W.reserved writer)) }
+    {
+        let mut writer = writer;
+        self.add_all(&mut writer)?;
+        Ok(writer)
+    }
+}
+
+impl<A: Allocator> Challenge<A> {
+    /// Signs a request for the server that sent the challenge (RFC 8489, section 9.2.5). These
+    /// attributes are added, in this order:
+    ///
+    /// - NONCE, REALM, and USERNAME or USERHASH;
+    /// - PASSWORD-ALGORITHMS, which repeats the server's list, and PASSWORD-ALGORITHM, if the nonce
+    ///   asks for password algorithms;
+    /// - MESSAGE-INTEGRITY or MESSAGE-INTEGRITY-SHA256.
+    ///
+    /// The writer must hold a message without FINGERPRINT. The attributes are added one after
+    /// another, and the first error decides. It drops the writer.
+    ///
+    /// - `MessageIntegrityExists`, `AttributeExists`: the message has a signature, or this
+    ///   attribute, already.
+    /// - `TooLarge`: the message would be too long, or the user name has more than 513 bytes.
+    /// - `TooSmall`: the writer has no room.
+    /// - `OutOfMemory`: an allocation failed.
+    ///
+    /// Contracts: `not_bid_down` says that a server which accepts the request accepts it by the
+    /// strongest algorithm that both sides support, whatever this client has read before.
+    pub fn sign<W: MessageWrite>(&self, writer: W) -> Result<W, StunWriteError>
+        requires { 20 ≤ length (W.bytes writer) }
+        ensures signed { UnlessMemory result (written_page W.bytes W.room result
+            ≡ added_all (challenge_additions true self.now.challenge)
+            (page_in W.bytes W.room writer))
+            (WantsMemory (challenge_additions true self.now.challenge)
+            (page_in W.bytes W.room writer) (W.reserved writer)) }
+        ensures grows { IfOk result (λ signed. length (W.bytes signed)
+            ≡ length (W.bytes writer) + growth (challenge_additions true self.now.challenge)) }
+        ensures reads { IfOk result (λ signed. IsUnsigned (W.bytes writer)
+            → ReadsAs (class_in (W.bytes writer)) (error_code (W.bytes writer))
+            (added_under true self.now.challenge) (reading_of (W.bytes signed))) }
+        ensures not_bid_down { IfOk result (λ signed. IsUnsigned (W.bytes writer)
+            → IsNowhereBidDown self.now.preferences (reading_of (W.bytes signed))) }
+    {
+        // Laws do nothing when they run: these are for the clauses `reads` and `not_bid_down`.
+        stun_auth::laws::signed_messages_are_read();
+        stun_auth::laws::sides_add_by_attribute();
+        signed_requests_are_not_bid_down();
+        self.kept.keeps_texts();
+        self.kept.signed(writer)
+    }
+}

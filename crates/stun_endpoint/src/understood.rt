@@ -1,0 +1,31 @@
+//! Whether the attributes of a message are understood (RFC 8489, sections 6.3 and 14).
+
+ghost use Rattle.std.specs.Prelude.{◌≡◌};
+ghost use Rattle.stun_endpoint.specs.Received.{is_empty};
+ghost use Rattle.stun_extra.specs.Unknown.{is_known, is_unknown, unknown_types};
+
+use stun_base::attribute_type::AttributeType;
+use stun_types::message::Message;
+
+/// Whether a type is in a list.
+fn is_known(known: &[AttributeType], kind: AttributeType) -> bool
+    ensures { result ≡ is_known known.now kind.0 }
+{
+    known.iter().any(|one| one.value() == kind.value())
+}
+
+/// Whether attributes of a type must be understood, and are not.
+fn is_unknown(known: &[AttributeType], kind: AttributeType) -> bool
+    ensures { result ≡ is_unknown known.now kind.0 }
+{
+    kind.value() < 0x8000 && !is_known(known, kind)
+}
+
+/// Whether the visible attributes of a message are understood, as far as they must be.
+pub(crate) fn are_understood(known: &[AttributeType], message: &Message<'_>) -> bool
+    ensures { result ≡ is_empty (unknown_types known.now message.now) }
+{
+    !message
+        .iter_attributes()
+        .any(|found| is_unknown(known, found.1.get_type()))
+}

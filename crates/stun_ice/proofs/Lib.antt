@@ -1,0 +1,4 @@
+-- Lemmas of the crate.
+pub mod ConflictLemmas
+pub mod AcceptingLemmas
+pub mod RoleLemmas

@@ -1,0 +1,104 @@
+-- An agent, and the checks that it sends (RFC 8445, sections 5.3 and 7.2).
+use Rattle.std.specs.Prelude.{ℕ, List, [], ◌∷◌, Bool, true, false, ◌||◌, ◌&&◌, ◌==◌, not}
+use Rattle.std.specs.Prelude.{length, nat_le, if◌then◌else◌, Option, Some, None}
+use Rattle.std.specs.List.{list_any}
+use Rattle.std.specs.declared.net.socket_addr.SocketAddr.{SocketAddr}
+use Rattle.byteorder.specs.Endian.{big_bytes}
+use Rattle.stun_base.specs.Attributes.{USERNAME}
+use Rattle.stun_base.specs.declared.keys.algorithm.IntegrityAlgorithm.TheVariants.{Sha1}
+use Rattle.stun_base.specs.declared.wire.message_type.MessageClass.TheVariants.{Request}
+use Rattle.stun_types.specs.Attribute.{TypedValue}
+use Rattle.stun_types.specs.Writing.{empty_message, with_attribute, with_integrity}
+use Rattle.stun_extra.specs.AttributeTypes.{ICE_CONTROLLED, ICE_CONTROLLING, PRIORITY}
+use Rattle.stun_extra.specs.AttributeTypes.{USE_CANDIDATE}
+use Rattle.stun_extra.specs.Fingerprint.{with_fingerprint}
+use Rattle.stun_ice.specs.declared.checker.BuildError.{BuildError}
+use Rattle.stun_ice.specs.declared.checker.BuildError.TheVariants.{ColonInName, NameLength}
+use Rattle.stun_ice.specs.declared.checker.BuildError.TheVariants.{PasswordLength}
+use Rattle.stun_ice.specs.declared.role.Role.{Role}
+use Rattle.stun_ice.specs.declared.role.Role.TheVariants.{Controlling, Controlled}
+
+-- an agent in a session with one peer
+pub record Agent : Type 0 where
+  -- USERNAME of the checks that it receives: its own name, a colon, and the name of the peer
+  pub incoming : List ℕ
+  -- USERNAME of the checks that it sends: the name of the peer, a colon, and its own name
+  pub outgoing : List ℕ
+  -- its own password, which signs the checks that it receives and its answers to them
+  pub password : List ℕ
+  -- the password of the peer, which signs the checks that it sends and the answers to them
+  pub peer_password : List ℕ
+  pub tie_breaker : ℕ
+  pub role : Role
+
+-- ---- settings that make no agent
+
+-- whether a length is between two others
+abbrev pub is_within : ℕ → ℕ → List ℕ → Bool
+is_within least most text = nat_le least (length text) && nat_le (length text) most
+
+-- whether two names have 4 to 256 bytes each (section 5.3)
+abbrev pub are_names : List ℕ → List ℕ → Bool
+are_names one other = is_within 4 256 one && is_within 4 256 other
+
+-- whether two passwords have 22 to 256 bytes each (section 5.3)
+abbrev pub are_passwords : List ℕ → List ℕ → Bool
+are_passwords one other = is_within 22 256 one && is_within 22 256 other
+
+abbrev pub has_colon : List ℕ → Bool
+has_colon name = list_any (λ byte. byte == 58) name
+
+-- why names and passwords make no agent, the first reason that holds
+abbrev pub build_refusal : List ℕ → List ℕ → List ℕ → List ℕ → Option BuildError
+build_refusal name peer_name password peer_password =
+    if not (are_names name peer_name) then Some NameLength
+    else if has_colon name || has_colon peer_name then Some ColonInName
+    else if not (are_passwords password peer_password) then Some PasswordLength
+    else None
+
+-- ---- a check
+
+-- what an agent stores of a check: the id, where it went, the role that its sender had, whether it
+-- nominates, and its bytes
+pub record SentCheck : Type 0 where
+  pub id : ℕ
+  pub to : SocketAddr
+  pub role : Role
+  pub nominates : Bool
+  pub bytes : List ℕ
+
+-- USERNAME and PRIORITY
+abbrev pub username_attribute : List ℕ → TypedValue
+username_attribute name = record { kind = USERNAME; value = name }
+
+abbrev pub priority_attribute : ℕ → TypedValue
+priority_attribute priority = record { kind = PRIORITY; value = big_bytes 4 priority }
+
+-- ICE-CONTROLLING or ICE-CONTROLLED, with the tie-breaker
+abbrev pub role_attribute : Role → ℕ → TypedValue
+role_attribute Controlling tie = record { kind = ICE_CONTROLLING; value = big_bytes 8 tie }
+role_attribute Controlled tie = record { kind = ICE_CONTROLLED; value = big_bytes 8 tie }
+
+-- only the agent that controls nominates (section 7.1.2)
+abbrev pub can_nominate : Role → Bool → Bool
+can_nominate Controlling nominate = nominate
+can_nominate Controlled nominate = false
+
+-- USE-CANDIDATE, if the check nominates
+abbrev pub with_nomination : Bool → List ℕ → List ℕ
+with_nomination true page = with_attribute page (record { kind = USE_CANDIDATE; value = [] })
+with_nomination false page = page
+
+-- the attributes of a check before it is signed (section 7.2.4)
+abbrev pub check_page : Agent → ℕ → ℕ → Bool → List ℕ
+check_page a id priority nominates =
+    with_nomination nominates
+    (with_attribute (with_attribute (with_attribute (empty_message Request 1 id)
+    (username_attribute a.outgoing)) (priority_attribute priority))
+    (role_attribute a.role a.tie_breaker))
+
+-- a check: it is signed under the password of the peer, and ends with FINGERPRINT (sections 7.2.2
+-- and 7.2.4)
+unfoldable pub check_bytes : Agent → ℕ → ℕ → Bool → List ℕ
+check_bytes a id priority nominates =
+    with_fingerprint (with_integrity (check_page a id priority nominates) Sha1 a.peer_password)

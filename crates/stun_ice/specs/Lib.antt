@@ -1,0 +1,24 @@
+-- What the contracts of this crate say, in the order to read it.
+
+-- the two roles, and how a conflict ends (RFC 8445, sections 7.2.5.1 and 7.3.1.1)
+pub mod Roles
+-- addresses, whose two spellings of IPv4 are one
+pub mod Addresses
+-- an agent, and the checks that it sends (sections 5.3 and 7.2)
+pub mod Agent
+-- the codes of error responses
+pub mod Refusals
+-- what a check says (section 7.1)
+pub mod Parts
+-- which checks of the peer an agent accepts, and how it refuses others (section 7.3)
+pub mod Checks
+-- its answers, byte by byte
+pub mod Answers
+-- what the answer to a check comes to (section 7.2.5)
+pub mod Responses
+-- what a datagram comes to
+pub mod Received
+-- when the caller is told that a check is accepted, or that a pair is valid
+pub mod Told
+-- two agents, over a network that loses, repeats and reorders
+pub mod Conflicts

@@ -1,0 +1,29 @@
+-- The roles of two agents (RFC 8445, section 6.1.1), and how a conflict between them ends (sections
+-- 7.2.5.1 and 7.3.1.1).
+use Rattle.std.specs.Prelude.{ℕ, Bool, true, false, nat_le, Option, Some, None}
+use Rattle.stun_ice.specs.declared.role.Role.{Role}
+use Rattle.stun_ice.specs.declared.role.Role.TheVariants.{Controlling, Controlled}
+
+abbrev pub opposite : Role → Role
+opposite Controlling = Controlled
+opposite Controlled = Controlling
+
+abbrev pub is_same_role : Role → Role → Bool
+is_same_role Controlling Controlling = true
+is_same_role Controlling Controlled = false
+is_same_role Controlled Controlling = false
+is_same_role Controlled Controlled = true
+
+-- the role of an agent whose peer has the same role, by whether its own tie-breaker counts as the
+-- larger one: who has the larger one controls. `None` if it is the peer who has to switch
+abbrev pub role_after_rival : Role → Bool → Option Role
+role_after_rival Controlling true = None
+role_after_rival Controlling false = Some Controlled
+role_after_rival Controlled true = Some Controlling
+role_after_rival Controlled false = None
+
+-- the role of an agent with a tie-breaker after a check, by the tie-breaker of the sender if both
+-- have one role. The receiver's counts as the larger if they are equal (section 7.3.1.1)
+abbrev pub role_after_check : Role → ℕ → Option ℕ → Option Role
+role_after_check role ours None = Some role
+role_after_check role ours (Some theirs) = role_after_rival role (nat_le theirs ours)

@@ -1,0 +1,367 @@
+//! One agent of ICE, as far as its checks are concerned (RFC 8445, sections 7.2 and 7.3).
+
+ghost use Rattle.std.specs.Fmt.{WritesOnOk, WritesStyledOnOk};
+ghost use Rattle.std.specs.List.{list_any};
+ghost use Rattle.std.specs.Prelude.{◌≡◌, ◌≤◌, ◌==◌, ◌&&◌, Err, IfOk, IsOkUnless, MatchOption, OnOk};
+ghost use Rattle.std.specs.Prelude.{Some, codes, length};
+ghost use Rattle.std.specs.String.{string_bytes};
+ghost use Rattle.stun_base.specs.Keys.{with_colon};
+ghost use Rattle.stun_types.specs.Writing.{IsOpen, empty_message, with_attribute};
+ghost use Rattle.stun_ice.specs.Agent.{are_names, are_passwords, build_refusal, can_nominate};
+ghost use Rattle.stun_ice.specs.Agent.{check_bytes, check_page, has_colon, is_within};
+ghost use Rattle.stun_ice.specs.Agent.{priority_attribute, role_attribute, username_attribute};
+ghost use Rattle.stun_ice.specs.Agent.{with_nomination};
+
+mod answering;
+pub(crate) mod judging;
+pub(crate) mod receiving;
+mod responses;
+
+use crate::check::Check;
+use crate::role::Role;
+use std::alloc::{AllocError, Allocator, Global};
+use std::fmt;
+use std::marker::Model;
+use std::net::SocketAddr;
+use stun_base::key::IntegrityKey;
+use stun_base::prepared_key::PreparedKey;
+use stun_extra::attribute::{IceControlled, IceControlling, Priority, UseCandidate};
+use stun_extra::fingerprint::finish_with_fingerprint;
+use stun_types::attribute::Username;
+use stun_types::message::{
+    BINDING, IntegrityAlgorithm, Message, MessageWriteVec, StunWriteError, TransactionId,
+};
+use stun_types::prelude::*;
+use thiserror::Error;
+
+/// The name and the password of one side, as it sent them to the other over signalling (RFC 8445,
+/// section 5.3). `Debug` shows none of it.
+#[derive(Clone, Copy, Drop)]
+pub struct Credentials<'a> {
+    /// The username fragment, of 4 to 256 bytes without a colon.
+    pub name: &'a str,
+    /// The password, of 22 to 256 bytes.
+    pub password: &'a str,
+}
+
+/// Why a checker is not built.
+#[derive(Clone, Copy, Debug, PartialEq, Eq, Error)]
+#[non_exhaustive]
+pub enum BuildError {
+    /// A name has fewer than 4 or more than 256 bytes.
+    #[error("a name has fewer than 4 or more than 256 bytes")]
+    NameLength,
+    /// A name has a colon, which separates the two names in USERNAME.
+    #[error("a name has a colon")]
+    ColonInName,
+    /// A password has fewer than 22 or more than 256 bytes.
+    #[error("a password has fewer than 22 or more than 256 bytes")]
+    PasswordLength,
+    /// An allocation failed.
+    #[error("out of memory")]
+    OutOfMemory,
+}
+
+/// One agent in a session with one peer: the credentials of both sides, the tie-breaker, and the
+/// role that the agent has now. It writes checks, judges those of the peer and writes their answers,
+/// and judges the answers to its own.
+///
+/// Candidates, pairs, their order and pacing, and retransmissions are yours. A response is judged
+/// with the check that it answers, so store the check with its pair.
+///
+/// Contracts: they see all of it. `Debug` shows none of it, because there are passwords in it.
+#[derive(Drop)]
+pub struct Checker<A: Allocator = Global> {
+    alloc: A,
+    incoming: String<A>,
+    outgoing: String<A>,
+    password: PreparedKey<A>,
+    peer_password: PreparedKey<A>,
+    tie_breaker: u64,
+    role: Role,
+}
+
+impl<A: Allocator> Model for Checker<A> {
+    ghost use Rattle.std.specs.String.{string_bytes};
+    ghost use Rattle.stun_ice.specs.Agent.{Agent};
+
+    ghost Value = { Agent };
+
+    ghost view = { λ checker. record {
+      incoming = string_bytes checker.incoming;
+      outgoing = string_bytes checker.outgoing;
+      password = checker.password;
+      peer_password = checker.peer_password;
+      tie_breaker = checker.tie_breaker;
+      role = checker.role;
+    } };
+}
+
+impl<A: Allocator> fmt::Debug for Checker<A> {
+    ghost debug_output = { λ _. Some (codes "Checker { .. }") };
+
+    fn fmt<W: fmt::Write>(&self, f: &mut fmt::Formatter<W>) -> fmt::Result
+        ensures writes { WritesOnOk W.write_str_gives f.old result
+            (codes "Checker { .. }") f.new }
+
+        // It writes the same with every width, precision and other option.
+        ensures styled { WritesStyledOnOk W.write_str_gives f.old result
+            (codes "Checker { .. }") f.new }
+    {
+        f.write_str("Checker { .. }")
+    }
+}
+
+/// Whether two texts have at least and at most so many bytes each.
+fn are_within(one: &str, other: &str, least: usize, most: usize) -> bool
+    ensures { result ≡ is_within least most one.now && is_within least most other.now }
+{
+    least <= one.len() && one.len() <= most && least <= other.len() && other.len() <= most
+}
+
+/// Whether a name has a colon.
+fn has_colon(name: &str) -> bool
+    ensures { result ≡ has_colon name.now }
+{
+    name.as_bytes().contains(&b':')
+}
+
+/// Why these credentials make no checker, if they make none.
+fn refusal(local: &Credentials<'_>, remote: &Credentials<'_>) -> Option<BuildError>
+    ensures { result ≡ build_refusal local.now.name.now remote.now.name.now local.now.password.now
+        remote.now.password.now }
+{
+    if !are_within(local.name, remote.name, 4, 256) {
+        return Some(BuildError::NameLength);
+    }
+    if has_colon(local.name) || has_colon(remote.name) {
+        return Some(BuildError::ColonInName);
+    }
+    if !are_within(local.password, remote.password, 22, 256) {
+        return Some(BuildError::PasswordLength);
+    }
+    None
+}
+
+/// Two names with a colon between them.
+fn joined<A: Allocator + Copy>(alloc: A, front: &str, back: &str) -> Result<String<A>, AllocError>
+    ensures { IfOk result (λ text. string_bytes text ≡ with_colon front.now back.now) }
+{
+    let mut text = String::from_str(alloc, front)?;
+    text.push_str(":")?;
+    text.push_str(back)?;
+    Ok(text)
+}
+
+/// A password, prepared for HMAC-SHA1.
+fn prepared<A: Allocator>(alloc: A, password: &str) -> Result<PreparedKey<A>, AllocError>
+    ensures { IfOk result (λ key. key ≡ password.now) }
+{
+    let key = IntegrityKey::from_bytes(alloc, password.as_bytes())?;
+    Ok(PreparedKey::new(key, IntegrityAlgorithm::Sha1))
+}
+
+impl<A: Allocator + Copy> Checker<A> {
+    /// Creates an agent from the credentials of both sides, its tie-breaker and the role that it
+    /// begins with. The tie-breaker is a random number of 64 bits (RFC 8445, section 7.1.3).
+    ///
+    /// # Errors
+    ///
+    /// The first of these that applies:
+    ///
+    /// - `NameLength`: a name has fewer than 4 or more than 256 bytes.
+    /// - `ColonInName`: a name has a colon.
+    /// - `PasswordLength`: a password has fewer than 22 or more than 256 bytes.
+    /// - `OutOfMemory`: an allocation failed.
+    pub fn new(
+        alloc: A,
+        local: Credentials<'_>,
+        remote: Credentials<'_>,
+        tie_breaker: u64,
+        role: Role,
+    ) -> Result<Checker<A>, BuildError>
+        ensures refused { MatchOption (build_refusal local.entry.name.now remote.entry.name.now
+            local.entry.password.now remote.entry.password.now)
+            (IsOkUnless result BuildError.OutOfMemory) (λ refusal. result ≡ Err refusal) }
+        ensures built { IfOk result (λ checker. checker ≡ record {
+          incoming = with_colon local.entry.name.now remote.entry.name.now;
+          outgoing = with_colon remote.entry.name.now local.entry.name.now;
+          password = local.entry.password.now;
+          peer_password = remote.entry.password.now;
+          tie_breaker = tie_breaker;
+          role = role;
+        }) }
+    {
+        if let Some(refusal) = refusal(&local, &remote) {
+            return Err(refusal);
+        }
+        match Checker::built_of(alloc, &local, &remote, tie_breaker, role) {
+            Ok(checker) => Ok(checker),
+            Err(_) => Err(BuildError::OutOfMemory),
+        }
+    }
+
+    /// Creates an agent from credentials that were checked.
+    fn built_of(
+        alloc: A,
+        local: &Credentials<'_>,
+        remote: &Credentials<'_>,
+        tie_breaker: u64,
+        role: Role,
+    ) -> Result<Checker<A>, AllocError>
+        ensures { IfOk result (λ checker. checker ≡ record {
+          incoming = with_colon local.now.name.now remote.now.name.now;
+          outgoing = with_colon remote.now.name.now local.now.name.now;
+          password = local.now.password.now;
+          peer_password = remote.now.password.now;
+          tie_breaker = tie_breaker;
+          role = role;
+        }) }
+    {
+        Ok(Checker {
+            alloc,
+            incoming: joined(alloc, local.name, remote.name)?,
+            outgoing: joined(alloc, remote.name, local.name)?,
+            password: prepared(alloc, local.password)?,
+            peer_password: prepared(alloc, remote.password)?,
+            tie_breaker,
+            role,
+        })
+    }
+
+    /// Writes a check to an address, which you send and send again until its answer arrives (RFC
+    /// 8445, section 7.2.4). Its ID must be random and new.
+    ///
+    /// `priority` is the one that a peer-reflexive candidate would have that the peer learns from
+    /// the check (section 7.1.1). The check nominates its pair if `nominate` is true and this agent
+    /// controls.
+    ///
+    /// Fails if an allocation fails.
+    pub fn check(
+        &self,
+        id: TransactionId,
+        to: SocketAddr,
+        priority: u32,
+        nominate: bool,
+    ) -> Result<Check<A>, AllocError>
+        ensures { IfOk result (λ check. check ≡ record {
+          id = id;
+          to = to;
+          role = self.now.role;
+          nominates = can_nominate self.now.role nominate;
+          bytes = check_bytes self.now id priority (can_nominate self.now.role nominate);
+        }) }
+    {
+        let nominates = self.can_nominate(nominate);
+        match self.write_check(id, priority, nominates) {
+            Ok(bytes) => Ok(Check::new(id, to, self.role, nominates, bytes)),
+            // There is room for each attribute, so that an allocation failed.
+            Err(_) => Err(AllocError),
+        }
+    }
+
+    /// Whether a check that is to nominate does.
+    fn can_nominate(&self, nominate: bool) -> bool
+        ensures { result ≡ can_nominate self.now.role nominate }
+    {
+        match self.role {
+            Role::Controlling => nominate,
+            Role::Controlled => false,
+        }
+    }
+
+    /// Writes the bytes of a check.
+    #[tactic(auto, unfolding(crate::specs::Agent::check_bytes))]
+    fn write_check(
+        &self,
+        id: TransactionId,
+        priority: u32,
+        nominates: bool,
+    ) -> Result<Vec<u8, A>, StunWriteError>
+        ensures { IfOk result (λ bytes. bytes.items ≡ check_bytes self.now id priority nominates) }
+    {
+        let mut page = self.check_page(id, priority, nominates)?;
+        page.add_message_integrity_with_prepared_key(
+            &self.peer_password,
+            IntegrityAlgorithm::Sha1,
+        )?;
+        let bytes = finish_with_fingerprint(page)?;
+        Ok(bytes)
+    }
+
+    /// Writes a check as far as its signature.
+    fn check_page(
+        &self,
+        id: TransactionId,
+        priority: u32,
+        nominates: bool,
+    ) -> Result<MessageWriteVec<A>, StunWriteError>
+        ensures bytes { IfOk result (λ page. page.bytes ≡ check_page self.now id priority nominates) }
+        ensures header { IfOk result (λ page. 20 ≤ length page.bytes) }
+    {
+        let writer = MessageWriteVec::new(self.alloc);
+        let mut page = Message::builder_request(BINDING, id, writer)?;
+        page.add_attribute(&Username::new(&self.outgoing)?)?;
+        page.add_attribute(&Priority::new(priority))?;
+        add_role(&mut page, self.role, self.tie_breaker)?;
+        add_nomination(&mut page, nominates)?;
+        Ok(page)
+    }
+}
+
+/// Adds the role and the tie-breaker.
+fn add_role<A: Allocator>(
+    page: &mut MessageWriteVec<A>,
+    role: Role,
+    tie_breaker: u64,
+) -> Result<(), StunWriteError>
+    requires { 20 ≤ length page.old.bytes }
+    ensures bytes { OnOk result (page.new.bytes
+        ≡ with_attribute page.old.bytes (role_attribute role tie_breaker)) }
+    ensures header { OnOk result (20 ≤ length page.new.bytes) }
+{
+    match role {
+        Role::Controlling => page.add_attribute(&IceControlling::new(tie_breaker)),
+        Role::Controlled => page.add_attribute(&IceControlled::new(tie_breaker)),
+    }
+}
+
+/// Adds USE-CANDIDATE to a check that nominates.
+fn add_nomination<A: Allocator>(
+    page: &mut MessageWriteVec<A>,
+    nominates: bool,
+) -> Result<(), StunWriteError>
+    requires { 20 ≤ length page.old.bytes }
+    ensures bytes { OnOk result (page.new.bytes ≡ with_nomination nominates page.old.bytes) }
+    ensures header { OnOk result (20 ≤ length page.new.bytes) }
+{
+    if nominates {
+        page.add_attribute(&UseCandidate)
+    } else {
+        Ok(())
+    }
+}
+
+impl<A: Allocator> Checker<A> {
+    /// Returns the role that the agent has now.
+    pub fn role(&self) -> Role
+        ensures { result ≡ self.now.role }
+    {
+        self.role
+    }
+
+    /// Returns the tie-breaker.
+    pub fn tie_breaker(&self) -> u64
+        ensures { result ≡ self.now.tie_breaker }
+    {
+        self.tie_breaker
+    }
+
+    /// Sets another tie-breaker. An agent that was told of a role conflict must have a new random one
+    /// before its next check (RFC 8445, section 16.1).
+    pub fn set_tie_breaker(&mut self, tie_breaker: u64)
+        ensures { self.new ≡ record self.old { tie_breaker = tie_breaker } }
+    {
+        self.tie_breaker = tie_breaker;
+    }
+}

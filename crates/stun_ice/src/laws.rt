@@ -1,0 +1,63 @@
+//! Laws over the definitions that the contracts of this crate cite. They do nothing when they run.
+
+ghost use Rattle.std.specs.Prelude.{◌≡◌, ◌⊎◌, ◌↔◌, ◌∷◌, [], ℕ, List, Option, Some, true, false};
+ghost use Rattle.std.specs.declared.net.socket_addr.SocketAddr.{SocketAddr};
+ghost use Rattle.stun_ice.specs.Agent.{Agent, SentCheck};
+ghost use Rattle.stun_ice.specs.Checks.{Accepts};
+ghost use Rattle.stun_ice.specs.Conflicts.{AreSettled, Happening, after_all, arrives, beginning};
+ghost use Rattle.stun_ice.specs.Conflicts.{hears, of_left, sends};
+ghost use Rattle.stun_ice.specs.Received.{judgement_of};
+ghost use Rattle.stun_ice.specs.Responses.{IsValid};
+ghost use Rattle.stun_ice.specs.Roles.{opposite};
+ghost use Rattle.stun_ice.specs.declared.checker.judging.Acceptance.{Acceptance};
+ghost use Rattle.stun_ice.specs.declared.checker.judging.Verdict.TheVariants as Verdict;
+ghost use Rattle.stun_ice.specs.declared.checker.receiving.Judgement.TheVariants as Judgement;
+ghost use Rattle.stun_ice.specs.declared.received.Mapped.{Mapped};
+ghost use Rattle.stun_ice.specs.declared.received.Outcome.TheVariants as Outcome;
+ghost use Rattle.stun_ice.specs.declared.role.Role.{Role};
+ghost use Rattle.stun_ice.specs.declared.role.Role.TheVariants.{Controlling, Controlled};
+
+/// Two agents that begin in one role, with distinct tie-breakers, end in opposite roles: the one
+/// with the larger tie-breaker controls. It is so from when an agent has heard the answer to one
+/// check, and stays so. Before that both have the role that they began in, or have these already
+/// (`settle`). Two that begin in opposite roles keep them (`stay`).
+///
+/// This holds for every network that loses, repeats, delays and reorders: any check may arrive at
+/// any time after it was sent, any number of times, and so may any answer. And it holds whatever
+/// tie-breaker an agent gives itself after a 487.
+pub fn roles_end_opposite()
+    ensures settle { (role : Role) (left right : ℕ) → (left ≡ right → ⊥) → (events : List Happening)
+        → let both = after_all
+        (record { left = beginning role left; right = beginning role right }) events in
+        ((both.left.role ≡ role) × (both.right.role ≡ role) × (both.left.heard ≡ false)
+        × (both.right.heard ≡ false)) ⊎ AreSettled left right both }
+    ensures stay { (role : Role) (left right : ℕ) (events : List Happening)
+        → let both = after_all
+        (record { left = beginning role left; right = beginning (opposite role) right })
+        events in
+        (both.left.role ≡ role) × (both.right.role ≡ opposite role) }
+
+    // One check from the left and its answer.
+    ensures instance { let both = after_all
+        (record { left = beginning Controlling 1; right = beginning Controlling 2 })
+        (of_left sends ∷ of_left (arrives 0) ∷ of_left (hears 0 7) ∷ []) in
+        (both.left.role ≡ Controlled) × (both.right.role ≡ Controlling)
+        × (both.left.heard ≡ true) × (both.left.tie_breaker ≡ 7) }
+{}
+
+/// An agent accepts a check if and only if `Accepts` holds of the datagram: then, and only then, is
+/// it judged as accepted with what `Accepts` names.
+pub fn checks_are_accepted_exactly()
+    ensures { (a : Agent) (c : Option SentCheck) (from : SocketAddr) (bytes : List ℕ)
+        (check : Acceptance)
+        → (judgement_of a c from bytes ≡ Judgement.Check bytes (Verdict.Accepted check))
+        ↔ Accepts a bytes check }
+{}
+
+/// The answer to a check makes its pair valid if and only if `IsValid` holds of the datagram.
+pub fn pairs_are_valid_exactly()
+    ensures { (a : Agent) (check : SentCheck) (from : SocketAddr) (bytes : List ℕ)
+        (mapped : Mapped)
+        → (judgement_of a (Some check) from bytes ≡ Judgement.Response (Outcome.Valid mapped))
+        ↔ IsValid a check from bytes mapped }
+{}

@@ -1,12 +1,13 @@
-//! A STUN server as one value: what to do with a datagram, without a record of any address.
+//! STUN servers and clients, each as one value: what to do with a datagram.
 //!
 //! [`Server::receive`] takes a datagram, and returns a response to send, an accepted request for
-//! you, an indication, a response, or why the datagram is dropped. You own the socket and the
-//! clock.
+//! you, an indication, a response, or why the datagram is dropped. It has no record of any address.
+//! [`Client::poll`] says what to send and how requests ended, and [`Client::receive`] takes what
+//! arrives. You own the sockets and the clocks.
 //!
 //! # Examples
 //!
-//! A server that answers Binding requests of its users:
+//! [`Client`] has an example of a client. A server that answers Binding requests of its users:
 //!
 //! ```no_run
 //! use seatcrane_stun::endpoint::{LongTerm, Received, Server, UnixTime};
@@ -37,7 +38,15 @@ use crate::exported::stun_base::attribute_type::AttributeType;
 use crate::exported::stun_endpoint::received;
 use core::fmt;
 
+mod body;
+mod client;
+mod client_outcomes;
+mod client_settings;
+#[cfg(feature = "std")]
+mod clock;
 mod server;
+mod standing;
+mod stream;
 
 pub mod ice;
 
@@ -46,10 +55,22 @@ pub use crate::exported::stun_endpoint::server::{
     BuildError, DEFAULT_NONCE_LIFETIME, SHORTEST_NONCE_LIFETIME,
 };
 pub use crate::exported::stun_endpoint::unix_time::UnixTime;
+pub use body::{BODY_LIMIT, Body, BodyError};
+pub use client::Client;
+pub use client_outcomes::{
+    Drops, ErrorResponse, Input, Output, Redirect, RequestError, RequestId, Response,
+};
+pub use client_settings::{
+    ClientBuildError, ClientBuilder, Credentials, Retransmission, Transport,
+};
+#[cfg(feature = "std")]
+#[cfg_attr(docsrs, doc(cfg(feature = "std")))]
+pub use clock::Clock;
 pub use server::{
     Answer, LongTerm, Received, Reply, ReplyWriter, Request, Server, ServerBuilder, User,
     UserError, Users,
 };
+pub use stream::{FrameBuffer, NotStun};
 
 /// Types of attributes to pass to [`ServerBuilder::understands`].
 pub mod types {
@@ -103,6 +124,13 @@ pub enum DropReason {
     WrongFingerprint,
     /// It is an indication with an attribute that must be understood and is not.
     UnknownAttribute,
+    /// It is a response that is not signed with the key of its request, where it must be.
+    NotVerified,
+    /// It is a 401 or a 438 that the client cannot answer: without realm or nonce, or with no
+    /// algorithm that the client supports.
+    UnanswerableChallenge,
+    /// It is a 401 or a 438 that asks for less than the server has confirmed before.
+    WeakerChallenge,
     /// An allocation failed. The peer sends again.
     OutOfMemory,
 }
@@ -114,11 +142,14 @@ impl DropReason {
         DropReason::Malformed,
         DropReason::WrongFingerprint,
         DropReason::UnknownAttribute,
+        DropReason::NotVerified,
+        DropReason::UnanswerableChallenge,
+        DropReason::WeakerChallenge,
         DropReason::OutOfMemory,
     ];
 
     /// How many reasons there are.
-    pub const COUNT: usize = 5;
+    pub const COUNT: usize = 8;
 
     /// Returns a number below [`COUNT`](Self::COUNT), for counters of yours.
     pub fn index(self) -> usize {
@@ -132,6 +163,9 @@ impl DropReason {
             DropReason::Malformed => "Malformed",
             DropReason::WrongFingerprint => "WrongFingerprint",
             DropReason::UnknownAttribute => "UnknownAttribute",
+            DropReason::NotVerified => "NotVerified",
+            DropReason::UnanswerableChallenge => "UnanswerableChallenge",
+            DropReason::WeakerChallenge => "WeakerChallenge",
             DropReason::OutOfMemory => "OutOfMemory",
         }
     }
@@ -144,6 +178,9 @@ impl fmt::Display for DropReason {
             DropReason::Malformed => "the message is not what its header says",
             DropReason::WrongFingerprint => "the FINGERPRINT is wrong",
             DropReason::UnknownAttribute => "an indication has an attribute that is not understood",
+            DropReason::NotVerified => "it is not signed as its request is",
+            DropReason::UnanswerableChallenge => "its challenge cannot be answered",
+            DropReason::WeakerChallenge => "its challenge asks for less than one before",
             DropReason::OutOfMemory => "an allocation failed",
         })
     }

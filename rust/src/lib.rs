@@ -8,7 +8,7 @@
 //! | [`types`] | parsing, verifying, building and signing messages |
 //! | [`agent`] | sending requests, retransmitting them and matching their responses |
 //! | [`auth`] | authenticating both sides with short-term or long-term credentials |
-//! | [`endpoint`] | a server as one value: what to do with a datagram, without records of addresses |
+//! | [`endpoint`] | servers and clients as one value: what to do with a datagram |
 //! | [`extra`] | FINGERPRINT, unknown attributes, framing over TCP, attributes of ICE and TURN |
 //! | [`stats`] | what an agent has counted |
 //!

@@ -48,18 +48,7 @@ pub mod Existence
 -- a loop that is never late makes a driven run: until the moment that it is told to wait until, no
 -- moment is awaited
 pub mod AgentLoopLemmas
--- what is sent of a request in a loop that may be late, turn by turn: its story
-pub mod LateStory
--- the turns at which a request is sent, and ends: each from the one before
-pub mod TurnMoments
--- the steps of a request by the turns that are taken: its story is their plan
-pub mod TurnPlan
--- how late a request is sent, and ends
-pub mod HowLate
--- a request in a loop that may be late: its transmissions and its end are at the first turns at
--- which they are due
-pub mod LateLaw
--- whatever turns are taken, no transmission of a request comes before its moment in the plan
-pub mod NeverEarly
+-- when a request is due after some timeouts
+pub mod Dues
 -- a request in whatever calls its user makes: each of its steps comes in time
 pub mod AnyCalls

@@ -53,3 +53,6 @@ pub mod SessionLemmas
 pub mod ContactLemmas
 -- a server with one user, whose hash no other has
 pub mod ExampleLemmas
+-- there are messages for contacts and sessions
+pub mod SessionMessages
+pub mod ContactExample

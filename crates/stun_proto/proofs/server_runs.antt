@@ -15,6 +15,8 @@ pub mod IsolationLemmas
 pub mod RepliesLemmas
 -- one more call of a run
 pub mod ServedCalls
+-- a message that is signed in any writer
+pub mod AnyWriter
 -- one call that a user makes of a server, by the clauses of that call
 pub mod MadeLemmas
 -- each call that a user makes on a server is the call of a run
@@ -28,3 +30,5 @@ pub mod AppendedLemmas
 pub mod ShardsLemmas
 -- the three calls of a client, as the server of its meeting replies to them
 pub mod ServedExample
+-- one call of a server whose users are in a data base
+pub mod StoredExample

@@ -23,7 +23,7 @@ is_time_out (Refused moment error) = false
 is_time_out (TimedOut moment id) = true
 is_time_out (Cancelled moment id) = false
 
--- a request ends that its user has cancelled
+-- a request ends that its user has canceled
 abbrev pub is_cancellation : Step → Bool
 is_cancellation (Transmitted moment id to bytes) = false
 is_cancellation (Sent moment to bytes) = false

@@ -6,25 +6,27 @@ use Rattle.std.specs.FinMap as map
 use Rattle.std.specs.Prelude.{◌≡◌, ◌&&◌, ℕ, List, [], ◌∷◌, ◌++◌, not, Option, Some, None, ⊤}
 use Rattle.std.specs.Prelude.{map as list_map}
 use Rattle.std.specs.List.{filter}
+use Rattle.std.specs.declared.result.Result.{Result}
 use Rattle.std.specs.declared.result.Result.TheVariants.{Ok}
 use Rattle.std.specs.Global.{Vec}
 use Rattle.std.specs.Option.{is_some, option_and_then}
 use Rattle.std.specs.declared.net.socket_addr.SocketAddr.{SocketAddr}
 use Rattle.stun_base.specs.MessageType.{class_in, is_response}
 use Rattle.stun_base.specs.declared.wire.error.StunParseError.{StunParseError}
+use Rattle.stun_base.specs.declared.wire.error.StunWriteError.{StunWriteError}
 use Rattle.stun_types.specs.Message.{refusal}
-use Rattle.stun_auth.specs.Additions.{page_of}
+use Rattle.stun_auth.specs.Additions.{Page}
 use Rattle.stun_auth.specs.Forgetting.{place_kept}
 use Rattle.stun_auth.specs.ForgettingSteps.{after_step, is_looked_at, next_address}
 use Rattle.stun_auth.specs.Handed.{just, meant_user, with_users}
 use Rattle.stun_auth.specs.Reading.{reading_of}
 use Rattle.stun_auth.specs.Registered.{Registered, RegisteredUser, UserSecret, name_cmp, user_named}
 use Rattle.stun_auth.specs.Seen.{ClientSeen}
-use Rattle.stun_auth.specs.ServerSigning.{after_signing, server_signed}
+use Rattle.stun_auth.specs.ServerSigning.{after_signing}
 use Rattle.stun_auth.specs.Validation.{ServerSeen, after_validation, answer, client_at, sight}
 use Rattle.stun_proto.specs.Headline.{ValidatesEachCall}
 use Rattle.stun_proto.specs.Replies.{message_read}
-use Rattle.stun_proto.specs.ServerLoop.{IsMade, Told, signed_or_refused}
+use Rattle.stun_proto.specs.ServerLoop.{IsMade, IsSignedInSome, Told, signed_or_refused}
 use Rattle.stun_proto.specs.Serving.{Reply, NotAMessage, Done, after_calls, replies}
 use Rattle.stun_proto.specs.Serving.{reply_of_answer}
 use Rattle.stun_proto.specs.Signing.{written_anew}
@@ -120,15 +122,16 @@ IsMadeOf s (ValidateOf from now message words) made =
       };
     })
 -- `sign_outgoing_message_of`, clauses `answer`, `signed` and `refused`, with the user who is the
--- client of the address, of a message in a vector that was built by `add_attribute` alone
+-- client of the address, of a message that was built by `add_attribute` alone, in any writer
 IsMadeOf s (SignOf to message) made =
     let response = is_response (class_in message.items) in
     let passed = with_passed s (client_user s to) in
-    let told = signed_or_refused passed (after_signing passed to response)
-    (server_signed (sight passed to) response (page_of message.items)) in
     IfAMessage s (Call.Sign to message) (refusal message.items) made
     ((written_anew message.items ≡ Ok message.items)
-    × (made ≡ record {
+    × (signed : Result Page StunWriteError)
+    × IsSignedInSome (sight passed to) response message.items signed
+    × let told = signed_or_refused passed (after_signing passed to response) signed in
+    (made ≡ record {
       calls = Call.Sign to message ∷ [];
       given = told.reply ∷ [];
       after = record s { server = with_users told.server s.server.registered };

@@ -20,6 +20,8 @@ pub mod Serving
 pub mod ServerLoop
 -- sentence 1: the same where the users are in a data base
 pub mod DatabaseLoop
+-- a data base with two users, and a message that is judged with one of them
+pub mod StoredExample
 -- what signing a message for an address comes to
 pub mod Signing
 -- sentence 2: what a client and a server can agree on (section 9.2)
@@ -44,6 +46,8 @@ pub mod Renewal
 pub mod Session
 -- sentence 2, of any method and attributes: a client that is new to a server
 pub mod Contact
+-- the messages of a contact and of a short session
+pub mod SessionExample
 -- sentence 3: the plan of a request, and what disturbs it (sections 6.2.1 and 6.2.2)
 pub mod Schedule
 -- the steps of a driven agent: moments, ids and bytes

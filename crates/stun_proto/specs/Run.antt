@@ -118,7 +118,7 @@ pub data Turn (now : ℕ) : Phase → Agent → List Step → Agent → Type 0 w
       → Turn now ending a [] a
 
 -- ---- the turns at awaited moments
--- a transaction that is not cancelled awaits this moment
+-- a transaction that is not canceled awaits this moment
 abbrev pub IsAwaited : Agent → ℕ → Type 0
 IsAwaited a moment =
     (id : ℕ) × (t : Transaction) × (at id a.transactions ≡ Some t)

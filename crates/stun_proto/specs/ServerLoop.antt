@@ -1,22 +1,24 @@
 -- A server whose calls its user makes one by one, in a loop of their own: what the clauses of these
 -- calls say, and that they are a run of `serve`.
-use Rattle.std.specs.Prelude.{◌≡◌, ◌<◌, ℕ, List, [], ◌∷◌, length, Option, Some}
+use Rattle.std.specs.Prelude.{◌≡◌, ◌≢◌, ◌<◌, Bool, ℕ, List, [], ◌∷◌, length, Option, Some}
 use Rattle.std.specs.Prelude.{None, Result, Ok, Err, string_bytes, if◌then◌else◌}
 use Rattle.std.specs.Duration.{as_nanos}
 use Rattle.stun_base.specs.Credentials.{NameAndPassword}
 use Rattle.stun_base.specs.declared.wire.error.StunParseError.{StunParseError}
 use Rattle.stun_base.specs.declared.wire.error.StunWriteError.{StunWriteError}
+use Rattle.stun_base.specs.declared.wire.error.StunWriteError.TheVariants.{TooSmall}
 use Rattle.stun_base.specs.MessageType.{class_in, is_response}
 use Rattle.stun_types.specs.Attribute.{TypedValue}
 use Rattle.stun_types.specs.Message.{refusal}
 use Rattle.stun_types.specs.Walk.{attributes_of, walk}
 use Rattle.stun_types.specs.Writing.{IsOpen}
-use Rattle.stun_auth.specs.Additions.{Page, page_of}
+use Rattle.stun_auth.specs.Additions.{Page}
 use Rattle.stun_auth.specs.Algorithms.{only, with_algorithm}
 use Rattle.stun_auth.specs.Forgetting.{after_forgetting, without_place}
 use Rattle.stun_auth.specs.Places.{with_change, with_client}
 use Rattle.stun_auth.specs.Reading.{reading_of}
 use Rattle.stun_auth.specs.Registered.{with_user, without_user}
+use Rattle.stun_auth.specs.Server.{Sight}
 use Rattle.stun_auth.specs.ServerSigning.{after_signing, server_signed}
 use Rattle.stun_auth.specs.Validation.{ServerSeen, after_validation, answer, sight}
 use Rattle.stun_proto.specs.declared.replay.call.ServerCall.{ServerCall}
@@ -47,6 +49,14 @@ abbrev pub signed_or_refused : ServerSeen → ServerSeen → Result Page StunWri
 signed_or_refused s signed (Ok page) = reply_with (Signed page.bytes) signed
 signed_or_refused s signed (Err error) = reply_with (SignRefused error) s
 
+-- what signing a message comes to in some writer, whatever its room. A call that answers `TooSmall`
+-- leaves the server, and is no call of the loop: the message may be signed in a larger writer
+abbrev pub IsSignedInSome : Sight → Bool → List ℕ → Result Page StunWriteError → Type 0
+IsSignedInSome s response message signed =
+    (room : ℕ)
+    × (signed ≡ server_signed s response (record { bytes = message; room = room }))
+    × (signed ≢ Err TooSmall)
+
 -- What the clauses of the server's own calls say of the reply and of the server after it. A call
 -- that answers `OutOfMemory` leaves the server, and is no call of the loop
 abbrev pub IsMade : ServerSeen → ServerCall → Told → Type 0
@@ -56,14 +66,15 @@ IsMade s (Call.Validate from now message words) after =
     IfMessage s (refusal message.items) after
     (after ≡ reply_with (reply_of_answer (answer (sight s from) now words r))
     (after_validation s from now words r))
--- `sign_outgoing_message`, clauses `answer`, `signed` and `refused`, of a message in a vector which
--- `serve` writes anew as it is: one that was built by `add_attribute` alone
+-- `sign_outgoing_message`, clauses `answer`, `signed` and `refused`, of a message which `serve`
+-- writes anew as it is: one that was built by `add_attribute` alone
 IsMade s (Call.Sign to message) after =
     let response = is_response (class_in message.items) in
     IfMessage s (refusal message.items) after
     ((written_anew message.items ≡ Ok message.items)
-    × (after ≡ signed_or_refused s (after_signing s to response)
-    (server_signed (sight s to) response (page_of message.items))))
+    × (signed : Result Page StunWriteError)
+    × IsSignedInSome (sight s to) response message.items signed
+    × (after ≡ signed_or_refused s (after_signing s to response) signed))
 -- each of the others: its one clause, or `ok`, or `state`
 IsMade s (Call.AddUser name password) after =
     let user : NameAndPassword =

@@ -1,14 +1,13 @@
 //! Laws of runs: what holds of the definitions alone, and which step of a run a single call of a
 //! server is.
-ghost use Rattle.std.specs.Prelude.{◌≡◌, ◌≤◌, ◌-◌, List, [], Ok, length, ℕ};
+ghost use Rattle.std.specs.Prelude.{◌≡◌, ◌≤◌, List, [], Ok, IsErrOf, OnErr, length, ℕ};
 ghost use Rattle.std.specs.declared.net.socket_addr.SocketAddr.{SocketAddr as Address};
 ghost use Rattle.std.specs.Global.{Vec as TheVec};
 ghost use Rattle.stun_base.specs.Moments.{last_moment};
 ghost use Rattle.stun_base.specs.Words.{next_words};
 ghost use Rattle.stun_base.specs.declared.wire.transport.TransportType.{TransportType as Transport};
 ghost use Rattle.stun_base.specs.declared.wire.transport.TransportType.TheVariants.{Udp, Tcp};
-ghost use Rattle.stun_types.specs.Message.{IsMessage, LENGTH_LIMIT};
-ghost use Rattle.stun_types.specs.WriteVec.{Written};
+ghost use Rattle.stun_types.specs.Message.{IsMessage};
 ghost use Rattle.stun_agent.specs.Agent.{Agent, new_agent};
 ghost use Rattle.stun_agent.specs.Timing.{default_settings};
 ghost use Rattle.stun_agent.specs.Transactions.{IsAscending};
@@ -18,19 +17,18 @@ ghost use Rattle.stun_auth.specs.Reading.{Reading};
 ghost use Rattle.stun_auth.specs.Reasons.{ServerUnlessMemory};
 ghost use Rattle.stun_auth.specs.Server.{Sight};
 ghost use Rattle.stun_auth.specs.Validation.{answer};
-ghost use Rattle.stun_proto.specs.AgentLoop.{LateLoopsAreBounded, LoopsAreDriven, LoopsExist};
-ghost use Rattle.stun_proto.specs.AgentLoop.{LoopsSendByPlan, LoopsSendByTurns, TurnsAreNeverEarly};
+ghost use Rattle.stun_proto.specs.AgentLoop.{LoopsAreDriven, LoopsExist, LoopsSendByPlan};
 ghost use Rattle.stun_proto.specs.AnyLoop.{CallsExist, CallsSendInTime};
 ghost use Rattle.stun_proto.specs.Appending.{AgreeingAreAnsweredAlike, ContinuedAreAnsweredAlike};
 ghost use Rattle.stun_proto.specs.Best.{BestIsStrongest};
 ghost use Rattle.stun_proto.specs.DatabaseLoop.{StoredCallsAreServed};
 ghost use Rattle.stun_proto.specs.Examples.{example_request, udp_steps, tcp_steps};
-ghost use Rattle.stun_proto.specs.Contact.{NewClientsAreIntroduced};
+ghost use Rattle.stun_proto.specs.Contact.{IsNewClient, NewClientsAreIntroduced};
 ghost use Rattle.stun_proto.specs.Counters.{RunsCountSteps};
 ghost use Rattle.stun_proto.specs.Honest.{AgreesOn, ShortNamesAreSigned, StrongestIsAgreed};
 ghost use Rattle.stun_proto.specs.MeetingExample.{IsServed, a_meeting, a_server, a_user};
 ghost use Rattle.stun_proto.specs.MeetingLoop.{MeetingsAgree, MeetingsAreNegotiated};
-ghost use Rattle.stun_proto.specs.Negotiation.{whole_negotiation};
+ghost use Rattle.stun_proto.specs.Negotiation.{BINDING, whole_negotiation};
 ghost use Rattle.stun_proto.specs.Renewal.{NonceIsRenewed};
 ghost use Rattle.stun_proto.specs.Headline.{IsAskedOnce, IsReadyClient};
 ghost use Rattle.stun_proto.specs.Headline.{SendsByPlan, ValidatesOneCall};
@@ -42,9 +40,11 @@ ghost use Rattle.stun_proto.specs.ServerLoop.{BuiltAreWrittenSo, CallsAreServed}
 ghost use Rattle.stun_proto.specs.ServerLoop.{CallsAreValidated, IsMade, reply_with};
 ghost use Rattle.stun_proto.specs.Serving.{reply_of_answer, reply_of_signing};
 ghost use Rattle.stun_proto.specs.Session.{SessionsGoOn};
+ghost use Rattle.stun_proto.specs.SessionExample.{ALLOCATE, AreExchanged, HasSession, a_contact};
 ghost use Rattle.stun_proto.specs.Shards.{ShardsServeAsOne};
 ghost use Rattle.stun_proto.specs.Signing.{written_anew};
 ghost use Rattle.stun_proto.specs.Steps.{Step};
+ghost use Rattle.stun_proto.specs.StoredExample.{OneIsStored};
 ghost use Rattle.stun_proto.specs.Stopped.{StoppedRunsEnd, StoppedRunsGoOn};
 ghost use Rattle.stun_proto.specs.Stopped.{StoppedRunsHaveTheRest, StoppedRunsStopAgain};
 ghost use Rattle.stun_proto.specs.declared.replay.event.AgentEvent.{AgentEvent as TheEvent};
@@ -58,7 +58,8 @@ use stun_auth::laws as auth_laws;
 use stun_base::algorithm::IntegrityAlgorithm;
 use stun_base::error::StunWriteError;
 use stun_base::instant::Instant;
-use stun_types::message::{Message, MessageWriteVec};
+use stun_types::message::Message;
+use stun_types::prelude::MessageWrite;
 
 /// A list of events has at most one run: its steps and the agent after it are determined, up to
 /// every time, and from every time on.
@@ -110,28 +111,18 @@ pub fn runs_keep_plans()
         → IsDriven until a events steps b → KeepPlans until a events steps }
 {}
 
-/// If an agent starts with no outstanding request, and its user polls it on time in a loop
-/// (`Loop`), so that no turn comes later than `poll` returned, then it makes the steps that `drive`
-/// makes with the same events. So the third sentence holds of it (RFC 8489, section 6.2.1). For any
-/// events at times that do not decrease there is a loop, on time or late.
+/// If an agent starts with no outstanding request, and its user polls it on time in a loop of whole
+/// turns (`Loop`), then it makes the steps that `drive` makes with the same events. So the third
+/// sentence holds of it (RFC 8489, section 6.2.1). For any events at times that do not decrease
+/// there is such a loop, on time or late.
+///
+/// It speaks of loops over a simulated clock: at the time of each event there is a whole turn, and
+/// no turn comes later than `poll` returned, to the nanosecond. Of loops over a real clock
+/// `any_loop_sends_in_time` speaks.
 pub fn loops_are_driven()
     ensures driven { LoopsAreDriven }
     ensures plans { LoopsSendByPlan }
     ensures exist { LoopsExist }
-{}
-
-/// A request in such a loop that is late, by however much, and that no event disturbs:
-///
-/// - Up to its end it is sent at the first turn at which its timeout has passed since the
-///   transmission before. It is sent at no other turn, and at most as often as its plan says.
-/// - It times out at the first turn at which the final wait has passed since the last transmission.
-/// - No step comes before its time in the plan.
-/// - If no turn is later than some limit, transmission k, counted from 0, is late by at most k
-///   times that limit. The timeout is late by at most one limit more than the last transmission.
-pub fn late_loops_send_by_turns()
-    ensures turns { LoopsSendByTurns }
-    ensures never_early { TurnsAreNeverEarly }
-    ensures bounded { LateLoopsAreBounded }
 {}
 
 /// An agent in whatever loop you have (`Calls`): any calls, in any order, each at a time of its own
@@ -194,7 +185,8 @@ pub fn calls_are_a_run()
 /// Each call is as the clauses of the server's own call say (`IsMadeOf`), from the server that the
 /// one before left.
 pub fn stored_calls_are_a_run()
-    ensures { StoredCallsAreServed }
+    ensures served { StoredCallsAreServed }
+    ensures exist { OneIsStored }
 {
     auth_laws::accepted_messages_are_validated();
     auth_laws::the_named_user_is_enough();
@@ -221,22 +213,24 @@ pub fn a_validation_is_made<A: Allocator + Copy, R: Rng>(
     server.validate_incoming_message(message, from, now, rng)
 }
 
-/// One call of `sign_outgoing_message` is the call `Sign` of a run (`IsMade`). The message is in a
-/// vector, and `serve` writes it again as it is (clause `plain` of `calls_are_a_run`). If an
-/// allocation failed, it is not a call of the run, and the server is unchanged.
-pub fn a_signing_is_made<A: Allocator + Copy>(
+/// One call of `sign_outgoing_message` is the call `Sign` of a run (`IsMade`), whatever writer the
+/// message is in. `serve` writes the message again as it is (clause `plain` of `calls_are_a_run`).
+/// If an allocation failed, or the writer has too little room, it is not a call of the run, and the
+/// server is unchanged.
+pub fn a_signing_is_made<A: Allocator + Copy, W: MessageWrite>(
     server: &mut LongTermServerAuth<A>,
-    writer: MessageWriteVec<A>,
+    writer: W,
     to: SocketAddr,
-) -> Result<MessageWriteVec<A>, StunWriteError>
-    requires { IsMessage writer.bytes }
-    ensures { UnlessMemory result
-        ((bytes : TheVec ℕ) → bytes.items ≡ writer.bytes
-        → written_anew writer.bytes ≡ Ok writer.bytes → IsMade server.old
-        (ServerCall.Sign to bytes)
-        (reply_with (reply_of_signing (written_page (λ (w : Written). w.bytes)
-        (λ (w : Written). LENGTH_LIMIT - length w.bytes) result)) server.new))
+) -> Result<W, StunWriteError>
+    requires { IsMessage (W.bytes writer) }
+    ensures made { UnlessMemory result
+        ((bytes : TheVec ℕ) → bytes.items ≡ W.bytes writer
+        → written_anew (W.bytes writer) ≡ Ok (W.bytes writer)
+        → (IsErrOf result StunWriteError.TooSmall → ⊥)
+        → IsMade server.old (ServerCall.Sign to bytes)
+        (reply_with (reply_of_signing (written_page W.bytes W.room result)) server.new))
         (server.new ≡ server.old) }
+    ensures refused { OnErr result (server.new ≡ server.old) }
 {
     server.sign_outgoing_message(writer, to)
 }
@@ -371,12 +365,14 @@ pub fn nonce_is_renewed()
 /// - A request is accepted even if the client was removed before. A response is accepted if the
 ///   server still knows the client at its address when it signs the response.
 pub fn sessions_go_on()
-    ensures { SessionsGoOn }
+    ensures go_on { SessionsGoOn }
+    ensures exist { (from : Address) → HasSession from }
 {
     auth_laws::nonces_ask_for_what_is_supported();
     auth_laws::signed_messages_are_read();
     auth_laws::built_messages_can_be_signed();
     auth_laws::sides_add_by_attribute();
+    auth_laws::sides_sign_with_room();
 }
 
 /// A client that is new to a server sends a request without credentials, and the server answers it
@@ -392,10 +388,15 @@ pub fn sessions_go_on()
 ///   settings and the nonce stay, and the second request arrives before the nonce expires.
 /// - The server still knows the client when it signs the success.
 pub fn new_clients_are_introduced()
-    ensures { NewClientsAreIntroduced }
+    ensures introduced { NewClientsAreIntroduced }
+    ensures exist { (from : Address) (words more : List ℕ) → length words ≤ 16
+        → IsNewClient (a_contact from words more) a_user a_server
+        × AreExchanged ALLOCATE (a_contact from words more) a_user a_server
+        × AreExchanged BINDING (a_contact from words more) a_user a_server }
 {
     auth_laws::nonces_ask_for_what_is_supported();
     auth_laws::signed_messages_are_read();
     auth_laws::built_messages_can_be_signed();
     auth_laws::sides_add_by_attribute();
+    auth_laws::sides_sign_with_room();
 }

@@ -36,7 +36,7 @@ use Rattle.stun_proto.proofs.agent_runs.RunLemmas.{event_ascends, turn_ascends}
 
 -- ---- what a turn leaves
 module _ (transport : TransportType) where
-  -- none is cancelled, and each awaits this moment at the earliest
+  -- none is canceled, and each awaits this moment at the earliest
   abbrev Waits : ℕ → Transactions → Type 0
   Waits moment es = AllByRecursion
       (λ e. (is_cancelled e.1.sending ≡ false) × (moment ≤ awaited_moment transport e.1)) es

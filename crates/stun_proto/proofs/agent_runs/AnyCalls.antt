@@ -31,7 +31,7 @@ use Rattle.stun_proto.specs.AnyLoop.{rest, sends, times_out, transmits, transmit
 use Rattle.stun_proto.specs.Run.{after_event, end_step, steps_of_event, transmission_step}
 use Rattle.stun_proto.specs.Schedule.{IsAimedAt, transmission}
 use Rattle.stun_proto.specs.Steps.{Step, Transmitted, TimedOut, Cancelled, steps_to_end}
-use Rattle.stun_proto.proofs.agent_runs.LateStory.{due_end, due_slot, le_due}
+use Rattle.stun_proto.proofs.agent_runs.Dues.{due_end, due_slot, le_due}
 use Rattle.stun_proto.proofs.agent_runs.OneTransaction.{other_key}
 use Rattle.stun_proto.proofs.agent_runs.Outstanding.{Outstanding, sent_itself, sent_another}
 use Rattle.stun_proto.proofs.agent_runs.Outstanding.{sent_nothing, ended_itself, ended_another}
@@ -39,6 +39,14 @@ use Rattle.stun_proto.proofs.agent_runs.Outstanding.{is_outstanding}
 use Rattle.stun_proto.proofs.agent_runs.NotAimed.{keeps_event, own_event}
 use Rattle.stun_proto.proofs.agent_runs.OwnSteps.{own_nil, own_sent, own_other_sent, own_timed_out}
 use Rattle.stun_proto.proofs.agent_runs.OwnSteps.{own_other_ended}
+
+-- a poll that ends nothing leaves the agent as it was
+pub ended_none : (now : ℕ) (a : Agent) → ended_by_poll now a ≡ None → after_poll now a ≡ a
+ended_none now a f =
+    ap (λ (o : Option (ℕ × Transaction)).
+    option_map_or
+    (λ e. with_tally (tally_of_end e.1) (with_transactions a (without e.0 a.transactions)))
+    o a) f
 
 module _ (late id : ℕ) (transport : TransportType) (settings : Settings) (bytes : List ℕ)
     (to : SocketAddr) (integrity : Option IntegrityAlgorithm) (start last : ℕ) where
@@ -223,14 +231,6 @@ module _ (late id : ℕ) (transport : TransportType) (settings : Settings) (byte
             in_time = punctual;
             plan_late = live.plan_late;
           }))
-
-  -- a poll that ends nothing leaves the agent as it was
-  ended_none : (now : ℕ) (a : Agent) → ended_by_poll now a ≡ None → after_poll now a ≡ a
-  ended_none now a f =
-      ap (λ (o : Option (ℕ × Transaction)).
-      option_map_or
-      (λ e. with_tally (tally_of_end e.1) (with_transactions a (without e.0 a.transactions)))
-      o a) f
 
   -- what the calls beside these leave of it
   kept_beside : (k before : ℕ) (a b : Agent) → Outstanding id transport (stage k before) a

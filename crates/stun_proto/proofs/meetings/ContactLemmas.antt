@@ -48,7 +48,7 @@ module _ (say : NoncesAsk) (found : SignedIsRead) (m : Contact) (who : NameAndPa
     (server : ServerSeen) (texts : AreTexts server.registered.realm who.username)
     (new : IsNewClient m who server) where
   -- a meeting of Binding messages at the same moments
-  abbrev as_meeting : Meeting
+  abbrev pub as_meeting : Meeting
   as_meeting = record {
     settings = m.settings;
     from = m.from;
@@ -56,7 +56,7 @@ module _ (say : NoncesAsk) (found : SignedIsRead) (m : Contact) (who : NameAndPa
     second = record { id = 0; now = m.second.now; words = m.second.words; before = [] };
   }
 
-  ready : IsReady as_meeting who server
+  pub ready : IsReady as_meeting who server
   ready = record {
     credentials = new.credentials;
     registered = new.registered;
@@ -70,25 +70,25 @@ module _ (say : NoncesAsk) (found : SignedIsRead) (m : Contact) (who : NameAndPa
   abbrev users : Registered
   users = server.registered
 
-  abbrev nonce : List ℕ
+  abbrev pub nonce : List ℕ
   nonce = meeting.nonce say found as_meeting who server texts ready
 
   abbrev end : ℕ
   end = nonce_end m server
 
-  abbrev challenge : IntegrityAlgorithm → Challenge
+  abbrev pub challenge : IntegrityAlgorithm → Challenge
   challenge a = meeting.challenge say found as_meeting who server texts ready a
 
-  abbrev hashes : Bool
+  abbrev pub hashes : Bool
   hashes = asks_for_userhash nonce && is_possible m.settings.feature
 
-  abbrev opened : PlaceSeen
+  abbrev pub opened : PlaceSeen
   opened = meeting.opened say found as_meeting who server texts ready
 
-  abbrev standing : Option ClientSeen → PlaceSeen
+  abbrev pub standing : Option ClientSeen → PlaceSeen
   standing known = place_of users server.feature server.expiry m.from nonce end true known
 
-  abbrev seen : PlaceSeen → Sight
+  abbrev pub seen : PlaceSeen → Sight
   seen p = record {
     registered = users;
     feature = server.feature;
@@ -111,7 +111,7 @@ module _ (say : NoncesAsk) (found : SignedIsRead) (m : Contact) (who : NameAndPa
       (found.any_bare asking asked)).0
 
   module _ (asking : Page) (asked : IsAsked initial asking) where
-    challenge_sight : sight (at_challenge m server asking) m.from ≡ seen opened
+    pub challenge_sight : sight (at_challenge m server asking) m.from ≡ seen opened
     challenge_sight =
         sight-after_others (after_first m server asking) m.from m.before_challenge
         new.others_before_challenge
@@ -136,14 +136,14 @@ module _ (say : NoncesAsk) (found : SignedIsRead) (m : Contact) (who : NameAndPa
         had = best-had m.settings.supported users.algorithms m.settings.feature server.feature a
             chosen
 
-        abbrev client : ClientSeen
+        abbrev pub client : ClientSeen
         client = record { name = who.username; algorithm = a }
 
         at_offer : Matches users server.feature
             (meeting.offering say found as_meeting who server texts ready) (challenge a) who
         at_offer = meeting.matched say found as_meeting who server texts ready a had
 
-        matches_at : (known : Option ClientSeen)
+        pub matches_at : (known : Option ClientSeen)
             → Matches users server.feature (standing known) (challenge a) who
         matches_at known = record {
           realm = refl;
@@ -206,22 +206,23 @@ module _ (say : NoncesAsk) (found : SignedIsRead) (m : Contact) (who : NameAndPa
           accepted = ap (λ v. answer v m.second.now m.second.words r) second_stands.1 ∙ served.0
 
           -- ---- the success
-          reading_stands : StandsHere (after_second m server asking again)
-          reading_stands = (
-            Some client,
-            sight-after_validation (at_second m server asking) m.from m.second.now m.second.words r
-                ∙ ap (λ (v : Sight).
-                record v { place = place_after v m.second.now m.second.words r }) second_stands.1
-                ∙ ap (λ (o : Option PlaceSeen). record (seen opened) { place = o }) served.1,
-            λ never. refl,
-          )
+          pub reading_sight : sight (after_second m server asking again) m.from
+              ≡ seen (standing (Some client))
+          reading_sight =
+              sight-after_validation (at_second m server asking) m.from m.second.now m.second.words r
+              ∙ ap (λ (v : Sight).
+              record v { place = place_after v m.second.now m.second.words r }) second_stands.1
+              ∙ ap (λ (o : Option PlaceSeen). record (seen opened) { place = o }) served.1
 
-          success_stands : StandsHere (at_success m server asking again)
+          reading_stands : StandsHere (after_second m server asking again)
+          reading_stands = (Some client, reading_sight, λ never. refl)
+
+          pub success_stands : StandsHere (at_success m server asking again)
           success_stands =
               calls_leave users server.feature server.expiry m.from nonce end true m.before_success
               (after_second m server asking again) new.calls_before_success reading_stands
 
-          last_sight : sight (after_signing (at_success m server asking again) m.from true) m.from
+          pub last_sight : sight (after_signing (at_success m server asking again) m.from true) m.from
               ≡ seen (standing success_stands.0)
           last_sight =
               signing_sight users server.feature server.expiry m.from nonce end true
@@ -229,7 +230,7 @@ module _ (say : NoncesAsk) (found : SignedIsRead) (m : Contact) (who : NameAndPa
 
           module _ (still : IsStillKnown m.from who (challenge a)
               (at_success m server asking again)) where
-            known_is : seen (standing success_stands.0) ≡ seen (standing (Some client))
+            pub known_is : seen (standing success_stands.0) ≡ seen (standing (Some client))
             known_is =
                 ap (λ k. seen (standing k))
                 (sym (ap (λ (v : Sight). option_and_then (λ (q : PlaceSeen). q.client) v.place)
@@ -252,7 +253,7 @@ module _ (say : NoncesAsk) (found : SignedIsRead) (m : Contact) (who : NameAndPa
                 texts.realm nonce_text
                 (subst (λ v. IsGranted v granting) (success_stands.1 ∙ known_is) granting_is))
 
-            joined : AreJoined
+            pub joined : AreJoined
                 (sight (after_signing (at_success m server asking again) m.from true) m.from)
                 (standing (Some client)) (challenge a) who
             joined =
@@ -260,14 +261,22 @@ module _ (say : NoncesAsk) (found : SignedIsRead) (m : Contact) (who : NameAndPa
                 (sym (last_sight ∙ known_is))
                 (record { place = refl; client = refl; matches = matches_at (Some client) })
 
+        pub resent : challenged m challenging
+            ≡ record {
+              answer = Ok (Read.ResendRequest None);
+              state = authenticating (challenge a);
+            }
+        resent =
+            stepped
+            ∙ ap (λ o. after_challenge initial None
+            (new_challenge_if m.settings.feature who users.realm nonce
+            (Some (algorithms_of users.algorithms)) (or_unsupported o))) chosen
+
         met : IsMet m who server asking challenging a
         met = record {
           challenge = challenge a;
           chosen = refl;
-          resent = stepped
-              ∙ ap (λ o. after_challenge initial None
-              (new_challenge_if m.settings.feature who users.realm nonce
-              (Some (algorithms_of users.algorithms)) (or_unsupported o))) chosen;
+          resent = resent;
           accepted = accepted;
           granted = λ again granting asked_again still. granted again asked_again still granting;
           joined = λ again asked_again still.

@@ -38,7 +38,7 @@ module _ (none : Registered) (nobody : none.secrets ≡ map.empty) (who : NameAn
       ∙ ap (cond (eq_by_cmp name_cmp name who.username) (Some (of_password who.password)))
       (map.get-empty name_cmp name)
 
-  one_present : map.get (with_user none who).secrets who.username ≡ Some (of_password who.password)
+  pub one_present : map.get (with_user none who).secrets who.username ≡ Some (of_password who.password)
   one_present =
       present_at who.username
       ∙ ap (λ b. cond b (Some (of_password who.password)) None)
@@ -56,18 +56,18 @@ module _ (none : Registered) (nobody : none.secrets ≡ map.empty) (who : NameAn
           (sym (is_eq-slice_cmp name who.username) ∙ is)
       by false is h = cc
 
-  own_hashes : HaveOwnHashes (with_user none who)
+  pub own_hashes : HaveOwnHashes (with_user none who)
   own_hashes a b here there alike = only_one a here ∙ sym (only_one b there)
 
 -- ---- texts
-texts : AreTexts a_server.registered.realm a_user.username
+pub texts : AreTexts a_server.registered.realm a_user.username
 texts = record {
   realm = IsUtf8-from_ascii (codes "realm") (from_small (codes "realm") refl);
   username = IsUtf8-from_ascii (codes "user") (from_small (codes "user") refl);
 }
 
 -- ---- the meeting
-abbrev before_user : Registered
+abbrev pub before_user : Registered
 before_user = record (new_registered (codes "realm")) { algorithms = Both }
 
 module _ (from : SocketAddr) (words more : List ℕ) where

@@ -70,18 +70,18 @@ module _ (say : NoncesAsk) (found : SignedIsRead) (settings : ClientSettings) (f
     abbrev users : Registered
     users = server.registered
 
-    abbrev client : ClientSeen
+    abbrev pub client : ClientSeen
     client = record { name = who.username; algorithm = c.algorithm }
 
     abbrev matches : Matches users server.feature p c who
     matches = joined.matches
 
     -- the place with its nonce, whoever is known there, and what the address then can tell
-    abbrev standing : Option ClientSeen → PlaceSeen
+    abbrev pub standing : Option ClientSeen → PlaceSeen
     standing known =
         place_of users server.feature server.expiry from p.nonce p.expires true known
 
-    abbrev seen : Option PlaceSeen → Sight
+    abbrev pub seen : Option PlaceSeen → Sight
     seen place = record {
       registered = users;
       feature = server.feature;
@@ -158,29 +158,30 @@ module _ (say : NoncesAsk) (found : SignedIsRead) (settings : ClientSettings) (f
       accepted = ap (λ v. answer v e.arrival.now e.arrival.words r) request_stands.1 ∙ served.0
 
       -- ---- the response
-      reading_stands : StandsHere (after_reading from server e asking)
-      reading_stands = (
-        Some client,
-        sight-after_validation (at_request server e) from e.arrival.now e.arrival.words r
-            ∙ ap (λ (v : Sight).
-            record v { place = place_after v e.arrival.now e.arrival.words r }) request_stands.1
-            ∙ ap seen served.1,
-        λ never. refl,
-      )
+      pub reading_sight : sight (after_reading from server e asking) from
+          ≡ seen (Some (standing (Some client)))
+      reading_sight =
+          sight-after_validation (at_request server e) from e.arrival.now e.arrival.words r
+          ∙ ap (λ (v : Sight).
+          record v { place = place_after v e.arrival.now e.arrival.words r }) request_stands.1
+          ∙ ap seen served.1
 
-      response_stands : StandsHere (at_response from server e asking)
+      reading_stands : StandsHere (after_reading from server e asking)
+      reading_stands = (Some client, reading_sight, λ never. refl)
+
+      pub response_stands : StandsHere (at_response from server e asking)
       response_stands =
           calls_leave users server.feature server.expiry from p.nonce p.expires true
           e.before_response (after_reading from server e asking) timely.calls_before_response
           reading_stands
 
-      last_sight : sight (after_exchange from server e asking) from
+      pub last_sight : sight (after_exchange from server e asking) from
           ≡ seen (Some (standing response_stands.0))
       last_sight =
           signing_sight users server.feature server.expiry from p.nonce p.expires true
           (at_response from server e asking) response_stands
 
-      texts_after : AreTexts (after_exchange from server e asking).registered.realm who.username
+      pub texts_after : AreTexts (after_exchange from server e asking).registered.realm who.username
       texts_after =
           subst (λ (u : Registered). AreTexts u.realm who.username)
           (sym (ap (λ (v : Sight). v.registered) last_sight)) texts
@@ -193,11 +194,11 @@ module _ (say : NoncesAsk) (found : SignedIsRead) (settings : ClientSettings) (f
             ∙ still
 
         -- the address has its place again
-        own_again : seen (Some (standing response_stands.0)) ≡ seen (Some p)
+        pub own_again : seen (Some (standing response_stands.0)) ≡ seen (Some p)
         own_again =
             ap (λ k. seen (Some (standing k))) known_is ∙ ap (λ q. seen (Some q)) (sym own_place)
 
-        joined_after : AreJoined (sight (after_exchange from server e asking) from) p c who
+        pub joined_after : AreJoined (sight (after_exchange from server e asking) from) p c who
         joined_after =
             subst (λ v. AreJoined v p c who) (sym (last_sight ∙ own_again))
             (record { place = refl; client = joined.client; matches = matches })

@@ -16,7 +16,7 @@ use Rattle.stun_base.specs.declared.wire.error.StunParseError.{StunParseError}
 use Rattle.stun_base.specs.declared.wire.error.StunWriteError.{StunWriteError}
 use Rattle.stun_base.proofs.Addresses.{address_exact, address_total}
 use Rattle.stun_types.specs.Message.{refusal}
-use Rattle.stun_auth.specs.Additions.{Page, added_all, after, page_of}
+use Rattle.stun_auth.specs.Additions.{Page, added_all, after}
 use Rattle.stun_auth.specs.Forgetting.{place_kept}
 use Rattle.stun_auth.specs.ForgettingSteps.{is_looked_at, next_address}
 use Rattle.stun_auth.specs.ForgettingSteps.{places_kept_where}
@@ -38,7 +38,8 @@ use Rattle.stun_proto.specs.DatabaseLoop.{with_passed}
 use Rattle.stun_proto.specs.Headline.{ValidatesEachCall}
 use Rattle.stun_proto.specs.Isolation.{IsIsolated}
 use Rattle.stun_proto.specs.Replies.{message_read}
-use Rattle.stun_proto.specs.ServerLoop.{IfMessage, IsMade, Told, reply_with, signed_or_refused}
+use Rattle.stun_proto.specs.ServerLoop.{IfMessage, IsMade, IsSignedInSome, Told, reply_with}
+use Rattle.stun_proto.specs.ServerLoop.{signed_or_refused}
 use Rattle.stun_proto.specs.Serving.{Reply, NotAMessage, Done, after_call, after_calls}
 use Rattle.stun_proto.specs.Serving.{replies, reply, reply_of_answer}
 use Rattle.stun_proto.specs.Signing.{written_anew}
@@ -179,60 +180,44 @@ module _ (enough : NamedIsEnough) (s : Stored) where
   signs : (call : ServerCall) (o : Option StunParseError) (made : Made) (to : SocketAddr)
       (response : Bool) (bytes : List ℕ)
       → ((got : Told) → IfMessage (whole s) o got
-      ((written_anew bytes ≡ Ok bytes)
-      × (got ≡ signed_or_refused (whole s) (after_signing (whole s) to response)
-      (server_signed (sight (whole s) to) response (page_of bytes)))) → IsMade (whole s) call got)
+      ((written_anew bytes ≡ Ok bytes) × (signed : Result Page StunWriteError)
+      × IsSignedInSome (sight (whole s) to) response bytes signed
+      × (got ≡ signed_or_refused (whole s) (after_signing (whole s) to response) signed))
+      → IsMade (whole s) call got)
       → IfAMessage s call o made
-      ((written_anew bytes ≡ Ok bytes)
+      ((written_anew bytes ≡ Ok bytes) × (signed : Result Page StunWriteError)
+      × IsSignedInSome (sight (with_passed s (client_user s to)) to) response bytes signed
       × (made ≡ record {
         calls = call ∷ [];
         given = (signed_or_refused (with_passed s (client_user s to))
-            (after_signing (with_passed s (client_user s to)) to response)
-            (server_signed (sight (with_passed s (client_user s to)) to) response
-            (page_of bytes))).reply ∷ [];
+            (after_signing (with_passed s (client_user s to)) to response) signed).reply ∷ [];
         after = record s {
           server = with_users
               (signed_or_refused (with_passed s (client_user s to))
-              (after_signing (with_passed s (client_user s to)) to response)
-              (server_signed (sight (with_passed s (client_user s to)) to) response
-              (page_of bytes))).server s.server.registered;
+              (after_signing (with_passed s (client_user s to)) to response) signed).server
+              s.server.registered;
         };
       })) → IsRun s made
   signs call (Some error) made to response bytes is h =
       subst (IsRun s) (sym h)
       (run_of_one s call (reply_with (NotAMessage error) (whole s)) s (is _ refl) refl)
-  signs call None made to response bytes is (plain, h) =
+  signs call None made to response bytes is (plain, signed, (room, signed_is, not_small), h) =
       let passed = with_passed s (client_user s to) in
-      let outcome = server_signed (sight (whole s) to) response (page_of bytes) in
-      let got = signed_or_refused (whole s) (after_signing (whole s) to response) outcome in
-      let same : server_signed (sight passed to) response (page_of bytes) ≡ outcome =
-      same_signed response (page_of bytes) (fin.get s.server.places to) in
+      let got = signed_or_refused (whole s) (after_signing (whole s) to response) signed in
+      let page : Page = record { bytes = bytes; room = room } in
+      let same : signed ≡ server_signed (sight (whole s) to) response page =
+      signed_is ∙ same_signed response page (fin.get s.server.places to) in
       let left : Stored = record s {
         server = with_users
-            (signed_or_refused passed (after_signing passed to response) outcome).server
+            (signed_or_refused passed (after_signing passed to response) signed).server
             s.server.registered;
       } in
       subst (IsRun s) (sym h)
-      (subst (λ x. IsRun s (record {
-        calls = call ∷ [];
-        given = (signed_or_refused passed (after_signing passed to response) x).reply ∷ [];
-        after = record s {
-          server = with_users (signed_or_refused passed (after_signing passed to response) x).server
-              s.server.registered;
-        };
-      })) (sym same)
-      (subst (λ r. IsRun s (record {
-        calls = call ∷ [];
-        given = r ∷ [];
-        after = record s {
-          server = with_users
-              (signed_or_refused passed (after_signing passed to response) outcome).server
-              s.server.registered;
-        };
-      }))
+      (subst (λ r. IsRun s (record { calls = call ∷ []; given = r ∷ []; after = left }))
       (sym (same_reply passed (after_signing passed to response) (whole s)
-      (after_signing (whole s) to response) outcome))
-      (run_of_one s call got left (is got (plain, refl)) (left_by to response outcome))))
+      (after_signing (whole s) to response) signed))
+      (run_of_one s call got left (is got (plain, signed, (room, same, not_small), refl))
+      (left_by to response signed)))
 
   -- ---- every other call
   others : (call : ServerCall) (next : Told) → LooksAtNoUser call → IsMade s.server call next

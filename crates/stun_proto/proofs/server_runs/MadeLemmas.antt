@@ -1,7 +1,7 @@
 -- One call that a user makes of a server, by the clauses of that call.
-use Rattle.std.proofs.Common.{◌≡◌, ℕ, ◌-◌, Bool, List, length, Option, None}
+use Rattle.std.proofs.Common.{◌≡◌, ◌≢◌, ℕ, Bool, List, Option, None}
 use Rattle.std.proofs.Common.{refl, sym, subst, ap, ◌∙◌, Result, Ok, Err}
-use Rattle.std.specs.Prelude.{OnErr, OnOk}
+use Rattle.std.specs.Prelude.{IsErrOf, OnErr, OnOk}
 use Rattle.std.specs.Global.{Vec}
 use Rattle.std.specs.declared.net.socket_addr.SocketAddr.{SocketAddr}
 use Rattle.stun_base.specs.MessageType.{class_in, is_response}
@@ -14,19 +14,19 @@ use Rattle.stun_base.specs.declared.wire.error.StunWriteError.TheVariants.{TooLa
 use Rattle.stun_base.specs.declared.wire.error.StunWriteError.TheVariants.{IntegrityFailed}
 use Rattle.stun_base.specs.declared.wire.error.StunWriteError.TheVariants.{OutOfMemory}
 use Rattle.stun_types.specs.Message.{IsMessage, refusal}
-use Rattle.stun_types.specs.WriteVec.{Written}
 use Rattle.stun_types.proofs.MessageLemmas.{refusal-none}
 use Rattle.stun_auth.specs.declared.server.reason.LongTermServerAuthErrorReason.{
   LongTermServerAuthErrorReason,
 }
 use Rattle.stun_auth.specs.declared.server.reason.LongTermServerAuthErrorReason.TheVariants
     as Server
-use Rattle.stun_auth.specs.Additions.{Page, UnlessMemory, page_of, written_page}
+use Rattle.stun_auth.specs.Additions.{Page, UnlessMemory, page_in, written_page}
 use Rattle.stun_auth.specs.Reading.{reading_of}
 use Rattle.stun_auth.specs.Reasons.{ServerUnlessMemory}
 use Rattle.stun_auth.specs.ServerSigning.{after_signing, server_signed}
 use Rattle.stun_auth.specs.Validation.{Answer, ServerSeen, after_validation, answer, sight}
-use Rattle.stun_proto.specs.ServerLoop.{IfMessage, IsMade, Told, signed_or_refused, reply_with}
+use Rattle.stun_proto.specs.ServerLoop.{IfMessage, IsMade, IsSignedInSome, Told}
+use Rattle.stun_proto.specs.ServerLoop.{signed_or_refused, reply_with}
 use Rattle.stun_proto.specs.Serving.{reply_of_answer, reply_of_signing}
 use Rattle.stun_proto.specs.Signing.{written_anew}
 use Rattle.stun_proto.specs.declared.replay.call.ServerCall.TheVariants as Call
@@ -86,40 +86,36 @@ is_validated s t from now words bytes given is_message answered left =
     answered left
 
 -- ---- signing
-pub made_sign : (s : ServerSeen) (to : SocketAddr) (message : Vec ℕ) (bytes : List ℕ)
+pub made_sign : (s : ServerSeen) (to : SocketAddr) (message : Vec ℕ) (bytes : List ℕ) (room : ℕ)
     (response : Bool) (signed : Result Page StunWriteError)
     → message.items ≡ bytes → refusal bytes ≡ None → written_anew bytes ≡ Ok bytes
     → is_response (class_in bytes) ≡ response
-    → server_signed (sight s to) response (page_of bytes) ≡ signed
+    → signed ≡ server_signed (sight s to) response (record { bytes = bytes; room = room })
+    → signed ≢ Err TooSmall
     → IsMade s (Call.Sign to message) (signed_or_refused s (after_signing s to response) signed)
-made_sign s to message bytes response signed same is_message plain class_is answered =
+made_sign s to message bytes room response signed same is_message plain class_is answered
+    not_small =
     let after : Told = signed_or_refused s (after_signing s to response) signed in
-    let Signs : Bool → List ℕ → Told = λ r b.
-    signed_or_refused s (after_signing s to r) (server_signed (sight s to) r (page_of b)) in
-    let P : List ℕ → Type 0 = λ b. IfMessage s (refusal b) after
-    ((written_anew b ≡ Ok b) × (after ≡ Signs (is_response (class_in b)) b)) in
-    let Q : Option StunParseError → Type 0 = λ o. IfMessage s o after
-    ((written_anew bytes ≡ Ok bytes) × (after ≡ Signs (is_response (class_in bytes)) bytes)) in
-    let is : Signs (is_response (class_in bytes)) bytes ≡ after =
-    ap (λ r. Signs r bytes) class_is
-    ∙ ap (signed_or_refused s (after_signing s to response)) answered in
-    subst P (sym same) (subst Q (sym is_message) (plain, sym is))
-
--- the page of a writer to a vector
-abbrev pub page_written : Result Written StunWriteError → Result Page StunWriteError
-page_written result =
-    written_page (λ (w : Written). w.bytes) (λ (w : Written). 65552 - length w.bytes)
-    result
-
--- the server after it, as its clauses have it
-left_by : (s t signed : ServerSeen) (result : Result Written StunWriteError)
-    → OnOk result (t ≡ signed) → OnErr result (t ≡ s)
-    → signed_or_refused s signed (page_written result)
-    ≡ reply_with (reply_of_signing (page_written result)) t
-left_by s t signed (Ok w) ok err = ap (reply_with (reply_of_signing (page_written (Ok w)))) (sym ok)
-left_by s t signed (Err reason) ok err =
-    ap (reply_with (reply_of_signing (page_written (Err reason))))
-    (sym err)
+    let page : Page = record { bytes = bytes; room = room } in
+    let Signs : List ℕ → Type 0 = λ b. IfMessage s (refusal b) after
+    ((written_anew b ≡ Ok b) × (x : Result Page StunWriteError)
+    × IsSignedInSome (sight s to) (is_response (class_in b)) b x
+    × (after ≡ signed_or_refused s (after_signing s to (is_response (class_in b))) x)) in
+    let Heard : Option StunParseError → Type 0 = λ o. IfMessage s o after
+    ((written_anew bytes ≡ Ok bytes) × (x : Result Page StunWriteError)
+    × IsSignedInSome (sight s to) (is_response (class_in bytes)) bytes x
+    × (after ≡ signed_or_refused s (after_signing s to (is_response (class_in bytes))) x)) in
+    subst Signs (sym same)
+    (subst Heard (sym is_message) (
+      plain,
+      signed,
+      (
+        room,
+        answered ∙ sym (ap (λ r. server_signed (sight s to) r page) class_is),
+        not_small,
+      ),
+      sym (ap (λ r. signed_or_refused s (after_signing s to r) signed) class_is),
+    ))
 
 unless_memory : {V : Type 0} (result : Result V StunWriteError) (P Q R S : Type 0) → (P → R)
     → OnErr result S
@@ -133,27 +129,53 @@ unless_memory (Err TooSmall) P Q R S f err a = f a
 unless_memory (Err IntegrityFailed) P Q R S f err a = f a
 unless_memory (Err OutOfMemory) P Q R S f err a = err
 
-pub is_signed : (s t : ServerSeen) (to : SocketAddr) (bytes : List ℕ)
-    (result : Result Written StunWriteError) (Q : Type 0)
-    → IsMessage bytes
-    → UnlessMemory result
-    (page_written result ≡ server_signed (sight s to) (is_response (class_in bytes))
-    (page_of bytes)) Q
-    → OnOk result (t ≡ after_signing s to (is_response (class_in bytes)))
-    → OnErr result (t ≡ s)
-    → UnlessMemory result
-    ((message : Vec ℕ) → message.items ≡ bytes → written_anew bytes ≡ Ok bytes
-    → IsMade s (Call.Sign to message) (reply_with (reply_of_signing (page_written result)) t))
-    (t ≡ s)
-is_signed s t to bytes result Q is_message answered ok err =
-    let response = is_response (class_in bytes) in
-    let Says : Type 0 = page_written result ≡ server_signed (sight s to) response (page_of bytes) in
-    let Makes : Type 0 = (message : Vec ℕ) → message.items ≡ bytes → written_anew bytes ≡ Ok bytes
-    → IsMade s (Call.Sign to message) (reply_with (reply_of_signing (page_written result)) t) in
-    unless_memory result Says Q Makes (t ≡ s)
-    (λ is message same plain.
-    subst (IsMade s (Call.Sign to message))
-    (left_by s t (after_signing s to response) result ok err)
-    (made_sign s to message bytes response (page_written result) same
-    (refusal-none bytes is_message) plain refl (sym is)))
-    err answered
+-- a call in a writer
+module _ {W : Type 0} (bytes_in : W → List ℕ) (room_in : W → ℕ) where
+  -- the server after it, as its clauses have it
+  left_by : (s t signed : ServerSeen) (result : Result W StunWriteError)
+      → OnOk result (t ≡ signed) → OnErr result (t ≡ s)
+      → signed_or_refused s signed (written_page bytes_in room_in result)
+      ≡ reply_with (reply_of_signing (written_page bytes_in room_in result)) t
+  left_by s t signed (Ok w) ok err =
+      ap (reply_with (reply_of_signing (written_page bytes_in room_in (Ok w)))) (sym ok)
+  left_by s t signed (Err reason) ok err =
+      ap (reply_with (reply_of_signing (written_page bytes_in room_in (Err reason)))) (sym err)
+
+  has_room : (result : Result W StunWriteError) → (IsErrOf result TooSmall → ⊥)
+      → written_page bytes_in room_in result ≢ Err TooSmall
+  has_room (Ok w) not_small is = cc
+  has_room (Err reason) not_small is =
+      let same : reason ≡ TooSmall = cc in not_small (ap (λ e. Err e) same)
+
+  pub is_signed : (s t : ServerSeen) (to : SocketAddr) (writer : W)
+      (result : Result W StunWriteError) (Q : Type 0)
+      → IsMessage (bytes_in writer)
+      → UnlessMemory result
+      (written_page bytes_in room_in result
+      ≡ server_signed (sight s to) (is_response (class_in (bytes_in writer)))
+      (page_in bytes_in room_in writer)) Q
+      → OnOk result (t ≡ after_signing s to (is_response (class_in (bytes_in writer))))
+      → OnErr result (t ≡ s)
+      → UnlessMemory result
+      ((message : Vec ℕ) → message.items ≡ bytes_in writer
+      → written_anew (bytes_in writer) ≡ Ok (bytes_in writer)
+      → (IsErrOf result TooSmall → ⊥)
+      → IsMade s (Call.Sign to message)
+      (reply_with (reply_of_signing (written_page bytes_in room_in result)) t))
+      (t ≡ s)
+  is_signed s t to writer result Q is_message answered ok err =
+      let bytes = bytes_in writer in
+      let response = is_response (class_in bytes) in
+      let page = written_page bytes_in room_in result in
+      let Says : Type 0 =
+      page ≡ server_signed (sight s to) response (page_in bytes_in room_in writer) in
+      let Makes : Type 0 = (message : Vec ℕ) → message.items ≡ bytes
+      → written_anew bytes ≡ Ok bytes → (IsErrOf result TooSmall → ⊥)
+      → IsMade s (Call.Sign to message) (reply_with (reply_of_signing page) t) in
+      unless_memory result Says Q Makes (t ≡ s)
+      (λ is message same plain not_small.
+      subst (IsMade s (Call.Sign to message))
+      (left_by s t (after_signing s to response) result ok err)
+      (made_sign s to message bytes (room_in writer) response page same
+      (refusal-none bytes is_message) plain refl is (has_room result not_small)))
+      err answered

@@ -1,10 +1,11 @@
 -- The three calls of a client, as the server of its meeting replies to them.
-use Rattle.std.proofs.Common.{◌≡◌, ℕ, ◌<◌, ◌≤◌, ◌^◌, Bool, true, List, [], ◌∷◌}
+use Rattle.std.proofs.Common.{◌≡◌, ◌≢◌, ℕ, ◌<◌, ◌≤◌, ◌^◌, Bool, true, List, [], ◌∷◌}
 use Rattle.std.proofs.Common.{length, None, refl, sym, ap, ◌∙◌, arith, Ok, Err}
 use Rattle.std.specs.List.{AllByRecursion}
 use Rattle.std.specs.declared.net.socket_addr.SocketAddr.{SocketAddr}
 use Rattle.stun_base.specs.MessageType.{class_of, type_number}
 use Rattle.stun_base.specs.declared.keys.algorithm.IntegrityAlgorithm.TheVariants.{Sha256}
+use Rattle.stun_base.specs.declared.wire.error.StunWriteError.TheVariants.{TooSmall}
 use Rattle.stun_base.specs.declared.wire.message_type.MessageClass.TheVariants as Class
 use Rattle.stun_types.specs.Grammar.{spelled_message}
 use Rattle.stun_types.specs.Message.{refusal}
@@ -38,6 +39,9 @@ use Rattle.stun_proto.proofs.server_runs.MadeLemmas.{made_sign, made_validate}
 use Rattle.stun_proto.proofs.meetings.PathLemmas.{Path, path}
 use Rattle.stun_proto.proofs.server_runs.ServerLoopLemmas.{calls_are_served}
 use Rattle.stun_proto.proofs.meetings.Typed.{failure_responds}
+
+ok_not_small : {page : Page} → Ok page ≢ Err TooSmall
+ok_not_small is = cc
 
 -- ---- the messages of the client
 request_is : refusal (request 7) ≡ None
@@ -104,9 +108,11 @@ module _ (laws : MessageLaws) where
                     (ap refusal first_bytes ∙ request_is) went.unauthorized,
                 (
                   u,
-                  made_sign t from error (failure UNAUTHORIZED 7) true (Ok went.told) error_holds
+                  made_sign t from error (failure UNAUTHORIZED 7)
+                      (page_of (failure UNAUTHORIZED 7)).room true (Ok went.told) error_holds
                       error_is error_plain
-                      (failure_responds UNAUTHORIZED 7 (failure UNAUTHORIZED 7) refl) went.told_is,
+                      (failure_responds UNAUTHORIZED 7 (failure UNAUTHORIZED 7) refl)
+                      (sym went.told_is) ok_not_small,
                   (
                     v,
                     made_validate u from 1_000_000_000 second more went.second.bytes

@@ -1,13 +1,17 @@
 -- Each call that a user makes on a server is the call of a run.
 use Rattle.std.proofs.Common.{◌≡◌, ℕ, Bool, true, false, cond, List, [], ◌∷◌, Option}
-use Rattle.std.proofs.Common.{Some, None, refl, sym, subst, ap, ◌∙◌, Result, Ok, Err}
+use Rattle.std.proofs.Common.{◌≤◌, length, Some, None, refl, sym, subst, ap, ◌∙◌, Result, Ok, Err}
+use Rattle.std.proofs.lemmas.Bool.{ltb-false}
+use Rattle.std.specs.Prelude.{nat_lt}
 use Rattle.std.specs.Duration.{as_nanos}
 use Rattle.std.specs.declared.net.socket_addr.SocketAddr.{SocketAddr}
 use Rattle.stun_base.specs.MessageType.{class_in, is_response}
+use Rattle.stun_base.specs.Header.{is_stun}
 use Rattle.stun_base.specs.declared.wire.error.StunParseError.{StunParseError}
+use Rattle.stun_base.specs.declared.wire.error.StunParseError.TheVariants.{NotStun, Truncated}
 use Rattle.stun_base.specs.declared.wire.error.StunWriteError.{StunWriteError}
 use Rattle.std.proofs.lemmas.List.{append-nil}
-use Rattle.stun_types.specs.Message.{refusal}
+use Rattle.stun_types.specs.Message.{data_refusal, either_refusal, refusal}
 use Rattle.stun_types.specs.Visible.{visible}
 use Rattle.stun_types.specs.Walk.{attributes_of}
 use Rattle.stun_types.proofs.AddingLemmas.{visible-open}
@@ -23,12 +27,14 @@ use Rattle.stun_proto.specs.Headline.{ValidatesEachCall}
 use Rattle.stun_proto.specs.Isolation.{IsIsolated}
 use Rattle.stun_proto.specs.Replies.{message_read}
 use Rattle.stun_proto.specs.ServerLoop.{AreMade, BuiltAreWrittenSo, CallsAreServed}
-use Rattle.stun_proto.specs.ServerLoop.{IfMessage, IsMade, Told, signed_or_refused, reply_with}
+use Rattle.stun_proto.specs.ServerLoop.{IfMessage, IsMade, IsSignedInSome, Told}
+use Rattle.stun_proto.specs.ServerLoop.{signed_or_refused, reply_with}
 use Rattle.stun_proto.specs.Serving.{Reply, Done, TooShort, after_call, after_calls}
 use Rattle.stun_proto.specs.Serving.{is_too_short, places_unless, replies, reply}
 use Rattle.stun_proto.specs.Serving.{reply_of_answer, reply_of_signing, reply_unless}
 use Rattle.stun_proto.specs.Signing.{if_signed, next_if_written, refusal_at}
 use Rattle.stun_proto.proofs.server_runs.AcceptingLemmas.{validates_accepted}
+use Rattle.stun_proto.proofs.server_runs.AnyWriter.{signed_as_in_vector}
 use Rattle.stun_proto.proofs.server_runs.Digests.{digest_held}
 use Rattle.stun_proto.proofs.server_runs.IsolationLemmas.{is_isolated}
 use Rattle.stun_proto.proofs.server_runs.RepliesLemmas.{ValidatesByReplies, validates_by_replies}
@@ -81,7 +87,10 @@ module _ (s : ServerSeen) (to : SocketAddr) (bytes : List ℕ) where
       (λ w. next_if_written w (λ anew. server_signed (sight s to) response (page_of anew))) plain
 
   by_message : (o : Option StunParseError) (written : Result (List ℕ) StunWriteError) (got : Told)
-      → IfMessage s o got ((written ≡ Ok bytes) × (got ≡ signed_or_refused s after outcome))
+      → (o ≡ None → 20 ≤ length bytes)
+      → IfMessage s o got ((written ≡ Ok bytes) × (signed : Result Page StunWriteError)
+      × IsSignedInSome (sight s to) response bytes signed
+      × (got ≡ signed_or_refused s after signed))
       → IsSaid got
       (reply_unless o (reply_of_signing
       (next_if_written written (λ anew. server_signed (sight s to) response (page_of anew)))))
@@ -90,14 +99,28 @@ module _ (s : ServerSeen) (to : SocketAddr) (bytes : List ℕ) where
             (if_signed (next_if_written written
             (λ anew. server_signed (sight s to) response (page_of anew))) s.places after.places);
       })
-  by_message (Some error) written got h = said got _ s h
-  by_message None written got (plain, h) =
-      let is = signed s after got outcome (signing_shape s to response) h in
+  by_message (Some error) written got long h = said got _ s h
+  by_message None written got long (plain, some, in_some, h) =
+      let in_vector = signed_as_in_vector (sight s to) s after response bytes some (long refl)
+      in_some in
+      let is = signed s after got outcome (signing_shape s to response) (h ∙ in_vector) in
       let same = sym (same_signing written plain) in (
         is.0 ∙ ap reply_of_signing same,
         is.1 ∙ ap (λ (x : Result Page StunWriteError). record s
             { places = if_signed x s.places after.places }) same,
       )
+
+-- a message has a header
+long_message : (bytes : List ℕ) → refusal bytes ≡ None → 20 ≤ length bytes
+long_message bytes is = by (nat_lt (length bytes) 20) refl is
+  where
+    by : (b : Bool) → nat_lt (length bytes) 20 ≡ b
+        → either_refusal (cond b (Some Truncated) (cond (is_stun bytes) None (Some NotStun)))
+        (data_refusal bytes)
+        ≡ None
+        → 20 ≤ length bytes
+    by true short is = cc
+    by false not_short is = ltb-false (length bytes) 20 not_short
 
 expiry_set : (s : ServerSeen) (short : Bool) (nanos : ℕ) (got : Told)
     → got ≡ cond short (reply_with TooShort s) (reply_with Done (record s { expiry = nanos }))
@@ -113,7 +136,7 @@ is_called s (Call.Validate from now message words) got h =
     (refusal message.items) got
     (reply_of_answer (answer (sight s from) now words (reading_of message.items))) refl h
 is_called s (Call.Sign to message) got h = by_message s to message.items (refusal message.items) _
-    got h
+    got (long_message message.items) h
 is_called s (Call.AddUser name password) got h = said got Done _ h
 is_called s (Call.RemoveUser name) got h = said got Done _ h
 is_called s (Call.AddIntegrity algorithm) got h = said got Done _ h

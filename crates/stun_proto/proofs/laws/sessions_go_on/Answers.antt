@@ -1,10 +1,12 @@
--- Each message of a session is read as it was signed.
+-- Each message of a session is read as it was signed, and there are such messages.
+use Rattle.std.proofs.Common.{[], arith}
+use Rattle.stun_proto.proofs.meetings.ContactExample.{binds, has_session}
 use Rattle.stun_proto.proofs.meetings.SessionLemmas.{goes_on}
 use Rattle.stun_proto.proofs.meetings.Signed.{NoncesAsk}
-use Rattle.stun_proto.proofs.meetings.SignedRuns.{SigningLaws, signed_is_read}
+use Rattle.stun_proto.proofs.meetings.SignedRuns.{RoomLaws, SigningLaws, signed_is_read}
 use Rattle.stun_proto.proofs.laws.sessions_go_on.Goals as goal
 
-nonces : (c : goal.After-sides_add_by_attribute) → NoncesAsk
+nonces : (c : goal.After-sides_sign_with_room) → NoncesAsk
 nonces c =
     let laws = c.nonces_ask_for_what_is_supported.ensures in
     record {
@@ -15,7 +17,7 @@ nonces c =
       text = laws.text;
     }
 
-signing : (c : goal.After-sides_add_by_attribute) → SigningLaws
+signing : (c : goal.After-sides_sign_with_room) → SigningLaws
 signing c = record {
   read = c.signed_messages_are_read.ensures;
   bare = c.built_messages_can_be_signed.ensures.bare;
@@ -25,7 +27,19 @@ signing c = record {
   there = c.sides_add_by_attribute.ensures.there;
 }
 
-pub returns : goal.returns
-returns c settings from who server p challenge parts texts joined =
+room : (c : goal.After-sides_sign_with_room) → RoomLaws
+room c = record {
+  client = c.sides_sign_with_room.ensures.client;
+  server = c.sides_sign_with_room.ensures.server;
+  short = c.nonces_ask_for_what_is_supported.ensures.short;
+}
+
+pub returns-clause-go_on : goal.returns-clause-go_on
+returns-clause-go_on c settings from who server p challenge parts texts joined =
     goes_on (nonces c) (signed_is_read (signing c)) settings from who parts server p challenge texts
     joined
+
+pub returns-clause-exist : goal.returns-clause-exist
+returns-clause-exist c from =
+    has_session (nonces c) (signed_is_read (signing c)) (signing c) (room c) 1 binds from
+    [] [] (omega arith)

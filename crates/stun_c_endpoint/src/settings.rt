@@ -161,10 +161,12 @@ impl<'a> Given<'a> {
         ensures built { IfOk result (λ made. made.value
             ≡ kind.Server (server_given self.now)) }
     {
-        let server = self.server(alloc)?;
-        match Box::new(alloc, Kept::Server(server)) {
-            Ok(made) => Ok(made),
-            Err(_) => Err(Refusal::OutOfMemory),
+        match self.server(alloc) {
+            Ok(server) => match Box::new(alloc, Kept::Server(server)) {
+                Ok(made) => Ok(made),
+                Err(_) => Err(Refusal::OutOfMemory),
+            },
+            Err(refusal) => Err(refusal),
         }
     }
 

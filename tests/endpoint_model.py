@@ -31,6 +31,10 @@ class Refused(Exception):
     """A request gets an error response with this code."""
 
 
+class Waits(Exception):
+    """A request waits for this user."""
+
+
 # ---- Messages in words.
 
 
@@ -181,8 +185,9 @@ class Server:
         return b"".join(struct.pack(">HH", one, 0)
                         for one in sorted(self.algorithms, reverse=True))
 
-    def judged(self, message, source, now, users):
-        """The user, the algorithm and the key of an accepted request."""
+    def judged(self, message, source, now, users, waits=False):
+        """The user, the algorithm and the key of an accepted request. One that `waits` for a user
+        names that user in the exception."""
         values = {}
         for kind, _, value in spelling.visible(message):
             values.setdefault(kind, value)
@@ -200,6 +205,9 @@ class Server:
         ours, theirs = bits_of(nonces[0]), bits_of(values[stun.NONCE])
         if values[stun.NONCE] not in nonces:
             raise Refused(401 if None not in (ours, theirs) and ours != theirs else 438)
+        if waits and (self.hashes or stun.USERHASH not in values):
+            raise Waits("0x" + values[stun.USERHASH].hex() if stun.USERHASH in values
+                        else values[stun.USERNAME].decode())
         name = self.named(values, users)
         key = users.keys.get(name, {}).get(algorithm)
         is_right = (key is not None and algorithm in self.algorithms
@@ -286,6 +294,7 @@ class Stage:
         self.meanings, self.kept = meanings, {}
         self.now, self.source = 0, (bytes((10, 0, 0, 1)), 12345)
         self.settings, self.server, self.users, self.user = Settings(), None, None, None
+        self.waits = False
         self.reply = None
 
     def message(self, words):
@@ -334,6 +343,11 @@ class Stage:
                 algorithm: bytes.fromhex(word)
                 for algorithm, word in zip((stun.SHA1, stun.SHA256), words[1:]) if word != "-"}
             return None
+        if name in ("identifies", "resumes"):
+            self.waits = name == "identifies"
+            came = self.hears(self.message(words), self.user or Table(self.server.realm))
+            self.waits = False
+            return came
         if name == "responds":
             return self.responds(*words)
         return self.set(name, words[0])
@@ -382,10 +396,13 @@ class Stage:
     def requested(self, request, users):
         server = self.server
         try:
-            name, algorithm, key = server.judged(request, self.source, self.seconds(), users)
+            name, algorithm, key = server.judged(request, self.source, self.seconds(), users,
+                                                 self.waits)
         except Refused as refused:
             code = refused.args[0]
             return self.refusal(code, server.refused(request, self.source, self.seconds(), code))
+        except Waits as waits:
+            return "looks up " + waits.args[0]
         unknown = server.unknown(request)
         if unknown:
             types = b"".join(struct.pack(">H", one) for one in unknown)

@@ -67,8 +67,8 @@ pub use client_settings::{
 #[cfg_attr(docsrs, doc(cfg(feature = "std")))]
 pub use clock::Clock;
 pub use server::{
-    Answer, LongTerm, Received, Reply, ReplyWriter, Request, Server, ServerBuilder, User,
-    UserError, Users,
+    Answer, Identified, LongTerm, Lookup, Received, Reply, ReplyWriter, Request, Server,
+    ServerBuilder, User, UserError, Users,
 };
 pub use stream::{FrameBuffer, NotStun};
 

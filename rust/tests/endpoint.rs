@@ -1,6 +1,6 @@
 //! A server as one value: what datagrams come to.
 
-use seatcrane_stun::auth::{LongTermClientAuth, LongTermClientValidation, StoredKeys};
+use seatcrane_stun::auth::{LongTermClientAuth, LongTermClientValidation, NamedUser, StoredKeys};
 use seatcrane_stun::endpoint::*;
 use seatcrane_stun::extra::attribute::{AlternateServer, Lifetime, XorPeerAddress};
 use seatcrane_stun::extra::{Fingerprint, check_fingerprint, finish_with_fingerprint};
@@ -433,6 +433,20 @@ fn one_user_who_was_looked_up_is_enough() {
     let by_table = answer(server.receive(&request, from, secs(0), &users));
     let by_user = answer(server.receive_for(&request, from, secs(0), Some(&found)));
     assert_eq!((code(&by_table), by_table.bytes()), (200, by_user.bytes()));
+    let Identified::Lookup(lookup) = server.identify(&request, from, secs(0)) else {
+        panic!("no look-up");
+    };
+    let hash = Userhash::compute("alice", "example.org");
+    assert_eq!(lookup.user_id(), NamedUser::ByHash(hash));
+    assert_eq!((lookup.from(), lookup.arrived()), (from, secs(0)));
+    assert_eq!(lookup.transaction_id(), id(9));
+    let resumed = answer(server.resume(lookup, Some(&found)));
+    assert_eq!((code(&resumed), resumed.bytes()), (200, by_user.bytes()));
+    let other = at("192.0.2.1:4243");
+    let Identified::Done(elsewhere) = server.identify(&request, other, secs(0)) else {
+        panic!("a look-up for a nonce of another address");
+    };
+    assert_eq!(code(&answer(elsewhere)), 438);
     assert_eq!(
         code(&answer(server.receive_for(
             &request,

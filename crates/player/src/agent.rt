@@ -3,7 +3,7 @@
 
 pub mod answers;
 mod asked;
-mod building;
+pub mod building;
 mod messages;
 mod polls;
 mod requests;

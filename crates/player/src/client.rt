@@ -151,7 +151,7 @@ fn signing_algorithm(stage: &Stage<'_>, answer: &mut String) -> Result<(), Troub
     }
 }
 
-fn reason_name(reason: LongTermClientAuthErrorReason) -> &'static str {
+pub fn reason_name(reason: LongTermClientAuthErrorReason) -> &'static str {
     match reason {
         LongTermClientAuthErrorReason::Unauthorized => "Unauthorized",
         LongTermClientAuthErrorReason::IntegrityFailed => "IntegrityFailed",

@@ -157,3 +157,8 @@ challenge_is p who before bytes realm nonce list challenges realm_is nonce_is li
     ∙ sym (ap (λ r. by_rule_if p who r (nonce_in bytes) (list_for before bytes)) realm_is)
     ∙ sym (ap (λ b. cond b
     (by_rule_if p who (realm_in bytes) (nonce_in bytes) (list_for before bytes)) None) challenges)
+
+-- a copy is chosen too
+pub chosen_copy : (p : Preferences) (c copy : Challenge) → IsChosen p c → copy ≡ c
+    → IsChosen p copy
+chosen_copy p c copy is same = subst (IsChosen p) (sym same) is

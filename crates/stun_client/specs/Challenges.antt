@@ -1,13 +1,16 @@
 -- A challenge of one message, by the rule (RFC 8489, section 9.2.5). A 401 and a 438 are read alike,
 -- and nonce, list, algorithm, key and name are of that one message.
-use Rattle.std.specs.Prelude.{ℕ, List, [], Bool, ◌&&◌, if◌then◌else◌, Option, Some, None}
+use Rattle.std.specs.Prelude.{ℕ, List, [], Bool, false, ◌&&◌, ◌||◌, not, if◌then◌else◌, Option, Some, None}
 use Rattle.std.specs.Option.{is_none, is_some, option_map}
+use Rattle.std.specs.Str.{bytes_eq}
 use Rattle.stun_base.specs.Credentials.{NameAndPassword}
 use Rattle.stun_base.specs.declared.keys.algorithm.IntegrityAlgorithm.{IntegrityAlgorithm}
 use Rattle.stun_types.specs.Integrity.{verified_algorithm}
 use Rattle.stun_auth.specs.Client.{Challenge}
 use Rattle.stun_auth.specs.ClientStep.{STALE_NONCE, is_code, list_or_none, new_challenge}
+use Rattle.stun_auth.specs.Algorithms.{is_sha256, same_algorithm}
 use Rattle.stun_auth.specs.Nonces.{asks_for_algorithms}
+use Rattle.stun_auth.specs.Signed.{plain_name}
 use Rattle.stun_client.specs.Challenging.{code_in, is_challenge, list_in, nonce_in, realm_in}
 use Rattle.stun_client.specs.Rule.{chosen, lacks_userhash}
 use Rattle.stun_client.specs.declared.preferences.Preferences.{Preferences}
@@ -57,3 +60,22 @@ challenge_of p who before bytes =
     if is_challenge bytes
     then by_rule_if p who (realm_in bytes) (nonce_in bytes) (list_for before bytes)
     else None
+
+-- whether a request for a challenge is protected by less than one for another: by HMAC-SHA1 in
+-- place of HMAC-SHA256, or by a user name in place of a hash
+abbrev pub is_weaker : Challenge → Challenge → Bool
+is_weaker c other =
+    (is_sha256 other.algorithm && not (is_sha256 c.algorithm))
+    || (is_none (plain_name other.naming) && not (is_none (plain_name c.naming)))
+
+-- whether two challenges are the same. The nonce says whether the user is named by a hash
+abbrev pub is_same : Challenge → Challenge → Bool
+is_same c other =
+    bytes_eq c.nonce other.nonce && bytes_eq c.realm other.realm
+    && same_algorithm c.algorithm other.algorithm
+
+-- whether one is the other
+abbrev pub is_one : Option Answered → Option Answered → Bool
+is_one None other = false
+is_one (Some c) None = false
+is_one (Some c) (Some other) = is_same c.challenge other.challenge

@@ -11,5 +11,9 @@ pub mod Challenging
 pub mod Challenges
 -- no server accepts less than the strongest that both sides support
 pub mod Downgrade
+-- which challenge new requests are signed for
+pub mod Standing
+-- the transaction IDs of a client
+pub mod Ids
 -- what no clause of a public call cites: views of the code's own structs
 pub mod code

@@ -5,9 +5,11 @@ ghost use Rattle.std.specs.Option.{IfSome, is_none, option_copied, option_map};
 ghost use Rattle.stun_types.specs.Integrity.{verified_algorithm};
 ghost use Rattle.stun_types.specs.Limits.{TEXT_LIMIT};
 ghost use Rattle.stun_types.specs.PasswordAlgorithms.{integrity_of};
+ghost use Rattle.stun_auth.specs.Algorithms.{is_sha256, same_algorithm};
 ghost use Rattle.stun_auth.specs.ClientStep.{list_or_none, new_challenge};
 ghost use Rattle.stun_auth.specs.Signed.{plain_name};
-ghost use Rattle.stun_client.specs.Challenges.{Answered, by_rule, challenge_of, is_renewal};
+ghost use Rattle.stun_client.specs.Challenges.{Answered, by_rule, challenge_of, is_one, is_renewal};
+ghost use Rattle.stun_client.specs.Challenges.{is_same, is_weaker};
 ghost use Rattle.stun_client.specs.Challenges.{list_for, list_kept};
 ghost use Rattle.stun_client.specs.Challenging.{list_in};
 ghost use Rattle.stun_client.specs.code.Kept.{challenge_seen};
@@ -298,5 +300,72 @@ impl<A: Allocator> Challenge<A> {
             Ok(algorithm) => Some(algorithm),
             Err(_) => None,
         }
+    }
+}
+
+impl<A: Allocator + Copy> Challenge<A> {
+    /// Returns whether a challenge is this one: it has the same nonce, realm and algorithm.
+    pub fn is_same_as(&self, other: &Option<Challenge<A>>) -> bool
+        ensures { result ≡ is_one (Some self.now) other.now }
+    {
+        match other {
+            Some(other) => self.is_one(other),
+            None => false,
+        }
+    }
+
+    /// Returns whether a challenge is this one.
+    fn is_one(&self, other: &Challenge<A>) -> bool
+        ensures { result ≡ is_same self.now.challenge other.now.challenge }
+    {
+        self.nonce() == other.nonce()
+            && self.realm() == other.realm()
+            && is_same_algorithm(self.algorithm(), other.algorithm())
+    }
+
+    /// Returns whether a request for this challenge is protected by less than one for another: by
+    /// HMAC-SHA1 in place of HMAC-SHA256, or by a user name in place of a hash.
+    pub fn is_weaker_than(&self, other: &Challenge<A>) -> bool
+        ensures { result ≡ is_weaker self.now.challenge other.now.challenge }
+    {
+        (is_sha256(other.algorithm()) && !is_sha256(self.algorithm()))
+            || (other.is_hashed() && !self.is_hashed())
+    }
+}
+
+/// Returns whether an algorithm is HMAC-SHA256.
+fn is_sha256(algorithm: IntegrityAlgorithm) -> bool
+    ensures { result ≡ is_sha256 algorithm }
+{
+    match algorithm {
+        IntegrityAlgorithm::Sha1 => false,
+        IntegrityAlgorithm::Sha256 => true,
+    }
+}
+
+/// Returns whether two algorithms are the same.
+fn is_same_algorithm(one: IntegrityAlgorithm, other: IntegrityAlgorithm) -> bool
+    ensures { result ≡ same_algorithm one other }
+{
+    match (one, other) {
+        (IntegrityAlgorithm::Sha1, IntegrityAlgorithm::Sha1) => true,
+        (IntegrityAlgorithm::Sha256, IntegrityAlgorithm::Sha256) => true,
+        (IntegrityAlgorithm::Sha1, IntegrityAlgorithm::Sha256) => false,
+        (IntegrityAlgorithm::Sha256, IntegrityAlgorithm::Sha1) => false,
+    }
+}
+
+/// Copies the challenge. Fails if an allocation fails.
+impl<A: Allocator + Copy> Clone for Challenge<A> {
+    ghost is_clone = { λ it copy. copy ≡ it };
+
+    ghost is_infallible = { λ _. ⊥ };
+
+    #[tactic(auto, using(crate::proofs::ChosenLemmas::chosen_copy))]
+    fn clone(&self) -> Result<Self, AllocError> {
+        Ok(Challenge {
+            preferences: self.preferences,
+            kept: self.kept.copied()?,
+        })
     }
 }

@@ -4,6 +4,8 @@
 
 mod addition;
 pub mod challenge;
+pub mod ids;
 pub mod laws;
 mod limited_text;
 pub mod preferences;
+pub mod standing;

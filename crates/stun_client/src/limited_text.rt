@@ -30,3 +30,13 @@ impl<A: Allocator> LimitedText<A> {
         self.text.as_str()
     }
 }
+
+impl<A: Allocator + Copy> LimitedText<A> {
+    /// Copies the text.
+    pub(crate) fn cloned(&self) -> Result<Self, AllocError>
+        ensures { IfOk result (λ copy. string_bytes copy.text ≡ string_bytes self.now.text) }
+    {
+        let text = self.text.clone()?;
+        Ok(LimitedText { text })
+    }
+}

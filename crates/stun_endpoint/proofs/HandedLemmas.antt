@@ -42,7 +42,7 @@ handed true true one other request q h = cc
 handed true false one other request q h = cc
 handed false c one other request q h = cc
 
-not_indicated : (b : Bool) (bytes : List ℕ) (why : DropReason) (q : AcceptedRequest) (A : Type 0)
+pub not_indicated : (b : Bool) (bytes : List ℕ) (why : DropReason) (q : AcceptedRequest) (A : Type 0)
     → cond b (indicated bytes) (dropped why) ≡ requested q → A
 not_indicated true bytes why q A h = cc
 not_indicated false bytes why q A h = cc
@@ -143,13 +143,19 @@ module _ (s : Settings) (realm : Realm) (from : SocketAddr) (now : ℕ) (bytes :
   class_of_handed q Success h = cc
   class_of_handed q Error h = cc
 
+  pub judged_of_handed : (q : AcceptedRequest)
+      → received_by s realm from now bytes ≡ requested q
+      → judged s realm from now (reading_of bytes) ≡ Ok q.client
+  judged_of_handed q h =
+      class_of_handed q (class_in bytes)
+      (not_dropped (is_some (refusal bytes)) (is_wrong (fingerprint_in bytes)) _ _ _ q h)
+
   pub handed_is_accepted : (q : AcceptedRequest)
       → received_by s realm from now bytes ≡ requested q
       → IsAcceptedAt s realm from now (reading_of bytes) q.client
   handed_is_accepted q h =
       (accepted_at s realm from (reading_of bytes) q.client (epoch_of s now)).0
-      (class_of_handed q (class_in bytes)
-      (not_dropped (is_some (refusal bytes)) (is_wrong (fingerprint_in bytes)) _ _ _ q h))
+      (judged_of_handed q h)
 
   verdict_of_bad : (a : Answer) (v : Result ClientSeen VerdictRefusal)
       → by_verdict s realm from now bytes v ≡ answered a → a.refusal ≡ Some refused.BadRequest

@@ -6,3 +6,8 @@ pub mod OfferLemmas
 pub mod VerifyingLemmas
 pub mod PreviousLemmas
 pub mod UnderstoodLemmas
+pub mod UnnamedLemmas
+pub mod ReadyLemmas
+pub mod IdentifiedLemmas
+pub mod JudgementLemmas
+pub mod RunLemmas

@@ -18,5 +18,11 @@ pub mod Refusals
 pub mod Received
 -- what the result of `receive` says
 pub mod Outcomes
+-- whose user is looked up elsewhere (section 9.2.4)
+pub mod Lookups
+-- what the result of `identify` says
+pub mod Identified
+-- the same by the calls of a server that keeps records
+pub mod Runs
 -- what no clause of a public call cites
 pub mod code

@@ -36,7 +36,9 @@ nonce_text algorithms from epoch =
     address_octets (socket_ip from) ++ big_bytes 2 (socket_port from) ++ big_bytes 8 epoch
     ++ algorithms_number algorithms ∷ []
 
--- the sixteen numbers that a nonce is made of: the first bytes of the HMAC-SHA1
+-- the sixteen numbers that a nonce is made of: the first bytes of the HMAC-SHA1. The letter of a
+-- number is its remainder modulo 62, so eight of the letters come a quarter more often than the
+-- others. The best guess at all sixteen is right once in 2 ^ 90 times (their entropy is 95 bits)
 abbrev pub words_of : AlgorithmSet → List ℕ → SocketAddr → ℕ → List ℕ
 words_of algorithms secret from epoch =
     take 16 (hmac sha1 secret (nonce_text algorithms from epoch))

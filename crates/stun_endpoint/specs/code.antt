@@ -1,2 +1,4 @@
 -- Definitions that no clause of a public call cites.
 pub mod Judges
+pub mod Waiting
+pub mod Judgements

@@ -1,15 +1,23 @@
 //! Laws over the definitions that the contracts of this crate cite. They do nothing when they run.
-ghost use Rattle.std.specs.Prelude.{◌≡◌, ◌↔◌, ◌⊎◌, ℕ, List, Ok, Some, true};
+ghost use Rattle.std.specs.FinMap as fin;
+ghost use Rattle.std.specs.Prelude.{◌≡◌, ◌↔◌, ◌⊎◌, ◌≤◌, ℕ, List, Ok, Option, Some, map, true};
 ghost use Rattle.std.specs.Str.{bytes_eq};
 ghost use Rattle.std.specs.declared.net.socket_addr.SocketAddr.{SocketAddr};
+ghost use Rattle.stun_auth.specs.declared.server.reason.LongTermServerValidation.TheVariants.{Validated};
 ghost use Rattle.stun_auth.specs.Reading.{Reading, reading_of};
+ghost use Rattle.stun_auth.specs.Registered.{Registered};
 ghost use Rattle.stun_auth.specs.Seen.{ClientSeen};
 ghost use Rattle.stun_auth.specs.Server.{their_nonce};
 ghost use Rattle.stun_auth.specs.Validation.{is_malformed};
-ghost use Rattle.stun_endpoint.specs.Judged.{IsAcceptedAt, Realm, judged};
+ghost use Rattle.stun_endpoint.specs.Judged.{IsAcceptedAt, Realm, judged, realm_of_user};
+ghost use Rattle.stun_endpoint.specs.Lookups.{LookupSeen, WaitsUnderItsNonce, done};
+ghost use Rattle.stun_endpoint.specs.Lookups.{identified_by, looked_up};
+ghost use Rattle.stun_base.specs.Moments.{last_moment};
 ghost use Rattle.stun_endpoint.specs.Nonces.{current_nonce};
-ghost use Rattle.stun_endpoint.specs.Received.{AcceptedRequest, Answer as TheAnswer};
+ghost use Rattle.stun_endpoint.specs.Realm.{table_of};
+ghost use Rattle.stun_endpoint.specs.Received.{AcceptedRequest, Answer as TheAnswer, Outcome};
 ghost use Rattle.stun_endpoint.specs.Received.{answered, received_by, requested};
+ghost use Rattle.stun_endpoint.specs.Runs.{Arrival, after_run, run, users_at, verdict_on};
 ghost use Rattle.stun_endpoint.specs.Settings.{Settings};
 ghost use Rattle.stun_endpoint.specs.declared.received.Refusal.TheVariants as refused;
 
@@ -38,4 +46,42 @@ pub fn outcomes_are_of_accepted_clients()
         → answer.refusal ≡ Some refused.BadRequest
         → (is_malformed (reading_of bytes) ≡ true)
         ⊎ (bytes_eq (their_nonce (reading_of bytes)) (current_nonce s from now) ≡ true) }
+{}
+
+/// What `identify` says without the user is what the datagram comes to, whoever the user is.
+pub fn identify_needs_no_user()
+    ensures { (s : Settings) (from : SocketAddr) (now : ℕ) (bytes : List ℕ) (outcome : Outcome)
+        → identified_by s from now bytes ≡ done outcome → (user : Option Registered)
+        → received_by s (realm_of_user s user) from now bytes ≡ outcome }
+{}
+
+/// Whom `identify` has looked up is named by a request that is signed, and that has a nonce which
+/// the server accepts for its source at the time at which the request arrived: that of the epoch or
+/// of the epoch before, of the secret or of the previous secret.
+pub fn lookups_have_accepted_nonces()
+    ensures { (s : Settings) (from : SocketAddr) (now : ℕ) (bytes : List ℕ) (lookup : LookupSeen)
+        → identified_by s from now bytes ≡ looked_up lookup
+        → (lookup.message ≡ bytes) × (lookup.from ≡ from) × (lookup.arrived ≡ now)
+        × WaitsUnderItsNonce s lookup }
+{}
+
+/// The verdicts of the endpoint are those of a server that keeps records, call by call, for every
+/// list of datagrams with the users at the time of each: for each request and each nonce that is
+/// accepted, the request is validated, a response is signed, the request is validated again, and
+/// its address is forgotten. The clock of that server may be any.
+///
+/// - `verdicts`: the answers of that run are the endpoint's verdicts.
+/// - `left`: the run leaves no record of an address.
+/// - `handed`: a request that the endpoint hands out was `Validated` in the run, with its algorithm.
+pub fn datagrams_are_a_run_of_calls()
+    ensures verdicts { (s : Settings) (clock : ℕ → ℕ) (datagrams : List Arrival)
+        → ((now : ℕ) → clock now ≤ last_moment)
+        → run s clock (table_of s) datagrams ≡ map (verdict_on s) datagrams }
+    ensures left { (s : Settings) (clock : ℕ → ℕ) (datagrams : List Arrival)
+        → ((now : ℕ) → clock now ≤ last_moment)
+        → (after_run s clock (table_of s) datagrams).places ≡ fin.empty }
+    ensures handed { (s : Settings) (d : Arrival) (request : AcceptedRequest)
+        → received_by s (realm_of_user s (Some (users_at s d))) d.from d.now d.bytes
+        ≡ requested request
+        → verdict_on s d ≡ Some (Ok (Validated request.client.algorithm)) }
 {}

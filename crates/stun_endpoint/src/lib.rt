@@ -3,6 +3,7 @@
 #![tactic(auto)]
 
 pub mod laws;
+pub mod lookup;
 mod nonces;
 pub mod received;
 pub mod reply;

@@ -23,6 +23,7 @@ use stun_base::attribute_type::AttributeType;
 use stun_base::credentials::LongTermCredentials;
 use stun_base::prepared_key::PreparedKey;
 
+mod identifying;
 pub(crate) mod judges;
 mod judging;
 mod receiving;

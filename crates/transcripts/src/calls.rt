@@ -65,20 +65,7 @@ fn call_of(
         "serve" => serve::call(runs, name, words, answer),
         "meet" => meeting::call(runs, name, words, answer),
         "drive" => drive::call(runs, name, words, answer),
-        "endpoint" => endpoint(runs, name, words, answer),
-        _ => Err(Trouble::Words),
-    }
-}
-
-/// `endpoint server WORD ..`
-fn endpoint(
-    runs: &mut Runs<'_>,
-    name: &str,
-    words: &[&str],
-    answer: &mut String,
-) -> Result<(), Trouble> {
-    match name {
-        "server" => endpoint_server::call(runs, words, answer),
+        "endpoint" if name == "server" => endpoint_server::call(runs, words, answer),
         _ => Err(Trouble::Words),
     }
 }

@@ -17,13 +17,13 @@ use crate::drive::order::run_over;
 use crate::drive::step::{push_moment, text_of};
 use crate::runs::Runs;
 use player::agent::answers::error_name;
+use player::agent::building::{usual_local, usual_peer};
 use player::kept::message;
 use player::names::OUT_OF_MEMORY;
 use player::stage::Heap;
 use player::trouble::Trouble;
 use player::words::{address, moment};
 use std::alloc::{Allocator, Global};
-use std::net::{IpAddr, Ipv4Addr, SocketAddr};
 use stun_agent::agent::{StunAgent, StunError};
 use stun_base::instant::Instant;
 use stun_base::transport::TransportType;
@@ -48,15 +48,9 @@ pub struct Drive<'a> {
     is_broken: bool,
 }
 
-/// The address that requests go to where no other is named.
-fn usual_peer() -> SocketAddr {
-    SocketAddr::new(IpAddr::V4(Ipv4Addr::new(10, 0, 0, 2)), 3478)
-}
-
 /// A new agent, which counts.
 fn new_agent<A: Allocator + Copy>(alloc: A, transport: TransportType) -> StunAgent<A> {
-    let local = SocketAddr::new(IpAddr::V4(Ipv4Addr::new(10, 0, 0, 1)), 12345);
-    StunAgent::builder(alloc, transport, local)
+    StunAgent::builder(alloc, transport, usual_local())
         .stats(true)
         .build()
 }

@@ -7,6 +7,7 @@
 
 use crate::runs::Runs;
 use crate::serve::server_call;
+use player::client::reason_name;
 use player::names::{OUT_OF_MEMORY, algorithm_name, server_reason_name, write_error_name};
 use player::stage::{Heap, Stage};
 use player::trouble::Trouble;
@@ -167,21 +168,12 @@ fn of_second(outcome: Outcome) -> Outcome {
     }
 }
 
-fn client_reason_name(reason: LongTermClientAuthErrorReason) -> &'static str {
-    match reason {
-        LongTermClientAuthErrorReason::Unauthorized => "Unauthorized",
-        LongTermClientAuthErrorReason::IntegrityFailed => "IntegrityFailed",
-        LongTermClientAuthErrorReason::UnsupportedFeature => "UnsupportedFeature",
-        LongTermClientAuthErrorReason::OutOfMemory => OUT_OF_MEMORY,
-    }
-}
-
 fn push_outcome(outcome: Outcome, answer: &mut String) -> Result<(), Trouble> {
     let (verdict, name) = match outcome {
         Outcome::Validated(algorithm) => ("validated ", algorithm_name(algorithm)),
         Outcome::AlreadyValidated(algorithm) => ("already validated ", algorithm_name(algorithm)),
         Outcome::ServerRefused(reason) => ("server refused ", server_reason_name(reason)),
-        Outcome::ClientRefused(reason) => ("client refused ", client_reason_name(reason)),
+        Outcome::ClientRefused(reason) => ("client refused ", reason_name(reason)),
     };
     answer.push_str(verdict)?;
     Ok(answer.push_str(name)?)

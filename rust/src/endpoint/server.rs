@@ -3,9 +3,9 @@
 use super::{BuildError, DEFAULT_NONCE_LIFETIME, DropReason, Refusal, UnixTime};
 use crate::copies::{copy, granted, text};
 use crate::credentials::LongTermCredentials;
-use crate::exported::stun_auth::auth::{LongTermServerUser, StoredKeys};
+use crate::exported::stun_auth::auth::{LongTermServerUser, NamedUser, StoredKeys};
 use crate::exported::stun_base::attribute_type::AttributeType;
-use crate::exported::stun_endpoint::{received, reply, server, users};
+use crate::exported::stun_endpoint::{lookup, received, reply, server, users};
 use crate::exported::stun_extra::attribute as further;
 use crate::exported::stun_types::attribute::{Attribute, XorMappedAddress};
 use crate::exported::stun_types::message::{
@@ -245,6 +245,108 @@ impl Server {
     ) -> Received<'a> {
         let user = user.map(|user| &user.0);
         of_core(self.0.receive_for(bytes, from, now, user))
+    }
+
+    /// Judges a datagram as far as that is possible without its user, for a server that looks its
+    /// users up in a database.
+    ///
+    /// A request is looked up only if it carries a nonce that is accepted for its source at this
+    /// time, is signed, and names a user. So a forged source address or an invented nonce never
+    /// causes a look-up.
+    ///
+    /// # Examples
+    ///
+    /// ```
+    /// use seatcrane_stun::auth::NamedUser;
+    /// use seatcrane_stun::endpoint::{Identified, Received, Server, UnixTime, User};
+    /// use std::net::SocketAddr;
+    ///
+    /// fn received<'a>(
+    ///     server: &'a Server,
+    ///     bytes: &'a [u8],
+    ///     from: SocketAddr,
+    ///     look_up: impl Fn(NamedUser<'_>) -> Option<&'a User>,
+    /// ) -> Received<'a> {
+    ///     match server.identify(bytes, from, UnixTime::now()) {
+    ///         Identified::Done(received) => received,
+    ///         Identified::Lookup(lookup) => {
+    ///             let user = look_up(lookup.user_id()); // it may take its time
+    ///             server.resume(lookup, user)
+    ///         }
+    ///     }
+    /// }
+    /// ```
+    pub fn identify<'a>(
+        &'a self,
+        bytes: &'a [u8],
+        from: SocketAddr,
+        now: UnixTime,
+    ) -> Identified<'a> {
+        match self.0.identify(bytes, from, now) {
+            Ok(lookup::Identified::Done(received)) => Identified::Done(of_core(Ok(received))),
+            Ok(lookup::Identified::Lookup(lookup)) => Identified::Lookup(Lookup {
+                message: Message(copy(lookup.message())),
+                lookup,
+            }),
+            Err(error) => Identified::Done(of_core(Err(error))),
+        }
+    }
+
+    /// Judges the request of a look-up by the user that you found, or by nobody if there is no such
+    /// user. The result is that of [`receive_for`](Self::receive_for) at the time at which the
+    /// request arrived, so a slow database does not turn it into a 438.
+    ///
+    /// If `user` has another name than the one in the request, as after a look-up that ignores
+    /// case, the client gets a 401.
+    pub fn resume<'a>(&'a self, lookup: Lookup<'a>, user: Option<&'a User>) -> Received<'a> {
+        of_core(self.0.resume(lookup.lookup, user.map(|user| &user.0)))
+    }
+}
+
+/// What a datagram comes to without its user, or that it needs the user.
+#[derive(Debug)]
+pub enum Identified<'a> {
+    /// What the datagram comes to, whoever the user is.
+    Done(Received<'a>),
+    /// The request waits for its user. Look that user up, and pass both to [`Server::resume`].
+    Lookup(Lookup<'a>),
+}
+
+/// A request that carries a nonce which the server accepts for its source, and waits for its user.
+///
+/// A client that sends its request again causes another look-up; merge them by
+/// [`transaction_id`](Self::transaction_id).
+#[derive(Debug)]
+pub struct Lookup<'a> {
+    message: Message<'a>,
+    lookup: lookup::Lookup<'a>,
+}
+
+impl<'a> Lookup<'a> {
+    /// Returns whom the request names. The signature is not checked yet, so anybody with a nonce can
+    /// name anybody.
+    pub fn user_id(&self) -> NamedUser<'a> {
+        self.lookup.user_id()
+    }
+
+    /// Returns the transaction ID of the request.
+    pub fn transaction_id(&self) -> TransactionId {
+        TransactionId(self.lookup.transaction_id())
+    }
+
+    /// Returns the address that the request came from.
+    pub fn from(&self) -> SocketAddr {
+        self.lookup.from()
+    }
+
+    /// Returns the time that was passed to [`Server::identify`].
+    pub fn arrived(&self) -> UnixTime {
+        self.lookup.arrived()
+    }
+
+    /// Returns the request.
+    pub fn message(&self) -> &Message<'a> {
+        &self.message
     }
 }
 

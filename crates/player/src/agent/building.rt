@@ -15,7 +15,7 @@ pub fn usual_local() -> SocketAddr {
 }
 
 /// The address of its peer, where none is named.
-fn usual_peer() -> SocketAddr {
+pub fn usual_peer() -> SocketAddr {
     SocketAddr::new(IpAddr::V4(Ipv4Addr::new(10, 0, 0, 2)), 3478)
 }
 

@@ -46,6 +46,16 @@ impl<A: Allocator + Copy> UserNaming<A> {
             Ok(UserNaming::Plain(String::from_str(alloc, username)?))
         }
     }
+
+    /// Copies the name.
+    fn copied(&self) -> Result<Self, AllocError>
+        ensures { IfOk result (λ copy. naming_seen copy ≡ naming_seen self.now) }
+    {
+        match self {
+            UserNaming::Plain(name) => Ok(UserNaming::Plain(name.clone()?)),
+            UserNaming::Hashed(hash) => Ok(UserNaming::Hashed(*hash)),
+        }
+    }
 }
 
 impl<A: Allocator> UserNaming<A> {
@@ -77,4 +87,22 @@ fn keeps_length(hash: &[u8; 32])
     ensures { length hash.now ≡ 32 }
 {
     let _ = hash.as_slice().len();
+}
+
+impl<A: Allocator + Copy> KeptChallenge<A> {
+    ghost use Rattle.stun_client.specs.code.Kept.{challenge_seen};
+
+    /// Copies the parts.
+    pub(crate) fn copied(&self) -> Result<Self, AllocError>
+        ensures { IfOk result (λ copy. challenge_seen copy ≡ challenge_seen self.now) }
+    {
+        Ok(KeptChallenge {
+            naming: self.naming.copied()?,
+            realm: self.realm.cloned()?,
+            nonce: self.nonce.cloned()?,
+            algorithms: self.algorithms.clone()?,
+            algorithm: self.algorithm,
+            key: self.key.clone()?,
+        })
+    }
 }

@@ -22,6 +22,7 @@ ghost use Rattle.stun_endpoint.specs.Received.{unknown_answer};
 ghost use Rattle.stun_endpoint.specs.Received.{dropped, indicated, is_empty, no_message};
 ghost use Rattle.stun_endpoint.specs.Realm.{algorithms_for};
 ghost use Rattle.stun_endpoint.specs.Received.{outcome_of_accepted, received_by};
+ghost use Rattle.stun_endpoint.specs.code.Judgements.{by_judgement};
 ghost use Rattle.stun_endpoint.specs.code.Judges.{realm_of};
 ghost use Rattle.stun_extra.specs.Unknown.{refusing_answer, unknown_types};
 ghost use Rattle.stun_types.specs.Integrity.{deciding_algorithm};
@@ -52,7 +53,7 @@ use stun_types::message::{
 use stun_types::prelude::*;
 
 /// Why bytes that are no message are dropped.
-fn no_message(bytes: &[u8]) -> DropReason
+pub(super) fn no_message(bytes: &[u8]) -> DropReason
     ensures { result ≡ no_message bytes.now }
 {
     match MessageHeader::from_bytes(bytes) {
@@ -156,7 +157,7 @@ impl<A: Allocator + Copy> Server<A> {
     }
 
     /// What an indication comes to.
-    fn indication<'a>(&self, message: Message<'a>) -> Received<'a, A>
+    pub(super) fn indication<'a>(&self, message: Message<'a>) -> Received<'a, A>
         ensures { outcome_of result
             ≡ (if is_empty (unknown_types self.now.known message.entry)
             then indicated message.entry else dropped DropReason.UnknownAttribute) }
@@ -176,7 +177,7 @@ impl<A: Allocator + Copy> Server<A> {
     }
 
     /// What a request comes to.
-    fn request<'a>(
+    pub(super) fn request<'a>(
         &self,
         message: Message<'a>,
         from: SocketAddr,
@@ -191,14 +192,31 @@ impl<A: Allocator + Copy> Server<A> {
     {
         let epoch = self.epoch(now);
         let nonce = self.nonce_in(&self.secret, from, epoch)?;
-        match self.judged_in(judges, &message, from, epoch, &nonce)? {
+        let verdict = self.judged_in(judges, &message, from, epoch, &nonce)?;
+        self.judged(message, from, &nonce, verdict, has_fingerprint)
+    }
+
+    /// What a judged request comes to. The nonce is the one to send with a refusal.
+    pub(super) fn judged<'a>(
+        &self,
+        message: Message<'a>,
+        from: SocketAddr,
+        nonce: &str,
+        verdict: Result<Accepted<'a, A>, VerdictRefusal>,
+        has_fingerprint: bool,
+    ) -> Result<Received<'a, A>, AllocError>
+        requires { has_fingerprint ≡ is_fingerprinted message }
+        ensures { IfOk result (λ received. outcome_of received
+            ≡ by_judgement self.now nonce.now from message.entry verdict.entry) }
+    {
+        match verdict {
             Ok(accepted) => self.accepted(message, from, accepted, has_fingerprint),
-            Err(refusal) => self.refused(&message, from, &nonce, refusal, has_fingerprint),
+            Err(refusal) => self.refused(&message, from, nonce, refusal, has_fingerprint),
         }
     }
 
     /// The epoch of a time.
-    fn epoch(&self, now: UnixTime) -> u64
+    pub(super) fn epoch(&self, now: UnixTime) -> u64
         ensures { result ≡ epoch_of self.now now }
     {
         now.epoch(self.lifetime)

@@ -1,6 +1,6 @@
 //! What happens to an agent, from words.
 
-use crate::drive::usual_peer;
+use player::agent::building::usual_peer;
 use player::kept::message;
 use player::stage::Stage;
 use player::trouble::Trouble;

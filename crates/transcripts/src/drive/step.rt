@@ -1,7 +1,7 @@
 //! What an agent did, told in words.
 
-use crate::drive::usual_peer;
 use player::agent::answers::error_name;
+use player::agent::building::usual_peer;
 use player::signing::push_bytes;
 use player::trouble::Trouble;
 use std::alloc::{Allocator, Global};

@@ -1,9 +1,12 @@
 //! What a datagram comes to, in words.
 
-use player::stage::{Heap, Source};
+use player::signing::push_bytes;
+use player::stage::{Heap, Source, Stage};
 use player::telling::push_message;
 use player::trouble::Trouble;
 use std::net::SocketAddr;
+use stun_auth::auth::NamedUser;
+use stun_endpoint::lookup::Lookup;
 use stun_endpoint::received::{Answer, Received, Request};
 use stun_endpoint::reply::Reply;
 use stun_types::message::Message;
@@ -36,6 +39,28 @@ fn push_dropped(received: &Received<'_, &Heap>, answer: &mut String) -> Result<(
         Received::Dropped(reason) => Ok(write!(answer, "dropped {reason:?}")?),
         _ => Ok(answer.push('?')?),
     }
+}
+
+/// Adds whom a request names: `looks up NAME`, or `looks up 0xHASH`.
+pub fn push_lookup(
+    stage: &Stage<'_>,
+    lookup: &Lookup<'_>,
+    bytes: &[u8],
+    answer: &mut String,
+) -> Result<(), Trouble> {
+    answer.push_str("looks up ")?;
+    match lookup.user_id() {
+        NamedUser::ByName(name) => answer.push_str(name)?,
+        NamedUser::ByHash(hash) => {
+            answer.push_str("0x")?;
+            push_bytes(stage.source.alloc, hash.as_slice(), answer)?;
+        }
+    }
+    let message = lookup.message();
+    let is_of_request = message.as_bytes() == bytes
+        && lookup.transaction_id() == message.transaction_id()
+        && lookup.from() == stage.from;
+    push_unless(is_of_request, answer)
 }
 
 /// Adds `otherwise` where something is not as it must be.

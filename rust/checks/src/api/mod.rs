@@ -11,6 +11,7 @@ mod attributes;
 mod client;
 mod client_loop;
 mod dialogue;
+mod endpoint;
 mod heaps;
 mod messages;
 mod paths;

@@ -1,0 +1,52 @@
+-- Which challenge new requests are signed for, and which one a success has confirmed last.
+use Rattle.std.specs.Prelude.{Bool, true, false, if◌then◌else◌, Option, Some, None}
+use Rattle.std.specs.Option.{is_some}
+use Rattle.stun_client.specs.Challenges.{Answered, is_one, is_weaker}
+
+-- the current challenge, whether it was confirmed, and the one that was confirmed before it
+pub record StandingSeen : Type 0 where
+  pub current : Option Answered
+  pub is_validated : Bool
+  pub validated : Option Answered
+
+abbrev pub new_standing : StandingSeen
+new_standing = record { current = None; is_validated = false; validated = None }
+
+-- the challenge that was confirmed last
+abbrev pub confirmed : StandingSeen → Option Answered
+confirmed s = if s.is_validated then s.current else s.validated
+
+-- whether a challenge is the current one
+abbrev pub is_standing : StandingSeen → Option Answered → Bool
+is_standing s c = is_one c s.current
+
+abbrev pub is_weaker_than : Answered → Option Answered → Bool
+is_weaker_than c None = false
+is_weaker_than c (Some other) = is_weaker c.challenge other.challenge
+
+-- whether a challenge is ignored: it is weaker than the one that was confirmed last
+abbrev pub is_ignored : StandingSeen → Answered → Bool
+is_ignored s c = is_weaker_than c (confirmed s)
+
+-- after a success under a challenge, which is confirmed if it is the current one
+abbrev pub after_success : StandingSeen → Option Answered → StandingSeen
+after_success s c =
+    if is_standing s c then record s { is_validated = true; validated = None } else s
+
+-- after a timeout under a challenge. From the current one the client goes back to the one that was
+-- confirmed last, and from there to none
+abbrev pub after_timeout : StandingSeen → Option Answered → StandingSeen
+after_timeout s c =
+    if is_standing s c
+    then record {
+      current = s.validated;
+      is_validated = is_some s.validated;
+      validated = None;
+    }
+    else s
+
+-- after a challenge is answered, which is then the current one
+abbrev pub after_answer : StandingSeen → Answered → StandingSeen
+after_answer s c =
+    if is_one (Some c) s.current then s
+    else record { current = Some c; is_validated = false; validated = confirmed s }

@@ -1,0 +1,83 @@
+-- What a request comes to by the verdict that the code found is what it comes to by definition.
+use Rattle.std.proofs.Common.{◌≡◌, ℕ, List, [], Option, Some, None, refl, sym, ◌∙◌, ap, Ok, Err}
+use Rattle.std.specs.Prelude.{IfOk, cond, unwrap_or}
+use Rattle.std.specs.Option.{is_some}
+use Rattle.std.specs.declared.net.socket_addr.SocketAddr.{SocketAddr}
+use Rattle.std.specs.declared.result.Result.{Result}
+use Rattle.stun_base.specs.MessageType.{class_in}
+use Rattle.stun_types.specs.Message.{refusal}
+use Rattle.stun_auth.specs.Judged.{AcceptedSeen, HasVerifyingKey, client_judged}
+use Rattle.stun_auth.specs.Reading.{Reading, reading_of}
+use Rattle.stun_auth.specs.Registered.{Registered}
+use Rattle.stun_auth.specs.Seen.{ClientSeen}
+use Rattle.stun_auth.specs.Server.{verdict}
+use Rattle.stun_auth.specs.declared.server.reason.VerdictRefusal.{VerdictRefusal}
+use Rattle.stun_extra.specs.Fingerprint.{fingerprint_in}
+use Rattle.stun_endpoint.specs.Judged.{Realm, judged, key_of_client, realm_of_user}
+use Rattle.stun_endpoint.specs.Lookups.{waits_for}
+use Rattle.stun_endpoint.specs.Nonces.{current_nonce, epoch_of, nonce_in}
+use Rattle.stun_endpoint.specs.Received.{by_class, by_verdict, dropped, is_wrong, no_message}
+use Rattle.stun_endpoint.specs.Received.{outcome_of_accepted, received_by, refused_with}
+use Rattle.stun_endpoint.specs.Settings.{Settings, registered_of}
+use Rattle.stun_endpoint.specs.code.Judgements.{by_judgement}
+use Rattle.stun_endpoint.specs.code.Waiting.{IsWaiting}
+use Rattle.stun_endpoint.specs.declared.received.DropReason.TheVariants.{WrongFingerprint}
+use Rattle.stun_endpoint.proofs.UnnamedLemmas.{refusal_under, unnamed_by_current}
+use Rattle.stun_endpoint.proofs.UnnamedLemmas.{unnamed_is_refused}
+
+module _ (s : Settings) (realm : Realm) (from : SocketAddr) (now : ℕ) (bytes nonce : List ℕ) where
+  -- the verdict of the code is the one of the definitions, and the key is the client's
+  pub judgement_is_verdict : (v : Result AcceptedSeen VerdictRefusal)
+      → client_judged v ≡ judged s realm from now (reading_of bytes)
+      → IfOk v (HasVerifyingKey realm.users (reading_of bytes))
+      → nonce ≡ current_nonce s from now
+      → by_judgement s nonce from bytes v
+      ≡ by_verdict s realm from now bytes (judged s realm from now (reading_of bytes))
+  judgement_is_verdict (Ok accepted) is key made =
+      let same : key_of_client realm accepted.client ≡ accepted.key =
+      ap (λ o. unwrap_or o []) key.0 in
+      ap (λ k. outcome_of_accepted s k from bytes accepted.client) (sym same)
+      ∙ ap (by_verdict s realm from now bytes) is
+  judgement_is_verdict (Err refusal) is key made =
+      ap (λ n. refused_with s n from bytes refusal) made
+      ∙ ap (by_verdict s realm from now bytes) is
+
+  -- a request that is judged comes to what the verdict does
+  pub waiting_received : IsWaiting bytes → received_by s realm from now bytes
+      ≡ by_verdict s realm from now bytes (judged s realm from now (reading_of bytes))
+  waiting_received w =
+      ap (λ a. cond a (dropped (no_message bytes))
+      (cond (is_wrong (fingerprint_in bytes)) (dropped WrongFingerprint)
+      (by_class s realm from now bytes (class_in bytes)))) w.read
+      ∙ ap (λ b. cond b (dropped WrongFingerprint)
+      (by_class s realm from now bytes (class_in bytes))) w.right
+      ∙ ap (by_class s realm from now bytes) w.request
+
+-- one that waits for nobody comes to what the current nonce tells
+pub unnamed_done : (s : Settings) (from : SocketAddr) (now : ℕ) (bytes nonce : List ℕ)
+    (v : Result AcceptedSeen VerdictRefusal) → IsWaiting bytes
+    → waits_for s from (epoch_of s now) (reading_of bytes) ≡ None
+    → nonce ≡ nonce_in s s.secret from (epoch_of s now)
+    → client_judged v
+    ≡ verdict (registered_of s) s.feature nonce (Some s.algorithms) (reading_of bytes)
+    → by_judgement s nonce from bytes v ≡ received_by s (realm_of_user s None) from now bytes
+unnamed_done s from now bytes nonce v w none made is =
+    let r = reading_of bytes in
+    let ours = nonce_in s s.secret from (epoch_of s now) in
+    let refused : client_judged v ≡ Err (refusal_under s r ours) =
+    is ∙ ap (λ n. verdict (registered_of s) s.feature n (Some s.algorithms) r) made
+    ∙ unnamed_by_current s r (registered_of s) from (epoch_of s now) none in
+    by v refused
+    ∙ ap (λ n. refused_with s n from bytes (refusal_under s r ours)) made
+    ∙ sym (ap (by_verdict s (realm_of_user s None) from now bytes)
+    (unnamed_is_refused s r (registered_of s) from (epoch_of s now) none))
+    ∙ sym (waiting_received s (realm_of_user s None) from now bytes nonce w)
+  where
+    why : VerdictRefusal
+    why = refusal_under s (reading_of bytes) (nonce_in s s.secret from (epoch_of s now))
+
+    by : (v : Result AcceptedSeen VerdictRefusal) → client_judged v ≡ Err why
+        → by_judgement s nonce from bytes v ≡ refused_with s nonce from bytes why
+    by (Ok accepted) h = cc
+    by (Err refusal) h =
+        let same : refusal ≡ why = cc in ap (refused_with s nonce from bytes) same

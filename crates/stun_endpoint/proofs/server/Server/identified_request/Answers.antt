@@ -1,0 +1,28 @@
+-- A request that waits for nobody comes to what the current nonce tells.
+use Rattle.std.proofs.Common.{rules, arith, ◌≡◌, None, sym, ◌∙◌, ap}
+use Rattle.stun_auth.specs.Reading.{reading_of}
+use Rattle.stun_endpoint.specs.Lookups.{done, identified_as, waits_for}
+use Rattle.stun_endpoint.specs.Nonces.{epoch_of, nonce_in}
+use Rattle.stun_endpoint.specs.code.Judgements.{by_judgement}
+use Rattle.stun_endpoint.proofs.JudgementLemmas.{unnamed_done}
+use Rattle.stun_endpoint.proofs.server.Server.identified_request.Goals as goal
+
+pub returns : goal.returns
+returns g c =
+    let s = c.args.self.now in
+    let r = reading_of c.args.message in
+    let one = c.deref-in-None.result.now in
+    let two = c.deref-in-None-2.result.now in
+    let v = c.judged_by_nobody-verdict.result in
+    let none : waits_for s c.args.from (epoch_of s c.args.now) r ≡ None =
+    first_of (search rules, grind arith) in
+    let made : one ≡ nonce_in s s.secret c.args.from (epoch_of s c.args.now) =
+    first_of (search rules, grind arith) in
+    let again : two ≡ nonce_in s s.secret c.args.from (epoch_of s c.args.now) =
+    first_of (search rules, grind arith) in
+    let same =
+    unnamed_done s c.args.from c.args.now c.args.message one v c.requires.waits none made
+    c.judged_by_nobody-verdict.ensures in
+    ap done (c.in_ok-received-in-None.ensures
+    ∙ ap (λ n. by_judgement s n c.args.from c.args.message v) (again ∙ sym made) ∙ same)
+    ∙ sym (ap (identified_as s c.args.from c.args.now c.args.message) none)

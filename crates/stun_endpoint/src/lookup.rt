@@ -1,0 +1,142 @@
+//! A request that waits for its user.
+
+ghost use Rattle.std.specs.Prelude.{◌≡◌};
+ghost use Rattle.stun_auth.specs.Handed.{named_seen};
+ghost use Rattle.stun_base.specs.Header.{transaction_id_field};
+ghost use Rattle.stun_endpoint.specs.Answers.{is_fingerprinted};
+ghost use Rattle.stun_endpoint.specs.code.Waiting.{IsWaiting};
+
+use crate::received::Received;
+use crate::unix_time::UnixTime;
+use std::alloc::{Allocator, Global};
+use std::marker::Model;
+use std::net::SocketAddr;
+use stun_auth::auth::NamedUser;
+use stun_types::message::{Message, TransactionId};
+
+/// What `Server::identify` says of a datagram.
+#[derive(Debug, Drop)]
+#[non_exhaustive]
+pub enum Identified<'a, A: Allocator = Global> {
+    /// What the datagram comes to, whoever the users are.
+    Done(Received<'a, A>),
+    /// The request waits for its user. Look that user up, and pass both to `Server::resume`.
+    Lookup(Lookup<'a>),
+}
+
+/// A request that has a nonce which the server accepts for its source address, and waits for its
+/// user.
+///
+/// Only such requests reach your database: those with a forged source address or an invented nonce
+/// are answered before. The request is judged at the time at which it arrived, so a slow database
+/// does not make its nonce stale. A client that sends its request again causes another look-up;
+/// merge them by `transaction_id`.
+///
+/// Contracts see the message, its source, the time, and whom it names.
+#[derive(Debug, Drop)]
+pub struct Lookup<'a> {
+    message: Message<'a>,
+    from: SocketAddr,
+    arrived: UnixTime,
+    user: NamedUser<'a>,
+    has_fingerprint: bool,
+}
+
+impl<'a> Model for Lookup<'a> {
+    ghost use Rattle.std.specs.Prelude.{◌≡◌};
+    ghost use Rattle.stun_auth.specs.Handed.{named_seen};
+    ghost use Rattle.stun_endpoint.specs.Answers.{is_fingerprinted};
+    ghost use Rattle.stun_endpoint.specs.Lookups.{LookupSeen};
+    ghost use Rattle.stun_endpoint.specs.code.Waiting.{IsWaiting};
+
+    ghost Value = { LookupSeen };
+
+    ghost view = { λ lookup. record {
+      message = lookup.message;
+      from = lookup.from;
+      arrived = lookup.arrived;
+      user = named_seen lookup.user;
+    } };
+
+    ghost invariant = { λ lookup. IsWaiting lookup.message
+        × (lookup.has_fingerprint ≡ is_fingerprinted lookup.message) };
+}
+
+impl<'a> Lookup<'a> {
+    /// A request that waits for a user.
+    pub(crate) fn new(
+        message: Message<'a>,
+        from: SocketAddr,
+        arrived: UnixTime,
+        user: NamedUser<'a>,
+        has_fingerprint: bool,
+    ) -> Self
+        requires request { IsWaiting message }
+        requires fingerprint { has_fingerprint ≡ is_fingerprinted message }
+        ensures { result ≡ record {
+          message = message.entry;
+          from = from;
+          arrived = arrived;
+          user = named_seen user.entry;
+        } }
+    {
+        Lookup {
+            message,
+            from,
+            arrived,
+            user,
+            has_fingerprint,
+        }
+    }
+
+    /// Returns whom the request names: a user by name, or by the hash of the name at the server's
+    /// realm. Anybody with a nonce can name anybody, because the signature is not checked yet.
+    pub fn user_id(&self) -> NamedUser<'a>
+        ensures { named_seen result ≡ self.now.user }
+    {
+        self.user
+    }
+
+    /// Returns the transaction ID of the request. A client that sends it again uses the same one.
+    pub fn transaction_id(&self) -> TransactionId
+        ensures { result ≡ transaction_id_field self.now.message }
+    {
+        self.message.transaction_id()
+    }
+
+    /// Returns the address that the request came from, as it was passed to `identify`.
+    pub fn from(&self) -> SocketAddr
+        ensures { result ≡ self.now.from }
+    {
+        self.from
+    }
+
+    /// Returns the time at which the request arrived, as it was passed to `identify`.
+    pub fn arrived(&self) -> UnixTime
+        ensures { result ≡ self.now.arrived }
+    {
+        self.arrived
+    }
+
+    /// Returns the request.
+    pub fn message(&self) -> &Message<'a>
+        ensures { result.now ≡ self.now.message }
+    {
+        &self.message
+    }
+
+    /// Returns whether the request has a right FINGERPRINT.
+    pub(crate) fn has_fingerprint(&self) -> bool
+        ensures { result ≡ is_fingerprinted self.now.message }
+    {
+        self.has_fingerprint
+    }
+
+    /// Returns the request, and drops the rest.
+    pub(crate) fn into_message(self) -> Message<'a>
+        ensures message { result ≡ self.entry.message }
+        ensures waits { IsWaiting self.entry.message }
+    {
+        self.message
+    }
+}

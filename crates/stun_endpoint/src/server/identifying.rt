@@ -1,0 +1,288 @@
+//! The two steps of a server whose users are looked up elsewhere (RFC 8489, section 9.2.4).
+
+ghost use Rattle.std.specs.Option.{is_some, option_copied, option_map};
+ghost use Rattle.std.specs.Prelude.{◌≡◌, ◌&&◌, [], IfOk, Some, false, not};
+ghost use Rattle.std.specs.Str.{bytes_eq};
+ghost use Rattle.stun_auth.specs.Handed.{named_seen};
+ghost use Rattle.stun_auth.specs.Judged.{client_judged};
+ghost use Rattle.stun_auth.specs.Reading.{reading_of};
+ghost use Rattle.stun_auth.specs.Server.{their_nonce, verdict};
+ghost use Rattle.stun_base.specs.MessageType.{class_in};
+ghost use Rattle.stun_endpoint.specs.Answers.{is_fingerprinted};
+ghost use Rattle.stun_endpoint.specs.Identified.{identification_of};
+ghost use Rattle.stun_endpoint.specs.Judged.{realm_of_user};
+ghost use Rattle.stun_endpoint.specs.Lookups.{accepted_nonces, has_one_of, identified_as};
+ghost use Rattle.stun_endpoint.specs.Lookups.{identified_by, is_ready, nonces_of, previous_nonces};
+ghost use Rattle.stun_endpoint.specs.Lookups.{waiting_by_class, waits_for};
+ghost use Rattle.stun_endpoint.specs.Nonces.{epoch_of, nonce_in};
+ghost use Rattle.stun_endpoint.specs.Outcomes.{outcome_of};
+ghost use Rattle.stun_endpoint.specs.Received.{is_wrong, received_by};
+ghost use Rattle.stun_endpoint.specs.Settings.{registered_of};
+ghost use Rattle.stun_endpoint.specs.code.Judges.{realm_of};
+ghost use Rattle.stun_endpoint.specs.code.Waiting.{IsWaiting, is_stale};
+ghost use Rattle.stun_extra.specs.Fingerprint.{fingerprint_in};
+ghost use Rattle.stun_types.specs.Message.{refusal};
+
+use crate::lookup::{Identified, Lookup};
+use crate::received::{DropReason, Received};
+use crate::server::Server;
+use crate::server::judges::Judges;
+use crate::server::receiving::no_message;
+use crate::unix_time::UnixTime;
+use std::alloc::{AllocError, Allocator};
+use std::net::SocketAddr;
+use stun_auth::auth::{Accepted, LongTermServerUser, NamedUser, VerdictRefusal, has_nonce};
+use stun_base::prepared_key::PreparedKey;
+use stun_extra::fingerprint::{Fingerprint, check_fingerprint};
+use stun_types::message::{Message, MessageClass};
+
+/// Whether a verdict says that the nonce is stale.
+fn is_stale<A: Allocator>(verdict: &Result<Accepted<'_, A>, VerdictRefusal>) -> bool
+    ensures { result ≡ is_stale (client_judged verdict.now) }
+{
+    match verdict {
+        Ok(_) => false,
+        Err(VerdictRefusal::Unauthorized) => false,
+        Err(VerdictRefusal::BadRequest) => false,
+        Err(VerdictRefusal::StaleNonce) => true,
+    }
+}
+
+impl<A: Allocator + Copy> Server<A> {
+    /// Judges a datagram as far as that is possible without its user, for a server that looks its
+    /// users up in a database.
+    ///
+    /// - `Done` is what `receive_for` returns, whoever the user is.
+    /// - `Lookup` is a request that carries a nonce which is accepted for its source at this time,
+    ///   is signed, and names a user. Look that user up, and pass both to `resume`.
+    ///
+    /// So a forged source address or an invented nonce never causes a look-up, because the nonces of
+    /// an address are only sent to that address.
+    ///
+    /// Fails if an allocation fails. Nothing is lost then, because the client sends again.
+    ///
+    /// Contracts: laws `identify_needs_no_user` and `lookups_have_accepted_nonces`.
+    pub fn identify<'a>(
+        &'a self,
+        bytes: &'a [u8],
+        from: SocketAddr,
+        now: UnixTime,
+    ) -> Result<Identified<'a, A>, AllocError>
+        ensures { IfOk result (λ identified. identification_of identified
+            ≡ identified_by self.now from now bytes.now) }
+    {
+        let Ok(message) = Message::from_bytes(bytes) else {
+            return Ok(Identified::Done(Received::Dropped(no_message(bytes))));
+        };
+        match check_fingerprint(&message) {
+            Fingerprint::Wrong => {
+                Ok(Identified::Done(Received::Dropped(DropReason::WrongFingerprint)))
+            }
+            Fingerprint::Right => self.identified(message, from, now, true),
+            Fingerprint::Misplaced => self.identified(message, from, now, false),
+            Fingerprint::Absent => self.identified(message, from, now, false),
+        }
+    }
+
+    /// Judges the request of a look-up by the user that you found, or by nobody if there is no such
+    /// user. The result is that of `receive_for` at the time at which the request arrived.
+    ///
+    /// If the user has another name than the one in `user_id`, as after a look-up that ignores case,
+    /// the client gets a 401. You may resume at another server with the same secret, for example
+    /// after a change of settings.
+    ///
+    /// Fails if an allocation fails. Nothing is lost then, because the client sends again.
+    pub fn resume<'a>(
+        &'a self,
+        lookup: Lookup<'a>,
+        user: Option<&'a LongTermServerUser<A>>,
+    ) -> Result<Received<'a, A>, AllocError>
+        ensures { IfOk result (λ received. outcome_of received
+            ≡ received_by self.now (realm_of_user self.now (option_copied user.entry))
+            lookup.entry.from lookup.entry.arrived lookup.entry.message) }
+    {
+        match user {
+            Some(user) => self.resumed(lookup, &Judges::User(&self.auth, user)),
+            None => self.resumed(lookup, &Judges::Table(&self.auth)),
+        }
+    }
+
+    /// What a message comes to that is read, and has no wrong FINGERPRINT.
+    fn identified<'a>(
+        &'a self,
+        message: Message<'a>,
+        from: SocketAddr,
+        now: UnixTime,
+        has_fingerprint: bool,
+    ) -> Result<Identified<'a, A>, AllocError>
+        requires read { is_some (refusal message) ≡ false }
+        requires right { is_wrong (fingerprint_in message) ≡ false }
+        requires fingerprint { has_fingerprint ≡ is_fingerprinted message }
+        ensures { IfOk result (λ identified. identification_of identified
+            ≡ identified_as self.now from now message.entry
+            (waiting_by_class self.now from now message.entry (class_in message.entry))) }
+    {
+        match message.class() {
+            MessageClass::Request => self.identified_request(message, from, now, has_fingerprint),
+            MessageClass::Indication => Ok(Identified::Done(self.indication(message))),
+            MessageClass::Success => Ok(Identified::Done(Received::Response(message))),
+            MessageClass::Error => Ok(Identified::Done(Received::Response(message))),
+        }
+    }
+
+    /// What a request comes to, or whom it waits for.
+    fn identified_request<'a>(
+        &'a self,
+        message: Message<'a>,
+        from: SocketAddr,
+        now: UnixTime,
+        has_fingerprint: bool,
+    ) -> Result<Identified<'a, A>, AllocError>
+        requires waits { IsWaiting message }
+        requires fingerprint { has_fingerprint ≡ is_fingerprinted message }
+        ensures { IfOk result (λ identified. identification_of identified
+            ≡ identified_as self.now from now message.entry
+            (waits_for self.now from (epoch_of self.now now) (reading_of message.entry))) }
+    {
+        let epoch = self.epoch(now);
+        let nonce = self.nonce_in(&self.secret, from, epoch)?;
+        match self.awaited(&message, from, epoch, &nonce)? {
+            Some(user) => {
+                let lookup = Lookup::new(message, from, now, user, has_fingerprint);
+                Ok(Identified::Lookup(lookup))
+            }
+            None => {
+                // No other nonce is the request's, so that the current one tells what it comes to.
+                let verdict = self.judged_by_nobody(&message, &nonce);
+                let received = self.judged(message, from, &nonce, verdict, has_fingerprint)?;
+                Ok(Identified::Done(received))
+            }
+        }
+    }
+
+    /// Whom a request waits for, if it does.
+    #[tactic(auto, using(crate::proofs::ReadyLemmas::unready_waits_not, crate::proofs::ReadyLemmas::unaccepted_waits_not, crate::proofs::ReadyLemmas::ready_waits))]
+    fn awaited<'a>(
+        &'a self,
+        message: &Message<'a>,
+        from: SocketAddr,
+        epoch: u64,
+        nonce: &str,
+    ) -> Result<Option<NamedUser<'a>>, AllocError>
+        requires { nonce.now ≡ nonce_in self.now self.now.secret from epoch }
+        ensures { IfOk result (λ user. option_map named_seen user
+            ≡ waits_for self.now from epoch (reading_of message.now)) }
+    {
+        if !self.is_ready(message) {
+            return Ok(None);
+        }
+        if !self.has_accepted_nonce(message, from, epoch, nonce)? {
+            return Ok(None);
+        }
+        Ok(self.auth.named_in(message))
+    }
+
+    /// Whether only nonce and user of a request are left to look at, and it has a nonce. Under a
+    /// nonce that no request has, such a request is the one that is stale.
+    fn is_ready<'a>(&'a self, message: &Message<'a>) -> bool
+        ensures { result ≡ (is_ready self.now (reading_of message.now)
+            && not (bytes_eq (their_nonce (reading_of message.now)) [])) }
+    {
+        is_stale(&self.judged_by_nobody(message, ""))
+    }
+
+    /// Judges a request under a nonce, at a realm without users.
+    fn judged_by_nobody<'a>(
+        &'a self,
+        message: &Message<'a>,
+        nonce: &str,
+    ) -> Result<Accepted<'a, A>, VerdictRefusal>
+        ensures { client_judged result
+            ≡ verdict (registered_of self.now) self.now.feature nonce.now
+            (Some self.now.algorithms) (reading_of message.now) }
+    {
+        self.auth.judge(message, nonce)
+    }
+
+    /// Whether a request has a nonce that is accepted, of which the current one is given.
+    #[tactic(auto, using(crate::proofs::ReadyLemmas::accepted_parts))]
+    fn has_accepted_nonce(
+        &self,
+        message: &Message<'_>,
+        from: SocketAddr,
+        epoch: u64,
+        nonce: &str,
+    ) -> Result<bool, AllocError>
+        requires { nonce.now ≡ nonce_in self.now self.now.secret from epoch }
+        ensures { IfOk result (λ has. has
+            ≡ has_one_of (reading_of message.now) (accepted_nonces self.now from epoch)) }
+    {
+        if self.has_nonce_of(message, &self.secret, from, epoch, nonce)? {
+            return Ok(true);
+        }
+        self.has_previous_nonce(message, from, epoch)
+    }
+
+    /// Whether a request has a nonce of the previous secret that is accepted.
+    fn has_previous_nonce(
+        &self,
+        message: &Message<'_>,
+        from: SocketAddr,
+        epoch: u64,
+    ) -> Result<bool, AllocError>
+        ensures { IfOk result (λ has. has
+            ≡ has_one_of (reading_of message.now)
+            (previous_nonces self.now self.now.previous from epoch)) }
+    {
+        let Some(secret) = &self.previous else {
+            return Ok(false);
+        };
+        let nonce = self.nonce_in(secret, from, epoch)?;
+        let has = self.has_nonce_of(message, secret, from, epoch, &nonce)?;
+        Ok(has)
+    }
+
+    /// Whether a request has a nonce of a secret that is accepted, of which that of the epoch is
+    /// given.
+    #[tactic(auto, using(crate::proofs::ReadyLemmas::has_current, crate::proofs::ReadyLemmas::has_only_current, crate::proofs::ReadyLemmas::has_before))]
+    fn has_nonce_of(
+        &self,
+        message: &Message<'_>,
+        secret: &PreparedKey<A>,
+        from: SocketAddr,
+        epoch: u64,
+        nonce: &str,
+    ) -> Result<bool, AllocError>
+        requires { nonce.now ≡ nonce_in self.now secret.now from epoch }
+        ensures { IfOk result (λ has. has
+            ≡ has_one_of (reading_of message.now)
+            (nonces_of self.now secret.now from epoch)) }
+    {
+        if has_nonce(message, nonce) {
+            return Ok(true);
+        }
+        if epoch == 0 {
+            return Ok(false);
+        }
+        let before = self.nonce_in(secret, from, epoch - 1)?;
+        Ok(has_nonce(message, &before))
+    }
+
+    /// What the request of a look-up comes to.
+    #[tactic(auto, using(crate::proofs::JudgementLemmas::waiting_received))]
+    fn resumed<'a>(
+        &self,
+        lookup: Lookup<'a>,
+        judges: &Judges<'a, A>,
+    ) -> Result<Received<'a, A>, AllocError>
+        ensures { IfOk result (λ received. outcome_of received
+            ≡ received_by self.now (realm_of judges.now) lookup.entry.from lookup.entry.arrived
+            lookup.entry.message) }
+    {
+        let from = lookup.from();
+        let now = lookup.arrived();
+        let has_fingerprint = lookup.has_fingerprint();
+        let message = lookup.into_message();
+        self.request(message, from, now, judges, has_fingerprint)
+    }
+}

@@ -104,6 +104,16 @@ fn text_if_any(alloc: Global, text: &str) -> Result<Option<String<Global>>, Allo
     Ok(Some(copied(alloc, text)?))
 }
 
+/// A server, on the heap.
+fn boxed(alloc: Global, server: Server<Global>) -> Result<Box<Kept, Global>, AllocError>
+    ensures { IfOk result (λ made. made.value ≡ kind.Server server) }
+{
+    match Box::new(alloc, Kept::Server(server)) {
+        Ok(made) => Ok(made),
+        Err(_) => Err(AllocError),
+    }
+}
+
 impl<'a> Given<'a> {
     /// Whether a number is none that is taken.
     fn is_out_of_range(&self) -> bool
@@ -154,32 +164,19 @@ impl<'a> Given<'a> {
         })
     }
 
-    /// Builds the server, on the heap.
-    fn boxed(&self, alloc: Global) -> Result<Box<Kept, Global>, Refusal>
-        ensures refused { MatchOption (given_refusal self.now)
-            (IsOkUnless result Refusal.OutOfMemory) (λ refusal. result ≡ Err refusal) }
-        ensures built { IfOk result (λ made. made.value
-            ≡ kind.Server (server_given self.now)) }
-    {
-        match self.server(alloc) {
-            Ok(server) => match Box::new(alloc, Kept::Server(server)) {
-                Ok(made) => Ok(made),
-                Err(_) => Err(Refusal::OutOfMemory),
-            },
-            Err(refusal) => Err(refusal),
-        }
-    }
-
     /// Builds the server in an empty handle, and returns 0 or the number of the refusal.
     pub fn place(&self, alloc: Global, handle: &mut EndpointHandle) -> i64
         requires { handle.old.kept ≡ None }
         ensures { MakesServer self.now result handle.new.kept }
     {
-        match self.boxed(alloc) {
-            Ok(made) => {
-                handle.put(alloc, made);
-                0
-            }
+        match self.server(alloc) {
+            Ok(server) => match boxed(alloc, server) {
+                Ok(made) => {
+                    handle.put(alloc, made);
+                    0
+                }
+                Err(_) => Refusal::OutOfMemory.code(),
+            },
             Err(refusal) => refusal.code(),
         }
     }

@@ -305,7 +305,6 @@ impl Server {
 
 /// What a datagram comes to without its user, or that it needs the user.
 #[derive(Debug)]
-#[non_exhaustive]
 pub enum Identified<'a> {
     /// What the datagram comes to, whoever the user is.
     Done(Received<'a>),

@@ -113,6 +113,7 @@ impl fmt::Debug for Client {
 }
 
 /// What a response comes to.
+#[expect(clippy::large_enum_variant, reason = "it is passed on at once")]
 enum Judged {
     /// It ends its request, signed so.
     Answer(Option<IntegrityAlgorithm>),
@@ -166,7 +167,7 @@ impl Client {
             method,
             body,
             id: TransactionId::from([0; 12]),
-            signed_for: copied(self.standing.current())?,
+            signed_for: copied(self.standing.current().as_ref())?,
             challenges: 0,
             drops: Drops::default(),
         };
@@ -411,7 +412,7 @@ impl Client {
             return Input::Consumed;
         }
         let id = asked.id;
-        let Ok(copy) = copied(&challenge) else {
+        let Ok(copy) = copied(challenge.as_ref()) else {
             self.requests.insert(request, asked);
             return self.dropped_for(request, DropReason::OutOfMemory, message);
         };
@@ -547,8 +548,8 @@ impl From<AllocError> for RequestError {
 }
 
 /// Copies a challenge, if there is one.
-fn copied(challenge: &Option<Challenge<Global>>) -> Result<Option<Challenge<Global>>, AllocError> {
-    challenge.as_ref().map(TryClone::try_clone).transpose()
+fn copied(challenge: Option<&Challenge<Global>>) -> Result<Option<Challenge<Global>>, AllocError> {
+    challenge.map(TryClone::try_clone).transpose()
 }
 
 fn code_of(message: &Message<'_>) -> Option<u16> {

@@ -45,7 +45,6 @@ mod client_settings;
 #[cfg(feature = "std")]
 mod clock;
 mod server;
-mod standing;
 mod stream;
 
 pub mod ice;

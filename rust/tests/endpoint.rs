@@ -483,6 +483,48 @@ fn one_user_who_was_looked_up_is_enough() {
     );
 }
 
+/// Forged sources and invented nonces cause no look-up, and a look-up is judged when it came.
+#[test]
+fn only_requests_with_a_nonce_of_their_source_are_looked_up() {
+    let from = at("192.0.2.1:4242");
+    let server = server(1, &BOTH).0;
+    let mut lookups = 0;
+    for i in 0..1000u16 {
+        let mut page = Message::builder_request_with_id(BINDING, id(1), MessageWriteVec::new());
+        page.add_attribute(&Username::new(&format!("user{i}")).unwrap())
+            .unwrap();
+        page.add_attribute(&Realm::new("example.org").unwrap())
+            .unwrap();
+        page.add_attribute(&Nonce::new("obMatJos2AAAAzzzzzzzzzzzzzzzzz").unwrap())
+            .unwrap();
+        page.add_message_integrity_with_key(&[1; 16], Sha1).unwrap();
+        let [high, low] = i.to_be_bytes();
+        let from = SocketAddr::from(([10, 0, high, low], 7));
+        let bytes = page.finish();
+        let identified = server.identify(&bytes, from, secs(0));
+        lookups += u32::from(matches!(identified, Identified::Lookup(_)));
+    }
+    assert_eq!(lookups, 0);
+    let mut client = client("wonderland", &BOTH);
+    let unsigned = binding(&mut client);
+    let Identified::Done(challenge) = server.identify(&unsigned, from, secs(0)) else {
+        panic!("a look-up");
+    };
+    let challenge = answer(challenge);
+    let message = Message::from_bytes(challenge.bytes()).unwrap();
+    client.validate_incoming_message(&message).unwrap();
+    let request = binding(&mut client);
+    let Identified::Lookup(lookup) = server.identify(&request, from, secs(7199)) else {
+        panic!("no look-up");
+    };
+    let user = server.user(alice());
+    assert_eq!(code(&answer(server.resume(lookup, Some(&user)))), 200);
+    let Identified::Done(late) = server.identify(&request, from, secs(7200)) else {
+        panic!("a look-up");
+    };
+    assert_eq!(code(&answer(late)), 438);
+}
+
 #[test]
 fn unknown_attributes_get_a_signed_420_once_the_request_is_accepted() {
     let from = at("192.0.2.1:4242");
@@ -631,6 +673,8 @@ fn everything_can_be_shared_among_threads() {
     kept::<Answer>();
     kept::<UnixTime>();
     shared::<Received<'static>>();
+    shared::<Identified<'static>>();
+    shared::<Lookup<'static>>();
     shared::<Request<'static>>();
 }
 

@@ -3,8 +3,8 @@ tools/export/export.py: what the prover checked is erased with the clauses, so a
 would find a bare index or `unwrap`.
 
 A function that has a place where Rust could panic or lose bits (an index, a sum, a cast, `unwrap`,
-`expect`, `unreachable!`) gets a comment with its place in the sources, and the names of its premises
-where it has any. `tests/export/argued.py` asks clippy for all such places.
+`expect`, `unreachable!`) gets a comment with its place in the sources, and the names of its
+premises where it has any. `tests/export/argued.py` asks clippy for all such places.
 """
 import re
 import subprocess
@@ -17,8 +17,8 @@ CLAUSE = re.compile(r"\b(ensures|requires)\*?(?:\s+(\w+))?\s*\{")
 
 
 def heads(masked):
-    """Of each function with a body: where its `fn` is, the place behind the brace that opens the body,
-    and its premises."""
+    """Of each function with a body: where its `fn` is, the place behind the brace that opens the
+    body, and its premises."""
     for found in re.finditer(r"\bfn (\w+)", masked):
         at, premises = found.end(), []
         while masked[at] not in "{;":

@@ -4,22 +4,24 @@ use super::client_outcomes::{
     Drops, ErrorResponse, Input, Output, Redirect, RequestError, RequestId, Response,
 };
 use super::client_settings::{ClientBuilder, Kind};
-use super::server::shared;
-use super::standing::{Answered, Standing, is_same};
 use super::{Body, DropReason};
 use crate::Instant;
 use crate::agent::{StunAgent, StunAgentPollRet, StunError};
+use crate::copies::granted;
 use crate::credentials::LongTermCredentials;
-use crate::exported::stun_base::hmac::hmac_sha1;
+use crate::exported::stun_base::key::IntegrityKey;
 use crate::exported::stun_client::challenge::Challenge;
+use crate::exported::stun_client::ids::id_of;
+use crate::exported::stun_client::standing::Standing;
 use crate::exported::stun_extra::attribute::{AlternateDomain, AlternateServer, Software};
 use crate::exported::stun_types::attribute::Username;
 use crate::exported::stun_types::message::{
-    IntegrityAlgorithm, MessageClass, Method, StunWriteError,
+    IntegrityAlgorithm, MessageClass, Method, PreparedKey, StunWriteError,
 };
 use crate::exported::stun_types::prelude::MessageWrite;
 use crate::extra::{Fingerprint, check_fingerprint, finish_with_fingerprint, unknown_types};
-use crate::kit::alloc::Global;
+use crate::kit::alloc::{AllocError, Global};
+use crate::kit::prelude::TryClone;
 use crate::message::Message;
 use crate::stats::StunAgentStats;
 use crate::transaction::TransactionId;
@@ -45,7 +47,7 @@ struct Asked {
     method: Method,
     body: Body,
     id: TransactionId,
-    signed_for: Option<Answered>,
+    signed_for: Option<Challenge<Global>>,
     challenges: u32,
     drops: Drops,
 }
@@ -93,12 +95,12 @@ pub struct Client {
     server: SocketAddr,
     settings: ClientBuilder,
     agent: StunAgent,
-    seed: [u8; 32],
+    seed: PreparedKey<Global>,
     next_id: u64,
     next_request: u64,
     requests: BTreeMap<RequestId, Asked>,
     ids: BTreeMap<TransactionId, RequestId>,
-    standing: Standing,
+    standing: Standing<Global>,
     unsent: VecDeque<(TransactionId, Vec<u8>)>,
     ended: VecDeque<(RequestId, Result<Response, RequestError>)>,
     lent: Vec<u8>,
@@ -111,15 +113,19 @@ impl fmt::Debug for Client {
 }
 
 /// What a response comes to.
+#[expect(clippy::large_enum_variant, reason = "it is passed on at once")]
 enum Judged {
     /// It ends its request, signed so.
     Answer(Option<IntegrityAlgorithm>),
     /// The request is sent again for this challenge, or unsigned.
-    Anew(Option<Answered>),
+    Anew(Option<Challenge<Global>>),
 }
 
 impl Client {
     pub(super) fn new(settings: ClientBuilder, agent: StunAgent, seed: [u8; 32]) -> Client {
+        // A key of 32 bytes takes no memory.
+        let seed = granted(IntegrityKey::from_bytes(Global, &seed));
+        let seed = PreparedKey::new(seed, IntegrityAlgorithm::Sha1);
         Client {
             server: canonical(settings.server),
             settings,
@@ -129,7 +135,7 @@ impl Client {
             next_request: 0,
             requests: BTreeMap::new(),
             ids: BTreeMap::new(),
-            standing: Standing::default(),
+            standing: Standing::new(),
             unsent: VecDeque::new(),
             ended: VecDeque::new(),
             lent: Vec::new(),
@@ -161,7 +167,7 @@ impl Client {
             method,
             body,
             id: TransactionId::from([0; 12]),
-            signed_for: self.standing.current().cloned(),
+            signed_for: copied(self.standing.current().as_ref())?,
             challenges: 0,
             drops: Drops::default(),
         };
@@ -303,22 +309,17 @@ impl Client {
         user: &LongTermCredentials,
         message: &Message<'_>,
     ) -> Result<Judged, DropReason> {
-        let (preferences, before) = (self.settings.preferences, asked.signed_for.as_deref());
+        let (preferences, before) = (self.settings.preferences, asked.signed_for.as_ref());
         let read = Challenge::of(Global, preferences, &user.0, before, &message.0);
         match read.map_err(|_| DropReason::OutOfMemory)? {
             None => self.judge_by_signature(asked, message, DropReason::UnanswerableChallenge),
             // The challenge that was answered, once more: the credentials are wrong, or it is
             // forged. No request is signed for it again; an unsigned one tells.
-            Some(challenge) if before.is_some_and(|before| is_same(before, &challenge)) => {
-                Ok(Judged::Anew(None))
-            }
+            Some(challenge) if challenge.is_same_as(&asked.signed_for) => Ok(Judged::Anew(None)),
             Some(challenge) if self.standing.ignores(&challenge) => {
                 Err(DropReason::WeakerChallenge)
             }
-            Some(challenge) => {
-                let challenge = shared(challenge).ok_or(DropReason::OutOfMemory)?;
-                Ok(Judged::Anew(Some(challenge)))
-            }
+            Some(challenge) => Ok(Judged::Anew(Some(challenge))),
         }
     }
 
@@ -352,7 +353,7 @@ impl Client {
         self.forget_sent(message, now);
         let is_success = message.has_class(MessageClass::Success);
         if let (true, Some(asked)) = (is_success, self.requests.get(&request)) {
-            self.standing.confirm(asked.signed_for.as_ref());
+            self.standing.confirm(&asked.signed_for);
         }
         let result = self.result_of(message, Response { bytes, signed_by });
         self.end(request, result);
@@ -397,7 +398,7 @@ impl Client {
     fn anew(
         &mut self,
         request: RequestId,
-        challenge: Option<Answered>,
+        challenge: Option<Challenge<Global>>,
         message: &Message<'_>,
         now: Instant,
     ) -> Input<'static> {
@@ -411,7 +412,11 @@ impl Client {
             return Input::Consumed;
         }
         let id = asked.id;
-        let before = core::mem::replace(&mut asked.signed_for, challenge.clone());
+        let Ok(copy) = copied(challenge.as_ref()) else {
+            self.requests.insert(request, asked);
+            return self.dropped_for(request, DropReason::OutOfMemory, message);
+        };
+        let before = core::mem::replace(&mut asked.signed_for, copy);
         match self.send(request, asked, now) {
             Ok(()) => {
                 self.ids.remove(&id);
@@ -447,7 +452,7 @@ impl Client {
             return;
         };
         let drops = asked.drops;
-        self.standing.step_back(asked.signed_for.as_ref());
+        self.standing.step_back(&asked.signed_for);
         self.end(request, Err(RequestError::TimedOut(drops)));
     }
 
@@ -465,10 +470,7 @@ impl Client {
     fn new_id(&self) -> Result<(TransactionId, u64), RequestError> {
         let mut number = self.next_id;
         loop {
-            let digest = hmac_sha1(&self.seed, &[&number.to_be_bytes()]);
-            let mut id = [0; 12];
-            id.copy_from_slice(&digest[..12]);
-            let id = TransactionId::from(id);
+            let id = TransactionId(id_of(&self.seed, number));
             number = number.checked_add(1).ok_or(RequestError::NoId)?;
             if self.agent.request_transaction(id).is_none() {
                 return Ok((id, number));
@@ -537,6 +539,17 @@ impl From<Failure> for RequestError {
     fn from((why, _): Failure) -> RequestError {
         why
     }
+}
+
+impl From<AllocError> for RequestError {
+    fn from(_: AllocError) -> RequestError {
+        RequestError::OutOfMemory
+    }
+}
+
+/// Copies a challenge, if there is one.
+fn copied(challenge: Option<&Challenge<Global>>) -> Result<Option<Challenge<Global>>, AllocError> {
+    challenge.map(TryClone::try_clone).transpose()
 }
 
 fn code_of(message: &Message<'_>) -> Option<u16> {

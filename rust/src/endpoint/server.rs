@@ -382,7 +382,7 @@ fn of_core(received: Result<received::Received<'_, Global>, AllocError>) -> Rece
 ///
 /// `Arc::new` ends the program then, and has no other form. So as much memory is taken and given
 /// back before. Another thread may get that memory in between, though.
-pub(super) fn shared<T>(value: T) -> Option<Arc<T>> {
+fn shared<T>(value: T) -> Option<Arc<T>> {
     let mut room: Vec<([usize; 2], T)> = Vec::new();
     room.try_reserve_exact(1).ok()?;
     drop(core::hint::black_box(room));

@@ -69,7 +69,7 @@ fn end_all<A: Allocator + Copy>(
 }
 
 /// One call of `poll_transmit`, and its step. Returns whether something was sent.
-fn send_one<A: Allocator + Copy>(
+pub(crate) fn send_one<A: Allocator + Copy>(
     alloc: A,
     agent: &mut StunAgent<A>,
     now: Instant,
@@ -86,7 +86,7 @@ fn send_one<A: Allocator + Copy>(
 }
 
 /// One call of `poll`, and its step. Returns the moment to wait until, if nothing ended.
-fn end_one<A: Allocator + Copy>(
+pub(crate) fn end_one<A: Allocator + Copy>(
     agent: &mut StunAgent<A>,
     now: Instant,
     log: &mut StepLog<A>,

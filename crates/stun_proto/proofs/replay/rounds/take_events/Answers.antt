@@ -1,0 +1,17 @@
+-- Each event is one call more, which is as late as it is found to be.
+use Rattle.std.proofs.Common.{arith}
+use Rattle.stun_proto.proofs.agent_runs.ClientCalls.{events_end, events_start, events_step}
+use Rattle.stun_proto.proofs.replay.rounds.take_events.Goals as goal
+
+pub loop-now-init : goal.loop-now-init
+loop-now-init g c = events_start _ _ _
+
+pub loop-now-preserved : goal.loop-now-preserved
+loop-now-preserved g c =
+    events_step _ _ _ c.loop-now-item.result _ _ _ c.args.events.now c.loop-now.now-index _ _ _
+    (omega arith) (omega arith) (omega arith) c.loop-now-item.is c.loop-now.invariant
+    c.lateness.ensures c.in_ok-apply.ensures.whole
+
+pub returns : goal.returns
+returns g c =
+    events_end _ _ _ c.args.events.now c.loop-now.now-index _ _ (omega arith) c.loop-now.invariant

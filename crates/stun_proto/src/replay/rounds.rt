@@ -1,0 +1,181 @@
+//! The loop of a client that waits for datagrams, with its clock and its socket as arguments.
+ghost use Rattle.std.specs.Prelude.{◌<◌, ◌≤◌, [], ℕ, IfOk};
+ghost use Rattle.stun_base.specs.Header.{transaction_id_field};
+ghost use Rattle.stun_base.specs.Moments.{last_moment};
+ghost use Rattle.stun_proto.specs.AnyLoop.{Calls, InTime};
+ghost use Rattle.stun_proto.specs.ClientLoop.{AreRounds, events_in, IsLeftAlone};
+ghost use Rattle.stun_proto.specs.code.ClientCalls.{CallsLead, EventsLead, EventsReach, IsWithin};
+ghost use Rattle.stun_proto.specs.code.ClientCalls.{RoundsReach};
+ghost use Rattle.stun_proto.specs.code.Calls.{kept_steps};
+ghost use Rattle.stun_proto.specs.Run.{after_event};
+ghost use Rattle.stun_proto.specs.Steps.{steps_of, steps_to_end};
+
+use crate::laws;
+use crate::replay::apply::apply;
+use crate::replay::event::{AgentEvent, AgentStep};
+use crate::replay::step_log::StepLog;
+use crate::replay::turn::{end_one, send_one};
+use std::alloc::{AllocError, Allocator, Global};
+use std::net::SocketAddr;
+use stun_agent::agent::StunAgent;
+use stun_base::instant::Instant;
+
+/// How many requests the loop sends again before it reads what has arrived.
+const MOST_AT_ONCE: u32 = 16;
+
+/// A round of `client_loop`.
+#[derive(Drop)]
+pub struct Round {
+    /// What came while the loop waited, each at the time at which the agent got it: a datagram, or
+    /// another request to send.
+    pub events: Vec<(Instant, AgentEvent)>,
+    /// The time that the loop reads from its clock after that.
+    pub time: Instant,
+}
+
+/// What `client_loop` did.
+#[derive(Drop)]
+pub struct ClientRun<A: Allocator = Global> {
+    /// The steps after the first transmission, in order.
+    pub steps: Vec<AgentStep<A>, A>,
+    /// How late the loop was, in nanoseconds: at no call was a deadline of a request longer ago.
+    pub late: u64,
+}
+
+/// Sends a request, and waits for its response in rounds, as the examples `udp_client` do over a
+/// socket: after what came while the loop waited, it sends again what is due, at most 16 requests
+/// at once, and asks `poll` how long to wait. Nothing is polled at the time of an event, and a round
+/// may come at any time.
+///
+/// The times of the calls must not go back, and none may be `Instant::MAX`.
+///
+/// Contracts: these calls are a loop of the law `any_loop_sends_in_time`, which is as late as it
+/// measured itself to be. So if nothing disturbs the request, each of its retransmissions, and its
+/// timeout, comes once it is due, and at most that much later (RFC 8489, section 6.2.1).
+///
+/// Fails if an allocation fails.
+pub fn client_loop<A: Allocator + Copy>(
+    alloc: A,
+    agent: &mut StunAgent<A>,
+    request: Vec<u8>,
+    to: SocketAddr,
+    start: Instant,
+    rounds: &[Round],
+) -> Result<ClientRun<A>, AllocError>
+    requires { AreRounds start rounds.now }
+    ensures calls { IfOk result (λ run. (last : ℕ)
+        × Calls run.late start (after_event start (AgentEvent.SendRequest request to) agent.old)
+        (events_in rounds.now) (steps_of run.steps.items) last agent.new) }
+    ensures in_time { IfOk result (λ run. IsLeftAlone agent.old request.items to start
+        (events_in rounds.now) → (last : ℕ)
+        × InTime run.late (transaction_id_field request.items) agent.old.transport
+        agent.old.settings request.items to start last 0 start
+        (steps_to_end (transaction_id_field request.items) (steps_of run.steps.items))) }
+{
+    // For the proof: its clause `kept` says that ids ascend.
+    let _awaited = agent.next_awaited();
+    let asked = AgentEvent::SendRequest { bytes: request, to };
+    apply(alloc, agent, start, &asked, &mut StepLog::new(alloc))?;
+    let mut log = StepLog::new(alloc);
+    let late = take_rounds(alloc, agent, rounds, &mut log)?;
+    if log.is_lost {
+        return Err(AllocError);
+    }
+    // The calls above are a loop of this law, which does nothing when it runs.
+    laws::any_loop_sends_in_time();
+    Ok(ClientRun {
+        steps: log.steps,
+        late,
+    })
+}
+
+/// All rounds. Returns how late they were.
+fn take_rounds<A: Allocator + Copy>(
+    alloc: A,
+    agent: &mut StunAgent<A>,
+    rounds: &[Round],
+    log: &mut StepLog<A>,
+) -> Result<u64, AllocError>
+    ensures { IfOk result (λ late. RoundsReach late agent.old agent.new rounds.now []
+        (kept_steps log.old) (kept_steps log.new)) }
+{
+    let mut late = 0;
+    for round in rounds {
+        late = greater_of(late, take_round(alloc, agent, round, log)?);
+    }
+    Ok(late)
+}
+
+/// One round. Returns how late it was.
+fn take_round<A: Allocator + Copy>(
+    alloc: A,
+    agent: &mut StunAgent<A>,
+    round: &Round,
+    log: &mut StepLog<A>,
+) -> Result<u64, AllocError>
+    ensures { IfOk result (λ late. EventsLead late round.now.time agent.old agent.new
+        round.now.events.items (kept_steps log.old) (kept_steps log.new)) }
+{
+    let late = take_events(alloc, agent, round.events.as_slice(), log)?;
+    let late = greater_of(late, lateness(agent, round.time));
+    let late = greater_of(late, send_again(alloc, agent, round.time, log));
+    let late = greater_of(late, lateness(agent, round.time));
+    let _wait = end_one(agent, round.time, log);
+    Ok(late)
+}
+
+/// The events of a round, each at its time. Returns how late they were.
+fn take_events<A: Allocator + Copy>(
+    alloc: A,
+    agent: &mut StunAgent<A>,
+    events: &[(Instant, AgentEvent)],
+    log: &mut StepLog<A>,
+) -> Result<u64, AllocError>
+    ensures { IfOk result (λ late. EventsReach late agent.old agent.new events.now []
+        (kept_steps log.old) (kept_steps log.new)) }
+{
+    let mut late = 0;
+    for (now, event) in events {
+        late = greater_of(late, lateness(agent, *now));
+        apply(alloc, agent, *now, event, log)?;
+    }
+    Ok(late)
+}
+
+/// What is due is sent again, up to a number of requests. Returns how late that was.
+fn send_again<A: Allocator + Copy>(
+    alloc: A,
+    agent: &mut StunAgent<A>,
+    now: Instant,
+    log: &mut StepLog<A>,
+) -> u64
+    ensures { now < last_moment → CallsLead result now now agent.old agent.new []
+        (kept_steps log.old) (kept_steps log.new) }
+{
+    let mut late = 0;
+    for _ in 0..MOST_AT_ONCE {
+        late = greater_of(late, lateness(agent, now));
+        if !send_one(alloc, agent, now, log) {
+            return late;
+        }
+    }
+    late
+}
+
+/// How long ago the earliest deadline of a request is, in nanoseconds.
+fn lateness<A: Allocator + Copy>(agent: &StunAgent<A>, now: Instant) -> u64
+    ensures { IsWithin result now agent.now }
+{
+    match agent.next_awaited() {
+        Some(moment) => now.as_nanos().saturating_sub(moment.as_nanos()),
+        None => 0,
+    }
+}
+
+/// The greater of two numbers.
+fn greater_of(one: u64, other: u64) -> u64
+    ensures one { one ≤ result }
+    ensures other { other ≤ result }
+{
+    if one < other { other } else { one }
+}

@@ -100,7 +100,7 @@ PLANTS = [
      "        String::from_str(self.room.alloc, &self.text)",
      "        String::from_str(self.room.alloc, &self.text[..self.text.len() & !1])"),
     ("durations without their nanoseconds", KIT + "convert.rs",
-     "(nanos % second) as u64", "(nanos % second / 1000 * 1000) as u64"),
+     "u32::try_from(nanos % second)", "u32::try_from(nanos % second / 1000 * 1000)"),
 ]
 
 CARGO = ["cargo", "test", "--quiet", "--package"]

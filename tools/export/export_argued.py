@@ -1,10 +1,7 @@
 """Says in the exported sources where each file is from and why it cannot panic, for
-tools/export/export.py: what the prover checked is erased with the clauses, so a reader of the export
-would find a bare index or `unwrap`.
-
-A function that has a place where Rust could panic or lose bits (an index, a sum, a cast, `unwrap`,
-`expect`, `unreachable!`) gets a comment with its place in the sources, and the names of its
-premises where it has any. `tests/export/argued.py` asks clippy for all such places.
+tools/export/export.py. A function with a place where Rust could panic or lose bits gets a comment:
+where the prover checked it, and under which premises. `tests/export/argued.py` asks clippy for all
+such places.
 """
 import re
 import subprocess

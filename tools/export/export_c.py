@@ -85,5 +85,5 @@ def write(out, exported, places, root):
     (calls / "mod.rs").write_text(
         "//! The calls for C, exported, and what C calls of them.\n"
         "#![allow(clippy::complexity, clippy::style, unreachable_patterns, unused_imports)]\n"
-        "#![allow(unused_mut)]\n\npub mod "
+        "#![allow(dead_code, unused_mut)]\n\npub mod "
         "border;\n" + "".join(f"#[deny(unsafe_code)]\nmod {crate};\n" for crate in CRATES))

@@ -85,6 +85,7 @@ pub mod endpoint {
     use crate::exported::stun_endpoint::users::Users;
 
     /// A value of the heap: a server, or a table of users.
+    #[allow(clippy::large_enum_variant, reason = "a handle keeps it on the heap, and there are few")]
     pub enum Kept {
         Server(Server),
         Users(Users),

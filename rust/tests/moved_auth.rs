@@ -191,7 +191,7 @@ fn authenticated() -> Both {
 fn nonce_security() {
     for bit in 0..24 {
         let [_, bytes @ ..] = (1_u32 << bit).to_be_bytes();
-        let security = NonceSecurityBits::from_bytes(bytes);
+        let security = NonceSecurityBits { bytes };
         assert_eq!(security.password_algorithms(), bit == 23);
         assert_eq!(security.username_anonymity(), bit == 22);
         assert_eq!(

@@ -1,8 +1,10 @@
 //! Names of the crate `stun-types` beside those of the core: conversions, lists of types, and calls
 //! that its users know by another name.
 
-use crate::exported::stun_types::attribute::{AttributeFromRaw, AttributeStaticType};
-use crate::exported::stun_types::attribute::{AttributeType, RawAttribute};
+use crate::exported::stun_types::attribute::{
+    ATTRIBUTE_HEADER_LENGTH, Attribute, AttributeFromRaw, AttributeStaticType, AttributeType,
+    RawAttribute,
+};
 use crate::exported::stun_types::message::{
     MessageClass, MessageType, Method, StunParseError, StunWriteError,
 };
@@ -11,6 +13,7 @@ use crate::extra::{Frame, PACKET_HEADER_LENGTH, next_packet_frame};
 use crate::message::{Message, MessageHeader};
 use crate::transaction::TransactionId;
 use crate::write::MessageWriteExt;
+use alloc::boxed::Box;
 use alloc::vec::Vec;
 use core::cmp::Ordering;
 
@@ -381,6 +384,72 @@ fn refusal<W: MessageWrite>(request: &Message<'_>, code: u16, reason: &str, writ
         .expect("room for ERROR-CODE");
     response
 }
+
+/// An attribute of any type, for lists of different attributes: `Box<dyn DynAttribute>` and
+/// `&dyn DynAttribute` are attributes that writers take. Every [`Attribute`] is one.
+///
+/// # Examples
+///
+/// ```
+/// use seatcrane_stun::types::attribute::{DynAttribute, Priority, UseCandidate, Username};
+/// use seatcrane_stun::types::message::*;
+/// use seatcrane_stun::types::prelude::*;
+///
+/// # let id = TransactionId::from(*b"any 12 bytes");
+/// let attributes: Vec<Box<dyn DynAttribute>> = vec![
+///     Box::new(Username::new("their-name:my-name")?),
+///     Box::new(Priority::new(1_845_501_695)),
+///     Box::new(UseCandidate),
+/// ];
+/// let mut check = Message::builder_request_with_id(BINDING, id, MessageWriteVec::new());
+/// for attribute in &attributes {
+///     check.add_attribute(attribute)?;
+/// }
+/// # assert_eq!(check.len(), 20 + 4 + 20 + 8 + 4);
+/// # Ok::<(), StunWriteError>(())
+/// ```
+pub trait DynAttribute {
+    /// Returns the type of the attribute.
+    fn dyn_type(&self) -> AttributeType;
+
+    /// Returns the value of the attribute, without padding.
+    fn dyn_value(&self) -> Vec<u8>;
+}
+
+impl<A: Attribute> DynAttribute for A {
+    fn dyn_type(&self) -> AttributeType {
+        self.get_type()
+    }
+
+    fn dyn_value(&self) -> Vec<u8> {
+        let mut writer = crate::write::MessageWriteVec::new();
+        // (a writer of a `Vec` takes bytes that were not reserved)
+        self.write_into(&mut writer);
+        let end = ATTRIBUTE_HEADER_LENGTH + self.length();
+        writer.data()[ATTRIBUTE_HEADER_LENGTH..end].to_vec()
+    }
+}
+
+macro_rules! dyn_attribute {
+    ($name:ty) => {
+        impl Attribute for $name {
+            fn get_type(&self) -> AttributeType {
+                (**self).dyn_type()
+            }
+
+            fn length(&self) -> usize {
+                (**self).dyn_value().len()
+            }
+
+            fn write_into<W: MessageWrite>(&self, writer: &mut W) {
+                RawAttribute::new((**self).dyn_type(), &(**self).dyn_value()).write_into(writer);
+            }
+        }
+    };
+}
+
+dyn_attribute!(Box<dyn DynAttribute + '_>);
+dyn_attribute!(&(dyn DynAttribute + '_));
 
 /// The bytes of a TCP connection on which each packet has its length in front, as ICE sends STUN and
 /// other packets over TCP (RFC 4571, section 2; RFC 6544).

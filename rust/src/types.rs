@@ -27,6 +27,7 @@ pub mod attribute {
         UnknownAttributes, UseCandidate, XorPeerAddress, XorRelayedAddress,
     };
     pub use crate::names::AttributeExt;
+    pub use crate::ported::DynAttribute;
     pub use crate::text::{Nonce, Realm, Username};
 }
 

@@ -259,3 +259,28 @@ fn an_attribute_of_ones_own_needs_no_static_type() {
     );
     assert_eq!(Marked::static_type(), Marked::TYPE);
 }
+
+#[test]
+fn attributes_of_different_types_are_in_one_list() {
+    let name = "alice".to_string();
+    let list: Vec<Box<dyn DynAttribute + '_>> = vec![
+        Box::new(Username::new(&name).unwrap()),
+        Box::new(Marked),
+        Box::new(RawAttribute::new(AttributeType::new(0x8001), &[1, 2, 3])),
+    ];
+    let mut message = request();
+    let mut expected = request();
+    for attribute in &list {
+        message.add_attribute(attribute).unwrap();
+    }
+    expected
+        .add_attribute(&Username::new(&name).unwrap())
+        .unwrap();
+    expected.add_attribute(&Marked).unwrap();
+    let raw = RawAttribute::new(AttributeType::new(0x8001), &[1, 2, 3]);
+    expected.add_attribute(&raw).unwrap();
+    assert_eq!(message, expected);
+    let again: &dyn DynAttribute = &Marked;
+    let exists = StunWriteError::AttributeExists(Marked::TYPE);
+    assert_eq!(message.add_attribute(&again), Err(exists));
+}

@@ -125,12 +125,13 @@ pub enum DropReason {
     UnknownAttribute,
     /// It is a response that is not signed with the key of its request, where it must be.
     NotVerified,
-    /// It is a 401 or a 438 that the client cannot answer: without realm or nonce, or with no
-    /// algorithm that the client supports.
+    /// It is a 401 or a 438 that the client cannot answer: without realm or nonce, with no algorithm
+    /// that the client supports, without hashed names although the client must send one, or with a
+    /// list so long that the request would not fit in a message.
     UnanswerableChallenge,
     /// It is a 401 or a 438 that asks for less than the server has confirmed before.
     WeakerChallenge,
-    /// An allocation failed. The peer sends again.
+    /// An allocation failed. Whoever sent the request sends it again.
     OutOfMemory,
 }
 

@@ -12,7 +12,8 @@
 //! | [`extra`] | FINGERPRINT, unknown attributes, framing over TCP, attributes of ICE and TURN |
 //! | [`stats`] | what an agent has counted |
 //!
-//! [`Instant`] is the type of all times: no call reads a clock.
+//! [`Instant`] is the type of times, and [`endpoint::UnixTime`] that of an [`endpoint::Server`]. Only
+//! `UnixTime::now`, `Instant::from_std` and `endpoint::Clock` read a clock.
 //!
 #![cfg_attr(all(feature = "std", feature = "rand"), doc = include_str!("loops.md"))]
 #![no_std]

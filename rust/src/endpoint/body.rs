@@ -11,14 +11,16 @@ use alloc::vec::Vec;
 use core::fmt;
 use core::net::SocketAddr;
 
-/// The most bytes of the attributes of a [`Body`]. What a client adds to a request fits after them.
+/// The most bytes of the attributes of a [`Body`]. What a client adds to a request fits after them,
+/// unless the server's list of algorithms is very long.
 pub const BODY_LIMIT: usize = 60_000;
 
 /// Why an attribute is not added to a [`Body`].
 #[derive(Clone, Copy, Debug, PartialEq, Eq)]
 #[non_exhaustive]
 pub enum BodyError {
-    /// The client writes this type itself, or the value depends on the transaction ID.
+    /// The client writes this type itself, its value depends on the transaction ID, or it is
+    /// ERROR-CODE, which no request has.
     NotAllowed,
     /// The attributes would have more than [`BODY_LIMIT`] bytes.
     TooLarge,
@@ -105,8 +107,8 @@ impl Body {
     ///
     /// The first of these that applies:
     ///
-    /// - [`BodyError::NotAllowed`]: the client writes this type itself, or its value depends on the
-    ///   transaction ID.
+    /// - [`BodyError::NotAllowed`]: the client writes this type itself, its value depends on the
+    ///   transaction ID, or it is ERROR-CODE, which no request has.
     /// - [`BodyError::TooLarge`]: the attributes would have more than [`BODY_LIMIT`] bytes.
     /// - [`BodyError::OutOfMemory`]: an allocation failed.
     ///

@@ -57,9 +57,11 @@ struct Asked {
 /// It retransmits, answers challenges and verifies signatures. Each request ends exactly once, in
 /// [`Output::Ended`].
 ///
-/// A challenge is judged by itself: nothing that was read before decides by which algorithm a
-/// request is signed. So nobody who forges challenges can have the server accept a request of this
-/// client by less than the strongest algorithm of both.
+/// The algorithm is chosen by the challenge that is answered. Earlier messages count in two cases: a
+/// signed 438 without a list is judged by the list of the challenge before, and a challenge that is
+/// weaker than one which a success confirmed is dropped. So with long-term credentials nobody who
+/// forges challenges can have a server, whose nonces and lists are of its present settings, accept
+/// a request of this client by less than the strongest algorithm of both.
 ///
 /// # Examples
 ///
@@ -177,7 +179,8 @@ impl Client {
     }
 
     /// Reads a datagram that came from this address. If the result is [`Input::NotOurs`], offer the
-    /// datagram to the next client on the socket. Otherwise `poll` returns what comes of it.
+    /// datagram to the next client on the socket. If it is [`Input::Consumed`], `poll` returns what
+    /// comes of it.
     pub fn receive<'a>(&mut self, bytes: &'a [u8], from: SocketAddr, now: Instant) -> Input<'a> {
         let Ok(message) = Message::from_bytes(bytes) else {
             return Input::NotOurs;

@@ -57,7 +57,8 @@ impl Credentials {
     }
 }
 
-/// When a request is sent, and for how long it is waited for (RFC 8489, section 6.2.1).
+/// When a request is sent, and how long the client waits for its response (RFC 8489, section
+/// 6.2.1).
 #[derive(Clone, Copy, Debug, PartialEq, Eq)]
 pub struct Retransmission {
     first: Duration,
@@ -90,7 +91,8 @@ impl Default for Retransmission {
 /// What carries the messages of a client.
 #[derive(Clone, Copy, Debug, PartialEq, Eq, Default)]
 pub enum Transport {
-    /// Datagrams, which may be lost: a request is sent up to seven times.
+    /// Datagrams, which may be lost: a request is sent as often as the builder's `retransmission`
+    /// says, and up to seven times unless you call that.
     #[default]
     Datagram,
     /// A stream: a request is sent once.

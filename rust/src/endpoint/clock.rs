@@ -37,8 +37,9 @@ impl Clock {
         at.to_std(self.0)
     }
 
-    /// Returns how long it is until this time: at least a millisecond, so that it suits
-    /// [`UdpSocket::set_read_timeout`](std::net::UdpSocket::set_read_timeout), or `None` for ever.
+    /// Returns how long it is until this time, at least a millisecond, as
+    /// [`UdpSocket::set_read_timeout`](std::net::UdpSocket::set_read_timeout) needs it. Without a
+    /// time it returns `None`, which means to wait without limit.
     pub fn timeout(&self, until: Option<Instant>) -> Option<Duration> {
         let left = until?.saturating_duration_since(self.now());
         Some(left.max(Duration::from_millis(1)))

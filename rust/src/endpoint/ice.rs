@@ -329,7 +329,7 @@ pub enum DropReason {
     /// It is a response whose signature is missing or invalid. A refusal by 400 or 401 is not
     /// signed, so such a check ends by its timeout.
     WrongSignature,
-    /// An allocation failed. The peer sends again.
+    /// An allocation failed. Whoever sent the check sends it again.
     OutOfMemory,
 }
 

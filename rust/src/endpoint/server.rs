@@ -27,8 +27,10 @@ use core::net::SocketAddr;
 /// hashed names, and nonces of one hour, unless you change them.
 ///
 /// `secret` is 32 random bytes, and whoever has it can make nonces that are accepted. Servers that
-/// share it accept each other's nonces, if their clocks differ by less than a nonce lifetime. A
-/// server that starts again with it serves its old clients at once.
+/// share it, and have the same algorithms, `user_hashes` and nonce lifetime, accept each other's
+/// nonces, except that a server refuses a nonce of a period that has not begun on its own clock. If
+/// clocks differ by less than a nonce lifetime, a client then gets a 438 and continues with the
+/// nonce in it. A server that starts again with the same secret serves its old clients at once.
 #[derive(Clone)]
 pub struct LongTerm {
     realm: String,
@@ -77,7 +79,8 @@ impl LongTerm {
         self
     }
 
-    /// Sets whether clients may send a hash in place of a name (RFC 8489, section 14.4).
+    /// Sets whether clients may send a hash in place of a name (RFC 8489, section 14.4). Nonces
+    /// depend on this, as on the algorithms.
     pub fn user_hashes(mut self, allowed: bool) -> LongTerm {
         self.user_hashes = allowed;
         self
@@ -203,11 +206,12 @@ impl Server {
     ///
     /// - Bytes that are no message, or have a wrong FINGERPRINT, are dropped.
     /// - A request is judged first, and its attributes are looked at then (RFC 8489, section
-    ///   6.3.1). It gets a 401 if it is not signed, or not by one of `users`; a 438 if its nonce is
-    ///   not accepted; a 400 if it is malformed, or its algorithms are not those that were offered
-    ///   with the current nonce; a 420, which is signed, if it has an attribute that is not
-    ///   understood; and the answer to Binding, if the server is to give it. All others are for
-    ///   you.
+    ///   6.3.1). The first of these that applies decides what it gets: a 401 if it is not signed; a
+    ///   400 if it has no REALM, NONCE or user name, or if its algorithms are not those that were
+    ///   offered with the current nonce; a 438 if its nonce is not accepted, or a 401 if that nonce
+    ///   has other security bits than the server's; a 401 if it is not signed by one of `users`; a
+    ///   420, which is signed, if it has an attribute that is not understood; and the answer to
+    ///   Binding, if the server is to give it. All others are for you.
     /// - An indication with an attribute that is not understood is dropped. Other indications, and
     ///   responses, are for you.
     pub fn receive<'a>(
@@ -251,8 +255,8 @@ impl Server {
     /// users up in a database.
     ///
     /// A request is looked up only if it carries a nonce that is accepted for its source at this
-    /// time, is signed, and names a user. So a forged source address or an invented nonce never
-    /// causes a look-up.
+    /// time, is signed, and names a user. So whoever invents a nonce, or forges a source address
+    /// without having seen a nonce of it, causes no look-up.
     ///
     /// # Examples
     ///

@@ -112,7 +112,7 @@ module _ (p : Preferences) (who : NameAndPassword) (c : Challenge) where
 
   of_parts : (realm nonce : Option (List ℕ)) (list : List IntegrityAlgorithm)
       → by_rule_if p who realm nonce list ≡ Some c → IsByRule p who c
-  of_parts None nonce list h = cc
+  of_parts None _ list h = cc
   of_parts (Some realm) None list h = cc
   of_parts (Some realm) (Some nonce) list h = unless (lacks_userhash p nonce) realm nonce list h
 

@@ -49,7 +49,7 @@ by_rule p who realm nonce list =
 abbrev pub by_rule_if : Preferences → NameAndPassword → Option (List ℕ) → Option (List ℕ)
     → List IntegrityAlgorithm
     → Option Challenge
-by_rule_if p who None nonce list = None
+by_rule_if p who None _ list = None
 by_rule_if p who (Some realm) None list = None
 by_rule_if p who (Some realm) (Some nonce) list = by_rule p who realm nonce list
 

@@ -3,6 +3,7 @@
  * The calls of this header read, check, write and sign single messages, make the keys of users,
  * and find the messages in a stream. They remember nothing from one call to the next.
  * stunp_state.h adds what must be remembered: retransmissions, challenges and nonces.
+ * stunp_endpoint.h has whole servers for users.
  *
  * The functions at the end of this comment show how to begin: `answer` is a server that needs no
  * credentials, `write_check` and `is_check` are for an ICE agent. Sections without an RFC are
@@ -14,10 +15,10 @@
  * Link libstunp.a. There are two archives of this name:
  *
  * - The proved one is crates/stun_c/out/libstun_c.a, which `rt lib` in crates/stun_c proves and
- *   builds. It holds ELF objects for Linux on x86-64-v2 processors, as does the proved archive of
- *   stunp_state.h.
+ *   builds. It holds ELF objects for Linux on x86-64-v2 processors, as do those of stunp_state.h
+ *   and stunp_endpoint.h.
  * - The tested one is target/c/libstunp.a, which `make rust rust-c` builds on other 64-bit systems,
- *   or without `rt`. It has the calls of both headers and is not proved.
+ *   or without `rt`. It has the calls of all three headers and is not proved.
  *
  * All are position independent, so you may link them into a shared library. The library then
  * exports their calls too, unless you link it with -Wl,--exclude-libs,ALL.
@@ -288,8 +289,8 @@ typedef enum stunp_refusal {
                                      * server has no key any more to sign with */
     STUNP_BAD_ARGUMENT = -7,  /* an argument is out of range */
     STUNP_NOT_TEXT = -8,      /* a text is not UTF-8 */
-    STUNP_TEXT_TOO_LONG = -9, /* a text is too long: a user name over 513 bytes, or a reason, realm
-                               * or nonce over 763 */
+    STUNP_TEXT_TOO_LONG = -9, /* a text is too long: a user name over 513 bytes, or a reason, realm,
+                               * nonce or SOFTWARE over 763 */
     STUNP_BUFFER_TOO_SMALL = -10,    /* the output does not have room for what would be written */
     STUNP_NOT_ALLOWED = -11,         /* this call cannot write attributes of this type: they have a
                                       * call of their own */
@@ -301,7 +302,8 @@ typedef enum stunp_refusal {
     STUNP_MISSING_ATTRIBUTE = -15,   /* no attribute of this type is visible */
     STUNP_MALFORMED_ATTRIBUTE = -16, /* the value of the attribute is malformed */
 
-    /* Only the calls of stunp_state.h return these. */
+    /* Only the calls of stunp_state.h return these; those of stunp_endpoint.h return the first
+     * three. */
     STUNP_OUT_OF_MEMORY = -17,       /* an allocation failed */
     STUNP_EMPTY_HANDLE = -18,        /* the handle is empty */
     STUNP_FULL_HANDLE = -19,         /* the handle is full already */

@@ -1,8 +1,8 @@
 /* stunp_endpoint.h: STUN endpoints (RFC 8489), for C, C++ and Rust
  *
  * An endpoint is all that lies between a datagram and its answer. stunp.h reads and writes single
- * messages, and stunp_state.h remembers what lies between messages; the calls of this header join
- * both, so that the loop around them is the library's. Most servers need this header alone.
+ * messages. This header has a server: one call judges a datagram and writes the answer. It remembers
+ * nothing between datagrams, so it does not need stunp_state.h. Most servers need this header alone.
  *
  *   stunp_endpoint_server  the settings of a server with long-term credentials (section 9.2)
  *   stunp_endpoint_users   the users of its realm, by password or by stored keys
@@ -11,7 +11,7 @@
  * stunp_endpoint_server_receive judges a datagram: it writes the answer, or hands you an accepted
  * request.
  *
- * None of them performs I/O. You own the sockets, the clock, the threads and the random numbers.
+ * No call performs I/O. You own the sockets, the clock, the threads and the random numbers.
  * Sections without an RFC are those of RFC 8489.
  *
  *
@@ -19,12 +19,13 @@
  *
  * `serve` answers a datagram, and returns the length of the answer in `out`, or 0 if there is
  * nothing to send. It is a whole server: clients are challenged (401), told a new nonce (438), told
- * what is malformed (400) or not understood (420), and each answer to a known user is signed. It
- * ends with FINGERPRINT if the request did.
+ * what is malformed (400) or not understood (420), and each answer to an accepted request, a 420
+ * too, is signed. An answer ends with FINGERPRINT if its request does.
  *
  *     #include "stunp_endpoint.h"
  *
- *     // Sets up a server of one user. `secret` are 32 random bytes.
+ *     // Sets up a server of one user. `secret` are 32 random bytes. Both handles begin as {0}; free
+ *     // both after an error too.
  *     int64_t set_up(stunp_endpoint_server *server, stunp_endpoint_users *users,
  *                    const uint8_t *secret) {
  *         stunp_endpoint_server_settings settings = STUNP_INIT(stunp_endpoint_server_settings);
@@ -62,8 +63,9 @@
  * and the time, so a flood of datagrams uses no memory, and shuts nobody out. Whether a datagram is
  * accepted depends on it, its source, the time, the settings and the users, and on no earlier
  * datagram. A server that starts again with its secret serves its old clients at once, and several
- * machines with the same secret can answer each other's clients, if their clocks differ by less than
- * a nonce lifetime.
+ * machines with the same settings and users can answer each other's clients. If their clocks differ,
+ * by less than a nonce lifetime, a client that comes from a machine whose clock is ahead may be
+ * answered one more 438.
  *
  * A client whose nonce is not one of its address is told a new one by a 438, with which it goes on.
  *
@@ -90,7 +92,8 @@
  *   three headers.
  *
  *
- * Handles, memory and errors are those of stunp_state.h. In short: a handle begins as {0}, a _new
+ * Handles, memory and errors are those of stunp_state.h, except that a handle may be const, and that
+ * the _own calls take a copy of a handle (Threads). In short: a handle begins as {0}, a _new
  * call fills it and a _free call empties it. Calls read their arguments during the call alone. A
  * pointer may be null only if its length is 0; pointers to results may be null everywhere. A call
  * that fails returns a negative stunp_refusal, for which stunp_strerror has a text, and changes
@@ -101,16 +104,16 @@
  * Threads
  *
  * The settings of a server never change. So any number of threads may pass one handle as const at
- * the same time, until stunp_endpoint_server_free; it must be called when none of them does any
- * more. A table of users may be passed as const by many threads at the same time, or be changed by
+ * the same time. Call stunp_endpoint_server_free only after every thread has stopped using the
+ * handle. A table of users may be passed as const by many threads at the same time, or be changed by
  * one, and then no other may use it. To load users anew, fill another table, let the threads use
- * that from their next datagram on, and free the old one when each has begun one.
+ * that from their next datagram on, and free the old table once every thread has begun a datagram
+ * with the new one.
  *
- * That is trusted, and tested by what finds races: what is proved is a call on a handle that
- * nothing else uses meanwhile, and that it leaves both handles as they are. The two calls whose
- * names end in _own want such a handle of the caller's own, for which a copy of the two words of a
- * handle is enough. The calls without it make that copy, write to nothing that is const, and are
- * what a program calls.
+ * Sharing between threads is trusted, and tested with a race detector. What is proved: a call whose
+ * handles nothing else uses meanwhile leaves them as they were. The two calls whose names end in
+ * _own need such handles; a copy of the two fields is enough. The calls without _own make that copy
+ * themselves, write to nothing const, and are the ones to call.
  */
 #ifndef STUNP_ENDPOINT_H
 #define STUNP_ENDPOINT_H
@@ -158,8 +161,8 @@ template <typename Sized> Sized stunp_of_size() {
  *   nonce_seconds       how long a nonce is sent, 30 seconds at least. It is accepted for one to two
  *                       times as long. By default an hour
  *   algorithms          STUNP_SHA1, STUNP_SHA256, or by default both
- *   anonymous_username  whether clients may send a hash in place of the user name. By default they
- *                       may
+ *   anonymous_username  STUNP_DISABLED if clients may not send a hash in place of the user name. By
+ *                       default, and with STUNP_REQUIRED, they may
  *   answers_binding     whether an accepted Binding request is answered inside, by the client's
  *                       address. By default it is handed to you
  *
@@ -201,14 +204,13 @@ typedef enum stunp_drop {
 
 /* Lengths, in bytes. */
 enum {
-    /* The longest answer that a server writes by itself: a 420 that lists as many types as a message
-     * has room for, with SOFTWARE, a signature and FINGERPRINT. For datagrams of up to 1500 bytes
-     * 2048 bytes are enough. */
+    /* No answer that a server writes by itself is longer: room for a 420 that lists a type for every
+     * four bytes of the longest message, with SOFTWARE, a signature and FINGERPRINT. For datagrams of
+     * up to 1500 bytes 2048 bytes are enough. */
     STUNP_ANSWER_MAX = 33632,
-    /* The longest user name that a table accepts and a request can have (section 14.3). */
-    STUNP_NAME_MAX = 513,
-    /* The longest nonce of a server of this library. */
-    STUNP_NONCE_MAX = 29
+    /* The longest user name that a table accepts and a USERNAME of this library can have. (Section
+     * 14.3 allows names of fewer than 509 bytes.) */
+    STUNP_NAME_MAX = 513
 };
 
 /* What answers one accepted request. It is plain data: it may be copied and kept, and used on any
@@ -255,7 +257,9 @@ typedef struct {
 /* ---- Servers */
 
 /* Creates a server, like stunp_endpoint_server_new, from settings that are passed one by one.
- * `previous_secret` counts if `has_previous_secret` is true.
+ * `previous_secret` counts if `has_previous_secret` is true, and must not be null even if it does not
+ * count: pass `secret` again. `understood_length` counts numbers, not bytes. A `software_length` of 0
+ * means no SOFTWARE.
  *
  * Returns 0. Errors:
  *   STUNP_FULL_HANDLE    the handle is not empty

@@ -13,8 +13,8 @@
  * stunp_sign and stunp_verify of stunp.h.
  *
  * The functions at the end of this comment are a complete client (`ask`) and a complete server
- * (`judge` and `serve`). To begin, copy one of them. examples/c has both as programs with sockets.
- * Sections without an RFC are those of RFC 8489.
+ * (`judge` and `serve`). To begin, copy one of them. examples/c/udp_client.c is a client with its
+ * socket. For a server that stores nothing about its clients, see stunp_endpoint.h. Sections without an RFC are those of RFC 8489.
  *
  *
  * Linking
@@ -24,8 +24,8 @@
  *   (rattle_alloc below). `rt lib` in crates/stun_state proves and builds out/libstun_state.a,
  *   which `make install` installs as libstunp_state.a. Apart from these three it needs only what
  *   every C compiler has: memcpy, memmove, memset, and __udivti3 and __umodti3 of its runtime.
- * - Tested (`make rust rust-c`): target/c/libstunp.a or libstunp.so, which have the calls of both
- *   headers. They allocate with your three functions if your program has them, and otherwise with
+ * - Tested (`make rust rust-c`): target/c/libstunp.a or libstunp.so, which have the calls of all
+ *   three headers. They allocate with your three functions if your program has them, and otherwise with
  *   malloc. They need a C library with -lpthread -ldl -lm.
  *
  *
@@ -211,8 +211,8 @@
  * Besides `moment` and `fill_randomly` you provide `check`, which looks at a request whose sender
  * is known, and returns 200 or an error code: 400 if the request is malformed, 420 if it has
  * attributes that you do not know (stunp_unknown_types), or 0 to drop it, for example because of
- * its method. A TURN server adds its own attributes to a success. examples/c/udp_server.c is the
- * whole program, with two sockets and epoll.
+ * its method. A TURN server adds its own attributes to a success. examples/c/udp_server.c shows the
+ * sockets and epoll around a server, but over stunp_endpoint.h.
  *
  *     // Returns the algorithm with which a request is authentic (stunp_is_authentic), or the error
  *     // that says how to refuse it.

@@ -33,19 +33,30 @@ static void answer(int socket, const struct datagram *got) {
     static stunp_received received = STUNP_INIT(stunp_received);
     int64_t kind = stunp_endpoint_server_receive(&server, &users, got->bytes, got->length, &got->from,
                                                  (uint64_t)time(NULL), out, sizeof out, &received);
-    if (kind == STUNP_ANSWER) send_to(socket, out, received.length, &got->peer);
+    int64_t length = kind == STUNP_ANSWER ? (int64_t)received.length : 0;
+    if (kind == STUNP_IS_REQUEST) { /* of the user, and not Binding */
+        stunp_writer error = stunp_reply_error(&received.reply, 400, "Bad Request", out, sizeof out);
+        length = stunp_reply_finish(&received.reply, &error);
+        stunp_reply_wipe(&received.reply);
+    }
+    if (length > 0) send_to(socket, out, (size_t)length, &got->peer);
 }
 
 int main(int count, char **words) {
     static struct datagram got;
     struct listener listener;
     struct pollfd waiting[MOST_SOCKETS];
-    unsigned long port = count == 5 ? strtoul(words[1], NULL, 10) : 0;
-    if (count != 5) {
+    char *end = "";
+    unsigned long port = count == 5 ? strtoul(words[1], &end, 10) : 0;
+    if (count != 5 || end == words[1] || *end != 0 || port > 65535) {
         fprintf(stderr, "usage: endpoint_server PORT REALM NAME PASSWORD\n");
         return 2;
     }
-    if (!open_server(NULL, 0, &port, false, &listener) || !set_up(words[2], words[3], words[4])) return 1;
+    if (!set_up(words[2], words[3], words[4])) {
+        fprintf(stderr, "endpoint_server: no server of this realm and user\n");
+        return 1;
+    }
+    if (!open_server(NULL, 0, &port, false, &listener)) return 1;
     printf("port %lu\n", port);
     fflush(stdout);
     for (int i = 0; i < listener.number; i++)

@@ -1,7 +1,7 @@
 /* A STUN server on UDP (RFC 8489), IPv4 and IPv6, with users, over stunp_endpoint.h.
  *
- * It tells who asks the address that it sees. Where it has a realm and users, it answers nobody else
- * (section 9.2.4). It stores nothing of an address, so that a flood takes no memory, and any number
+ * It tells whoever asks the address that it sees. If it has a realm and users, it tells only them,
+ * and challenges everybody else (section 9.2.4). It stores nothing of an address, so that a flood takes no memory, and any number
  * of processes and machines can serve the same clients if they have the same secret.
  *
  *     udp_server PORT [REALM [NAME PASSWORD].. [--users FILE]] [OPTION]..
@@ -34,7 +34,8 @@ static const char help[] =
     "                    `NAME 0xKEY [0xKEY]` with stored keys of 16 bytes (HMAC-SHA1) and 32 bytes\n"
     "                    (HMAC-SHA256) in hexadecimal; `#` begins a comment. SIGHUP reads it again\n"
     "  --secret FILE     what nonces are made of: 32 bytes, or 64 hexadecimal digits. Servers with the\n"
-    "                    same secret serve each other's clients. Random unless given\n"
+    "                    same secret, REALM, users, --expiry and --sha256 serve each other's clients.\n"
+    "                    Random unless given\n"
     "  --sha256          offer HMAC-SHA256 beside HMAC-SHA1\n"
     "  --expiry SECONDS  how long a nonce is sent, from 30; it is accepted for up to twice as long. 3600\n"
     "                    unless given\n"
@@ -42,11 +43,14 @@ static const char help[] =
     "                    input. All of this machine unless given\n"
     "  --workers N       so many processes: 1 unless given\n"
     "  --shared          let other servers have the port too (SO_REUSEPORT)\n"
-    "  --any-method      judge requests of other methods too, and answer them 508 if they are accepted,\n"
-    "                    or 400 if they are malformed\n"
+    "  --any-method      judge requests of other methods too, and answer them 420 if they have\n"
+    "                    attributes of TURN, 400 if an Allocate lacks REQUESTED-TRANSPORT, and 508\n"
+    "                    otherwise\n"
     "  --counts SECONDS  print a line of counters so often; SIGUSR1 prints one at once\n"
-    "  --ahead SECONDS   SIGUSR2 moves the clock so far ahead, to see nonces expire (for tests)\n"
-    "  -v                print a line for each datagram: from where, the answer, and who had signed\n"
+    "  --ahead SECONDS   SIGUSR2 moves the clock of the process that gets it so far ahead, to see nonces\n"
+    "                    expire (for tests; with --workers send it to each worker)\n"
+    "  -v                print a line for each datagram: from where, the answer, and who had signed, if\n"
+    "                    the request was accepted and all its attributes are known\n"
     "  --                what follows is no option, as a PASSWORD that begins with `-`\n"
     "  --help, --version\n";
 

@@ -1,6 +1,6 @@
 //! A server as one value: `endpoint server NAME WORDS`. Each call adds what is answered to a text.
 
-use crate::endpoint::hearing::{hear, identify};
+use crate::endpoint::hearing::hear;
 use crate::endpoint::respond::respond;
 use crate::endpoint::settings::{on_heap, set};
 use crate::runs::Runs;
@@ -68,8 +68,7 @@ pub fn call(runs: &mut Runs<'_>, words: &[&str], answer: &mut String) -> Result<
         return Err(Trouble::Words);
     };
     match *name {
-        "hears" | "hears-for" | "resumes" => hear(runs, name, words, answer),
-        "identifies" => identify(runs, words, answer),
+        "hears" => hear(runs, words, answer),
         "responds" => match &runs.endpoint.reply {
             Some(reply) => respond(&mut runs.scene.stage, reply, words, answer),
             None => Err(Trouble::Words),

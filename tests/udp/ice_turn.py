@@ -2,16 +2,18 @@
 """Tries ice_check against itself and the agents of libnice and aioice, and turn_client against
 coturn, over loopback, and prints a Markdown table of what was seen.
 
-    ice_turn.py [--install]
+    ice_turn.py [--install] [--turn-client PROGRAM]..
 
 The peers are Debian's packages libnice-dev, python3-aioice and coturn. With --install those that
 are missing are installed by apt-get; without it what needs them is left out. The programs of
 examples/c are built with all warnings, and with sanitizers where the compiler has them.
-docs/INTEROP.md has the table of a run. Status 0 where each row came out as it should; the last line
+Programs that are named take the words of turn_client, such as that of rust/examples, and are tried
+with coturn too. docs/INTEROP.md has the table of a run. Status 0 where each row came out as it should; the last line
 says with whom.
 """
 import concurrent.futures
 import contextlib
+import pathlib
 import re
 import shutil
 import socket
@@ -369,8 +371,8 @@ def is_refused(program, server, peer, why, lines, **words):
     """It says why, and ended what was allocated."""
     status, printed, err = session(program, ("127.0.0.1", server.port), peer, **words)
     printed = [line.split()[0] for line in printed]
-    assert (status, printed, err) == (1, lines, why), (status, printed, err)
-    return f"`{why}`" + ("; ended" if lines else "")
+    assert (status, printed) == (1, lines) and err.startswith(why), (status, printed, err)
+    return f"`{err}`" + ("; ended" if lines else "")
 
 
 def is_refused_at(program, server, peer, why):
@@ -446,9 +448,9 @@ def turnserver(folder, *words):
                    "--log-file=stdout", *files, *users, *words, port=port)
 
 
-def of_coturn(name, turn_client, start):
+def of_coturn(name, turn_client, folder, start):
     """Rows at servers that `start` keeps until the end."""
-    at = lambda *words: start(turnserver(turn_client.parent, *words))
+    at = lambda *words: start(turnserver(folder, *words))
     run = lambda what, *words, **more: lambda: what(turn_client, *words, **more)
     server, echo, port = at(LOOPBACK), Echo("127.0.0.1"), interop.free_port()
     start(started("turnutils_peer", "-L", "127.0.0.1", port=port))
@@ -469,7 +471,7 @@ def of_coturn(name, turn_client, start):
     yield (name, "`--stale-nonce=1`, the third request held back",
            run(relayed, short, "127.0.0.1", peer, holds, (401, 200, 438, 200, 200, 200)))
     yield (name, "wrong password",
-           run(is_refused, server, peer, "Allocate: refused 401", [], password="wrong"))
+           run(is_refused, server, peer, "Allocate: refused", [], password="wrong"))
     strict, silent = at(), Echo("127.0.0.1", is_silent=True)
     ended = ["relayed", "ended"]
     yield (name, "a peer on loopback, where none is allowed",
@@ -488,6 +490,12 @@ def installed():
     return {package: interop.version(package) if has_packages else None for package in PACKAGES}
 
 
+def named():
+    """The programs after each --turn-client."""
+    words = zip(sys.argv, sys.argv[1:])
+    return [pathlib.Path(path) for option, path in words if option == "--turn-client"]
+
+
 def cases(folder, versions, start):
     ice_check, turn_client = folder / "ice_check", folder / "turn_client"
     yield from of_ours(ice_check, turn_client, folder / "udp_server")
@@ -501,7 +509,10 @@ def cases(folder, versions, start):
         aioice = [interop.PYTHON, harness.HERE / "aioice_ice.py"]
         yield from of_agent(f"aioice {versions['python3-aioice']}", aioice, ice_check)
     if versions["coturn"]:
-        yield from of_coturn(f"coturn {versions['coturn']}", turn_client, start)
+        name = f"coturn {versions['coturn']}"
+        yield from of_coturn(name, turn_client, folder, start)
+        for program in named():
+            yield from of_coturn(f"{name}, {program.name} in Rust", program, folder, start)
 
 
 def tried(case):

@@ -122,6 +122,7 @@ impl Service {
         };
         self.counts.note(&outcome);
         if self.is_verbose {
+            let from = SocketAddr::new(from.ip().to_canonical(), from.port());
             let _ = writeln!(io::stdout(), "{from} {outcome}");
         }
         match outcome {

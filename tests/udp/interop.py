@@ -238,7 +238,8 @@ def goes_on(words, way, codes, *offered):
                 wants(drawn == codes and out.startswith("438"), (drawn, out))
                 return f"codes {codes}: it gives up"
             wants(drawn[:len(codes)] == codes, (drawn, out))
-            last = f" {codes[-1]} SHA1 {NAME}" if IS_IN_C else f" {codes[-1]}"
+            is_named = IS_IN_C and codes[-1] == 200
+            last = f" {codes[-1]} SHA1 {NAME}" if is_named else f" {codes[-1]}"
             wants(until(lambda: any(line.endswith(last)
                                     for line in first.lines + second.lines)), out)
             return f"codes {codes}: it goes on"

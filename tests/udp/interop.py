@@ -4,8 +4,8 @@ table of what was seen.
 
     interop.py [--install] [--server PROGRAM --client PROGRAM]
 
-The peers are Debian's packages coturn, libnice-dev, python3-aioice, golang-github-pion-stun-dev and
-stun-client. With --install those that are missing, and what builds them, are installed by apt-get;
+The peers are Debian's packages coturn, libnice-dev, python3-aioice, golang-github-pion-stun-dev,
+stun-client and stun-server. With --install those that are missing, and what builds them, are installed by apt-get;
 without it a line after the table names them. The programs are those of examples/c, or others that
 take the same words, such as those of rust/examples; rows that need `--any-method` are left out then.
  docs/INTEROP.md has the table of a run. Status 0 where
@@ -39,7 +39,7 @@ IS_IN_C = "--server" not in sys.argv
 ANY, AHEAD = (("--any-method",), ("--ahead", "300")) if IS_IN_C else ((), ())
 PYTHON = "/usr/bin/python3"  # Debian's, for which Debian packages aioice
 PACKAGES = ("coturn", "libnice-dev", "pkg-config", "python3-aioice", "golang-github-pion-stun-dev",
-            "golang-go", "stun-client")
+            "golang-go", "stun-client", "stun-server")
 ROWS = []
 
 
@@ -334,6 +334,9 @@ def with_coturn(number):
                     lambda: client_prints(server, host, NAME, PASSWORD, *words))
         row(peer, "the same, wrong password", "coturn refused udp_client", "HMAC-SHA1",
             lambda: client_is_refused(server, NAME, "wrong"))
+    with turnserver(*(word for word in secure if word != "--secure-stun")) as server:
+        row(peer, "udp_client with a name → `turnserver --lt-cred-mech`, which signs no Binding",
+            "nobody", "none", lambda: client_is_refused(server, NAME, PASSWORD))
     with turnserver(*secure, "--stale-nonce=1") as server:
         row(peer, "udp_client → the same with `--stale-nonce=1`, request held back",
             "each validated the other", "HMAC-SHA1", lambda: stale(server))
@@ -412,6 +415,14 @@ def with_pion(number, folder):
             lambda: client_is_refused(server, NAME, "wrong"))
 
 
+def with_stund(number):
+    """A server of RFC 3489: its success has SOURCE-ADDRESS and CHANGED-ADDRESS."""
+    here = ("-h", "127.0.0.1", "-a", "127.0.0.2", "-p", port := free_port(), "-o", free_port())
+    with Peer("/usr/sbin/stund", *here, port=port) as server:
+        row(f"stund {number}", "udp_client → stund", "nobody", "none",
+            lambda: client_prints(server, "127.0.0.1"))
+
+
 def install():
     """Installs the packages that are missing."""
     missing = [package for package in PACKAGES if version(package) is None]
@@ -442,6 +453,8 @@ def main():
     if versions["stun-client"]:
         row(f"stun-client {versions['stun-client']}", "`stun` → udp_server", "nobody", "none",
             old_stun)
+    if versions["stun-server"]:
+        with_stund(versions["stun-server"])
     print("| Peer | What | Who validated whose digest | Algorithm | Seen |\n|---|---|---|---|---|")
     for one in ROWS:
         print("| " + " | ".join(one) + " |")

@@ -257,7 +257,7 @@ static void answer_one(const struct datagram *got, struct answer *answer) {
 
 /* ---- Users */
 
-/* Fills a table with the users of words and of the file. */
+/* Fills a table with the users of the arguments and of the file. */
 static bool fill(stunp_endpoint_users *table, const char *what) {
     int64_t answer = stunp_endpoint_users_new(table, &server);
     if (answer < 0) {
@@ -303,7 +303,7 @@ static int watch(const struct listener *listener) {
     return queue;
 }
 
-/* What the process that began does now and then: it tells the counters. */
+/* Prints the counters if they are due or asked for. The first process calls this now and then. */
 static void look(void) {
     static sig_atomic_t told;
     static uint64_t due;
@@ -347,7 +347,7 @@ static bool begin(const char *realm) {
     return false;
 }
 
-/* A port, and where there is a realm, users of words or of a file. */
+/* Returns whether there is a port and, if there is a realm, users from arguments or from a file. */
 static bool has_right_words(int number, char **words) {
     bool has_rest = number == 1 ? settings.file == NULL
                                 : number % 2 == 0 && (number > 2 || settings.file != NULL);

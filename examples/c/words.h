@@ -13,7 +13,7 @@ struct texts {
     int count;
 };
 
-/* An option: a flag, or what follows it, a text, one more text, a number or seconds within bounds. */
+/* An option: a flag, or what follows it: a text, one more text, a number or seconds within bounds. */
 struct option {
     const char *name;
     bool *flag;
@@ -26,8 +26,9 @@ struct option {
 
 bool read_number(const char *word, unsigned long least, unsigned long most, unsigned long *number);
 
-/* Takes the options, which end with one without a name, out of the words. The others are left at
- * their front, and their number is the answer, or -1. No word after `--` is an option. */
+/* Reads the options out of the arguments; the list of options ends with one without a name. Moves the
+ * other arguments to the front, and returns their number, or -1 if an option is wrong. What follows
+ * `--` is no option. */
 int read_options(int count, char **words, const struct option *options);
 
 /* Reads the last line `NAME PASSWORD` of a file, or of standard input if it is `-`, into `line`, and

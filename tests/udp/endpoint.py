@@ -314,8 +314,11 @@ def asked_again(peer, request):
     request is sent again as a client sends it."""
     peer.socket.settimeout(0.5)
     for _ in range(20):
+        peer.socket.sendto(request, peer.target)
         with contextlib.suppress(TimeoutError):
-            return stun.code_of(peer.ask(request))
+            while (answer := peer.socket.recv(4096))[8:20] != request[8:20]:
+                pass
+            return stun.code_of(answer)
     raise TimeoutError("not answered")
 
 

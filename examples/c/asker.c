@@ -98,8 +98,8 @@ static void send_again(struct asker *asker, uint64_t now) {
 
 /* ---- Receiving */
 
-/* Returns whether a datagram is a response to the outstanding request, from the server, with a right
- * FINGERPRINT or none. */
+/* Returns whether a datagram is a response to the outstanding request, from the server, with a
+ * right FINGERPRINT or none. */
 static bool is_response(const struct asker *asker, const struct datagram *got,
                         stunp_header *header) {
     int64_t fingerprint = stunp_check_fingerprint(got->bytes, got->length);
@@ -125,9 +125,9 @@ static enum verdict is_refused(struct asker *asker, const struct datagram *got) 
     return FAILED;
 }
 
-/* Judges a datagram. The authenticator comes before the agent, because a forged response must not end
- * the request. A response with an attribute that must be understood, and is not, ends it (section
- * 6.3.3). */
+/* Judges a datagram. The authenticator comes before the agent, because a forged response must not
+ * end the request. A response with an attribute that must be understood, and is not, ends it
+ * (section 6.3.3). */
 static enum verdict judge(struct asker *asker, const struct datagram *got) {
     stunp_header header;
     uint16_t unknown;
@@ -152,8 +152,9 @@ static enum verdict judge(struct asker *asker, const struct datagram *got) {
 /* Nothing arrived that could be accepted: what was dropped may tell an operator why. */
 static enum verdict no_answer(struct asker *asker, const char *why) {
     if (asker->dropped == 0) return fails(asker, "no answer", why);
-    int end = snprintf(asker->why, sizeof asker->why, "no answer%s; %u dropped, which the server did not sign",
-                       why, asker->dropped);
+    int end = snprintf(asker->why, sizeof asker->why,
+                       "no answer%s; %u dropped, which the server did not sign", why,
+                       asker->dropped);
     if (asker->dropped_code >= 0)
         snprintf(asker->why + end, sizeof asker->why - (size_t)end, ", the last an error %lld",
                  (long long)asker->dropped_code);

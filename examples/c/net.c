@@ -218,8 +218,8 @@ void close_server(const struct listener *listener) {
     for (int i = 0; i < listener->number; i++) close(listener->sockets[i]);
 }
 
-/* Opens a socket of a server's family, and writes its own address. Returns -1 if that fails, with the
- * reason in errno. */
+/* Opens a socket of a server's family, and writes its own address. Returns -1 if that fails, with
+ * the reason in errno. */
 static int open_to(const struct peer *server, stunp_address *own) {
     struct peer any = {.name.ss_family = server->name.ss_family,
                        .name_length = server->name_length};

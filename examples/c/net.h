@@ -34,7 +34,7 @@ struct datagram {
     stunp_address from;
 };
 
-/* Returns the address of a peer for the library. An IPv4 address that is mapped into IPv6 is IPv4. */
+/* Returns the address of a peer for the library: an IPv4 address, if it is one mapped into IPv6. */
 stunp_address address_of(const struct peer *peer);
 
 bool is_same(const stunp_address *one, const stunp_address *other);
@@ -53,38 +53,38 @@ struct listener {
 };
 
 /* Opens the sockets of a server, on which no call waits (use epoll). `at` are `count` IPv4 or IPv6
- * addresses; without any they are all addresses of this machine, of both families if it has both. `-`
- * is the socket that is standard input, with its port. Port 0 becomes one that was free at each
+ * addresses; without any they are all addresses of this machine, of both families if it has both.
+ * `-` is the socket that is standard input, with its port. Port 0 becomes one that was free at each
  * address. If the port is shared, other sockets may be bound to it too. Returns false after it
  * printed the reason on standard error. */
 bool open_server(const char *const *at, int count, unsigned long *port, bool is_shared,
                  struct listener *listener);
 void close_server(const struct listener *listener);
 
-/* Finds a server, and opens a socket of its family, whose own address it writes. If the host has several
- * addresses, it is the first to which a socket opens. Returns the socket, or -1 after it printed the
- * reason on standard error. */
+/* Finds a server, and opens a socket of its family, whose own address it writes. If the host has
+ * several addresses, it is the first to which a socket opens. Returns the socket, or -1 after it
+ * printed the reason on standard error. */
 int open_client(const char *host, const char *port, struct peer *server, stunp_address *own);
 
-/* What arrives at a socket within so many nanoseconds: a datagram, or an error report about one that
- * was sent. */
+/* What arrives at a socket within so many nanoseconds: a datagram, or an error report about one
+ * that was sent. */
 enum arrival { NOTHING, DATAGRAM, ERROR_REPORT };
 enum arrival wait_for(int socket, uint64_t nanoseconds);
 
-/* Reads what ICMP reported about the datagrams that a client sent. Returns the error if none of them
- * will ever be answered, such as from a closed port, or 0. */
+/* Reads what ICMP reported about the datagrams that a client sent. Returns the error if none of
+ * them will ever be answered, such as from a closed port, or 0. */
 int hard_error(int socket);
 
-/* Reads a datagram. Returns false if none was there or it was too long. If the socket fails, it waits
- * for 10 ms and prints the reason now and then. */
+/* Reads a datagram. Returns false if none was there or it was too long. If the socket fails, it
+ * waits for 10 ms and prints the reason now and then. */
 bool receive(int socket, struct datagram *got);
 
-/* Sends a datagram from the address at which the peer's arrived. It may be lost here as on the way. */
+/* Sends a datagram from the address at which the peer's arrived. It may be lost, as on the way. */
 void send_to(int socket, const uint8_t *bytes, size_t length, const struct peer *peer);
 
-/* Read up to BATCH datagrams in one system call, and answer them in one: `receive_batch` returns how
- * many it read, of which one that was too long has length 0, and `answer_batch` sends each answer
- * whose length is not 0. */
+/* Read up to BATCH datagrams in one system call, and answer them in one: `receive_batch` returns
+ * how many it read, of which one that was too long has length 0, and `answer_batch` sends each
+ * answer whose length is not 0. */
 enum { BATCH = 32 };
 struct answer {
     uint8_t bytes[MOST_BYTES];

@@ -150,8 +150,8 @@ static const uint16_t known[] = {
 };
 enum { KNOWN_TYPES = sizeof known / sizeof *known };
 
-/* Returns the code of the answer to a request that is understood: 200 to Binding, 400 to an Allocate
- * without REQUESTED-TRANSPORT (RFC 8656, section 7.2), and 508 to all else. */
+/* Returns the code of the answer to a request that is understood: 200 to Binding, 400 to an
+ * Allocate without REQUESTED-TRANSPORT (RFC 8656, section 7.2), and 508 to all else. */
 static uint32_t code_of(const struct datagram *got, uint32_t method) {
     bool is_malformed =
         method == STUNP_ALLOCATE
@@ -167,8 +167,8 @@ static void fill_answer(stunp_writer *writer, uint32_t code, const stunp_address
     else stunp_write_error(writer, code, code == 400 ? "Bad Request" : "Insufficient Capacity");
 }
 
-/* Counts an answer, and logs it. The name is that of the user whom the library accepted, and not the
- * USERNAME of a message. */
+/* Counts an answer, and logs it. The name is that of the user whom the library accepted, and not
+ * the USERNAME of a message. */
 static void tell(const stunp_address *from, uint32_t code, const stunp_received *received) {
     count_code(code);
     if (!settings.is_verbose) return;

@@ -4,8 +4,8 @@
 
 #include "stunp_endpoint.h"
 
-/* Adds the users of arguments, NAME PASSWORD and so on, to a table. Returns false after it printed the
- * reason. */
+/* Adds the users of arguments, NAME PASSWORD and so on, to a table. Returns false after it printed
+ * the reason. */
 bool add_words(stunp_endpoint_users *users, char **words, int count);
 
 /* Adds the users of a file to a table; `-` is standard input. A line is `NAME PASSWORD`, or
@@ -15,11 +15,11 @@ bool add_words(stunp_endpoint_users *users, char **words, int count);
  * with `what`. */
 bool add_file(stunp_endpoint_users *users, const char *path, const char *what);
 
-/* Copies arguments, and overwrites the passwords among them: `ps` shows the arguments of a program for
- * as long as it runs, but not what was overwritten. Returns NULL if there is no memory. */
+/* Copies arguments, and overwrites the passwords among them: `ps` shows the arguments of a program
+ * for as long as it runs, but not what was overwritten. Returns NULL if there is no memory. */
 char **hidden_words(char **words, int count);
 
-/* Reads a secret of 32 bytes or 64 hexadecimal digits. Returns false after it printed the reason. */
+/* Reads a secret of 32 bytes or 64 hexadecimal digits. Returns false after printing the reason. */
 bool read_secret(const char *path, uint8_t secret[32]);
 
 #endif

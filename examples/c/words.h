@@ -13,7 +13,7 @@ struct texts {
     int count;
 };
 
-/* An option: a flag, or what follows it: a text, one more text, a number or seconds within bounds. */
+/* An option: a flag, or what follows it: a text, one more text, a number or bounded seconds. */
 struct option {
     const char *name;
     bool *flag;
@@ -26,13 +26,13 @@ struct option {
 
 bool read_number(const char *word, unsigned long least, unsigned long most, unsigned long *number);
 
-/* Reads the options out of the arguments; the list of options ends with one without a name. Moves the
- * other arguments to the front, and returns their number, or -1 if an option is wrong. What follows
- * `--` is no option. */
+/* Reads the options out of the arguments; the list of options ends with one without a name. Moves
+ * the other arguments to the front, and returns their number, or -1 if an option is wrong. What
+ * follows `--` is no option. */
 int read_options(int count, char **words, const struct option *options);
 
-/* Reads the last line `NAME PASSWORD` of a file, or of standard input if it is `-`, into `line`, and
- * sets `pair` to the two in it. The name ends with the first blank. Overwrite `line` after use.
+/* Reads the last line `NAME PASSWORD` of a file, or of standard input if it is `-`, into `line`,
+ * and sets `pair` to the two in it. The name ends with the first blank. Overwrite `line` after use.
  * Returns false after it printed the reason on standard error. */
 enum { LONGEST_LINE = 2048 };
 bool read_user(const char *path, char line[LONGEST_LINE], char *pair[2]);

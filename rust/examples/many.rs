@@ -2,15 +2,15 @@
 //!
 //!     many HOST PORT CALLERS REQUESTS [NAME PASSWORD]
 //!
-//! Each of the CALLERS is a thread that makes so many Binding requests, one after another. They share
-//! a `Front`, whose `ask` returns the response. One thread owns the client, and waits for three
-//! things: a caller, a datagram and a time. The standard library cannot wait for a socket and a
-//! channel together, so another thread reads the socket and passes on what arrives.
+//! Each of the CALLERS is a thread that makes so many Binding requests, one after another. They
+//! share a `Front`, whose `ask` returns the response. One thread owns the client, and waits for
+//! three things: a caller, a datagram and a time. The standard library cannot wait for a socket and
+//! a channel together, so another thread reads the socket and passes on what arrives.
 //!
 //! On tokio, `drive` is a task, in which `select!` waits for the three: the receiver of a channel,
 //! `socket.recv(..)`, and `sleep_until(clock.to_std(until).into())`. The channel of an answer is a
-//! `oneshot`. If its receiver is dropped, call `Client::cancel`. Nothing else changes, because no call
-//! of the client waits.
+//! `oneshot`. If its receiver is dropped, call `Client::cancel`. Nothing else changes, because no
+//! call of the client waits.
 
 use seatcrane_stun::endpoint::{Body, Client, Clock, Credentials, Output, RequestError, Response};
 use seatcrane_stun::types::message::{BINDING, Method};

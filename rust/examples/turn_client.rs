@@ -1,5 +1,5 @@
-//! A session at a TURN server over UDP (RFC 8656): Allocate, CreatePermission for all peers, data by
-//! indications, ChannelBind, data on the channel, and a Refresh that ends it.
+//! A session at a TURN server over UDP (RFC 8656): Allocate, CreatePermission for all peers, data
+//! by indications, ChannelBind, data on the channel, and a Refresh that ends it.
 //!
 //!     turn_client HOST PORT NAME PASSWORD PEER PORT [PEER PORT].. [--within SECONDS]
 //!
@@ -73,7 +73,8 @@ impl Session {
     fn allocate(&mut self) -> Result<(), Failure> {
         let mut body = Body::new().add(&RequestedTransport::new(RequestedTransport::UDP))?;
         if self.peers[0].is_ipv6() {
-            body = body.add(&RequestedAddressFamily::new(AddressFamily::Ipv6))?; // IPv4 unless asked for
+            // The relayed address is of IPv4 unless a family is asked for.
+            body = body.add(&RequestedAddressFamily::new(AddressFamily::Ipv6))?;
         }
         let response = self.ask(TurnMethod::Allocate, body)?;
         let message = response.message();

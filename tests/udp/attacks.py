@@ -204,14 +204,15 @@ def restarted(program, folder):
             row("restarted with its secret", sum(old) + sum(new), 40, "20 old and 20 new clients")
 
 
-CLOCKS = {"two hours ahead": 7200, "an hour behind": -3600, "at 0": None, "ten years ahead": 315360000}
+CLOCKS = {"two hours ahead": 7200, "an hour behind": -3600, "at 0": None,
+          "ten years ahead": 315360000}
 
 
 def clocks(program, folder):
     """The wall clock jumps while the server runs (clock.c)."""
     library, file = folder / "clock.so", folder / "offset"
-    subprocess.run([*harness.compiler(), "-shared", "-fPIC", harness.HERE / "clock.c", "-o", library,
-                    "-ldl"], check=True)
+    subprocess.run([*harness.compiler(), "-shared", "-fPIC", harness.HERE / "clock.c", "-o",
+                    library, "-ldl"], check=True)
     for name, offset in CLOCKS.items():
         file.write_text("0")
         environment = {"LD_PRELOAD": str(library), "CLOCK_OFFSET": str(file)}

@@ -74,7 +74,8 @@ def of_server(server, first):
 
 def of_others(server, exhausted):
     one = lambda what, *words: named(label(server), what, server, *words)
-    for what in (endpoint.addresses_of_both, endpoint.reloaded, endpoint.too_many_users):
+    for what in (endpoint.addresses_of_both, endpoint.one_port, endpoint.reloaded,
+                 endpoint.too_many_users):
         yield one(what)
     yield from (one(endpoint.streams, words) for words in BOTH)
     yield one(endpoint.no_memory, exhausted)

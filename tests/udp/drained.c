@@ -18,7 +18,8 @@ static int fail(const char *what, int number) {
     return 1;
 }
 
-/* A server's socket on loopback, and a client of it that has asked so often, all at the same time. */
+/* A server's socket on loopback, and a client of it that has asked so often, all at the same time.
+ * */
 static int ask_often(struct asker *asker) {
     struct sockaddr_in at = {.sin_family = AF_INET, .sin_addr.s_addr = htonl(INADDR_LOOPBACK)};
     socklen_t length = sizeof at;

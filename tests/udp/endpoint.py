@@ -157,6 +157,13 @@ def addresses(server):
         assert run.returncode == 1 and run.stdout == b"", run
 
 
+def one_port(server):
+    """A second server on the port is refused."""
+    with Server(server) as running:
+        run = subprocess.run([server, str(running.port)], capture_output=True, text=True, timeout=20)
+        assert run.returncode == 1 and run.stderr and run.stdout == "", run
+
+
 def addresses_of_both(server):
     """It serves each address that is named, over UDP and TCP, and none else."""
     words = ("--tcp", "--at", "127.0.0.2", "--at", "127.0.0.3")

@@ -488,7 +488,8 @@ def built_pion(folder):
     go = {**os.environ, "GO111MODULE": "off", "GOPATH": "/usr/share/gocode",
           "GOCACHE": str(folder / "cache"), "GOFLAGS": ""}
     program = folder / "pion_turn"
-    subprocess.run(["go", "build", "-o", program, harness.HERE / "pion_turn.go"], env=go, check=True)
+    subprocess.run(["go", "build", "-o", program, harness.HERE / "pion_turn.go"], env=go,
+                   check=True)
     return program
 
 

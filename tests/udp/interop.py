@@ -5,11 +5,11 @@ table of what was seen.
     interop.py [--install] [--server PROGRAM --client PROGRAM]
 
 The peers are Debian's packages coturn, libnice-dev, python3-aioice, golang-github-pion-stun-dev,
-stun-client and stun-server. With --install those that are missing, and what builds them, are installed by apt-get;
-without it a line after the table names them. The programs are those of examples/c, or others that
-take the same words, such as those of rust/examples; rows that need `--any-method` are left out then.
- docs/INTEROP.md has the table of a run. Status 0 where
-each row that could be tried came out as it should.
+stun-client and stun-server. With --install those that are missing, and what builds them, are
+installed by apt-get; without it a line after the table names them. The programs are those of
+examples/c, or others that take the same words, such as those of rust/examples; rows that need
+`--any-method` are left out then. docs/INTEROP.md has the table of a run. Status 0 where each row
+that could be tried came out as it should.
 """
 import contextlib
 import os

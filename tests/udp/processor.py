@@ -78,7 +78,8 @@ def main():
         for _ in range(chosen.rounds):
             for name, _, mix, server in rows:
                 figures[name].append(spent(load, server, mix, chosen.count))
-        print("| Server | Requests | Processor µs a request | Least, most | Ratio |\n|---|---|---|---|---|")
+        print("| Server | Requests | Processor µs a request | Least, most | Ratio |\n"
+              "|---|---|---|---|---|")
         middle = {name: statistics.median(times) for name, times in figures.items()}
         for name, other, mix, _ in rows:
             kind = "signed" if mix == "s" else "unsigned"

@@ -37,8 +37,8 @@ pub fn find(host: &str, port: &str) -> Result<SocketAddr, Box<dyn Error>> {
 impl Asker {
     /// Opens a socket to a server, which it asks for so long.
     ///
-    /// The socket is connected, so that it hears if the port is closed. It keeps the address that it
-    /// has now, so open another one after this machine has moved to another network.
+    /// The socket is connected, so that it hears if the port is closed. It keeps the address that
+    /// it has now, so open another one after this machine has moved to another network.
     pub fn new(
         server: SocketAddr,
         settings: ClientBuilder,
@@ -72,7 +72,7 @@ impl Asker {
         let request = self.client.request(method, body, self.clock.now())?;
         loop {
             match self.client.poll(self.clock.now()) {
-                Output::Transmit(bytes) => drop(self.socket.send(bytes)), // what is lost is sent again
+                Output::Transmit(bytes) => drop(self.socket.send(bytes)),
                 Output::Ended(_, result) => return result.map_err(|error| told(&error).into()),
                 Output::Wait(until) => {
                     if self.is_late() {

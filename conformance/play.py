@@ -13,6 +13,7 @@ otherwise. `--table` plays all subjects and writes RESULTS.md (table.py)."""
 import argparse
 import collections
 import os
+import struct
 import sys
 import time
 
@@ -20,7 +21,7 @@ import index
 from calls import Stage
 from grammar import Words, read_file
 from shipped import start
-from subject import Asker, Left, Ours, Refused
+from subject import Asker, Left, Ours, Refused, Strange
 from transcripts import is_telling, wanted_of
 
 LEVELS = ("0-read", "1-write", "2-credentials", "3-transactions")
@@ -80,7 +81,7 @@ class Player:
             except Left as left:
                 counted = report.ours if isinstance(left, Ours) else report.left
                 counted[str(left)] += line.answer is not None
-                cause = None if is_telling(line.words) else left
+                cause = cause or (None if is_telling(line.words) else left)
                 continue
             if line.answer is None and came is None:
                 continue
@@ -107,6 +108,10 @@ class Player:
             return "?"
         except Refused:
             return "refused"
+        except Strange as strange:
+            return str(strange)
+        except (ValueError, IndexError, struct.error) as error:
+            return f"an answer that cannot be read: {error}"
 
 
 def parts_of(levels, files):

@@ -76,6 +76,10 @@ class Program:
         self.process.wait()
 
 
+class Strange(Exception):
+    """An answer that is none of the grammar: what came is the argument."""
+
+
 class Asker:
     """A subject, and what it was asked."""
 
@@ -89,6 +93,8 @@ class Asker:
             raise Left(call)
         if came == "refused":
             raise Refused
+        if came.startswith(("raised ", "ended ")):
+            raise Strange(came)
         return came
 
 

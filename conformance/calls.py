@@ -8,6 +8,8 @@ from subject import Left, Ours, Refused
 
 HERE, PEER = "10.0.0.1:12345", "10.0.0.2:3478"
 ALGORITHM_WORDS = {"sha1": 1, "sha256": 2}
+# What RFC 8489 added to RFC 5389.
+NEW_TYPES = (0x001C, 0x001D, 0x001E, 0x8002, 0x8003)
 FEATURES = ("auto", "required", "disabled")
 
 
@@ -69,7 +71,7 @@ class Messages:
         return self.ask("verify", hexadecimal(key), hexadecimal(data))
 
     def message_fingerprint(self, *words):
-        return self.ask("fingerprint", hexadecimal(self.message(words)))
+        return self.ask("fingerprint", hexadecimal(self.spelled(words)))
 
     def message_unknown(self, known, *words):
         return self.ask("unknown", grammar.plain("types", known),
@@ -137,14 +139,10 @@ class Writing:
     def write_message(self, *words):
         """What the subject writes, against what the player spells."""
         wanted, self.secret, self.lacking = self.message(words), None, None
-        try:
-            data = self.begun(wanted)
-            for word in grammar.read_words(words[1:], self.meanings):
-                if word.partition("=")[0] not in ("ID", "METHOD"):
-                    data = self.added(data, word)
-        except Left as left:
-            self.lacking = str(left)
-            raise
+        data = self.begun(wanted)
+        for word in grammar.read_words(words[1:], self.meanings):
+            if word.partition("=")[0] not in ("ID", "METHOD"):
+                data = self.added(data, word)
         self.reply = data
         found = reading.difference(data, wanted, self.secret)
         if found is None and not reading.padding_is_zero(data):
@@ -378,7 +376,7 @@ class Stage(Messages, Writing, Replies, Credentials, Transactions):
     """What a paragraph is played on: the subject, the time, an address, and what is kept."""
 
     def __init__(self, asker, meanings):
-        self.ask, self.meanings = asker.ask, meanings
+        self.ask, self.claims, self.meanings = asker.ask, asker.claims, meanings
         self.now, self.here = 0, HERE
         self.kept, self.supported = {}, {}
         self.reply = self.user = self.password = self.secret = None
@@ -386,7 +384,20 @@ class Stage(Messages, Writing, Replies, Credentials, Transactions):
         asker.subject.reset()
 
     def message(self, words):
-        return grammar.message(list(words), self.kept, self.meanings)
+        """The message that the words spell, if the subject reads it with a FINGERPRINT like its."""
+        data = self.spelled(words)
+        if "fingerprint-first" in self.claims and reading.is_message(data):
+            if reading.fingerprint(data) == "invalid":
+                raise Left("a wrong FINGERPRINT")
+        return data
+
+    def spelled(self, words):
+        """The message that the words spell, if the subject claims to know what is in it."""
+        data = grammar.message(list(words), self.kept, self.meanings)
+        if "rfc8489" not in self.claims and reading.is_message(data):
+            if any(kind in NEW_TYPES for kind, _, _ in spelling.attributes_of(data)):
+                raise Left("RFC 8489")
+        return data
 
     def answer(self, words):
         """What a call answers, or None if it answers nothing."""
@@ -405,6 +416,10 @@ class Stage(Messages, Writing, Replies, Credentials, Transactions):
             return method(*words[2:])
         except Refused:
             return "refused"
+        except Left as left:
+            if words[0] not in ("message", "attribute", "digest", "reply"):
+                self.lacking = str(left)
+            raise
         except TypeError as error:
             if "positional argument" not in str(error):
                 raise

@@ -85,6 +85,9 @@ class Asker:
 
     def __init__(self, subject):
         self.subject = subject
+        subject.reset()
+        claims = subject.answer("claims", [])
+        self.claims = ["rfc5389", "rfc8489"] if claims == "lacks" else claims.split()
 
     def ask(self, call, *words):
         """The words of an answer."""

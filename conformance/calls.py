@@ -62,7 +62,12 @@ class Messages:
     def attribute(self, name, data):
         kind = reading.type_word(name)
         came = self.ask("attribute", f"0x{kind:04x}", hexadecimal(data))
-        return came if came == "none" else grammar.readable(kind, came)
+        try:
+            return came if came == "none" else grammar.readable(kind, came)
+        except UnicodeDecodeError:
+            if "raw-texts" in self.claims:
+                raise Left("a text that is not UTF-8") from None
+            raise
 
     def message_verifies(self, secret, *words):
         data = self.message(words)
@@ -71,7 +76,13 @@ class Messages:
         return self.ask("verify", hexadecimal(key), hexadecimal(data))
 
     def message_fingerprint(self, *words):
-        return self.ask("fingerprint", hexadecimal(self.spelled(words)))
+        data = self.spelled(words)
+        try:
+            return self.ask("fingerprint", hexadecimal(data))
+        except Refused:
+            # Who checks FINGERPRINT while reading refuses a wrong one as a whole message.
+            is_whole = "fingerprint-first" in self.claims and reading.is_message(data)
+            return "invalid" if is_whole else "refused"
 
     def message_unknown(self, known, *words):
         return self.ask("unknown", grammar.plain("types", known),
@@ -145,9 +156,13 @@ class Writing:
                 data = self.added(data, word)
         self.reply = data
         found = reading.difference(data, wanted, self.secret)
-        if found is None and not reading.padding_is_zero(data):
+        if found is None and not self.is_padded_well(data):
             found = "padding that is not zeros"
         return f"otherwise: {found}" if found else "equal"
+
+    def is_padded_well(self, data):
+        """RFC 8489 asks for zeros, RFC 5389 for any bytes."""
+        return "rfc8489" not in self.claims or reading.with_zeros(data) == data
 
     def write_420(self, known, *words):
         """The response to a request with attributes that are not known. To refuse what is no request
@@ -167,7 +182,8 @@ class Writing:
         return self.added(data, words[-1]), reading.type_word(words[-1].partition("=")[0])
 
     def attribute_writes(self, *words):
-        return self.one_attribute(words)[0][20:].hex()
+        data = self.one_attribute(words)[0]
+        return (data if "rfc8489" in self.claims else reading.with_zeros(data))[20:].hex()
 
     def attribute_makes(self, *words):
         """The value that is read back from what the subject wrote."""

@@ -121,10 +121,13 @@ def difference(came, wanted, word):
     return None
 
 
-def padding_is_zero(data):
-    """Section 14: the padding is zeros when it is sent."""
-    return all(not any(data[place + 4 + len(value):place + 4 + len(value) + -len(value) % 4])
-               for _, place, value in spelling.attributes_of(data))
+def with_zeros(data):
+    """The message with zeros as padding (section 14)."""
+    made = bytearray(data)
+    for _, place, value in spelling.attributes_of(data):
+        end = place + 4 + len(value)
+        made[end:end + -len(value) % 4] = bytes(-len(value) % 4)
+    return bytes(made)
 
 
 def name_of(kind):

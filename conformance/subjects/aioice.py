@@ -63,7 +63,7 @@ def call(method):
 
 class Subject:
     def claims(self):
-        return "rfc5389 fingerprint-first"
+        return "rfc5389 fingerprint-first raw-texts"
 
     @call
     def read(self, word):

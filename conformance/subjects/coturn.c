@@ -204,7 +204,7 @@ static void answer(const char *call, char **words) {
         plain(words[is_one_of(call, "attribute verify")], &data);
         of_message(call, words);
     } else if (strcmp(call, "claims") == 0) {
-        printf("rfc5389");
+        printf("rfc5389 raw-texts");
     } else if (strcmp(call, "key") == 0) {
         key(words);
     } else if (strcmp(call, "frame") == 0) {

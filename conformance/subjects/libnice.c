@@ -212,7 +212,7 @@ static void answer(const char *call, char **words) {
     } else if (which == 3) {
         check_fingerprint();
     } else if (strcmp(call, "claims") == 0) {
-        printf("rfc5389");
+        printf("rfc5389 raw-texts");
     } else if (strcmp(call, "begin") == 0) {
         begin(words);
     } else if (strcmp(call, "add") == 0) {

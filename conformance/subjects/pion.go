@@ -188,7 +188,7 @@ func answer(call string, words []string) (string, error) {
 	case "reset":
 		return "done", nil
 	case "claims":
-		return "rfc5389", nil
+		return "rfc5389 raw-texts", nil
 	case "begin":
 		return begun(words), nil
 	case "key":

@@ -80,9 +80,8 @@ class Messages:
         try:
             return self.ask("fingerprint", hexadecimal(data))
         except Refused:
-            # Who checks FINGERPRINT while reading refuses a wrong one as a whole message.
-            is_whole = "fingerprint-first" in self.claims and reading.is_message(data)
-            return "invalid" if is_whole else "refused"
+            # Who checks FINGERPRINT while reading refuses a message with a wrong one whole.
+            return "invalid" if reading.is_message(data) else "refused"
 
     def message_unknown(self, known, *words):
         return self.ask("unknown", grammar.plain("types", known),

@@ -12,7 +12,7 @@ HERE = os.path.dirname(os.path.abspath(__file__))
 SUBJECTS = os.path.join(HERE, "subjects")
 BUILT = os.path.join(TOP, "target", "conformance")
 GO_PATH = "/usr/share/gocode"
-NAMES = ("stunp", "model", "aioice", "pion", "libnice", "coturn")
+NAMES = ("stunp", "model", "aioice", "pion", "libnice", "coturn", "libre")
 
 
 class Missing(Exception):
@@ -25,7 +25,8 @@ def source(name):
 
 def newer(made, name):
     """Whether a program is newer than its source."""
-    return os.path.exists(made) and os.path.getmtime(made) > os.path.getmtime(source(name))
+    sources = (source(name), source("lines.h"))
+    return os.path.exists(made) and os.path.getmtime(made) > max(map(os.path.getmtime, sources))
 
 
 def run(command, **more):
@@ -97,7 +98,13 @@ def coturn():
     return built_c("coturn", ["-lturnclient", "-lcrypto", "-lssl"])
 
 
-STARTS = {one.__name__: one for one in (stunp, model, aioice, pion, libnice, coturn)}
+def libre():
+    if not os.path.exists("/usr/include/re/re_stun.h"):
+        raise Missing("libre-dev is not installed")
+    return built_c("libre", ["-I/usr/include/re", "-lre"])
+
+
+STARTS = {one.__name__: one for one in (stunp, model, aioice, pion, libnice, coturn, libre)}
 
 
 def start(word):

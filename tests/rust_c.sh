@@ -39,8 +39,9 @@ python3 - "$out/libstunp.so" <<'CALLS'
 import ctypes, sys
 library = ctypes.CDLL(sys.argv[1])
 library.stunp_strerror.restype = ctypes.c_char_p
+library.stunp_is_signed.restype = ctypes.c_bool
 assert library.stunp_strerror(ctypes.c_int64(-1)) == b"bytes are missing at the end"
-assert library.stunp_is_signed(b"", ctypes.c_size_t(0), b"", ctypes.c_size_t(0)) == 0
+assert not library.stunp_is_signed(b"", ctypes.c_size_t(0), b"", ctypes.c_size_t(0))
 CALLS
 
 # size_of FILE: its bytes, without symbols.

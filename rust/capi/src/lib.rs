@@ -19,6 +19,8 @@ mod handle;
 #[path = "../../src/kit/mod.rs"]
 mod kit;
 mod memory;
+// (a test has that of std)
+#[cfg(not(test))]
 mod panic;
 mod passed;
 

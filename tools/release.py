@@ -204,9 +204,11 @@ def sums(folder):
 
 
 def pack(folder, archive):
-    """Without times and owners, so that the same files give the same bytes."""
+    """With the time of the commit and without owners, so that the same files give the same bytes."""
+    time = int(run("git", "log", "-1", "--format=%ct", cwd=TOP))
+
     def plain(entry):
-        entry.mtime, entry.uid, entry.gid, entry.uname, entry.gname = 0, 0, 0, "", ""
+        entry.mtime, entry.uid, entry.gid, entry.uname, entry.gname = time, 0, 0, "", ""
         entry.mode = 0o755 if entry.isdir() or entry.mode & 0o100 else 0o644
         return entry
     with open(archive, "wb") as raw, gzip.GzipFile("", "wb", 9, raw, mtime=0) as packed, \

@@ -163,6 +163,14 @@ static bool read_address(const char *word, struct sockaddr_storage *at) {
     return false;
 }
 
+bool read_host(const char *host, unsigned long port, stunp_address *address) {
+    struct peer peer;
+    if (!read_address(host, &peer.name)) return false;
+    *address = address_of(&peer);
+    address->port = (uint16_t)port;
+    return true;
+}
+
 /* A socket of each address on one port. */
 static bool open_each(const char *const *at, int count, unsigned long *port, bool is_shared,
                       struct listener *listener) {

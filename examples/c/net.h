@@ -38,6 +38,9 @@ stunp_address address_of(const struct peer *peer);
 
 bool is_same(const stunp_address *one, const stunp_address *other);
 
+/* Reads an IPv4 or IPv6 address of numbers. */
+bool read_host(const char *host, unsigned long port, stunp_address *address);
+
 /* An address as `IPv4:PORT` or `[IPv6]:PORT`, until the next call. */
 const char *text_of(const stunp_address *address);
 

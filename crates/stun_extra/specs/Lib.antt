@@ -21,5 +21,5 @@ pub mod Address
 pub mod Turn
 -- the methods of TURN (RFC 8656, section 17)
 pub mod TurnMethods
--- what no clause of a public call cites: views of structs
+-- what no clause of a public call cites: views of structs, and the entries of tables
 pub mod code

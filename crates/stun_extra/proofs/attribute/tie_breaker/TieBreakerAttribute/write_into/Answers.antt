@@ -1,5 +1,5 @@
 -- The bytes of the number are the value.
-use Rattle.stun_extra.proofs.attribute.ice_controlling.IceControllingAttribute.write_into.Goals
+use Rattle.stun_extra.proofs.attribute.tie_breaker.TieBreakerAttribute.write_into.Goals
     as goal
 
 pub returns-clause-bytes : goal.returns-clause-bytes

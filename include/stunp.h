@@ -185,6 +185,12 @@ extern "C" {
 #define STUNP_CHANGES(p, n)
 #endif
 
+/* How the calls are declared whose bodies are in the headers. A program need not define it: the
+ * library itself does, to have each of them as a symbol, for callers that do not read C. */
+#ifndef STUNP_INLINED
+#define STUNP_INLINED static inline
+#endif
+
 /* The version of this header: 10000 times its first number, plus 100 times its second, plus its
  * third. stunp_version returns that of the archive. */
 #define STUNP_VERSION 200
@@ -246,7 +252,19 @@ typedef enum stunp_attribute_type {
     STUNP_PRIORITY = 0x0024,
     STUNP_USE_CANDIDATE = 0x0025,
     STUNP_ICE_CONTROLLED = 0x8029,
-    STUNP_ICE_CONTROLLING = 0x802a
+    STUNP_ICE_CONTROLLING = 0x802a,
+    /* TURN over TCP and with mobility (RFC 6062, section 6.2.1; RFC 8016, section 3.3) */
+    STUNP_CONNECTION_ID = 0x002a,
+    STUNP_MOBILITY_TICKET = 0x8030,
+    /* third-party authorization (RFC 7635, section 6) */
+    STUNP_ACCESS_TOKEN = 0x001b,
+    STUNP_THIRD_PARTY_AUTHORIZATION = 0x802e,
+    /* NAT behavior discovery (RFC 5780, section 7) */
+    STUNP_CHANGE_REQUEST = 0x0003,
+    STUNP_PADDING = 0x0026,
+    STUNP_RESPONSE_PORT = 0x0027,
+    STUNP_RESPONSE_ORIGIN = 0x802b,
+    STUNP_OTHER_ADDRESS = 0x802c
 } stunp_attribute_type;
 
 /* The algorithms of message integrity. A set of algorithms is a uint32_t; STUNP_SHA1 | STUNP_SHA256
@@ -578,7 +596,7 @@ int64_t stunp_read_types(const uint8_t *message, size_t length, size_t place, ui
  *                            the bytes are not one whole message (stunp_parse)
  *   STUNP_MISSING_ATTRIBUTE  no attribute of this type is visible
  *   STUNP_NOT_TEXT           the value is not UTF-8 */
-static inline int64_t stunp_find_text(const uint8_t *message, size_t length, uint32_t type,
+STUNP_INLINED int64_t stunp_find_text(const uint8_t *message, size_t length, uint32_t type,
                                       size_t *text_length) {
     size_t value_length;
     int64_t place = stunp_find(message, length, type, &value_length);
@@ -594,7 +612,7 @@ static inline int64_t stunp_find_text(const uint8_t *message, size_t length, uin
  *                              the bytes are not one whole message (stunp_parse)
  *   STUNP_MISSING_ATTRIBUTE    no attribute of this type is visible
  *   STUNP_MALFORMED_ATTRIBUTE  the value does not have 1, 2, 4 or 8 bytes */
-static inline int64_t stunp_find_number(const uint8_t *message, size_t length, uint32_t type,
+STUNP_INLINED int64_t stunp_find_number(const uint8_t *message, size_t length, uint32_t type,
                                         uint64_t *number) {
     size_t value_length;
     int64_t place = stunp_find(message, length, type, &value_length);
@@ -610,7 +628,7 @@ static inline int64_t stunp_find_number(const uint8_t *message, size_t length, u
  *   STUNP_MISSING_ATTRIBUTE    no attribute of this type is visible
  *   STUNP_MALFORMED_ATTRIBUTE  the value is not an address
  *   STUNP_BUFFER_TOO_SMALL     `out` has no room for the address */
-static inline int64_t stunp_find_address(const uint8_t *message, size_t length, uint32_t type,
+STUNP_INLINED int64_t stunp_find_address(const uint8_t *message, size_t length, uint32_t type,
                                          uint8_t *out, size_t out_length, uint16_t *port) {
     size_t value_length;
     int64_t place = stunp_find(message, length, type, &value_length);
@@ -629,7 +647,7 @@ static inline int64_t stunp_find_address(const uint8_t *message, size_t length, 
  *   STUNP_MISSING_ATTRIBUTE    no attribute of this type is visible
  *   STUNP_MALFORMED_ATTRIBUTE  the value is not an address
  *   STUNP_BUFFER_TOO_SMALL     `out` has no room for the address */
-static inline int64_t stunp_find_xor_address(const uint8_t *message, size_t length, uint32_t type,
+STUNP_INLINED int64_t stunp_find_xor_address(const uint8_t *message, size_t length, uint32_t type,
                                              uint8_t *out, size_t out_length, uint16_t *port) {
     size_t value_length;
     int64_t place = stunp_find(message, length, type, &value_length);
@@ -645,7 +663,7 @@ static inline int64_t stunp_find_xor_address(const uint8_t *message, size_t leng
  *                              the bytes are not one whole message (stunp_parse)
  *   STUNP_MISSING_ATTRIBUTE    no attribute of this type is visible
  *   STUNP_MALFORMED_ATTRIBUTE  the value has an odd number of bytes */
-static inline int64_t stunp_find_types(const uint8_t *message, size_t length, uint32_t type,
+STUNP_INLINED int64_t stunp_find_types(const uint8_t *message, size_t length, uint32_t type,
                                        uint16_t *types, size_t types_length) {
     size_t value_length;
     int64_t place = stunp_find(message, length, type, &value_length);
@@ -701,7 +719,7 @@ int64_t stunp_verify(const uint8_t *message, size_t length, const void *key, siz
 
 /* Returns whether a message is signed with this key: whether stunp_verify returns an algorithm. */
 STUNP_USE_RESULT STUNP_READS(1, 2) STUNP_READS(3, 4)
-static inline bool stunp_is_signed(const uint8_t *message, size_t length, const void *key,
+STUNP_INLINED bool stunp_is_signed(const uint8_t *message, size_t length, const void *key,
                                    size_t key_length) {
     return stunp_verify(message, length, key, key_length) > 0;
 }
@@ -718,7 +736,7 @@ int64_t stunp_check_fingerprint(const uint8_t *message, size_t length);
 /* Returns whether the last attribute of a message is a FINGERPRINT that matches the message:
  * whether stunp_check_fingerprint returns STUNP_RIGHT_FINGERPRINT. */
 STUNP_USE_RESULT STUNP_READS(1, 2)
-static inline bool stunp_has_right_fingerprint(const uint8_t *message, size_t length) {
+STUNP_INLINED bool stunp_has_right_fingerprint(const uint8_t *message, size_t length) {
     return stunp_check_fingerprint(message, length) == STUNP_RIGHT_FINGERPRINT;
 }
 
@@ -915,7 +933,7 @@ int64_t stunp_add_fingerprint(uint8_t *buffer, size_t room, size_t length);
 
 /* Stores the result of a call that appends to the message of a writer: the new length, or an error.
  * With it you can write calls of your own for a writer, like stunp_write_bytes below. */
-static inline void stunp_writer_took(stunp_writer *writer, int64_t answer) {
+STUNP_INLINED void stunp_writer_took(stunp_writer *writer, int64_t answer) {
     if (answer < 0) writer->refusal = answer;
     else writer->length = (size_t)answer;
 }
@@ -923,7 +941,7 @@ static inline void stunp_writer_took(stunp_writer *writer, int64_t answer) {
 /* Returns a writer that continues the message at the front of a buffer of `room` bytes. `answer` is
  * what the call that wrote the message returned, such as stunp_refuse_unknown: the length of the
  * message, or an error, which the writer then keeps. */
-static inline stunp_writer stunp_write_on(int64_t answer, uint8_t *bytes, size_t room) {
+STUNP_INLINED stunp_writer stunp_write_on(int64_t answer, uint8_t *bytes, size_t room) {
     stunp_writer writer = {bytes, room, 0, 0};
     stunp_writer_took(&writer, answer);
     return writer;
@@ -931,14 +949,14 @@ static inline stunp_writer stunp_write_on(int64_t answer, uint8_t *bytes, size_t
 
 /* Starts a message without attributes (stunp_begin) in a buffer of `room` bytes, and returns a
  * writer for it. */
-static inline stunp_writer stunp_write(stunp_message_class message_class, uint32_t method,
+STUNP_INLINED stunp_writer stunp_write(stunp_message_class message_class, uint32_t method,
                                        const uint8_t id[12], uint8_t *bytes, size_t room) {
     int64_t begun = stunp_begin(message_class, method, id, STUNP_ID_LENGTH, bytes, room);
     return stunp_write_on(begun, bytes, room);
 }
 
 /* Appends an attribute with this value (stunp_add). */
-static inline void stunp_write_bytes(stunp_writer *writer, uint32_t type, const void *value,
+STUNP_INLINED void stunp_write_bytes(stunp_writer *writer, uint32_t type, const void *value,
                                      size_t value_length) {
     if (writer->refusal < 0) return;
     stunp_writer_took(writer, stunp_add(writer->bytes, writer->room, writer->length, type, value,
@@ -947,12 +965,12 @@ static inline void stunp_write_bytes(stunp_writer *writer, uint32_t type, const 
 
 /* Appends an attribute with this text (stunp_add). The zero byte that ends the text is not
  * written. */
-static inline void stunp_write_text(stunp_writer *writer, uint32_t type, const char *text) {
+STUNP_INLINED void stunp_write_text(stunp_writer *writer, uint32_t type, const char *text) {
     stunp_write_bytes(writer, type, text, strlen(text));
 }
 
 /* Appends an attribute with a number of `size` bytes (stunp_add_number). */
-static inline void stunp_write_number(stunp_writer *writer, uint32_t type, uint64_t number,
+STUNP_INLINED void stunp_write_number(stunp_writer *writer, uint32_t type, uint64_t number,
                                       size_t size) {
     if (writer->refusal < 0) return;
     stunp_writer_took(writer, stunp_add_number(writer->bytes, writer->room, writer->length, type,
@@ -960,7 +978,7 @@ static inline void stunp_write_number(stunp_writer *writer, uint32_t type, uint6
 }
 
 /* Appends an attribute with an address that is not XORed (stunp_add_address). */
-static inline void stunp_write_address(stunp_writer *writer, uint32_t type, const uint8_t *address,
+STUNP_INLINED void stunp_write_address(stunp_writer *writer, uint32_t type, const uint8_t *address,
                                        size_t address_length, uint32_t port) {
     if (writer->refusal < 0) return;
     stunp_writer_took(writer, stunp_add_address(writer->bytes, writer->room, writer->length, type,
@@ -969,7 +987,7 @@ static inline void stunp_write_address(stunp_writer *writer, uint32_t type, cons
 
 /* Appends an attribute with an XORed address (stunp_add_xor_address), such as
  * STUNP_XOR_MAPPED_ADDRESS. */
-static inline void stunp_write_xor_address(stunp_writer *writer, uint32_t type,
+STUNP_INLINED void stunp_write_xor_address(stunp_writer *writer, uint32_t type,
                                            const uint8_t *address, size_t address_length,
                                            uint32_t port) {
     if (writer->refusal < 0) return;
@@ -978,14 +996,14 @@ static inline void stunp_write_xor_address(stunp_writer *writer, uint32_t type,
 }
 
 /* Appends ERROR-CODE (stunp_add_error). The zero byte that ends the reason is not written. */
-static inline void stunp_write_error(stunp_writer *writer, uint32_t code, const char *reason) {
+STUNP_INLINED void stunp_write_error(stunp_writer *writer, uint32_t code, const char *reason) {
     if (writer->refusal < 0) return;
     stunp_writer_took(writer, stunp_add_error(writer->bytes, writer->room, writer->length, code,
                                               reason, strlen(reason)));
 }
 
 /* Signs the message (stunp_sign). */
-static inline void stunp_write_integrity(stunp_writer *writer, stunp_algorithm algorithm,
+STUNP_INLINED void stunp_write_integrity(stunp_writer *writer, stunp_algorithm algorithm,
                                          const void *key, size_t key_length) {
     if (writer->refusal < 0) return;
     stunp_writer_took(writer, stunp_sign(writer->bytes, writer->room, writer->length, algorithm,
@@ -993,7 +1011,7 @@ static inline void stunp_write_integrity(stunp_writer *writer, stunp_algorithm a
 }
 
 /* Appends FINGERPRINT (stunp_add_fingerprint). */
-static inline void stunp_write_fingerprint(stunp_writer *writer) {
+STUNP_INLINED void stunp_write_fingerprint(stunp_writer *writer) {
     if (writer->refusal < 0) return;
     stunp_writer_took(writer, stunp_add_fingerprint(writer->bytes, writer->room, writer->length));
 }
@@ -1004,7 +1022,7 @@ static inline void stunp_write_fingerprint(stunp_writer *writer) {
  * Otherwise returns the error of the first call that failed. The buffer then holds the message
  * without what that call and the ones after it would have added. */
 STUNP_USE_RESULT STUNP_NOT_NULL(1)
-static inline int64_t stunp_written(const stunp_writer *writer) { return writer->refusal; }
+STUNP_INLINED int64_t stunp_written(const stunp_writer *writer) { return writer->refusal; }
 
 /* ---- Whole messages */
 
@@ -1146,7 +1164,7 @@ int64_t stunp_error_text(int64_t answer, uint8_t *out, size_t out_length);
 
 /* Returns the text of stunp_error_text for a result of a call. The text is a constant: do not free
  * it. */
-static inline const char *stunp_strerror(int64_t answer) {
+STUNP_INLINED const char *stunp_strerror(int64_t answer) {
     static const char *const texts[] = {
         "no error",
         "bytes are missing at the end",
@@ -1185,6 +1203,11 @@ static inline const char *stunp_strerror(int64_t answer) {
  * same release. Never fails. */
 int64_t stunp_version(void);
 
+/* Returns whether the library is the proved one: true for the archives of `rt lib` as `make install`
+ * installs them, false for the libraries of `make lib`, which were exported from the same sources and
+ * are tested. Never fails. */
+extern bool stunp_is_proved(void);
+
 /* Returns the version of the archive too, but under a name that changes with each release that
  * breaks compatibility.
  *
@@ -1192,7 +1215,7 @@ int64_t stunp_version(void);
  * for another release does not link. To prevent this, define STUNP_ANY_RELEASE before the include.
  * Compilers other than GCC and clang do not make the check. */
 int64_t stunp_release_0_2(void);
-#if defined __GNUC__ && !defined STUNP_ANY_RELEASE
+#if defined __GNUC__ && defined STUNP_CHECK_RELEASE
 static int64_t (*const stunp_release_wanted)(void) __attribute__((used)) = stunp_release_0_2;
 #endif
 

@@ -28,6 +28,7 @@ static bool set_credentials(struct asker *asker, char **pair, const char *file, 
     else if (!read_user(file, line, words)) return false;
     int64_t answer = set_user(asker, words[0], words[1], has_sha256);
     explicit_bzero(words[1], strlen(words[1]));
+    explicit_bzero(line, sizeof line);
     if (answer < 0) fprintf(stderr, "failed: %s\n", stunp_strerror(answer));
     return answer >= 0;
 }

@@ -22,7 +22,7 @@ $cc -std=c99 ${CFLAGS--O2} -fPIC -ffunction-sections -fdata-sections -Iinclude -
 # One object, in which no symbol is seen but the calls. Each function is a section of its own, so a
 # linker that is told --gc-sections takes in what a program calls.
 names=$(${NM:-nm} --defined-only "$built" "$out/inline.o" 2>/dev/null | sed -n 's/^.* T \(stunp_.*\)/\1/p')
-${LD:-ld} -r --gc-sections $(printf ' -u %s' $names) "$out/inline.o" "$built" -o "$out/one.o"
+${LD:-ld} -r --force-group-allocation --gc-sections $(printf ' -u %s' $names) "$out/inline.o" "$built" -o "$out/one.o"
 ${OBJCOPY:-objcopy} --wildcard --keep-global-symbol='stunp_*' -R .llvmbc -R .llvmcmd -R .comment "$out/one.o"
 ${AR:-ar} rcsD "$out/libstunp.a" "$out/one.o"
 # The name for the loader has as many numbers of the version as releases that go together share.

@@ -229,6 +229,8 @@ class Replies:
 
     def reply_has(self, *names):
         """The value of an attribute. Of several names, whether all are there."""
+        if "other-address" in self.claims and "XOR-MAPPED-ADDRESS" in names:
+            raise Left("the address that it is asked from")
         values = [reading.value_in(self.last(), reading.type_word(name)) for name in names]
         if len(names) > 1:
             return "no" if None in values else "yes"

@@ -12,7 +12,8 @@ HERE = os.path.dirname(os.path.abspath(__file__))
 SUBJECTS = os.path.join(HERE, "subjects")
 BUILT = os.path.join(TOP, "target", "conformance")
 GO_PATH = "/usr/share/gocode"
-NAMES = ("stunp", "model", "aioice", "pion", "libnice", "coturn", "libre")
+NAMES = ("stunp", "model", "aioice", "pion", "libnice", "coturn", "libre",
+         "turnserver")
 
 
 class Missing(Exception):
@@ -104,7 +105,14 @@ def libre():
     return built_c("libre", ["-I/usr/include/re", "-lre"])
 
 
-STARTS = {one.__name__: one for one in (stunp, model, aioice, pion, libnice, coturn, libre)}
+def turnserver():
+    if shutil.which("turnserver") is None:
+        raise Missing("coturn is not installed")
+    return Module(source("turnserver.py"))
+
+
+STARTS = {one.__name__: one for one in
+          (stunp, model, aioice, pion, libnice, coturn, libre, turnserver)}
 
 
 def start(word):

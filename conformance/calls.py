@@ -164,8 +164,8 @@ class Writing:
         return "rfc8489" not in self.claims or reading.with_zeros(data) == data
 
     def write_420(self, known, *words):
-        """The response to a request with attributes that are not known. To refuse what is no request
-        is to have none."""
+        """The response to a request with unknown attributes. A subject that refuses a message that
+        is no request has no response to it."""
         try:
             came = self.ask("refuse-unknown", grammar.plain("types", known),
                             hexadecimal(self.message(words)))

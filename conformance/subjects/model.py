@@ -1,6 +1,6 @@
 """A model of STUN as a subject, written from RFC 8489 (sections without an RFC), RFC 8656 for TURN,
-RFC 8445 for ICE and RFC 4571 for streams. It shares no code with any implementation and is made to be
-read: `plants.py` plants bugs in it, which the suite must find."""
+RFC 8445 for ICE and RFC 4571 for streams. It shares no code with any implementation. `plants.py`
+plants bugs in it, which the suite must find."""
 
 import base64
 import hashlib
@@ -55,7 +55,7 @@ class Message:
             place = end
 
     def visible(self):
-        """Sections 14.5 to 14.7: what follows the integrity attributes and FINGERPRINT is ignored."""
+        """Yields what a receiver may not ignore (sections 14.5 to 14.7)."""
         stage = 0
         for kind, place, value in self.all:
             if stage == 1 and kind not in (INTEGRITY_SHA256, FINGERPRINT):

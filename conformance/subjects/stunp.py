@@ -1,6 +1,7 @@
-"""This library as a subject, through its headers for C: include/stunp.h, stunp_endpoint.h and
-stunp_state.h, of a shared library (`make rust rust-c` builds target/c/libstunp.so; STUNP_LIBRARY names
-another). What the archives for C do not have is left out."""
+"""This library as a subject, through its headers for C: stunp.h, stunp_endpoint.h, stunp_state.h.
+
+`make rust rust-c` builds the shared library target/c/libstunp.so; STUNP_LIBRARY names another one.
+What the headers do not have is left out."""
 
 import ctypes
 import ipaddress
@@ -18,8 +19,8 @@ FEATURES = {"auto": 0, "required": 1, "disabled": 2}
 MISSING, NO_INTEGRITY = -15, -4
 TEXTS, XORED, PLAIN = (6, 0x14, 0x15, 0x8022, 0x8003), (0x20, 0x12, 0x16), (1, 0x8023)
 NUMBERS = {0x24: (4, 0), 0x0D: (4, 0), 0x8029: (8, 0), 0x802A: (8, 0)}
-# Values that the header has no call for, and the lengths of texts, which it leaves to its caller: they
-# are left out.
+# Values that the header has no call for, and the longest texts: the calls that read and write
+# texts leave their lengths to the caller. Both are left out.
 WITHOUT_CALLS = (0x1D, 0x8002, 0x1E, 0x0C, 0x17, 0x8000, 0x18, 0x19)
 LIMITS = {6: 513, 0x14: 763, 0x15: 763}
 ROOM, HOUR = 70000, 3600 * 10**9

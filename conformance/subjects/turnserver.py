@@ -1,5 +1,7 @@
-"""coturn's turnserver as a subject of level 2, over UDP on loopback: any server of long-term credentials
-can be asked so. It claims RFC 5389. Its clock is the machine's, and its users stand when it starts."""
+"""coturn's turnserver as a subject of level 2, over UDP on loopback.
+
+Any server with long-term credentials can be asked this way. It claims RFC 5389. Its clock is the
+machine's, and its users cannot change while it runs."""
 
 import os
 import shutil

@@ -15,7 +15,8 @@ from shipped import NAMES
 
 HERE = os.path.dirname(os.path.abspath(__file__))
 PACKAGES = {"aioice": "python3-aioice", "pion": "golang-github-pion-stun-dev",
-            "libnice": "libnice-dev", "coturn": "coturn"}
+            "libnice": "libnice-dev", "coturn": "coturn", "libre": "libre-dev",
+            "turnserver": "coturn"}
 OWN = ("stunp", "model")
 HEAD = """\
 `conformance/table.py` writes this page; do not edit it. A cell has four counts: the calls that were

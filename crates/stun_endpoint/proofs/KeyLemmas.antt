@@ -3,10 +3,10 @@ use Rattle.std.proofs.Common.{◌≡◌, ℕ, List, [], ◌∷◌, map, Option, 
 use Rattle.std.proofs.Common.{refl, sym, ◌∙◌, ap, String}
 use Rattle.std.specs.Prelude.{cond}
 use Rattle.std.specs.String.{string_bytes, string_cmp}
-use Rattle.std.specs.Ordering.{is_eq, nat_cmp, eq_by_cmp}
+use Rattle.std.specs.Ordering.{nat_cmp, eq_by_cmp}
 use Rattle.std.specs.Cmp.{eq_by_cmp_equiv}
 use Rattle.std.specs.Cmp.Lexicographic.{slice_cmp, nat_list_cmp_total}
-use Rattle.std.specs.FinMap.{find, from_entries, get, get-from_entries, get-insert, get-remove}
+use Rattle.std.specs.FinMap.{find, get, get-from_entries, get-insert, get-remove}
 use Rattle.std.specs.FinMap.{insert, remove, same_map}
 use Rattle.std.specs.BTreeMap.{BTreeMap, UpdatesBy, get_by_text}
 use Rattle.std.specs.Map.{lookup}

@@ -1,7 +1,7 @@
 -- Lemmas of the crate.
 pub mod AcceptedLemmas
 pub mod HandedLemmas
-pub mod AnswerLemmas
+pub mod ChallengeLemmas
 pub mod OfferLemmas
 pub mod KeyLemmas
 pub mod SignerLemmas
@@ -11,5 +11,6 @@ pub mod UnderstoodLemmas
 pub mod UnnamedLemmas
 pub mod ReadyLemmas
 pub mod IdentifiedLemmas
+pub mod ResumeLemmas
 pub mod JudgementLemmas
 pub mod RunLemmas

@@ -1,7 +1,7 @@
 -- What a datagram comes to at a server with short-term credentials (RFC 8489, section 9.1.3). It is a
 -- function of what the server understands, the users, the source and the datagram, and so of no
 -- earlier datagram.
-use Rattle.std.specs.Prelude.{◌≡◌, ℕ, List, Bool, if◌then◌else◌, Option, Some, None}
+use Rattle.std.specs.Prelude.{◌≡◌, ℕ, List, if◌then◌else◌, Option, Some, None}
 use Rattle.std.specs.FinMap as map
 use Rattle.std.specs.Option.{is_none}
 use Rattle.std.specs.declared.net.socket_addr.SocketAddr.{SocketAddr}

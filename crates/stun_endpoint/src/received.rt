@@ -49,14 +49,16 @@ pub enum DropReason {
 #[derive(Clone, Copy, Debug, PartialEq, Eq)]
 #[non_exhaustive]
 pub enum Refusal {
-    /// 400: the realm, the nonce or the name is missing, or the algorithms are not those that were
-    /// offered with the current nonce.
+    /// 400. With long-term credentials, the realm, the nonce or the name is missing, or the
+    /// algorithms are not those that were offered with the current nonce. With short-term
+    /// credentials, the signature or the name is missing.
     BadRequest,
-    /// 401: the request is not signed, or not by a user of this realm.
+    /// 401: the request is not signed by one of the users. With long-term credentials, a request
+    /// that is not signed gets it too.
     Unauthenticated,
     /// 420: the request is accepted, but has an attribute that must be understood and is not.
     UnknownAttribute,
-    /// 438: the nonce is not one that is accepted.
+    /// 438: the nonce is not one that is accepted. Only a server with long-term credentials has it.
     StaleNonce,
 }
 
@@ -226,7 +228,8 @@ impl<'a, A: Allocator> Request<'a, A> {
         self.user
     }
 
-    /// Returns the algorithm that both sides agreed on. Its key has signed the request.
+    /// Returns the algorithm that both sides agreed on: with short-term credentials, that of the
+    /// signature.
     pub fn algorithm(&self) -> IntegrityAlgorithm
         ensures { result ≡ self.now.client.algorithm }
     {

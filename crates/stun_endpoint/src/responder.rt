@@ -127,13 +127,34 @@ impl<A: Allocator> Responder<A> {
             return Err(BuildError::SoftwareTooLong);
         }
         match with_stun_attributes(settings.understood) {
-            Ok(known) => Ok(Responder {
+            Ok(known) => Ok(Responder::of(
                 alloc,
                 known,
-                software: settings.software,
-                answers_binding: settings.answers_binding,
-            }),
+                settings.software,
+                settings.answers_binding,
+            )),
             Err(_) => Err(BuildError::OutOfMemory),
+        }
+    }
+
+    /// A responder that understands these types of attributes.
+    pub(crate) fn of(
+        alloc: A,
+        known: Vec<AttributeType, A>,
+        software: Option<String<A>>,
+        answers_binding: bool,
+    ) -> Responder<A>
+        ensures { result ≡ record {
+          known = known.items;
+          software = option_map string_bytes software;
+          answers_binding = answers_binding;
+        } }
+    {
+        Responder {
+            alloc,
+            known,
+            software,
+            answers_binding,
         }
     }
 
@@ -355,7 +376,7 @@ fn try_error_page<A: Allocator + Copy>(
 
 /// Begins a success response with the address that a request came from.
 #[tactic(auto, unfolding(crate::specs::Answers::binding_page))]
-pub(crate) fn mapped_page<A: Allocator + Copy>(
+fn mapped_page<A: Allocator + Copy>(
     alloc: A,
     request: &Message<'_>,
     from: SocketAddr,

@@ -3,7 +3,6 @@ use Rattle.std.specs.Prelude.{ℕ, List, String, map}
 use Rattle.std.specs.Coded.{Coded, coded_list, coded_ℕ}
 use Rattle.std.specs.FinMap as fin
 use Rattle.std.specs.String.{string_bytes}
-use Rattle.stun_auth.specs.Registered.{name_cmp}
 use Rattle.stun_endpoint.specs.ShortTerm.{Keys}
 
 -- the key of each user, by name

@@ -9,7 +9,7 @@ ghost use Rattle.stun_endpoint.specs.Built.{build_refusal};
 ghost use Rattle.stun_endpoint.specs.Realm.{algorithms_for, empty_realm, feature_for};
 ghost use Rattle.stun_endpoint.specs.Settings.{registered_of};
 
-use crate::responder::{text_length, with_stun_attributes};
+use crate::responder::{Responder, text_length, with_stun_attributes};
 use crate::server::Server;
 use std::alloc::{AllocError, Allocator, Global};
 use stun_auth::auth::{Feature, LongTermServerAuth};
@@ -47,9 +47,10 @@ pub const STUN_ATTRIBUTES: [AttributeType; 11] = [
 pub struct LongTerm<A: Allocator = Global> {
     /// The realm, of at most 763 bytes (section 14.9).
     pub realm: String<A>,
-    /// 32 random bytes. Whoever has them can make nonces that are accepted. Servers that share them
-    /// accept each other's nonces, if their clocks differ by less than a nonce lifetime. A server
-    /// that starts again with them serves its old clients at once.
+    /// 32 random bytes. Whoever has them can make nonces that are accepted. Servers that share them,
+    /// and have the same algorithms, `user_hashes` and nonce lifetime, accept each other's nonces,
+    /// except that a server refuses a nonce of an epoch that has not begun on its own clock. A
+    /// server that starts again with them serves its old clients at once.
     pub secret: [u8; 32],
     /// A secret whose nonces are accepted too, but never sent. Set it to the secret before when you
     /// change the secret, and remove it two nonce lifetimes later.
@@ -236,6 +237,7 @@ impl<A: Allocator + Copy> Server<A> {
         }) }
     {
         let known = with_stun_attributes(settings.understood)?;
+        let responder = Responder::of(alloc, known, settings.software, settings.answers_binding);
         let auth = empty_realm(
             alloc,
             settings.realm,
@@ -252,9 +254,7 @@ impl<A: Allocator + Copy> Server<A> {
             secret: prepared(alloc, &settings.secret),
             previous: prepared_if(alloc, &settings.previous_secret),
             lifetime: settings.nonce_lifetime,
-            known,
-            software: settings.software,
-            answers_binding: settings.answers_binding,
+            responder,
         })
     }
 }

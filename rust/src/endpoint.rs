@@ -2,6 +2,7 @@
 //!
 //! [`Server::receive`] takes a datagram, and returns a response to send, an accepted request for
 //! you, an indication, a response, or why the datagram is dropped. It has no record of any address.
+//! [`OpenServer`] answers everybody, and [`ShortTermServer`] has short-term credentials.
 //! [`Client::poll`] says what to send and how requests ended, and [`Client::receive`] takes what
 //! arrives. You own the sockets and the clocks.
 //!

@@ -11,7 +11,7 @@ ghost use Rattle.stun_base.specs.declared.wire.message_type.MessageClass.TheVari
 ghost use Rattle.stun_endpoint.specs.Answers.{binding_page, error_page, is_fingerprinted};
 ghost use Rattle.stun_endpoint.specs.Answers.{mapped_address, with_end, xored_canonical};
 ghost use Rattle.stun_endpoint.specs.Built.{software_refusal};
-ghost use Rattle.stun_endpoint.specs.Responding.{binding_by, drop_reason, ending_by, is_binding};
+ghost use Rattle.stun_endpoint.specs.Responding.{binding_by, drop_reason, is_binding};
 ghost use Rattle.stun_endpoint.specs.Responding.{is_empty, no_message, own_answer, refusal_by};
 ghost use Rattle.stun_endpoint.specs.Responding.{reply_by, unknown_by};
 ghost use Rattle.stun_extra.specs.Unknown.{refusing_answer, unknown_types};

@@ -18,7 +18,6 @@ ghost use Rattle.stun_endpoint.specs.ShortTerm.{received_signed, signature_of, s
 ghost use Rattle.stun_endpoint.specs.ShortTermOutcomes.{short_term_outcome_of};
 
 use crate::received::{Answer, DropReason, Refusal, Request};
-use crate::reply::Signature;
 use crate::responder::{Responder, ResponseSettings, read};
 use crate::server::{BuildError, STUN_ATTRIBUTES};
 use std::alloc::{AllocError, Allocator, Global};

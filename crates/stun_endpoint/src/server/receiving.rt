@@ -1,6 +1,6 @@
 //! What a datagram comes to (RFC 8489, sections 6.3 and 9.2.4).
 
-ghost use Rattle.std.specs.Option.{option_copied, option_map};
+ghost use Rattle.std.specs.Option.{option_copied};
 ghost use Rattle.std.specs.Prelude.{◌≡◌, ◌≤◌, ◌∷◌, IfOk, OnOk, true, length, map};
 ghost use Rattle.std.specs.Prelude.{if◌then◌else◌};
 ghost use Rattle.stun_auth.specs.AddedAttribute as added;

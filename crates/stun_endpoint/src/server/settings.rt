@@ -3,7 +3,7 @@
 ghost use Rattle.std.specs.FinMap as map;
 ghost use Rattle.std.specs.Option.{option_map};
 ghost use Rattle.std.specs.Prelude.{◌≡◌, ◌<◌, ◌++◌, [], None, IfOk, IsOkUnless, MatchOption, Err};
-ghost use Rattle.std.specs.Prelude.{true, false, length, unwrap_or};
+ghost use Rattle.std.specs.Prelude.{true, false};
 ghost use Rattle.std.specs.String.{string_bytes};
 ghost use Rattle.stun_endpoint.specs.Built.{build_refusal};
 ghost use Rattle.stun_endpoint.specs.Realm.{algorithms_for, empty_realm, feature_for};

@@ -1,17 +1,18 @@
 -- What starting, renewing and ending requests leaves of them: each has its own number, and the
 -- number of one that has ended is never in use again.
 use Rattle.std.proofs.Common.{◌≡◌, ◌⊎◌, ◌+◌, ◌<◌, ◌≤◌, ℕ, Bool, true, false, cond, Option, Some, None}
-use Rattle.std.proofs.Common.{◌∙◌, ap, arith, inl, inr, refl, subst, sym}
+use Rattle.std.proofs.Common.{◌∙◌, Bor, ap, arith, inl, inr, refl, subst, sym}
 use Rattle.std.specs.BTreeMap.{is_at}
 use Rattle.std.specs.Cmp.{nat_cmp_is}
 use Rattle.std.specs.FinMap.{nat_cmp-IsAntisymmetric}
-use Rattle.std.specs.Option.{IfSome, option_map, option_map_or}
+use Rattle.std.specs.Option.{IfSome, option_copied, option_map, option_map_or}
 use Rattle.std.specs.Ordering.{is_eq, nat_cmp}
 use Rattle.std.specs.Prelude.{Err, Ok, OnOk, Result}
 use Rattle.std.specs.Result.{is_err}
 use Rattle.std.specs.declared.cmp.Ordering.{Ordering}
 use Rattle.std.specs.declared.cmp.Ordering.TheVariants.{Less, Equal, Greater}
-use Rattle.stun_client.specs.Requests.{AllAsked, AreKept, AskedSeen, IsOver, IsWith, IsWithout, at}
+use Rattle.stun_client.specs.Requests.{AllAsked, AreKept, AskedSeen, IsOver, IsSole, IsWith}
+use Rattle.stun_client.specs.Requests.{IsWithout, at}
 use Rattle.stun_client.specs.Requests.{parts_renewed}
 
 -- ---- keys
@@ -217,3 +218,18 @@ over_renewed most next id new_id v m l n with without parts number over =
 pub if_ok : {X E : Type 0} {P : Type 0} (r : Result X E) → false ≡ is_err r → OnOk r P → P
 if_ok (Ok x) well p = p
 if_ok (Err e) well p = cc
+
+-- ---- finding
+
+pub found_bounded : (most next id : ℕ) (all : AllAsked) → AreKept most next all
+    → (found : Option (Bor AskedSeen)) → option_copied found ≡ at id all
+    → IfSome found (λ a. a.now.challenges ≤ most)
+found_bounded most next id all kept None here = tt
+found_bounded most next id all kept (Some a) here = kept.bounded id a.now (sym here)
+
+pub found_sole : (most next id : ℕ) (all : AllAsked) → AreKept most next all
+    → (found : Option (Bor AskedSeen)) → option_copied found ≡ at id all
+    → IfSome found (λ a. IsSole a.now.number id all)
+found_sole most next id all kept None here = tt
+found_sole most next id all kept (Some a) here =
+    λ other b there same. kept.distinct other id b a.now there (sym here) same

@@ -1,5 +1,5 @@
 -- The outstanding requests of a client (RFC 8489, sections 6.2 and 9.2.5).
-use Rattle.std.specs.Prelude.{◌≡◌, ℕ, ◌+◌, ◌<◌, ◌≤◌, ◌==◌, Bool, true, false, nat_le, List, []}
+use Rattle.std.specs.Prelude.{◌≡◌, ℕ, ◌+◌, ◌<◌, ◌≤◌, ◌==◌, Bool, false, nat_le, List, []}
 use Rattle.std.specs.Prelude.{if◌then◌else◌, cond, Option, Some, None}
 use Rattle.std.specs.BTreeMap.{insert_entry, is_at}
 use Rattle.std.specs.Map.{lookup, remove_entry}
@@ -53,6 +53,11 @@ pub record AreKept (most : ℕ) (next : ℕ) (all : AllAsked) : Type 0 where
   pub bounded : (id : ℕ) (a : AskedSeen) → at id all ≡ Some a → a.challenges ≤ most
   pub distinct : (id other : ℕ) (a b : AskedSeen) → at id all ≡ Some a → at other all ≡ Some b
       → a.number ≡ b.number → id ≡ other
+
+-- no request with another transaction ID has this number
+abbrev pub IsSole : ℕ → ℕ → AllAsked → Type 0
+IsSole number id all = (other : ℕ) (a : AskedSeen) → at other all ≡ Some a → a.number ≡ number
+    → other ≡ id
 
 -- a request with this number was started and has ended
 pub record IsOver (number : ℕ) (s : RequestsSeen) : Type 0 where

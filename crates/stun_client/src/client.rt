@@ -1,6 +1,6 @@
 //! A client of one server: what it has asked, and what a datagram comes to.
 ghost use Rattle.std.specs.Option.{IfSome, option_copied, option_map};
-ghost use Rattle.std.specs.Prelude.{◌≡◌, ℕ, false, IfOk, IsOk, OnErr, OnOk, Some};
+ghost use Rattle.std.specs.Prelude.{◌≡◌, ◌≤◌, ℕ, false, IfOk, IsOk, OnErr, OnOk, Some};
 ghost use Rattle.stun_base.specs.MessageType.{class_in};
 ghost use Rattle.stun_client.specs.Addresses.{is_same_address};
 ghost use Rattle.stun_client.specs.Challenging.{is_challenge};
@@ -8,7 +8,7 @@ ghost use Rattle.stun_client.specs.Clients.{after_cancelling, after_ending, afte
 ghost use Rattle.stun_client.specs.Clients.{after_starting, after_timing_out, by_asked, by_class};
 ghost use Rattle.stun_client.specs.Clients.{confirming, heard, heard_of};
 ghost use Rattle.stun_client.specs.Judging.{identity_of};
-ghost use Rattle.stun_client.specs.Requests.{IsOver, answered, at, new_requests};
+ghost use Rattle.stun_client.specs.Requests.{IsOver, IsSole, answered, at, new_requests};
 ghost use Rattle.stun_client.specs.Standing.{new_standing};
 
 use crate::address::is_same_address;
@@ -161,7 +161,13 @@ impl<A: Allocator + Copy> Client<A> {
 
     /// Returns the outstanding request with this transaction ID.
     pub fn get(&self, id: TransactionId) -> Option<&Asked<A>>
-        ensures { option_copied result ≡ at id self.now.requests.asked }
+        ensures request { option_copied result ≡ at id self.now.requests.asked }
+
+        // It was sent again for at most as many challenges as it may be, and each other request has
+        // another number.
+        ensures bounded { IfSome result (λ asked. asked.now.challenges ≤ self.now.requests.most) }
+        ensures sole { IfSome result (λ asked.
+            IsSole asked.now.number id self.now.requests.asked) }
     {
         self.requests.get(id)
     }

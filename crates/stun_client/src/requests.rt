@@ -8,7 +8,7 @@ ghost use Rattle.std.specs.Prelude.{Err, None, Some, IfSome, length};
 ghost use Rattle.stun_client.specs.Requests.{IsOver, IsWith, IsWithout, after_end, after_renewal};
 ghost use Rattle.stun_client.specs.Requests.{after_replacing, after_start, answered, at, is_answer};
 ghost use Rattle.stun_client.specs.Requests.{new_requests, parts_renewed, renewal_refusal};
-ghost use Rattle.stun_client.specs.Requests.{renewal_refusal_of};
+ghost use Rattle.stun_client.specs.Requests.{IsSole, renewal_refusal_of};
 ghost use Rattle.stun_client.specs.Requests.{start_refusal};
 
 use crate::challenge::Challenge;
@@ -128,7 +128,12 @@ impl<A: Allocator + Copy> Requests<A> {
 
     /// Returns the outstanding request with this transaction ID.
     pub fn get(&self, id: TransactionId) -> Option<&Asked<A>>
-        ensures { option_copied result ≡ at id self.now.asked }
+        ensures request { option_copied result ≡ at id self.now.asked }
+
+        // It was sent again for at most as many challenges as it may be, and each other request has
+        // another number.
+        ensures bounded { IfSome result (λ asked. asked.now.challenges ≤ self.now.most) }
+        ensures sole { IfSome result (λ asked. IsSole asked.now.number id self.now.asked) }
     {
         self.asked.get(&id)
     }

@@ -1,5 +1,5 @@
 -- The request keeps its number under the new ID, and nothing else has it.
-use Rattle.std.proofs.Common.{◌∙◌, false, subst, sym}
+use Rattle.std.proofs.Common.{◌∙◌, subst, sym}
 use Rattle.std.specs.Prelude.{◌≡◌, ◌≤◌, Some}
 use Rattle.std.specs.Option.{option_map}
 use Rattle.stun_client.specs.Requests.{RequestsSeen, at, parts_renewed}

@@ -146,7 +146,7 @@
  *
  * `is_check` tells whether a request that arrived was signed with `password`, which is ours here,
  * and reads its priority (RFC 8445, section 7.3). It does not look at USERNAME, so compare that
- * with the one that you expect. examples/c/ice.c also has responses and roles.
+ * with the one that you expect. stunp_ice_checker (stunp_endpoint.h) also has responses and roles.
  *
  *     size_t write_check(const char *name, const char *password, uint64_t controlling,
  *                        const uint8_t id[12], uint8_t *out, size_t room) {

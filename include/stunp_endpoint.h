@@ -1,15 +1,18 @@
 /* stunp_endpoint.h: STUN endpoints (RFC 8489), for C, C++ and Rust
  *
  * An endpoint is all that lies between a datagram and its answer. stunp.h reads and writes single
- * messages. This header has a server: one call judges a datagram and writes the answer. It remembers
- * nothing between datagrams, so it does not need stunp_state.h. Most servers need this header alone.
+ * messages. This header has a server, and the connectivity checks of ICE (RFC 8445): one call judges
+ * a datagram and writes the answer. Neither needs stunp_state.h. Most servers need this header alone.
  *
  *   stunp_endpoint_server  the settings of a server with long-term credentials (section 9.2)
  *   stunp_endpoint_users   the users of its realm, by password or by stored keys
  *   stunp_reply            answers an accepted request, now or later, on any thread
+ *   stunp_ice_checker      an agent of ICE: the credentials of both sides, and its role
+ *   stunp_ice_check        a check that the agent sent, as it is stored with its pair
  *
- * stunp_endpoint_server_receive judges a datagram: it writes the answer, or hands you an accepted
- * request.
+ * stunp_endpoint_server_receive judges a datagram at a server: it writes the answer, or hands you an
+ * accepted request. stunp_ice_checker_receive judges one at an agent of ICE: it writes the answer to
+ * a check of the peer, or returns how a check of yours ended.
  *
  * No call performs I/O. You own the sockets, the clock, the threads and the random numbers.
  * Sections without an RFC are those of RFC 8489.
@@ -70,6 +73,77 @@
  * A client whose nonce is not one of its address is told a new one by a 438, with which it goes on.
  *
  *
+ * Users in a database
+ *
+ * If users are looked up one by one, a datagram is judged in two steps. The first,
+ * stunp_endpoint_server_identify, judges it as far as that is possible without its user, and returns
+ * STUNP_LOOKUP for a request that waits for one. The second, stunp_endpoint_server_resume, judges it
+ * by the user that you found, or by nobody. It judges all of it again, so pass it the same bytes,
+ * address and time. Only requests with a nonce that this server sent to their address wait for a
+ * user: a forged source address or an invented nonce never causes a look-up. A slow look-up does not
+ * make a nonce stale, because the request is judged as of the time at which it arrived.
+ *
+ *     // `find` looks a user up by name, or by the hash of the name (stunp_userhash), and sets the
+ *     // name and the password or the keys. It returns false if there is no such user.
+ *     size_t serve_looked_up(const stunp_endpoint_server *server,
+ *                            bool (*find)(const stunp_received *named, stunp_found_user *found),
+ *                            const uint8_t *bytes, size_t length, const stunp_address *from,
+ *                            uint64_t unix_seconds, uint8_t *out, size_t room) {
+ *         stunp_received received = STUNP_INIT(stunp_received);
+ *         int64_t kind = stunp_endpoint_server_identify(server, bytes, length, from, unix_seconds,
+ *                                                       out, room, &received);
+ *         if (kind == STUNP_LOOKUP) {
+ *             stunp_found_user found = STUNP_INIT(stunp_found_user);
+ *             bool is_there = find(&received, &found);
+ *             kind = stunp_endpoint_server_resume(server, is_there ? &found : NULL, bytes, length,
+ *                                                 from, unix_seconds, out, room, &received);
+ *         }
+ *         return kind == STUNP_ANSWER ? received.length : 0; // else as in `serve`
+ *     }
+ *
+ *
+ * A connectivity check of ICE, both ways
+ *
+ * An agent sends a check on a pair of candidates, and answers those of its peer (RFC 8445, sections
+ * 7.2 and 7.3). Candidates, pairs, their order and pacing, and retransmissions are yours.
+ *
+ *     // The remote candidate of a pair, and the check of it that is in progress.
+ *     struct ice_pair {
+ *         stunp_address remote;
+ *         stunp_ice_check check;
+ *         bool is_checking, is_valid, is_nominated, is_to_be_checked;
+ *     };
+ *
+ *     // Writes a check, and returns its length. Send it, and again until the answer arrives. `id` are
+ *     // 12 random bytes that no other check has.
+ *     int64_t check_pair(stunp_ice_checker *agent, struct ice_pair *pair, const uint8_t *id,
+ *                        bool nominate, uint8_t *out, size_t room) {
+ *         const uint32_t priority = (110u << 24) + (65535u << 8) + 255; // section 5.1.2.1
+ *         pair->is_checking = true, pair->is_to_be_checked = false;
+ *         return stunp_ice_checker_check(agent, id, &pair->remote, priority, nominate, out, room,
+ *                                        &pair->check);
+ *     }
+ *
+ *     // Reads a datagram that came on a pair. Returns the length of the answer in `out`, or 0.
+ *     size_t read_on_pair(stunp_ice_checker *agent, struct ice_pair *pair, const uint8_t *bytes,
+ *                         size_t length, const stunp_address *from, uint8_t *out, size_t room) {
+ *         stunp_ice_received got = STUNP_INIT(stunp_ice_received);
+ *         int64_t kind = stunp_ice_checker_receive(agent, bytes, length, from,
+ *                                                  pair->is_checking ? &pair->check : NULL, out,
+ *                                                  room, &got);
+ *         if (kind == STUNP_ANSWER && got.outcome == STUNP_ICE_ACCEPTED) {
+ *             pair->is_nominated |= got.nominated;
+ *             pair->is_to_be_checked = !pair->is_valid;
+ *         } else if (kind == STUNP_IS_RESPONSE) {
+ *             pair->is_checking = false, pair->is_valid = got.outcome == STUNP_ICE_VALID;
+ *             pair->is_to_be_checked = got.outcome == STUNP_ICE_CONFLICT;
+ *         } // else it is dropped, or an error: see got.why
+ *         return kind == STUNP_ANSWER ? got.length : 0;
+ *     }
+ *
+ * examples/c/ice_check.c has candidates, pairs and pacing around it.
+ *
+ *
  * The calls, in the order of this file
  *
  *   server: stunp_endpoint_server_new_with, stunp_endpoint_server_new,
@@ -78,7 +152,13 @@
  *    stunp_endpoint_users_add_keys, stunp_endpoint_users_remove, stunp_endpoint_users_clear,
  *    stunp_endpoint_users_free
  *   datagrams: stunp_endpoint_server_receive_own, stunp_endpoint_server_receive, stunp_drop_text
+ *   look-ups: stunp_endpoint_server_identify_own, stunp_endpoint_server_identify,
+ *    stunp_endpoint_server_resume
  *   replies: stunp_reply_success, stunp_reply_error, stunp_reply_finish, stunp_reply_wipe
+ *   ICE: stunp_ice_checker_new_with, stunp_ice_checker_new, stunp_ice_checker_is_controlling,
+ *    stunp_ice_checker_set_tie_breaker, stunp_ice_checker_check_with, stunp_ice_checker_check,
+ *    stunp_ice_checker_receive_with, stunp_ice_checker_receive, stunp_ice_checker_clear,
+ *    stunp_ice_checker_free
  *   versions: stunp_endpoint_version, stunp_endpoint_release_0_2
  *
  *
@@ -107,11 +187,11 @@
  * handle. A table of users may be passed as const by many threads at the same time, or be changed by
  * one, and then no other may use it. To load users anew, fill another table, let the threads use
  * that from their next datagram on, and free the old table once every thread has begun a datagram
- * with the new one.
+ * with the new one. An agent of ICE is used by one thread at a time.
  *
  * Sharing between threads is trusted, and tested with a race detector. What is proved: a call whose
- * handles nothing else uses meanwhile leaves them as they were. The two calls whose names end in
- * _own need such handles; a copy of the two fields is enough. The calls without _own make that copy
+ * handles nothing else uses meanwhile leaves them as they were. The calls whose names end in _own
+ * need such handles; a copy of the two fields is enough. The calls without _own make that copy
  * themselves, write to nothing const, and are the ones to call.
  */
 #ifndef STUNP_ENDPOINT_H
@@ -128,6 +208,7 @@ extern "C" {
 /* The handles. The fields are not yours to write. */
 typedef struct stunp_endpoint_server { bool is_full; void *state; } stunp_endpoint_server;
 typedef struct stunp_endpoint_users { bool is_full; void *state; } stunp_endpoint_users;
+typedef struct stunp_ice_checker { bool is_full; void *state; } stunp_ice_checker;
 
 /* Sets the size with which a struct of this header begins, and all else to 0. Use it in
  * `stunp_received received = STUNP_INIT(stunp_received);` */
@@ -180,15 +261,19 @@ typedef struct {
     bool answers_binding;
 } stunp_endpoint_server_settings;
 
-/* What a datagram comes to: what stunp_endpoint_server_receive returns. */
+/* What a datagram comes to: what stunp_endpoint_server_receive and stunp_ice_checker_receive
+ * return. */
 typedef enum stunp_kind {
     STUNP_DROPPED = 0,       /* nothing is to be done, for the reason `why` */
     STUNP_ANSWER = 1,        /* send the first `length` bytes of the buffer to where it came from */
     STUNP_IS_REQUEST = 2,    /* an accepted request: answer it by `reply` */
-    STUNP_IS_INDICATION = 3, /* an indication whose attributes are understood. Long-term credentials
-                              * do not protect it (section 9.2), so decide by the source address
-                              * whether to act on it */
-    STUNP_IS_RESPONSE = 4    /* a response, for a client on the same socket */
+    STUNP_IS_INDICATION = 3, /* an indication whose attributes are understood. It is not signed
+                              * (section 9.2), so decide by the source address whether to act on
+                              * it. In ICE it keeps a path open, and asks for nothing */
+    STUNP_IS_RESPONSE = 4,   /* at a server, a response for a client on the same socket; in ICE, the
+                              * answer that ends your check, as `outcome` says */
+    STUNP_LOOKUP = 5         /* a request that waits for its user: look up `name`, and call
+                              * stunp_endpoint_server_resume. Its signature is not checked yet */
 } stunp_kind;
 
 /* Why a datagram is dropped. */
@@ -196,10 +281,37 @@ typedef enum stunp_drop {
     STUNP_DROP_NOT_STUN = 1,          /* it does not begin with the header of a STUN message */
     STUNP_DROP_MALFORMED = 2,         /* its length or its attributes are not what its header says */
     STUNP_DROP_WRONG_FINGERPRINT = 3, /* its FINGERPRINT is wrong: it is damaged, or belongs to
-                                       * another protocol */
-    STUNP_DROP_UNKNOWN_ATTRIBUTE = 4  /* it is an indication with an attribute that must be understood
+                                       * another protocol. In ICE also if it has none */
+    STUNP_DROP_UNKNOWN_ATTRIBUTE = 4, /* it is an indication with an attribute that must be understood
                                        * and is not */
+    /* These are of ICE alone. */
+    STUNP_DROP_OTHER_METHOD = 5,      /* it has another method than Binding */
+    STUNP_DROP_NOT_ASKED = 6,         /* it is a response, and not to the check that was passed */
+    STUNP_DROP_WRONG_SIGNATURE = 7    /* it is a response that is not signed by the peer. A refusal by
+                                       * 400 or 401 is not signed, so such a check ends by its
+                                       * timeout */
 } stunp_drop;
+
+/* What a check of the peer, or the answer to a check of yours, comes to. */
+typedef enum stunp_ice_outcome {
+    /* Of a check of the peer, whose kind is STUNP_ANSWER: */
+    STUNP_ICE_ACCEPTED = 1,      /* it is accepted. Send a check on the same pair, if none of yours
+                                  * has succeeded there (RFC 8445, section 7.3.1.4) */
+    STUNP_ICE_PEER_SWITCHES = 2, /* both have one role, and the 487 tells the peer to switch */
+    STUNP_ICE_REFUSED = 3,       /* it is refused by `code` */
+    /* Of the answer to a check of yours, whose kind is STUNP_IS_RESPONSE: */
+    STUNP_ICE_VALID = 4,          /* it succeeded, and the pair is valid. The peer saw it come from
+                                   * `mapped` */
+    STUNP_ICE_CONFLICT = 5,       /* both had one role, and this agent has the other one now. Set a new
+                                   * random tie-breaker, and send a new check (section 7.2.5.1) */
+    STUNP_ICE_ERROR = 6,          /* it failed by the error `code` */
+    STUNP_ICE_OTHER_PATH = 7,     /* it failed, because the answer came from another address than the
+                                   * check went to */
+    STUNP_ICE_NOT_UNDERSTOOD = 8, /* it failed, because the answer has an attribute of the type
+                                   * `not_understood` that must be understood and is not */
+    STUNP_ICE_MALFORMED = 9       /* it failed, because the answer has no well-formed address, or no
+                                   * well-formed error code */
+} stunp_ice_outcome;
 
 /* Lengths, in bytes. */
 enum {
@@ -209,7 +321,13 @@ enum {
     STUNP_ANSWER_MAX = 33632,
     /* The longest user name that a table accepts and a USERNAME of this library can have. (Section
      * 14.3 allows names of fewer than 509 bytes.) */
-    STUNP_NAME_MAX = 513
+    STUNP_NAME_MAX = 513,
+    /* The longest check of ICE. An answer to one has at most STUNP_ANSWER_MAX. */
+    STUNP_ICE_CHECK_MAX = 596,
+    /* The longest username fragment of ICE, and the longest password. The shortest have 4 bytes and
+     * 22 (RFC 8445, section 5.3). */
+    STUNP_ICE_NAME_MAX = 256,
+    STUNP_ICE_PASSWORD_MAX = 256
 };
 
 /* What answers one accepted request. It is plain data: it may be copied and kept, and used on any
@@ -231,12 +349,15 @@ typedef struct {
  *   kind         a stunp_kind
  *   why          STUNP_DROPPED: a stunp_drop
  *   code         STUNP_ANSWER: the code of an error, 400, 401, 420 or 438; 0 of a success
- *   method       STUNP_IS_REQUEST, _INDICATION, _RESPONSE: the method of the message
+ *   method       STUNP_IS_REQUEST, _IS_INDICATION, _IS_RESPONSE, STUNP_LOOKUP: the method of the
+ *                message
  *   algorithm    STUNP_IS_REQUEST: the password algorithm that both sides agreed on
  *   length       STUNP_ANSWER: how many bytes are to be sent
- *   name_length  STUNP_IS_REQUEST: how long the name of the user is
+ *   name_length  STUNP_IS_REQUEST, STUNP_LOOKUP: how long `name` is
  *   name         STUNP_IS_REQUEST: the name of the user who sent the request, also if that has a
- *                hash of it. A zero byte follows it
+ *                hash of it. STUNP_LOOKUP: whom the request names. A zero byte follows it
+ *   is_hash      STUNP_LOOKUP: `name` is the hash of a name (stunp_userhash, section 14.4), of
+ *                STUNP_USERHASH_LENGTH bytes
  *   reply        STUNP_IS_REQUEST: what answers it
  *
  * Serve the user `name`, and not whom USERNAME of the message names. */
@@ -251,7 +372,96 @@ typedef struct {
     size_t name_length;
     stunp_reply reply;
     uint8_t name[516];
+    bool is_hash;
 } stunp_received;
+
+/* A user that you found, for stunp_endpoint_server_resume. What is null is not stored: set the
+ * password, or one of the keys, or both.
+ *
+ *   size         sizeof (stunp_found_user), set by STUNP_INIT
+ *   name         the name. A user of another name than the one in the request is not accepted
+ *   name_length  how long the name is
+ *   password     the password, which ends with a zero byte. If it is set, the keys do not count
+ *   sha1_key     16 bytes: the key for HMAC-SHA1 (stunp_long_term_key)
+ *   sha256_key   32 bytes: the key for HMAC-SHA256 */
+typedef struct {
+    size_t size;
+    const char *name;
+    size_t name_length;
+    const char *password;
+    const uint8_t *sha1_key;
+    const uint8_t *sha256_key;
+} stunp_found_user;
+
+/* The settings of an agent of ICE. None has a default but the last two, which may be 0.
+ *
+ *   size            sizeof (stunp_ice_settings), set by STUNP_INIT
+ *   name            your username fragment, of 4 to 256 bytes without a colon (RFC 8445, section 5.3)
+ *   password        your password, of 22 to 256 bytes
+ *   peer_name       the username fragment and the password of the peer, as it sent them over
+ *   peer_password   signalling
+ *   tie_breaker     a random number (section 7.1.3). If both sides begin in one role, the one with
+ *                   the larger number controls
+ *   is_controlling  whether the agent begins as the one that nominates pairs
+ *
+ * The texts end with a zero byte. */
+typedef struct {
+    size_t size;
+    const char *name;
+    const char *password;
+    const char *peer_name;
+    const char *peer_password;
+    uint64_t tie_breaker;
+    bool is_controlling;
+} stunp_ice_settings;
+
+/* A check that was written, without its bytes: what its answer is judged by. It is plain data, to be
+ * stored with its pair until the answer arrives or the check times out. Leave the fields as they
+ * are; you may read them.
+ *
+ *   id              the transaction ID, which the answer has too
+ *   to              the address that the check goes to
+ *   is_controlling  whether the check says that its sender controls
+ *   nominates       whether the check nominates its pair: if its answer is STUNP_ICE_VALID, the pair
+ *                   is nominated (RFC 8445, section 7.2.5.3.4) */
+typedef struct {
+    uint8_t id[12];
+    stunp_address to;
+    bool is_controlling;
+    bool nominates;
+} stunp_ice_check;
+
+/* What a datagram comes to at an agent of ICE. The fields whose kind is not named are 0 in every
+ * other kind.
+ *
+ *   size            sizeof (stunp_ice_received), set by STUNP_INIT once, before the loop
+ *   kind            a stunp_kind
+ *   why             STUNP_DROPPED: a stunp_drop
+ *   outcome         STUNP_ANSWER, STUNP_IS_RESPONSE: a stunp_ice_outcome
+ *   code            the code of an error response: 487 of STUNP_ICE_PEER_SWITCHES and _CONFLICT; 400,
+ *                   401 or 420 of STUNP_ICE_REFUSED; any other of STUNP_ICE_ERROR
+ *   priority        STUNP_ICE_ACCEPTED: the priority in the check, which a peer-reflexive candidate
+ *                   gets if the address that the check came from is new (RFC 8445, section 7.3.1.3)
+ *   not_understood  STUNP_ICE_NOT_UNDERSTOOD: the type of the attribute
+ *   nominated       STUNP_ICE_ACCEPTED: whether the peer, which controls, nominates the pair
+ *   switched        STUNP_ICE_ACCEPTED, STUNP_ICE_CONFLICT: whether this agent has switched its role
+ *                   because of the datagram. The priorities of pairs depend on the role
+ *   length          STUNP_ANSWER: how many bytes are to be sent
+ *   mapped          STUNP_ICE_VALID: where the peer saw the check come from. If it is none of your
+ *                   candidates, it is a new peer-reflexive one (section 7.2.5.3.1) */
+typedef struct {
+    size_t size;
+    uint32_t kind;
+    uint32_t why;
+    uint32_t outcome;
+    uint32_t code;
+    uint32_t priority;
+    uint16_t not_understood;
+    bool nominated;
+    bool switched;
+    size_t length;
+    stunp_address mapped;
+} stunp_ice_received;
 
 /* ---- Servers */
 
@@ -437,8 +647,81 @@ STUNP_INLINED const char *stunp_drop_text(uint32_t why) {
     case STUNP_DROP_MALFORMED: return "it is not what its header says";
     case STUNP_DROP_WRONG_FINGERPRINT: return "its FINGERPRINT is wrong";
     case STUNP_DROP_UNKNOWN_ATTRIBUTE: return "an indication has an unknown attribute";
+    case STUNP_DROP_OTHER_METHOD: return "its method is not Binding";
+    case STUNP_DROP_NOT_ASKED: return "it is a response to no check";
+    case STUNP_DROP_WRONG_SIGNATURE: return "a response is not signed by the peer";
     default: return "it is not dropped";
     }
+}
+
+/* ---- Look-ups: users in a database */
+
+/* Judges a datagram, like stunp_endpoint_server_identify, with a handle that nothing else uses during
+ * the call. It stays as it is. `received` must not be null.
+ *
+ * Returns and fails as stunp_endpoint_server_identify does. */
+STUNP_USE_RESULT STUNP_READS(2, 3) STUNP_WRITES(6, 7) STUNP_NOT_NULL(1, 4, 8)
+int64_t stunp_endpoint_server_identify_own(stunp_endpoint_server *server, const uint8_t *message,
+                                           size_t message_length, const stunp_address *from,
+                                           uint64_t unix_seconds, uint8_t *out, size_t room,
+                                           stunp_received *received);
+
+/* Judges the datagram of `length` bytes that came from an address, as far as that is possible without
+ * its user. It comes to STUNP_LOOKUP if it is a signed request that names a user, and whose nonce this
+ * server accepts for its address now: look `received->name` up, and call
+ * stunp_endpoint_server_resume. To everything else it comes as at stunp_endpoint_server_receive with
+ * any table of users. A client that sends its request again causes another look-up: merge those with
+ * the same transaction ID, which is in the 12 bytes from `bytes + 8` on.
+ *
+ * Returns a stunp_kind, and fails as stunp_endpoint_server_receive does. */
+STUNP_USE_RESULT
+static inline int64_t
+stunp_endpoint_server_identify(const stunp_endpoint_server *server, const uint8_t *bytes,
+                               size_t length, const stunp_address *from, uint64_t unix_seconds,
+                               uint8_t *out, size_t room, stunp_received *received) {
+    stunp_endpoint_server own = *server;
+    stunp_received unread = STUNP_INIT(stunp_received);
+    return stunp_endpoint_server_identify_own(&own, bytes, length, from, unix_seconds, out, room,
+                                              received == NULL ? &unread : received);
+}
+
+/* Judges the request of a STUNP_LOOKUP by the user that you found, or by nobody if `found` is null.
+ * The other arguments are those of stunp_endpoint_server_identify, with the time at which the
+ * datagram arrived. It is stunp_endpoint_server_receive with a table of this one user.
+ *
+ * Returns a stunp_kind. Errors:
+ *   STUNP_BAD_ARGUMENT   `found->size` is wrong, its name is null, or it has neither a password nor a
+ *                        key
+ *   STUNP_EMPTY_HANDLE   the handle has no server
+ *   STUNP_NOT_TEXT       the name or the password is not UTF-8
+ *   STUNP_TEXT_TOO_LONG  the name has more than STUNP_NAME_MAX bytes
+ * and then those of stunp_endpoint_server_receive. */
+STUNP_USE_RESULT
+static inline int64_t
+stunp_endpoint_server_resume(const stunp_endpoint_server *server, const stunp_found_user *found,
+                             const uint8_t *bytes, size_t length, const stunp_address *from,
+                             uint64_t unix_seconds, uint8_t *out, size_t room,
+                             stunp_received *received) {
+    stunp_endpoint_users users = {false, NULL};
+    if (found != NULL) {
+        bool has_secret =
+            found->password != NULL || found->sha1_key != NULL || found->sha256_key != NULL;
+        if (found->size != sizeof *found || found->name == NULL || !has_secret)
+            return STUNP_BAD_ARGUMENT;
+    }
+    int64_t kind = stunp_endpoint_users_new(&users, server);
+    if (kind >= 0 && found != NULL)
+        kind = found->password != NULL
+                   ? stunp_endpoint_users_add(&users, found->name, found->name_length,
+                                              found->password, strlen(found->password))
+                   : stunp_endpoint_users_add_keys(&users, found->name, found->name_length,
+                                                   found->sha1_key, found->sha1_key ? 16 : 0,
+                                                   found->sha256_key, found->sha256_key ? 32 : 0);
+    if (kind >= 0)
+        kind = stunp_endpoint_server_receive(server, &users, bytes, length, from, unix_seconds, out,
+                                             room, received);
+    stunp_endpoint_users_free(&users);
+    return kind;
 }
 
 /* ---- Replies
@@ -485,6 +768,149 @@ STUNP_INLINED int64_t stunp_reply_finish(const stunp_reply *reply, stunp_writer 
 STUNP_INLINED void stunp_reply_wipe(stunp_reply *reply) {
     volatile uint8_t *bytes = (volatile uint8_t *)reply;
     for (size_t i = 0; i < sizeof *reply; i++) bytes[i] = 0;
+}
+
+/* ---- Connectivity checks of ICE
+ *
+ * An agent checks pairs with one peer. Sections of this part are those of RFC 8445. */
+
+/* Creates an agent, like stunp_ice_checker_new, from settings that are passed one by one.
+ *
+ * Returns 0. Errors:
+ *   STUNP_FULL_HANDLE    the handle is not empty
+ *   STUNP_NOT_TEXT       a username fragment or a password is not UTF-8
+ *   STUNP_BAD_ARGUMENT   a username fragment has fewer than 4 bytes, more than 256 or a colon, or a
+ *                        password has fewer than 22 bytes or more than 256
+ *   STUNP_OUT_OF_MEMORY  an allocation failed */
+STUNP_READS(2, 3) STUNP_READS(4, 5) STUNP_READS(6, 7) STUNP_READS(8, 9) STUNP_NOT_NULL(1)
+int64_t stunp_ice_checker_new_with(stunp_ice_checker *checker, const void *name,
+                                   size_t name_length, const void *password,
+                                   size_t password_length, const void *peer_name,
+                                   size_t peer_name_length, const void *peer_password,
+                                   size_t peer_password_length, uint64_t tie_breaker,
+                                   bool is_controlling);
+
+/* Creates an agent with these settings. They are copied.
+ *
+ * Returns 0. Errors:
+ *   STUNP_BAD_ARGUMENT  `size` is wrong, or a text is null
+ * and then those of stunp_ice_checker_new_with. */
+static inline int64_t stunp_ice_checker_new(stunp_ice_checker *checker,
+                                            const stunp_ice_settings *settings) {
+    if (settings->size != sizeof *settings || settings->name == NULL || settings->password == NULL
+        || settings->peer_name == NULL || settings->peer_password == NULL)
+        return STUNP_BAD_ARGUMENT;
+    return stunp_ice_checker_new_with(
+        checker, settings->name, strlen(settings->name), settings->password,
+        strlen(settings->password), settings->peer_name, strlen(settings->peer_name),
+        settings->peer_password, strlen(settings->peer_password), settings->tie_breaker,
+        settings->is_controlling);
+}
+
+/* Frees an agent and makes its handle empty. The pointer must not be null. This call is for callers
+ * that have the symbols of the archive and not this header; in C and C++ use
+ * stunp_ice_checker_free. */
+STUNP_NOT_NULL(1)
+void stunp_ice_checker_clear(stunp_ice_checker *checker);
+
+/* Frees an agent and makes its handle empty. Does nothing if the handle is empty or the pointer is
+ * null. */
+static inline void stunp_ice_checker_free(stunp_ice_checker *checker) {
+    if (checker != NULL) stunp_ice_checker_clear(checker);
+}
+
+/* Returns 1 if the agent controls now, and so nominates pairs, or 0 if the peer does. Errors:
+ *   STUNP_EMPTY_HANDLE  the handle has no agent */
+STUNP_USE_RESULT STUNP_NOT_NULL(1)
+int64_t stunp_ice_checker_is_controlling(stunp_ice_checker *checker);
+
+/* Sets another tie-breaker. After STUNP_ICE_CONFLICT an agent must have a new random one before its
+ * next check (section 16.1).
+ *
+ * Returns 0. Errors:
+ *   STUNP_EMPTY_HANDLE  the handle has no agent */
+STUNP_NOT_NULL(1)
+int64_t stunp_ice_checker_set_tie_breaker(stunp_ice_checker *checker, uint64_t tie_breaker);
+
+/* Writes a check, like stunp_ice_checker_check. `check` must not be null.
+ *
+ * Returns and fails as stunp_ice_checker_check does. */
+STUNP_USE_RESULT STUNP_WRITES(6, 7) STUNP_NOT_NULL(1, 2, 3, 8)
+int64_t stunp_ice_checker_check_with(stunp_ice_checker *checker, const uint8_t id[12],
+                                     const stunp_address *to, uint32_t priority, bool nominate,
+                                     uint8_t *out, size_t room, stunp_ice_check *check);
+
+/* Writes a check to the front of `out`, and what its answer is judged by to `*check`. Send it to the
+ * address `to`, and again until its answer arrives (section 7.2.4; stunp_agent of stunp_state.h, or a
+ * timer of yours). STUNP_ICE_CHECK_MAX bytes are room enough.
+ *
+ * `id` must be random, and new: a check with the ID of another may end that one. `priority` is what a
+ * peer-reflexive candidate would have that the peer learns from this check (section 7.1.1). The check
+ * nominates its pair if `nominate` is true and this agent controls.
+ *
+ * Returns the length of the check. Errors:
+ *   STUNP_EMPTY_HANDLE      the handle has no agent
+ *   STUNP_BAD_ARGUMENT      `to` is not an IPv4 or IPv6 address
+ *   STUNP_OUT_OF_MEMORY     an allocation failed
+ *   STUNP_BUFFER_TOO_SMALL  the check does not fit into `room` bytes */
+STUNP_USE_RESULT
+static inline int64_t stunp_ice_checker_check(stunp_ice_checker *checker, const uint8_t id[12],
+                                              const stunp_address *to, uint32_t priority,
+                                              bool nominate, uint8_t *out, size_t room,
+                                              stunp_ice_check *check) {
+    stunp_ice_check unread;
+    return stunp_ice_checker_check_with(checker, id, to, priority, nominate, out, room,
+                                        check == NULL ? &unread : check);
+}
+
+/* Judges a datagram, like stunp_ice_checker_receive. `check` counts if `has_check` is true, and must
+ * not be null even if it does not count; nor may `received`.
+ *
+ * Returns and fails as stunp_ice_checker_receive does. */
+STUNP_USE_RESULT STUNP_READS(2, 3) STUNP_WRITES(7, 8) STUNP_NOT_NULL(1, 4, 6, 9)
+int64_t stunp_ice_checker_receive_with(stunp_ice_checker *checker, const uint8_t *message,
+                                       size_t message_length, const stunp_address *from,
+                                       bool has_check, const stunp_ice_check *check, uint8_t *out,
+                                       size_t room, stunp_ice_received *received);
+
+/* Judges the datagram of `length` bytes that came from an address, and writes what it comes to to
+ * `*received`. The answer to a check of the peer is written to the front of `out`. `check` is the
+ * check of yours whose ID the datagram has, if it has one of those that you have stored, or null.
+ *
+ *   - What is no message, or has no right FINGERPRINT, is dropped, and so is another method than
+ *     Binding.
+ *   - A check is accepted if its USERNAME has your name and that of the peer in this order, and it is
+ *     signed with your password. It is answered 400 if it is not signed, or has no USERNAME or no
+ *     PRIORITY; 401 if the name or the signature is wrong; and 420 if it has an attribute that must
+ *     be understood and is not. If it says that the peer has the role of this agent, the one with the
+ *     larger tie-breaker is to control, and this agent's counts as the larger if they are equal
+ *     (section 7.3.1.1): either this agent switches its role, or the check is answered 487.
+ *   - A response is dropped if it does not answer `check`, or is not signed by the peer. Otherwise it
+ *     ends the check. After a 487 this agent has the other role than the one that the check was sent
+ *     in (section 7.2.5.1).
+ *   - An indication with an attribute that must be understood and is not is dropped.
+ *
+ * An IPv4 address is the same in both spellings, also as ::ffff:a.b.c.d. `received` may be null if the
+ * returned kind is all that you want.
+ *
+ * Returns a stunp_kind: STUNP_DROPPED, _ANSWER, _IS_INDICATION or _IS_RESPONSE. Errors, which leave
+ * the agent and its role as they were:
+ *   STUNP_EMPTY_HANDLE      the handle has no agent
+ *   STUNP_BAD_ARGUMENT      `received->size` is wrong, or `from` or the address in `check` is not an
+ *                           IPv4 or IPv6 address
+ *   STUNP_OUT_OF_MEMORY     an allocation failed. Nothing is lost: the peer sends again
+ *   STUNP_BUFFER_TOO_SMALL  the answer does not fit into `room` bytes. `received->length` is then its
+ *                           length, and nothing else of `*received` changes */
+STUNP_USE_RESULT
+static inline int64_t stunp_ice_checker_receive(stunp_ice_checker *checker, const uint8_t *bytes,
+                                                size_t length, const stunp_address *from,
+                                                const stunp_ice_check *check, uint8_t *out,
+                                                size_t room, stunp_ice_received *received) {
+    stunp_ice_check none = {{0}, {{0}, 0, 0}, false, false};
+    stunp_ice_received unread = STUNP_INIT(stunp_ice_received);
+    return stunp_ice_checker_receive_with(checker, bytes, length, from, check != NULL,
+                                          check == NULL ? &none : check, out, room,
+                                          received == NULL ? &unread : received);
 }
 
 /* ---- Versions */

@@ -83,18 +83,18 @@ python3 play.py "$scratch/play" ../crates/transcripts/data/*.txt >"$scratch/play
 sed -n 's/^ \*     //p; /\*\/$/q' ../include/stunp.h >"$scratch/answer.h"
 sed -n 's/^ \*     //p; /\*\/$/q' ../include/stunp_state.h >"$scratch/ask.h"
 sed -n 's/^ \*     //p; /\*\/$/q' ../include/stunp_endpoint.h >"$scratch/serve.h"
-for name in arguments attributes extra; do
+for name in arguments attributes extra sockaddr; do
     $cc $c99 c/$name.c $messages -o "$scratch/$name"
     passes $name "$scratch/$name"
 done
 passes refused ./refused.sh
-for name in agents endpoint handles hostile many users worked; do
+for name in agents endpoint handles hostile ice many users worked; do
     $cc $c99 -Wno-conversion -I"$scratch" c/$name.c $heap $archives -o "$scratch/$name"
     passes $name "$scratch/$name"
 done
 if [ -n "$has_plus" ]; then
     $plus $plus17 -fsyntax-only -x c++ "$scratch/serve.h"
-    for name in arguments attributes extra; do
+    for name in arguments attributes extra sockaddr; do
         $plus $plus17 -x c++ c/$name.c -x none $messages -o "$scratch/$name"
         passes $name "$scratch/$name"
     done

@@ -73,7 +73,7 @@ expect() {
 }
 strict='-std=c99 -O1 -g -Wall -Wextra -Wpedantic -Werror -Iinclude -Iexamples/c -D_DEFAULT_SOURCE'
 libraries=''
-for name in arguments attributes extra; do
+for name in arguments attributes extra sockaddr; do
     ${CC:-cc} $strict tests/c/$name.c "$out/libstunp.a" $libraries -o "$out/$name"
     ${CC:-cc} $strict tests/c/$name.c -L"$out" -lstunp "-Wl,-rpath,$out" -o "$out/$name-shared"
     expect "$name: passed" "$out/$name"
@@ -86,7 +86,7 @@ LIBRARIES="$libraries" tests/memory.sh "$out"
 sed -n 's/^ \*     //p; /\*\/$/q' include/stunp.h > "$out/answer.h"
 sed -n 's/^ \*     //p; /\*\/$/q' include/stunp_state.h > "$out/ask.h"
 sed -n 's/^ \*     //p; /\*\/$/q' include/stunp_endpoint.h > "$out/serve.h"
-for name in agents endpoint handles hostile many users worked play; do
+for name in agents endpoint handles hostile ice many users worked play; do
     ${CC:-cc} $strict -I"$out" "tests/c/$name.c" examples/c/heap.c "$out/libstunp.a" $libraries \
         -o "$out/$name"
     [ $name = play ] || expect "$name: passed" "$out/$name"

@@ -28,6 +28,8 @@ PASSED = {
     "Address": "stunp_address", "Timeouts": "stunp_timeouts", "Statistics": "stunp_statistics",
     "Header": "stunp_header", "Cursor": "stunp_cursor", "&[u8; 32]": "const uint8_t *",
     "Received": "stunp_received", "Reply": "stunp_reply",
+    "IceReceived": "stunp_ice_received", "IceCheck": "stunp_ice_check",
+    "&[u8; 12]": "const uint8_t *",
 }
 # The enum of a number by its name in Rattle and Rust.
 ENUMS = {"class": "stunp_message_class", "message_class": "stunp_message_class",
@@ -40,14 +42,16 @@ NUMBERS = {
     "stunp_feature": ("stun_state/src/codes.rt", r"(\d+) => Ok\(Feature::(\w+)\)"),
     "fingerprint": ("stun_c/src/fingerprint.rt", r"Fingerprint::(\w+) => (\d+)"),
     "stunp_drop": ("stun_c_endpoint/src/received.rt", r"DropReason::(\w+) => (\d+)"),
+    "stunp_drop of ICE": ("stun_c_endpoint/src/ice/told.rt", r"DropReason::(\w+) => (\d+)"),
 }
 # Names of the header that are other ones in the sources, and the enums of which they are.
 RENAMED = {"NO_FINGERPRINT": "ABSENT", "RIGHT_FINGERPRINT": "RIGHT", "WRONG_FINGERPRINT": "WRONG",
            "MISPLACED_FINGERPRINT": "MISPLACED", "DATA_METHOD": "DATA",
            "DROP_NOT_STUN": "NOTSTUN", "DROP_MALFORMED": "MALFORMED",
            "DROP_WRONG_FINGERPRINT": "WRONGFINGERPRINT",
-           "DROP_UNKNOWN_ATTRIBUTE": "UNKNOWNATTRIBUTE"}
-RENAMING = ("fingerprint", "stunp_drop")
+           "DROP_UNKNOWN_ATTRIBUTE": "UNKNOWNATTRIBUTE", "DROP_OTHER_METHOD": "OTHERMETHOD",
+           "DROP_NOT_ASKED": "NOTASKED", "DROP_WRONG_SIGNATURE": "WRONGSIGNATURE"}
+RENAMING = ("fingerprint", "stunp_drop", "stunp_drop of ICE")
 # Lengths of the header, each with the constant of the sources that it is.
 LENGTHS = {
     "ID_LENGTH": ("stun_numbers/src/id.rt", "ID_LENGTH"),
@@ -99,7 +103,7 @@ def in_c(kind, label, function, enums):
         return PASSED[kind].split(", ") if PASSED[kind] else []
     pointer, name = re.fullmatch(r"(&mut |&|\*mut |\*const )(\w+)", kind).groups()
     if name == "EndpointHandle":
-        name = f"stunp_endpoint_{label}"
+        name = "stunp_ice_checker" if label == "checker" else f"stunp_endpoint_{label}"
     else:
         name = "_".join(function.split("_")[:2]) if name == "Handle" else PASSED[name]
     return [("const " if pointer in ("&", "*const ") else "") + name + " *"]
@@ -131,6 +135,7 @@ MAY_IGNORE = re.compile(
     r"stunp_((agent|server|client)_(new(_with)?|set_\w+|add_user|remove_\w+|forget\w*|cancel\w*|"
     r"configure|statistics|validated_peer|send)|read_header|id|error_text|"
     r"endpoint_(server_new_with|users_(new_own|add(_keys)?|remove))|"
+    r"ice_checker_(new_with|set_tie_breaker)|"
     r"(state_|endpoint_)?(version|release_\w+))")
 
 def wanted_attributes(result, name, listed):
@@ -163,14 +168,15 @@ def attributes_of_header(text):
 
 def structs_of_rust(text, enums):
     fields = re.compile(r"(\w+): \[?(\w+)((?:; \d+\])?)")
-    structs = re.compile(r"struct (Address|Cursor|Header|Timeouts|Statistics|Received|Reply) \{(.*?)\}", re.DOTALL)
+    structs = re.compile(r"struct (Address|Cursor|Header|Timeouts|Statistics|Received|Reply|IceCheck|"
+                         r"IceReceived) \{(.*?)\}", re.DOTALL)
     return {PASSED[name]: [(in_c(kind, field, "", enums)[0], field + size)
                            for field, kind, size in fields.findall(body)]
             for name, body in structs.findall(text)}
 
 def structs_of_header(text):
     structs = re.compile(r"typedef struct \{([^}]*)\} (stunp_(?:address|cursor|header|timeouts|"
-                         r"statistics|received|reply));")
+                         r"statistics|received|reply|ice_check|ice_received));")
     return {name: [(kind, field.replace("[", "; "))
                    for kind, fields in re.findall(r"(\w+) ([^;]+);", body)
                    for field in re.split(r",\s*", fields)]
@@ -245,7 +251,8 @@ def main():
                                  "calls/release", "address", "agent")),
                   "crates/stun_handles/src/address.rt",
                   *(f"crates/stun_c_endpoint/src/{name}.rt"
-                    for name in ("calls/server", "calls/users", "release", "received")))
+                    for name in ("calls/server", "calls/users", "calls/ice", "release", "received",
+                                 "ice/told")))
     enums = enums_of_header(header)
     # An enum that is passed has the size of a u32: no number is below zero or above an int.
     passed = {name: numbers for name, numbers in enums.items() if name in ENUMS.values()}

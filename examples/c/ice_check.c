@@ -6,7 +6,7 @@
  * --at HOST           the address of the candidates: 127.0.0.1
  * --candidates N      so many of them, each a port: 1. With 71 on both sides there are 5041 pairs
  * --pace SECONDS      from one check to the next (section 14.2): 0.05
- * --tie-breaker N     in the place of a random one
+ * --tie-breaker N     in place of a random one
  * --within SECONDS    gives up after so long: 30
  *
  * Its first line is `HOST PORT[,PORT].. UFRAG PASSWORD`, and it reads such a line of the other
@@ -16,12 +16,16 @@
  *     ice_check controlling <other | tee one & ice_check controlled <one | tee other
  *
  * Once a pair is nominated it prints `nominated HOST:PORT as ROLE, seen as HOST:PORT` and sends
- * data over it, and it prints `data TEXT` of what comes; and at the end `checked N pairs in SECONDS
+ * data over it, and it prints `data TEXT` of what arrives; and at the end `checked N pairs in SECONDS
  * s, N valid, N failed, N requests sent again`. Status 0; or 1, and why on standard error; or 2 for
- * wrong words. */
+ * wrong arguments.
+ *
+ * The checks are those of stunp_ice_checker (stunp_endpoint.h), and stunp_agent (stunp_state.h)
+ * sends them again. What is here is what they leave to their caller: sockets, pairs and pacing. */
 #define _GNU_SOURCE
+#include "exchange.h"
 #include "heap.h"
-#include "ice.h"
+#include "stunp_endpoint.h"
 #include "words.h"
 #include <ctype.h>
 #include <poll.h>
@@ -29,25 +33,33 @@
 #include <string.h>
 #include <unistd.h>
 
-enum { MOST_CANDIDATES = 100, MOST_PAIRS = MOST_CANDIDATES * MOST_CANDIDATES };
-enum { MOST_MEMORY = 16 << 20, MOST_WORD = 256, AT_ONCE = 16, MOST_PORTS = 6 * MOST_CANDIDATES };
+/* The candidates of one side, and those of the peer with the ones that are learnt. */
+enum { MOST_CANDIDATES = 100, MOST_REMOTES = MOST_CANDIDATES + 16 };
+enum { MOST_PAIRS = MOST_CANDIDATES * MOST_REMOTES, STORED_CHECKS = 4 };
+enum { MOST_MEMORY = 16 << 20, AT_ONCE = 16, MOST_PORTS = 6 * MOST_CANDIDATES };
 
-/* The longest wait, from one datagram of data to the next, and from the end of what we wait for to
- * that of answering: they may wait for more. */
+/* The longest wait, the time from one datagram of data to the next, and the time for which checks
+ * are answered after all is done here: the other program may not be done. */
 static const uint64_t TICK = SECOND / 20, REPEAT = SECOND / 5, AFTERWARDS = SECOND;
 
-/* Two candidates, ours and theirs (section 6.1.2.6). */
+/* What the priority of our first candidate would be if the peer met it in our check (section
+ * 5.1.2.1). Each later candidate has less local preference. */
+static const uint32_t PEER_REFLEXIVE = (110 << 24) + (65535 << 8) + 255, LOCAL_PREFERENCE = 1 << 8;
+
+/* Two candidates, ours and theirs (section 6.1.2.6). Of the checks of it that were sent the last few
+ * are stored, the current one at `sent` modulo their number: one that was replaced may be answered
+ * yet (section 7.3.1.4). */
 struct pair {
-    enum { WAITING, CHECKING, VALID, FAILED } state;
-    uint8_t id[STUNP_ID_LENGTH];          /* of our last check, */
-    bool was_controlling, was_nominating; /* in which we were so */
-    bool is_queued;                       /* is to be checked before others */
-    stunp_address seen;                   /* our candidate, as they see it */
+    enum { UNPAIRED, WAITING, CHECKING, VALID, FAILED } state;
+    bool is_queued; /* is to be checked before others */
+    unsigned sent;
+    stunp_ice_check checks[STORED_CHECKS];
+    stunp_address seen; /* our candidate, as the peer sees it */
 };
 
-static struct session session;
+static stunp_ice_checker checker;
 static struct exchange ours[MOST_CANDIDATES]; /* a socket and an agent for each candidate */
-static struct remote theirs[MOST_CANDIDATES];
+static struct remote theirs[MOST_REMOTES];
 static int ours_number, theirs_number;
 
 /* The list. Pairs of which a check came are in a queue, and are checked first (section 6.1.4.1). */
@@ -62,9 +74,17 @@ static bool fails(const char *reason) {
     return false;
 }
 
+static bool is_controlling(void) { return stunp_ice_checker_is_controlling(&checker) == 1; }
+
 /* ---- The list */
 
-static struct pair *pair_at(int our, int their) { return &pairs[our * theirs_number + their]; }
+static struct pair *pair_at(int our, int their) { return &pairs[our * MOST_REMOTES + their]; }
+static int our_of(const struct pair *pair) { return (int)(pair - pairs) / MOST_REMOTES; }
+static int their_of(const struct pair *pair) { return (int)(pair - pairs) % MOST_REMOTES; }
+
+static stunp_ice_check *current(struct pair *pair) {
+    return &pair->checks[pair->sent % STORED_CHECKS];
+}
 
 static bool is_open(const struct pair *pair) {
     return pair->state == WAITING || pair->state == CHECKING;
@@ -73,115 +93,130 @@ static bool is_open(const struct pair *pair) {
 static void set_state(struct pair *pair, int state) {
     open_pairs -= is_open(pair);
     valid_pairs -= pair->state == VALID;
+    pairs_number += pair->state == UNPAIRED;
     pair->state = state;
     open_pairs += is_open(pair);
     valid_pairs += state == VALID;
 }
 
-static void fail_pair(struct pair *pair, const char *reason) {
+/* A pair fails with its current check, and not with one that was replaced. */
+static void fail_pair(struct pair *pair, const stunp_ice_check *check, const char *reason) {
+    if (pair->state != CHECKING || check != current(pair)) return;
     why = reason;
     set_state(pair, FAILED);
 }
 
-/* Has a pair checked before others, unless it is checked just now or was. */
+/* Has a pair checked before others, unless it is valid. A check in progress is replaced: it is not
+ * sent again, but may still be answered (section 7.3.1.4). */
 static void trigger(struct pair *pair) {
-    if (pair->state == CHECKING || pair->state == VALID || pair->is_queued) return;
+    if (pair->state == VALID || pair->is_queued) return;
+    if (pair->state == CHECKING)
+        stunp_agent_cancel_retransmissions(&ours[our_of(pair)].agent, current(pair)->id,
+                                           STUNP_ID_LENGTH);
     set_state(pair, WAITING);
     pair->is_queued = true;
-    queue[(first_queued + queued++) % pairs_number] = pair;
+    queue[(first_queued + queued++) % MOST_PAIRS] = pair;
 }
 
-/* The pair of a candidate of ours that was checked by a request of this id, or NULL. */
-static struct pair *checked_by(int our, const uint8_t *id) {
+/* The pair of a candidate of ours of which this is the ID of a stored check, and that check. */
+static struct pair *checked_by(int our, const uint8_t *id, stunp_ice_check **check) {
     for (int their = 0; their < theirs_number; their++) {
         struct pair *pair = pair_at(our, their);
-        if (pair->state == CHECKING && memcmp(pair->id, id, STUNP_ID_LENGTH) == 0) return pair;
+        for (int i = 0; i < STORED_CHECKS; i++)
+            if (pair->checks[i].to.length > 0
+                && memcmp(pair->checks[i].id, id, STUNP_ID_LENGTH) == 0) {
+                *check = &pair->checks[i];
+                return pair;
+            }
     }
     return NULL;
 }
 
-/* The pair over which a datagram came, or NULL where it came from no candidate that we know. */
+/* The pair over which a datagram came, or NULL if it came from no candidate that we know. */
 static struct pair *pair_over(int our, const stunp_address *from) {
     int their = 0;
     while (their < theirs_number && !is_same(&theirs[their].at, from)) their++;
-    return their < theirs_number ? pair_at(our, their) : NULL;
+    return their < theirs_number && pair_at(our, their)->state != UNPAIRED ? pair_at(our, their)
+                                                                          : NULL;
 }
 
-/* The pair that is to be checked next, or NULL. Once each was checked, the controlling side checks
- * the valid one of the highest priority again, to nominate it (section 8.1.1). */
+/* The pair over which a check of theirs came. Where it comes from is a candidate from now on, if
+ * there is room for it (section 7.3.1.3): a peer-reflexive one. */
+static struct pair *learn(int our, const struct datagram *got) {
+    int their = 0;
+    while (their < theirs_number && !is_same(&theirs[their].at, &got->from)) their++;
+    if (their == MOST_REMOTES) return NULL;
+    if (their == theirs_number) {
+        theirs[theirs_number++] = (struct remote){got->peer, got->from};
+        for (int i = 0; i < ours_number; i++) ours[i].remotes_number = theirs_number;
+    }
+    return pair_at(our, their);
+}
+
+/* The pair to check next, or NULL. Once each was checked, the controlling side checks the valid one
+ * of the highest priority again, to nominate it (section 8.1.1). */
 static struct pair *to_check(void) {
-    if (queued > 0) {
+    while (queued > 0) {
         struct pair *pair = queue[first_queued];
-        first_queued = (first_queued + 1) % pairs_number;
+        first_queued = (first_queued + 1) % MOST_PAIRS;
         queued--;
         pair->is_queued = false;
-        return pair;
+        if (pair->state == WAITING) return pair;
     }
-    while (next_pair < pairs_number && pairs[next_pair].state != WAITING) next_pair++;
-    if (next_pair < pairs_number) return &pairs[next_pair];
-    if (!session.is_controlling || nominated != NULL || open_pairs > 0) return NULL;
-    for (int i = 0; i < pairs_number; i++)
-        if (pairs[i].state == VALID) return &pairs[i];
+    while (next_pair < MOST_PAIRS && pairs[next_pair].state != WAITING) next_pair++;
+    if (next_pair < MOST_PAIRS) return &pairs[next_pair];
+    if (!is_controlling() || nominated != NULL || open_pairs > 0) return NULL;
+    for (int their = 0; their < theirs_number; their++)
+        for (int our = 0; our < ours_number; our++)
+            if (pair_at(our, their)->state == VALID) return pair_at(our, their);
     return NULL;
 }
 
-/* ---- Checks of ours (section 7.2) */
+/* ---- Checks of ours, and what comes */
 
 static int64_t send_check(struct pair *pair) {
-    uint8_t bytes[MOST_BYTES];
-    int number = (int)(pair - pairs), our = number / theirs_number, their = number % theirs_number;
-    pair->was_controlling = session.is_controlling;
-    pair->was_nominating = session.is_controlling && pair->state == VALID;
+    uint8_t bytes[STUNP_ICE_CHECK_MAX], id[STUNP_ID_LENGTH];
+    const struct remote *to = &theirs[their_of(pair)];
+    uint32_t priority = PEER_REFLEXIVE - (uint32_t)our_of(pair) * LOCAL_PREFERENCE;
+    bool nominates = pair->state == VALID;
+    fill_randomly(id, sizeof id);
     set_state(pair, CHECKING);
-    stunp_writer check =
-        write_check(&session, (unsigned)our, pair->was_nominating, bytes, sizeof bytes);
-    stunp_id(bytes, check.length, pair->id, sizeof pair->id);
-    return ask(&ours[our], &check, &theirs[their]);
+    pair->sent++;
+    int64_t length = stunp_ice_checker_check(&checker, id, &to->at, priority, nominates, bytes,
+                                             sizeof bytes, current(pair));
+    if (length < 0) return length;
+    stunp_writer check = stunp_write_on(length, bytes, sizeof bytes);
+    return ask(&ours[our_of(pair)], &check, to);
 }
 
-/* Where both had one role, they check in the other one, with another tie-breaker (section 7.2.5.1),
- * unless the role changed since. */
-static void read_error(struct pair *pair, const struct datagram *got) {
-    if (stunp_error_code(got->bytes, got->length) != 487) {
-        fail_pair(pair, "an error response");
-        return;
-    }
-    if (session.is_controlling == pair->was_controlling) {
-        session.is_controlling = !pair->was_controlling;
-        fill_randomly(&session.tie_breaker, sizeof session.tie_breaker);
-    }
-    set_state(pair, WAITING);
-    trigger(pair);
-}
-
-/* Takes a response (section 7.2.5). What is no answer to our check is dropped, also where another
- * address sent it: then the check fails for want of an answer. So is what has not their digest. */
-static void read_response(int our, const struct datagram *got, const stunp_header *header) {
-    struct pair *pair = checked_by(our, header->id);
-    if (pair == NULL || !is_answer(&ours[our], got, header) || !is_theirs(&session, got)) return;
-    int64_t ended = end_request(&ours[our], got);
-    if (ended < 0) fail_pair(pair, stunp_strerror(ended));
-    else if (!is_understood(got)) fail_pair(pair, "a response that is not understood");
-    else if (header->message_class == STUNP_ERROR) read_error(pair, got);
-    else if (!get_address(got, STUNP_XOR_MAPPED_ADDRESS, &pair->seen))
-        fail_pair(pair, "no mapped address");
-    else {
+/* A check of ours ended (section 7.2.5). */
+static void end_check(struct pair *pair, const stunp_ice_check *check,
+                      const stunp_ice_received *ended) {
+    uint64_t tie_breaker;
+    stunp_agent_cancel(&ours[our_of(pair)].agent, check->id, STUNP_ID_LENGTH);
+    switch (ended->outcome) {
+    case STUNP_ICE_VALID:
+        pair->seen = ended->mapped;
         set_state(pair, VALID);
-        if (pair->was_nominating && session.is_controlling) nominated = pair;
+        if (check->nominates && is_controlling()) nominated = pair;
+        break;
+    case STUNP_ICE_CONFLICT:
+        fill_randomly(&tie_breaker, sizeof tie_breaker);
+        stunp_ice_checker_set_tie_breaker(&checker, tie_breaker);
+        trigger(pair);
+        break;
+    case STUNP_ICE_ERROR: fail_pair(pair, check, "an error response"); break;
+    case STUNP_ICE_OTHER_PATH: fail_pair(pair, check, "a response from another address"); break;
+    case STUNP_ICE_MALFORMED: fail_pair(pair, check, "no mapped address"); break;
+    default: fail_pair(pair, check, "a response that is not understood"); break;
     }
 }
 
-/* ---- What comes */
-
-/* A check of theirs. One that comes from elsewhere is answered, and is of no pair. */
-static void take_check(int our, const struct datagram *got) {
-    uint8_t bytes[MOST_BYTES];
-    struct pair *pair = pair_over(our, &got->from);
-    uint32_t code = judge_check(&session, got);
-    stunp_writer answer = answer_check(&session, got, code, bytes, sizeof bytes);
-    tell(&ours[our], &answer, &got->peer);
-    if (code != 200 || pair == NULL) return;
-    if (has(got, STUNP_USE_CANDIDATE)) told = pair;
+/* A check of theirs was accepted (section 7.3.1). */
+static void read_check(int our, const struct datagram *got, const stunp_ice_received *check) {
+    struct pair *pair = learn(our, got);
+    if (pair == NULL) return;
+    if (check->nominated) told = pair;
     trigger(pair);
 }
 
@@ -194,50 +229,57 @@ static void take_data(int our, const struct datagram *got) {
     putchar('\n');
 }
 
-/* Takes a datagram: data, or a message of ICE, each of which has FINGERPRINT. */
+/* Takes a datagram: data, or a message of ICE. */
 static void take(int our, const struct datagram *got) {
-    stunp_header header;
-    if (stunp_is_stun(got->bytes, got->length) == 0) take_data(our, got);
-    else if (!is_message(got, &header) || !has(got, STUNP_FINGERPRINT)) return;
-    else if (header.method != STUNP_BINDING) return;
-    else if (header.message_class == STUNP_REQUEST) take_check(our, got);
-    else read_response(our, got, &header);
+    static uint8_t out[STUNP_ANSWER_MAX];
+    static stunp_ice_received received = STUNP_INIT(stunp_ice_received);
+    stunp_ice_check *check = NULL;
+    struct pair *pair = NULL;
+    if (stunp_is_stun(got->bytes, got->length) == 0) {
+        take_data(our, got);
+        return;
+    }
+    if (got->length >= STUNP_HEADER_LENGTH) pair = checked_by(our, got->bytes + 8, &check);
+    int64_t kind = stunp_ice_checker_receive(&checker, got->bytes, got->length, &got->from, check,
+                                             out, sizeof out, &received);
+    if (kind == STUNP_ANSWER) {
+        send_to(ours[our].socket, out, received.length, &got->peer);
+        if (received.outcome == STUNP_ICE_ACCEPTED) read_check(our, got, &received);
+    }
+    if (kind == STUNP_IS_RESPONSE) end_check(pair, check, &received);
 }
 
-/* Sends again what is due, and ends the checks that nobody answered. Answers the moment from which
- * on there is more to do, or `until`. */
+/* Sends again what is due, and ends the checks that nobody answered. Returns the time from which on
+ * there is more to do, or `until`. */
 static uint64_t go_on(uint64_t now, uint64_t until) {
     uint8_t id[STUNP_ID_LENGTH];
     for (int our = 0; our < ours_number; our++) {
         uint64_t next = until;
         send_again(&ours[our], now);
         while (stunp_agent_poll(&ours[our].agent, now, &next, id, sizeof id) > 0) {
-            struct pair *pair = checked_by(our, id);
-            if (pair != NULL) fail_pair(pair, "no answer");
+            stunp_ice_check *check;
+            struct pair *pair = checked_by(our, id, &check);
+            if (pair != NULL) fail_pair(pair, check, "no answer");
         }
         if (next < until) until = next;
     }
     return until;
 }
 
-static const struct remote *remote_of(const struct pair *pair) {
-    return &theirs[(pair - pairs) % theirs_number];
-}
-
 /* The controlled side follows a USE-CANDIDATE, once its own check of the pair succeeded (section
  * 7.3.1.5). */
 static void follow(void) {
     static bool is_printed;
-    bool is_to_follow = nominated == NULL && told != NULL && !session.is_controlling;
+    bool is_to_follow = nominated == NULL && told != NULL && !is_controlling();
     if (is_to_follow && told->state == VALID) nominated = told;
     if (nominated == NULL || is_printed) return;
     is_printed = true;
-    printf("nominated %s as %s", text_of(&remote_of(nominated)->at),
-           session.is_controlling ? "controlling" : "controlled");
+    printf("nominated %s as %s", text_of(&theirs[their_of(nominated)].at),
+           is_controlling() ? "controlling" : "controlled");
     printf(", seen as %s\n", text_of(&nominated->seen));
 }
 
-/* Waits for datagrams, until a moment, and takes some of each socket. */
+/* Waits for datagrams, until a time, and takes some of each socket. */
 static void receive_some(uint64_t now, uint64_t until) {
     struct pollfd sockets[MOST_CANDIDATES];
     static struct datagram got;
@@ -256,12 +298,11 @@ static void receive_some(uint64_t now, uint64_t until) {
 
 /* ---- The session */
 
-static void send_data(const struct pair *pair) {
-    uint8_t data[MOST_BYTES] = "from ";
-    size_t length = strcspn(session.name_to_us, ":");
-    memcpy(data + 5, session.name_to_us, length);
-    const struct exchange *by = &ours[(pair - pairs) / theirs_number];
-    send_to(by->socket, data, 5 + length, &remote_of(pair)->peer);
+static void send_data(const struct pair *pair, const char *ufrag) {
+    char data[64];
+    int length = snprintf(data, sizeof data, "from %s", ufrag);
+    send_to(ours[our_of(pair)].socket, (const uint8_t *)data, (size_t)length,
+            &theirs[their_of(pair)].peer);
 }
 
 static void print_checked(uint64_t nanoseconds) {
@@ -272,13 +313,13 @@ static void print_checked(uint64_t nanoseconds) {
            pairs_number - valid_pairs - open_pairs, repeated);
 }
 
-/* Checks a pair, where one is to be checked and it is time. Answers false after it told that no
- * pair can be valid. */
+/* Checks a pair, if one is to be checked and it is time. Returns false after it printed that no pair
+ * can be valid. */
 static bool check_some(uint64_t now, uint64_t pace, uint64_t *next) {
     struct pair *pair = now >= *next ? to_check() : NULL;
     if (pair != NULL) {
         int64_t asked = send_check(pair);
-        if (asked < 0) fail_pair(pair, stunp_strerror(asked));
+        if (asked < 0) fail_pair(pair, current(pair), stunp_strerror(asked));
         *next = now + pace;
     }
     return open_pairs > 0 || valid_pairs > 0 || fails(why);
@@ -286,12 +327,12 @@ static bool check_some(uint64_t now, uint64_t pace, uint64_t *next) {
 
 /* Checks until each pair was checked and one is nominated, sends data until some comes, and answers
  * for a while. */
-static bool run(uint64_t pace, uint64_t give_up) {
+static bool run(uint64_t pace, uint64_t give_up, const char *ufrag) {
     uint64_t end = give_up, now, begun = moment(), checked = 0, next_check = 0, next_data = 0;
     while ((now = moment()) < end) {
         if (!check_some(now, pace, &next_check)) return false;
         if (nominated != NULL && now >= next_data) {
-            send_data(nominated);
+            send_data(nominated, ufrag);
             next_data = now + REPEAT;
         }
         bool is_done = open_pairs == 0;
@@ -305,17 +346,17 @@ static bool run(uint64_t pace, uint64_t give_up) {
 
 /* ---- What is told across */
 
-/* A word of random characters (section 5.3). */
-static void fill_word(char *word, size_t length) {
+/* A text of random characters (section 5.3). */
+static void fill_text(char *text, size_t length) {
     static const char characters[] =
         "ABCDEFGHIJKLMNOPQRSTUVWXYZabcdefghijklmnopqrstuvwxyz0123456789+/";
-    fill_randomly(word, length);
-    for (size_t i = 0; i < length; i++) word[i] = characters[(uint8_t)word[i] % 64];
-    word[length] = 0;
+    fill_randomly(text, length);
+    for (size_t i = 0; i < length; i++) text[i] = characters[(uint8_t)text[i] % 64];
+    text[length] = 0;
 }
 
 /* Opens a socket and makes an agent for each candidate of ours, and prints our line. */
-static bool open_ours(const char *host, const char *ufrag) {
+static bool open_ours(const char *host, const stunp_ice_settings *settings) {
     printf("%s ", host);
     for (int i = 0; i < ours_number; i++) {
         stunp_address own;
@@ -325,26 +366,32 @@ static bool open_ours(const char *host, const char *ufrag) {
         if (begun < 0) return fails(stunp_strerror(begun));
         printf("%s%u", i == 0 ? "" : ",", (unsigned)own.port);
     }
-    printf(" %s %s\n", ufrag, session.our_password);
+    printf(" %s %s\n", settings->name, settings->password);
     return true;
 }
 
-/* Reads their line. */
-static bool read_theirs(const char *our_ufrag) {
-    static char host[64], ports[MOST_PORTS + 1], ufrag[MOST_WORD + 1];
-    if (scanf("%63s %600s %256s %256s", host, ports, ufrag, session.their_password) != 4)
+/* Reads their line, and makes the checker and the pairs. */
+static bool read_theirs(stunp_ice_settings *settings) {
+    static char host[64], ports[MOST_PORTS + 1];
+    static char name[STUNP_ICE_NAME_MAX + 1], password[STUNP_ICE_PASSWORD_MAX + 1];
+    if (scanf("%63s %600s %256s %256s", host, ports, name, password) != 4)
         return fails("no line of the other side's");
     for (char *rest = ports, *port; (port = strsep(&rest, ",")) != NULL; theirs_number++)
         if (theirs_number == MOST_CANDIDATES || !find_remote(host, port, &theirs[theirs_number]))
             return false;
-    snprintf(session.name_to_them, sizeof session.name_to_them, "%s:%s", ufrag, our_ufrag);
-    snprintf(session.name_to_us, sizeof session.name_to_us, "%s:%s", our_ufrag, ufrag);
-    for (int i = 0; i < ours_number; i++) ours[i].remotes_number = theirs_number;
-    pairs_number = open_pairs = ours_number * theirs_number;
+    settings->peer_name = name, settings->peer_password = password;
+    int64_t made = stunp_ice_checker_new(&checker, settings);
+    if (made < 0) return fails(stunp_strerror(made));
+    for (int our = 0; our < ours_number; our++) {
+        ours[our].remotes_number = theirs_number;
+        for (int their = 0; their < theirs_number; their++)
+            set_state(pair_at(our, their), WAITING);
+    }
     return true;
 }
 
 static void close_ours(void) {
+    stunp_ice_checker_free(&checker);
     for (int i = 0; i < ours_number; i++) {
         stunp_agent_free(&ours[i].agent);
         if (ours[i].socket > 0) close(ours[i].socket);
@@ -355,7 +402,7 @@ int main(int count, char **words) {
     const char *host = "127.0.0.1";
     unsigned long tie_breaker = 0, candidates = 1;
     uint64_t within = 30 * SECOND, pace = SECOND / 20;
-    char ufrag[5];
+    char ufrag[5], password[25];
     const struct option options[] = {
         {"--at", .text = &host},
         {"--candidates", .number = &candidates, .least = 1, .most = MOST_CANDIDATES},
@@ -364,21 +411,24 @@ int main(int count, char **words) {
         {"--within", .nanoseconds = &within, .least = 0, .most = 1000000},
         {.name = NULL},
     };
+    stunp_ice_settings settings = STUNP_INIT(stunp_ice_settings);
     count = read_options(count, words, options);
-    session.is_controlling = count == 1 && strcmp(words[0], "controlling") == 0;
-    if (!session.is_controlling && (count != 1 || strcmp(words[0], "controlled") != 0)) {
+    settings.is_controlling = count == 1 && strcmp(words[0], "controlling") == 0;
+    if (!settings.is_controlling && (count != 1 || strcmp(words[0], "controlled") != 0)) {
         fprintf(stderr, "usage: ice_check controlling|controlled [--at HOST] [--candidates N] "
                         "[--pace SECONDS] [--tie-breaker N] [--within SECONDS]\n");
         return 2;
     }
     stunp_heap_bound(MOST_MEMORY);
     setvbuf(stdout, NULL, _IOLBF, 0);
-    fill_randomly(&session.tie_breaker, sizeof session.tie_breaker);
-    if (tie_breaker != 0) session.tie_breaker = tie_breaker;
-    fill_word(ufrag, 4);
-    fill_word(session.our_password, 24);
+    fill_randomly(&settings.tie_breaker, sizeof settings.tie_breaker);
+    if (tie_breaker != 0) settings.tie_breaker = tie_breaker;
+    fill_text(ufrag, 4);
+    fill_text(password, 24);
+    settings.name = ufrag, settings.password = password;
     ours_number = (int)candidates;
-    bool is_right = open_ours(host, ufrag) && read_theirs(ufrag) && run(pace, moment() + within);
+    bool is_right =
+        open_ours(host, &settings) && read_theirs(&settings) && run(pace, moment() + within, ufrag);
     close_ours();
     return is_right ? 0 : 1;
 }

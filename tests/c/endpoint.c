@@ -320,6 +320,104 @@ static void whole_server(void) {
     free_realm(&realm);
 }
 
+/* A datagram in two steps, with a user of a password, of keys, of another name, or nobody. */
+static int64_t identify(const struct realm *realm, const struct message *message, uint64_t now,
+                        size_t room, stunp_received *received) {
+    return stunp_endpoint_server_identify(&realm->server, message->bytes, message->length, &from,
+                                          now, out, room, received);
+}
+
+static int64_t resume(const struct realm *realm, const stunp_found_user *found,
+                      const struct message *message, stunp_received *received) {
+    return stunp_endpoint_server_resume(&realm->server, found, message->bytes, message->length,
+                                        &from, NOW, out, sizeof out, received);
+}
+
+static void look_ups(bool is_hashed) {
+    stunp_endpoint_server_settings settings = settings_of(NULL, 0);
+    settings.answers_binding = true;
+    struct realm realm = realm_of(&settings), none = realm;
+    stunp_received received = STUNP_INIT(stunp_received), before = received;
+    uint8_t sha1[16], sha256[32], hash[STUNP_USERHASH_LENGTH];
+    want("hashed", stunp_client_set_anonymous_username(
+         &realm.client, is_hashed ? STUNP_REQUIRED : STUNP_DISABLED), 0);
+    struct message plain = message_of(STUNP_REQUEST, 1);
+    want("unsigned", identify(&realm, &plain, NOW, sizeof out, &received), STUNP_ANSWER);
+    want("401", received.code, 401);
+    want("a 401", stunp_client_validate(&realm.client, out, received.length), STUNP_RESEND);
+    struct message message = request(&realm, 2, 0, true);
+    memset(out, 0xaa, sizeof out);
+    want("waits", identify(&realm, &message, NOW, 0, &received), STUNP_LOOKUP);
+    want("nothing is written", out[0], 0xaa);
+    want("kind", received.kind, STUNP_LOOKUP);
+    want("method", received.method, STUNP_BINDING);
+    want("hash", received.is_hash, is_hashed);
+    want("length", (int64_t)received.name_length, is_hashed ? STUNP_USERHASH_LENGTH : 4);
+    want("userhash", stunp_userhash("name", 4, "realm", 5, hash, sizeof hash), sizeof hash);
+    want_same("name", received.name, is_hashed ? (const void *)hash : "name",
+              received.name_length);
+    want("a final zero", received.name[received.name_length], 0);
+    /* Nobody, another user, the user by a password and by each key. */
+    stunp_found_user found = STUNP_INIT(stunp_found_user), good;
+    found.name = "name", found.name_length = 4, found.password = "password", good = found;
+    want("nobody", resume(&realm, NULL, &message, &received), STUNP_ANSWER);
+    want("401", received.code, 401);
+    want("no hash", received.is_hash, false);
+    found.name = "Name";
+    want("another name", resume(&realm, &found, &message, &received), STUNP_ANSWER);
+    want("401", received.code, 401);
+    found = good, found.password = "passw0rd";
+    want("another password", resume(&realm, &found, &message, &received), STUNP_ANSWER);
+    want("401", received.code, 401);
+    want("the user", resume(&realm, &good, &message, &received), STUNP_ANSWER);
+    want("success", received.code, 0);
+    want("signed", stunp_client_validate(&realm.client, out, received.length), STUNP_SHA256);
+    want("key", stunp_long_term_key(STUNP_SHA1, "name", 4, "realm", 5, "password", 8, sha1, 16), 16);
+    want("key", stunp_long_term_key(STUNP_SHA256, "name", 4, "realm", 5, "password", 8, sha256, 32),
+         32);
+    found = good, found.password = NULL, found.sha256_key = sha256;
+    want("by its key", resume(&realm, &found, &message, &received), STUNP_ANSWER);
+    want("success", received.code, 0);
+    found.sha256_key = NULL, found.sha1_key = sha1;
+    want("by another key", resume(&realm, &found, &message, &received), STUNP_ANSWER);
+    want("401", received.code, 401);
+    /* Without a nonce that was sent to the address nobody is looked up. */
+    want("later", identify(&realm, &message, NOW + 7200, sizeof out, &received), STUNP_ANSWER);
+    want("438", received.code, 438);
+    /* Each refusal in its order. */
+    found.sha1_key = NULL;
+    want("no secret", resume(&realm, &found, &message, &received), STUNP_BAD_ARGUMENT);
+    found = good, found.name = NULL;
+    want("no name", resume(&realm, &found, &message, &received), STUNP_BAD_ARGUMENT);
+    found = good, found.size--, none.server.is_full = false;
+    want("size", resume(&none, &found, &message, &received), STUNP_BAD_ARGUMENT);
+    found = good, found.name = "\xff", found.name_length = 1;
+    want("no server", resume(&none, &found, &message, &received), STUNP_EMPTY_HANDLE);
+    want("no text", resume(&realm, &found, &message, &received), STUNP_NOT_TEXT);
+    before.size--;
+    want("no server", identify(&none, &message, NOW, 0, &before), STUNP_EMPTY_HANDLE);
+    want("size", identify(&realm, &message, NOW, 0, &before), STUNP_BAD_ARGUMENT);
+    want("time", identify(&realm, &message, LAST + 1, 0, NULL), STUNP_BAD_ARGUMENT);
+    want("nowhere", stunp_endpoint_server_identify(&realm.server, plain.bytes, plain.length,
+         &nowhere, NOW, out, sizeof out, NULL), STUNP_BAD_ARGUMENT);
+    before = received;
+    stunp_heap_bound(0);
+    want("memory", identify(&realm, &message, NOW, 0, &received), STUNP_OUT_OF_MEMORY);
+    want("memory", resume(&realm, &good, &message, &received), STUNP_OUT_OF_MEMORY);
+    stunp_heap_bound(SIZE_MAX);
+    want_same("as it was", &received, &before, sizeof received);
+    want("no room", identify(&realm, &plain, NOW, 20, &received), STUNP_BUFFER_TOO_SMALL);
+    free_realm(&realm);
+}
+
+static bool find_alice(const stunp_received *named, stunp_found_user *found) {
+    uint8_t hash[STUNP_USERHASH_LENGTH];
+    found->name = "alice", found->name_length = 5, found->password = "wonderland";
+    want("hash", stunp_userhash("alice", 5, "example.org", 11, hash, sizeof hash), sizeof hash);
+    return named->is_hash ? memcmp(named->name, hash, sizeof hash) == 0
+                          : named->name_length == 5 && memcmp(named->name, "alice", 5) == 0;
+}
+
 /* Each allocation in turn is refused: the call fails, and then gives what it gave. */
 static void each_allocation(void) {
     stunp_endpoint_server_settings settings = settings_of(NULL, 0);
@@ -367,6 +465,9 @@ static void worked(void) {
                                            id, bytes, sizeof bytes);
         stunp_write_client_sign(&request, &client);
         size_t length = serve(&server, &users, bytes, request.length, &from, NOW, out, sizeof out);
+        if (i == 1)
+            want("looked up", (int64_t)serve_looked_up(&server, find_alice, bytes, request.length,
+                 &from, NOW, out, sizeof out), (int64_t)length);
         int64_t wanted = i == 0 ? STUNP_RESEND : STUNP_SHA1;
         want("judged", stunp_client_validate(&client, out, length), wanted);
         const int64_t codes[] = {401, STUNP_MISSING_ATTRIBUTE, 400};
@@ -390,6 +491,8 @@ int main(void) {
         replies(algorithms, false);
     }
     whole_server();
+    look_ups(false);
+    look_ups(true);
     worked();
     each_allocation();
     want_no_blocks("in the end");

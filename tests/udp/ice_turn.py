@@ -134,9 +134,9 @@ def another_address(program):
     sides = briefly(program, "controlling"), briefly(program, "controlled")
     *ends, wire = met_over(*sides, rule, is_right=False)
     for end in ends:
-        fails(end, "no time left")
+        fails(end, "a response from another address" if "address" in end.err else "no time left")
     assert all(code == 200 for _, code in wire.codes()) and wire.codes(), wire.codes()
-    return "not taken, nobody nominated"
+    return "the check fails, nobody nominated"
 
 
 class Them:

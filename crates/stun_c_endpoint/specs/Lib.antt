@@ -1,6 +1,6 @@
 -- What the contracts of this crate say, in the order to read it.
 
--- which server or which users a handle has
+-- which server, which users or which agent of ICE a handle has
 pub mod Kept
 -- the settings that a caller gives, and the server of them
 pub mod Given
@@ -8,5 +8,13 @@ pub mod Given
 pub mod Users
 -- what a datagram comes to, as a caller gets it
 pub mod Told
+-- what one comes to before its user is looked up
+pub mod Lookups
+-- the agent of ICE that a caller makes
+pub mod Agents
+-- the checks that it writes, as a caller gets them and passes them again
+pub mod Checks
+-- what a datagram comes to at an agent of ICE, as a caller gets it
+pub mod Judged
 -- what no clause of a public call cites: what representations alone use
 pub mod code

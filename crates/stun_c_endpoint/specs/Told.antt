@@ -1,5 +1,5 @@
 -- What a datagram comes to, as a caller in C gets it.
-use Rattle.std.specs.Prelude.{◌≡◌, ◌⊎◌, ℕ, ℤ, pos, ◌++◌, List, [], ◌||◌, ◌==◌, not, length, min}
+use Rattle.std.specs.Prelude.{◌≡◌, ◌⊎◌, ℕ, ℤ, pos, ◌++◌, List, [], ◌||◌, ◌==◌, false, not, length, min}
 use Rattle.std.specs.Prelude.{drop, take, nat_lt, if◌then◌else◌, Option, Some, None, Result, Ok, Err}
 use Rattle.std.specs.Prelude.{replicate}
 use Rattle.byteorder.specs.Endian.{big_bytes}
@@ -135,6 +135,7 @@ blank kind r = record r {
   algorithm = 0;
   length = 0;
   name_length = 0;
+  is_hash = false;
 }
 
 -- what a caller gets of what a datagram comes to

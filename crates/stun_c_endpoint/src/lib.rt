@@ -6,6 +6,7 @@
 
 mod calls;
 mod handle;
+mod ice;
 mod received;
 mod release;
 mod server;

@@ -4,10 +4,14 @@ ghost use Rattle.std.specs.Prelude.{◌≡◌, ◌≤◌};
 ghost use Rattle.byteorder.specs.Endian.{big_bytes};
 ghost use Rattle.stun_endpoint.specs.Received.{dropped, indicated, requested, responded};
 ghost use Rattle.stun_c_endpoint.specs.Told.{at_front, blank, drop_number, integrity_number};
+ghost use Rattle.stun_c_endpoint.specs.Lookups.{lookup_told, named_told};
 ghost use Rattle.stun_c_endpoint.specs.Told.{reply_told, told_of};
+ghost use Rattle.stun_auth.specs.Handed.{named_seen};
 
 use byteorder::{BigEndian, ByteOrder};
 use std::alloc::Global;
+use stun_auth::auth::NamedUser;
+use stun_endpoint::lookup::Lookup;
 use stun_endpoint::received::{DropReason, Request};
 use stun_endpoint::reply::Reply as EndpointReply;
 use stun_types::message::{IntegrityAlgorithm, Message, TransactionId};
@@ -60,8 +64,10 @@ pub struct Received {
     pub name_length: usize,
     /// What answers the request.
     pub reply: Reply,
-    /// The name of the user, which a zero ends.
+    /// The name of the user, which a zero ends; or the hash of the name.
     pub name: [u8; 516],
+    /// Whether the name is a hash.
+    pub is_hash: bool,
 }
 
 /// No more than so many bytes at the front of a place, and zeros after them.
@@ -76,7 +82,7 @@ fn front<const N: usize>(bytes: &[u8], most: usize) -> [u8; N]
 }
 
 /// The bytes of a transaction ID, in network order.
-fn id_bytes(id: TransactionId) -> [u8; 12]
+pub fn id_bytes(id: TransactionId) -> [u8; 12]
     ensures { result ≡ big_bytes 12 id }
 {
     let mut bytes = [0; 12];
@@ -138,6 +144,7 @@ impl Received {
         self.algorithm = 0;
         self.length = 0;
         self.name_length = 0;
+        self.is_hash = false;
     }
 
     /// Tells of a datagram that is dropped.
@@ -168,6 +175,32 @@ impl Received {
         self.name_length = name.len();
         self.name = front(name, NAME_ROOM);
         self.reply = Reply::of(request.reply());
+    }
+
+    /// Tells of a request that waits for its user.
+    pub fn looked_up(&mut self, lookup: &Lookup<'_>)
+        ensures { self.new ≡ lookup_told lookup.now self.old }
+    {
+        self.begin(5);
+        self.method = lookup.message().method().value();
+        self.named(lookup.user_id());
+    }
+
+    /// Tells whom a request names.
+    fn named(&mut self, user: NamedUser<'_>)
+        ensures { self.new ≡ named_told (named_seen user.entry) self.old }
+    {
+        match user {
+            NamedUser::ByName(name) => {
+                self.name_length = name.len();
+                self.name = front(name.as_bytes(), NAME_ROOM);
+            }
+            NamedUser::ByHash(hash) => {
+                self.name_length = hash.len();
+                self.name = front(&hash, NAME_ROOM);
+                self.is_hash = true;
+            }
+        }
     }
 
     /// Tells of an indication.

@@ -2,6 +2,8 @@
 
 ghost use Rattle.std.specs.Prelude.{◌≡◌, Some};
 ghost use Rattle.stun_handles.specs.Numbers.{number_answer};
+ghost use Rattle.stun_c_endpoint.specs.Kept.{server_of};
+ghost use Rattle.stun_c_endpoint.specs.Lookups.{IdentifiesAs, identified_at};
 ghost use Rattle.stun_endpoint.specs.Outcomes.{outcome_of};
 ghost use Rattle.stun_endpoint.specs.Received.{answered};
 ghost use Rattle.stun_c_endpoint.specs.Told.{IsTold, ReceivesAs, code_told, judged_outcome};
@@ -10,6 +12,7 @@ ghost use Rattle.stun_c_endpoint.specs.Told.{with_users};
 use crate::handle::endpoint::Kept;
 use crate::received::{RECEIVED_SIZE, Received};
 use std::alloc::Global;
+use stun_endpoint::lookup::Identified;
 use stun_endpoint::received::{Answer, Received as Outcome, Refusal as Refused};
 use stun_endpoint::server::Server;
 use stun_endpoint::unix_time::UnixTime;
@@ -124,4 +127,51 @@ fn judge(
     let from = from.socket()?;
     let outcome = server.receive(message, from, UnixTime::from_secs(unix_seconds), users)?;
     tell(&outcome, out, received)
+}
+
+/// Judges a datagram by a server as far as that is possible without its user, and tells what it comes
+/// to.
+pub fn identify(
+    server: &Kept,
+    message: &[u8],
+    from: &Address,
+    unix_seconds: u64,
+    out: &mut [u8],
+    received: &mut Received,
+) -> Result<u32, Refusal>
+    ensures { IdentifiesAs (identified_at (server_of server.now) from.now unix_seconds message.now
+        received.old) (number_answer result) out.old out.new received.old received.new }
+{
+    match server {
+        Kept::Server(server) => identify_at(server, message, from, unix_seconds, out, received),
+        Kept::Users(_) => Err(Refusal::EmptyHandle),
+        Kept::Checker(_) => Err(Refusal::EmptyHandle),
+    }
+}
+
+/// The same by the server.
+fn identify_at(
+    server: &Server<Global>,
+    message: &[u8],
+    from: &Address,
+    unix_seconds: u64,
+    out: &mut [u8],
+    received: &mut Received,
+) -> Result<u32, Refusal>
+    ensures { IdentifiesAs (identified_at (Some server.now) from.now unix_seconds message.now
+        received.old) (number_answer result) out.old out.new received.old received.new }
+{
+    if received.size != RECEIVED_SIZE || unix_seconds > LAST_SECOND {
+        return Err(Refusal::BadArgument);
+    }
+    let from = from.socket()?;
+    match server.identify(message, from, UnixTime::from_secs(unix_seconds))? {
+        Identified::Done(outcome) => tell(&outcome, out, received),
+        Identified::Lookup(lookup) => {
+            received.looked_up(&lookup);
+            Ok(5)
+        }
+        // There is no other one in this release.
+        _ => Err(Refusal::BadArgument),
+    }
 }

@@ -44,6 +44,7 @@ pub fn table(alloc: Global, server: &Kept) -> Result<Box<Kept, Global>, Refusal>
             }
         }
         Kept::Users(_) => Err(Refusal::EmptyHandle),
+        Kept::Checker(_) => Err(Refusal::EmptyHandle),
     }
 }
 
@@ -100,6 +101,7 @@ pub fn add_to(alloc: Global, kept: &mut Kept, name: &[u8], password: &[u8]) -> R
     match kept {
         Kept::Users(users) => add(alloc, users, name, password),
         Kept::Server(_) => Err(Refusal::EmptyHandle),
+        Kept::Checker(_) => Err(Refusal::EmptyHandle),
     }
 }
 
@@ -118,6 +120,7 @@ pub fn add_keys_to(
     match kept {
         Kept::Users(users) => add_keys(alloc, users, name, sha1, sha256),
         Kept::Server(_) => Err(Refusal::EmptyHandle),
+        Kept::Checker(_) => Err(Refusal::EmptyHandle),
     }
 }
 
@@ -129,5 +132,6 @@ pub fn remove_from(kept: &mut Kept, name: &[u8]) -> Result<(), Refusal>
     match kept {
         Kept::Users(users) => remove(users, name),
         Kept::Server(_) => Err(Refusal::EmptyHandle),
+        Kept::Checker(_) => Err(Refusal::EmptyHandle),
     }
 }

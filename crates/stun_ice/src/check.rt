@@ -1,6 +1,6 @@
 //! A check that was written, as it is stored with its pair.
 
-ghost use Rattle.std.specs.Prelude.{◌≡◌};
+ghost use Rattle.std.specs.Prelude.{◌≡◌, []};
 
 use crate::role::Role;
 use std::alloc::{AllocError, Allocator, Global};
@@ -58,6 +58,26 @@ impl<A: Allocator> Check<A> {
             nominates,
             bytes,
         }
+    }
+
+    /// Creates a check without its bytes, from what a caller has stored of one. It is enough to
+    /// judge the answer with.
+    pub fn without_bytes(
+        alloc: A,
+        id: TransactionId,
+        to: SocketAddr,
+        role: Role,
+        nominates: bool,
+    ) -> Check<A>
+        ensures { result ≡ record {
+          id = id;
+          to = to;
+          role = role;
+          nominates = nominates;
+          bytes = [];
+        } }
+    {
+        Check::new(id, to, role, nominates, Vec::new(alloc))
     }
 
     /// Returns the transaction ID, which the answer has too.

@@ -357,6 +357,14 @@ impl<A: Allocator> Checker<A> {
         self.tie_breaker
     }
 
+    /// Sets another role. For a caller who cannot send the answer to a check, and so takes back the
+    /// switch that came with it.
+    pub fn set_role(&mut self, role: Role)
+        ensures { self.new ≡ record self.old { role = role } }
+    {
+        self.role = role;
+    }
+
     /// Sets another tie-breaker. An agent that was told of a role conflict must have a new random one
     /// before its next check (RFC 8445, section 16.1).
     pub fn set_tie_breaker(&mut self, tie_breaker: u64)

@@ -79,18 +79,20 @@ pub mod client {
 }
 
 pub mod endpoint {
-    //! The handle of a server or of a table of users, of the endpoint.
+    //! The handle of a server or of a table of users, of the endpoint, or of an agent of ICE.
 
     use crate::exported::stun_endpoint::server::Server;
     use crate::exported::stun_endpoint::users::Users;
+    use crate::exported::stun_ice::checker::Checker;
 
-    /// A value of the heap: a server, or a table of users.
+    /// A value of the heap: a server, a table of users, or an agent of ICE.
     #[allow(clippy::large_enum_variant, reason = "a handle keeps it on the heap, and there are few")]
     pub enum Kept {
         Server(Server),
         Users(Users),
+        Checker(Checker),
     }
 
-    /// What a caller keeps of either.
+    /// What a caller keeps of any.
     pub type EndpointHandle = super::Handle<Kept>;
 }

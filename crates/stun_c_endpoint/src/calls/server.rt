@@ -3,6 +3,8 @@
 ghost use Rattle.std.specs.Prelude.{◌≡◌, Some, None, IfNone, IfSome, if◌then◌else◌};
 ghost use Rattle.stun_numbers.specs.Refusals.{refusal_number};
 ghost use Rattle.stun_c_endpoint.specs.Given.{MakesServer};
+ghost use Rattle.stun_c_endpoint.specs.Kept.{server_in};
+ghost use Rattle.stun_c_endpoint.specs.Lookups.{IdentifiesAs, identified_at};
 ghost use Rattle.stun_c_endpoint.specs.Told.{ReceivesAs, judged_outcome};
 
 use crate::handle::endpoint::EndpointHandle;
@@ -118,6 +120,35 @@ pub extern "C" fn stunp_endpoint_server_receive_own(
     let told = server::receive(&kept, &table, message, from, unix_seconds, out, received);
     let answer = answers::number(told);
     users.put(alloc, table);
+    server.put(alloc, kept);
+    answer
+}
+
+/// Judges a datagram as far as that is possible without its user, and returns the number of what it
+/// comes to, or 5 if it is a request that waits for its user.
+///
+/// Fails with `EmptyHandle` if the handle is empty or has a value of another kind, then with
+/// `BadArgument` for the size of what is told, for the time or for the address. Then come
+/// `OutOfMemory`, and `BufferTooSmall`: the length of the response is told then, and nothing else.
+#[unsafe(no_mangle)]
+pub extern "C" fn stunp_endpoint_server_identify_own(
+    alloc: Global,
+    server: &mut EndpointHandle,
+    message: &[u8],
+    from: &Address,
+    unix_seconds: u64,
+    out: &mut [u8],
+    received: &mut Received,
+) -> i64
+    ensures answer { IdentifiesAs (identified_at (server_in server.old.kept) from.now unix_seconds
+        message.now received.old) result out.old out.new received.old received.new }
+    ensures server { server.new.kept ≡ server.old.kept }
+{
+    let Some(kept) = server.take(alloc) else {
+        return Refusal::EmptyHandle.code();
+    };
+    let told = server::identify(&kept, message, from, unix_seconds, out, received);
+    let answer = answers::number(told);
     server.put(alloc, kept);
     answer
 }

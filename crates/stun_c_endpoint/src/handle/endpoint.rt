@@ -1,4 +1,4 @@
-//! The handle of a server or of a table of users.
+//! The handle of a server, of a table of users or of an agent of ICE.
 ghost use Rattle.std.specs.Prelude.{◌≡◌, Some, None, Option, IfSome, IfNone};
 ghost use Rattle.stun_c_endpoint.specs.declared.handle.endpoint.Kept.{Kept};
 ghost use Rattle.stun_handles.specs.code.Handle.{handle_owns};
@@ -10,12 +10,14 @@ use std::mem::replace;
 use stun_endpoint::server::Server;
 use stun_endpoint::users::Users;
 use stun_handles::handle::Loose;
+use stun_ice::checker::Checker;
 
-/// A value of the heap: a server, or a table of users.
+/// A value of the heap: a server, a table of users, or an agent of ICE.
 #[derive(Drop)]
 pub enum Kept {
     Server(Server<Global>),
     Users(Users<Global>),
+    Checker(Checker<Global>),
 }
 
 /// The caller's handle: all zero if it is empty, and otherwise what `put` wrote.

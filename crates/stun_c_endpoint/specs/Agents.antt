@@ -1,0 +1,93 @@
+-- The agent of ICE that a caller in C makes, and what simple calls on it return (RFC 8445, section
+-- 5.3).
+use Rattle.std.specs.Prelude.{◌≡◌, ℕ, ℤ, pos, List, Bool, true, false, ◌&&◌, MatchOption}
+use Rattle.std.specs.Prelude.{if◌then◌else◌, Option, Some, None}
+use Rattle.std.specs.Option.{option_map}
+use Rattle.std.specs.Str.{is_utf8}
+use Rattle.stun_base.specs.Keys.{with_colon}
+use Rattle.stun_ice.specs.Agent.{Agent, build_refusal}
+use Rattle.stun_ice.specs.declared.checker.BuildError.{BuildError}
+use Rattle.stun_ice.specs.declared.checker.BuildError.TheVariants.{ColonInName, NameLength}
+use Rattle.stun_ice.specs.declared.checker.BuildError.TheVariants.{PasswordLength}
+use Rattle.stun_ice.specs.declared.checker.BuildError.TheVariants.{OutOfMemory as NoMemory}
+use Rattle.stun_ice.specs.declared.role.Role.{Role}
+use Rattle.stun_ice.specs.declared.role.Role.TheVariants.{Controlling, Controlled}
+use Rattle.stun_handles.specs.Numbers.{OrOutOfMemory}
+use Rattle.stun_numbers.specs.Refusals.{refusal_number}
+use Rattle.stun_numbers.specs.declared.refusal.Refusal.{Refusal}
+use Rattle.stun_numbers.specs.declared.refusal.Refusal.TheVariants.{BadArgument, EmptyHandle}
+use Rattle.stun_numbers.specs.declared.refusal.Refusal.TheVariants.{NotText, OutOfMemory}
+use Rattle.stun_c_endpoint.specs.declared.handle.endpoint.Kept.{Kept}
+use Rattle.stun_c_endpoint.specs.declared.handle.endpoint.Kept.TheVariants.{Checker}
+
+-- ---- the roles
+
+-- the role of an agent that controls, or does not
+abbrev pub role_if : Bool → Role
+role_if true = Controlling
+role_if false = Controlled
+
+-- whether a role is to control
+abbrev pub is_controlling : Role → Bool
+is_controlling Controlling = true
+is_controlling Controlled = false
+
+-- ---- making an agent
+
+-- what a caller gives: the username fragments and the passwords of both sides as bytes, the
+-- tie-breaker, and whether the agent controls
+pub record AgentGiven : Type 0 where
+  pub name : List ℕ
+  pub password : List ℕ
+  pub peer_name : List ℕ
+  pub peer_password : List ℕ
+  pub tie_breaker : ℕ
+  pub controls : Bool
+
+-- the refusal of credentials that make no agent
+abbrev pub refusal_of_building : BuildError → Refusal
+refusal_of_building NameLength = BadArgument
+refusal_of_building ColonInName = BadArgument
+refusal_of_building PasswordLength = BadArgument
+refusal_of_building NoMemory = OutOfMemory
+
+-- why no agent is made, the first reason that holds
+unfoldable pub agent_refusal : AgentGiven → Option Refusal
+agent_refusal g =
+    if is_utf8 g.name && is_utf8 g.password && (is_utf8 g.peer_name && is_utf8 g.peer_password)
+    then option_map refusal_of_building
+    (build_refusal g.name g.peer_name g.password g.peer_password)
+    else Some NotText
+
+-- the agent of what is given
+abbrev pub agent_given : AgentGiven → Agent
+agent_given g = record {
+  incoming = with_colon g.name g.peer_name;
+  outgoing = with_colon g.peer_name g.name;
+  password = g.password;
+  peer_password = g.peer_password;
+  tie_breaker = g.tie_breaker;
+  role = role_if g.controls;
+}
+
+-- a call makes the agent of what is given in an empty handle and returns 0, or returns the first
+-- refusal; or an allocation failed
+abbrev pub MakesAgent : AgentGiven → ℤ → Option Kept → Type 0
+MakesAgent g result now =
+    MatchOption (agent_refusal g)
+    (OrOutOfMemory result None now (pos 0) (Some (Checker (agent_given g))))
+    (λ refusal. (result ≡ refusal_number refusal) × (now ≡ None))
+
+-- ---- simple calls
+
+-- 1 for an agent that controls, and 0 for one that does not
+abbrev pub controlling_answer : Option Agent → ℤ
+controlling_answer None = refusal_number EmptyHandle
+controlling_answer (Some a) = if is_controlling a.role then pos 1 else pos 0
+
+-- a call gives an agent another tie-breaker and returns 0, or there is no agent
+abbrev pub SetsTieBreaker : Option Agent → ℕ → ℤ → Option Kept → Option Kept → Type 0
+SetsTieBreaker None tie result before now =
+    (result ≡ refusal_number EmptyHandle) × (now ≡ before)
+SetsTieBreaker (Some a) tie result before now =
+    (result ≡ pos 0) × (now ≡ Some (Checker (record a { tie_breaker = tie })))

@@ -1,0 +1,56 @@
+-- What a datagram comes to before its user is looked up, as a caller in C gets it (RFC 8489, section
+-- 9.2.4).
+use Rattle.std.specs.Prelude.{◌≡◌, ◌⊎◌, ℕ, ℤ, pos, List, ◌||◌, ◌==◌, true, not, length, nat_lt}
+use Rattle.std.specs.Prelude.{if◌then◌else◌, Option, Some, None, Result, Ok, Err}
+use Rattle.stun_auth.specs.Handed.{Named, by_hash, by_name}
+use Rattle.stun_base.specs.Header.{type_field}
+use Rattle.stun_base.specs.MessageType.{method_of}
+use Rattle.stun_endpoint.specs.Lookups.{Identification, LookupSeen, done, identified_by, looked_up}
+use Rattle.stun_endpoint.specs.Settings.{Settings}
+use Rattle.stun_handles.specs.Addresses.{socket_address}
+use Rattle.stun_handles.specs.Answers.{at_address}
+use Rattle.stun_handles.specs.declared.address.Address.{Address}
+use Rattle.stun_numbers.specs.declared.refusal.Refusal.{Refusal}
+use Rattle.stun_numbers.specs.declared.refusal.Refusal.TheVariants.{BadArgument, EmptyHandle}
+use Rattle.stun_numbers.specs.declared.refusal.Refusal.TheVariants.{OutOfMemory}
+use Rattle.stun_c_endpoint.specs.Told.{IsTold, LAST_SECOND, LeavesAll, NAME_PLACE, NAME_ROOM}
+use Rattle.stun_c_endpoint.specs.Told.{RECEIVED_SIZE, at_front, blank}
+use Rattle.stun_c_endpoint.specs.declared.received.Received.{Received}
+
+-- what is judged without users: an empty handle, or one of another kind, is refused first, and then
+-- a result of another size, a time that is none of seconds, and an address that is none
+abbrev pub identified_at : Option Settings → Address → ℕ → List ℕ → Received
+    → Result Identification Refusal
+identified_at None from seconds bytes r = Err EmptyHandle
+identified_at (Some s) from seconds bytes r =
+    if not (r.size == RECEIVED_SIZE) || nat_lt LAST_SECOND seconds then Err BadArgument
+    else at_address (socket_address from) (λ from. Ok (identified_by s from seconds bytes))
+
+-- whom a request names, by the name or by its hash
+abbrev pub named_told : Named → Received → Received
+named_told (by_name name) r =
+    record r { name_length = length name; name = at_front NAME_PLACE NAME_ROOM name }
+named_told (by_hash hash) r = record r {
+  name_length = length hash;
+  name = at_front NAME_PLACE NAME_ROOM hash;
+  is_hash = true;
+}
+
+-- what a caller gets of a request that waits for its user
+abbrev pub lookup_told : LookupSeen → Received → Received
+lookup_told l r =
+    named_told l.user (record (blank 5 r) { method = method_of (type_field l.message) })
+
+-- a call returns the number of what a datagram comes to, or 5 of a request that waits, and writes
+-- what is told of it
+abbrev pub IsIdentified : Identification → ℤ → List ℕ → List ℕ → Received → Received → Type 0
+IsIdentified (done outcome) result out out' r r' = IsTold outcome result out out' r r'
+IsIdentified (looked_up l) result out out' r r' =
+    (result ≡ pos 5) × (out' ≡ out) × (r' ≡ lookup_told l r)
+
+-- what a call that identifies the user of a datagram returns and writes
+abbrev pub IdentifiesAs : Result Identification Refusal → ℤ → List ℕ → List ℕ → Received → Received
+    → Type 0
+IdentifiesAs (Ok i) result out out' r r' =
+    IsIdentified i result out out' r r' ⊎ LeavesAll OutOfMemory result out out' r r'
+IdentifiesAs (Err refusal) result out out' r r' = LeavesAll refusal result out out' r r'

@@ -1,0 +1,160 @@
+//! The agent of ICE that a caller makes.
+
+ghost use Rattle.std.specs.Prelude.{◌≡◌, IfOk, IsOkUnless, MatchOption, None, Some, Err};
+ghost use Rattle.stun_c_endpoint.specs.Agents.{MakesAgent, agent_given, agent_refusal};
+ghost use Rattle.stun_c_endpoint.specs.Agents.{SetsTieBreaker, controlling_answer};
+ghost use Rattle.stun_c_endpoint.specs.Agents.{is_controlling, refusal_of_building, role_if};
+ghost use Rattle.stun_c_endpoint.specs.Kept.{agent_of};
+ghost use Rattle.stun_handles.specs.Numbers.{done_answer, number_answer};
+ghost use Rattle.stun_c_endpoint.specs.declared.handle.endpoint.Kept.TheVariants as kind;
+
+use crate::handle::endpoint::{EndpointHandle, Kept};
+use std::alloc::{AllocError, Global};
+use std::marker::Model;
+use stun_ice::checker::{BuildError, Checker, Credentials};
+use stun_ice::role::Role;
+use stun_numbers::refusal::Refusal;
+use stun_numbers::text::text;
+
+/// The role of an agent that controls, or does not.
+pub fn role_if(is_controlling: bool) -> Role
+    ensures { result ≡ role_if is_controlling }
+{
+    if is_controlling {
+        Role::Controlling
+    } else {
+        Role::Controlled
+    }
+}
+
+/// Whether a role is to control.
+pub fn is_controlling(role: Role) -> bool
+    ensures { result ≡ is_controlling role }
+{
+    match role {
+        Role::Controlling => true,
+        Role::Controlled => false,
+    }
+}
+
+/// What a caller gives. Contracts see bytes and numbers.
+#[derive(Drop)]
+pub struct Given<'a> {
+    pub name: &'a [u8],
+    pub password: &'a [u8],
+    pub peer_name: &'a [u8],
+    pub peer_password: &'a [u8],
+    pub tie_breaker: u64,
+    pub is_controlling: bool,
+}
+
+impl<'a> Model for Given<'a> {
+    ghost use Rattle.stun_c_endpoint.specs.Agents.{AgentGiven};
+
+    ghost Value = { AgentGiven };
+
+    ghost view = { λ given. record {
+      name = given.name.now;
+      password = given.password.now;
+      peer_name = given.peer_name.now;
+      peer_password = given.peer_password.now;
+      tie_breaker = given.tie_breaker;
+      controls = given.is_controlling;
+    } };
+}
+
+/// The refusal of credentials that make no agent.
+fn refusal_of_building(error: BuildError) -> Refusal
+    ensures { result ≡ refusal_of_building error }
+{
+    match error {
+        BuildError::NameLength => Refusal::BadArgument,
+        BuildError::ColonInName => Refusal::BadArgument,
+        BuildError::PasswordLength => Refusal::BadArgument,
+        BuildError::OutOfMemory => Refusal::OutOfMemory,
+        // There is no other one in this release.
+        _ => Refusal::BadArgument,
+    }
+}
+
+/// An agent, on the heap.
+fn boxed(alloc: Global, checker: Checker<Global>) -> Result<Box<Kept, Global>, AllocError>
+    ensures { IfOk result (λ made. made.value ≡ kind.Checker checker) }
+{
+    match Box::new(alloc, Kept::Checker(checker)) {
+        Ok(made) => Ok(made),
+        Err(_) => Err(AllocError),
+    }
+}
+
+impl<'a> Given<'a> {
+    /// Makes the agent in an empty handle, and returns 0 or the number of the refusal.
+    pub fn place(&self, alloc: Global, handle: &mut EndpointHandle) -> i64
+        requires { handle.old.kept ≡ None }
+        ensures { MakesAgent self.now result handle.new.kept }
+    {
+        match self.checker(alloc) {
+            Ok(checker) => match boxed(alloc, checker) {
+                Ok(made) => {
+                    handle.put(alloc, made);
+                    0
+                }
+                Err(_) => Refusal::OutOfMemory.code(),
+            },
+            Err(refusal) => refusal.code(),
+        }
+    }
+
+    /// Makes the agent.
+    #[tactic(auto, unfolding(crate::specs::Agents::agent_refusal))]
+    fn checker(&self, alloc: Global) -> Result<Checker<Global>, Refusal>
+        ensures refused { MatchOption (agent_refusal self.now)
+            (IsOkUnless result Refusal.OutOfMemory) (λ refusal. result ≡ Err refusal) }
+        ensures built { IfOk result (λ checker. checker ≡ agent_given self.now) }
+    {
+        let local = Credentials {
+            name: text(self.name)?,
+            password: text(self.password)?,
+        };
+        let remote = Credentials {
+            name: text(self.peer_name)?,
+            password: text(self.peer_password)?,
+        };
+        match Checker::new(
+            alloc,
+            local,
+            remote,
+            self.tie_breaker,
+            role_if(self.is_controlling),
+        ) {
+            Ok(checker) => Ok(checker),
+            Err(error) => Err(refusal_of_building(error)),
+        }
+    }
+}
+
+/// 1 if the agent of a handle controls, and 0 if it does not.
+pub fn controlling(kept: &Kept) -> Result<u32, Refusal>
+    ensures { number_answer result ≡ controlling_answer (agent_of kept.now) }
+{
+    match kept {
+        Kept::Checker(checker) => Ok(u32::from(is_controlling(checker.role()))),
+        Kept::Server(_) => Err(Refusal::EmptyHandle),
+        Kept::Users(_) => Err(Refusal::EmptyHandle),
+    }
+}
+
+/// Gives the agent of a handle another tie-breaker.
+pub fn set_tie_breaker(kept: &mut Kept, tie_breaker: u64) -> Result<(), Refusal>
+    ensures { SetsTieBreaker (agent_of kept.old) tie_breaker (done_answer result) (Some kept.old)
+        (Some kept.new) }
+{
+    match kept {
+        Kept::Checker(checker) => {
+            checker.set_tie_breaker(tie_breaker);
+            Ok(())
+        }
+        Kept::Server(_) => Err(Refusal::EmptyHandle),
+        Kept::Users(_) => Err(Refusal::EmptyHandle),
+    }
+}

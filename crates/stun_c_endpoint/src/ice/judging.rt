@@ -1,0 +1,149 @@
+//! What the call that judges a datagram at an agent of ICE does.
+
+ghost use Rattle.std.specs.Prelude.{◌≡◌, IfOk, IfErr, None, Some, length};
+ghost use Rattle.stun_ice.specs.Received.{checked, responded};
+ghost use Rattle.stun_handles.specs.Numbers.{number_answer};
+ghost use Rattle.stun_c_endpoint.specs.Checks.{check_given, check_stored};
+ghost use Rattle.stun_c_endpoint.specs.Judged.{LeavesSeen, SeesAs, TellsMapped, ice_blank};
+ghost use Rattle.stun_c_endpoint.specs.Judged.{missing_room, outcome_told, seen_at};
+ghost use Rattle.stun_c_endpoint.specs.Kept.{agent_of};
+ghost use Rattle.stun_c_endpoint.specs.declared.handle.endpoint.Kept.TheVariants as kind;
+
+use crate::handle::endpoint::Kept;
+use crate::ice::agent::role_if;
+use crate::ice::told::{ICE_RECEIVED_SIZE, IceCheck, IceReceived};
+use std::alloc::Global;
+use stun_handles::address::Address;
+use stun_ice::check::Check;
+use stun_ice::checker::Checker;
+use stun_ice::received::{Judged, Outcome, Received};
+use stun_ice::role::Role;
+use stun_numbers::buffer::put;
+use stun_numbers::id::transaction_id;
+use stun_numbers::refusal::Refusal;
+
+/// The check that a caller passes, if any.
+fn stored(
+    alloc: Global,
+    has_check: bool,
+    check: &IceCheck,
+) -> Result<Option<Check<Global>>, Refusal>
+    ensures ok { IfOk result (λ given. check_given has_check check.now ≡ Some given) }
+    ensures err { IfErr result (λ refusal. (check_given has_check check.now ≡ None)
+        × (refusal ≡ Refusal.BadArgument)) }
+{
+    if !has_check {
+        return Ok(None);
+    }
+    let to = check.to.socket()?;
+    let id = transaction_id(&check.id)?;
+    let role = role_if(check.is_controlling);
+    Ok(Some(Check::without_bytes(alloc, id, to, role, check.nominates)))
+}
+
+/// Judges a datagram by the agent of a handle, and tells what it comes to.
+pub fn judge_at(
+    alloc: Global,
+    kept: &mut Kept,
+    message: &[u8],
+    from: &Address,
+    has_check: bool,
+    check: &IceCheck,
+    out: &mut [u8],
+    received: &mut IceReceived,
+) -> Result<u32, Refusal>
+    ensures { SeesAs (seen_at (agent_of kept.old) has_check check.now from.now message.now
+        received.old) (number_answer result) out.old out.new received.old received.new
+        (Some kept.old) (Some kept.new) }
+{
+    match kept {
+        Kept::Checker(checker) => judge(
+            alloc, checker, message, from, has_check, check, out, received,
+        ),
+        Kept::Server(_) => Err(Refusal::EmptyHandle),
+        Kept::Users(_) => Err(Refusal::EmptyHandle),
+    }
+}
+
+/// The same by the agent.
+fn judge(
+    alloc: Global,
+    checker: &mut Checker<Global>,
+    message: &[u8],
+    from: &Address,
+    has_check: bool,
+    check: &IceCheck,
+    out: &mut [u8],
+    received: &mut IceReceived,
+) -> Result<u32, Refusal>
+    ensures { SeesAs (seen_at (Some checker.old) has_check check.now from.now message.now
+        received.old) (number_answer result) out.old out.new received.old received.new
+        (Some (kind.Checker checker.old)) (Some (kind.Checker checker.new)) }
+{
+    if received.size != ICE_RECEIVED_SIZE {
+        return Err(Refusal::BadArgument);
+    }
+    let from = from.socket()?;
+    let check = stored(alloc, has_check, check)?;
+    let before = checker.role();
+    match checker.receive(message, from, check.as_ref())? {
+        Received::Check { answer, judged } => {
+            answered(checker, before, answer.as_slice(), judged, out, received)
+        }
+        Received::Response(outcome) => {
+            ended(&outcome, received);
+            Ok(4)
+        }
+        Received::Indication(_) => {
+            received.indicated();
+            Ok(3)
+        }
+        Received::Dropped(why) => {
+            received.dropped(why);
+            Ok(0)
+        }
+        // There is no other one in this release.
+        _ => Err(Refusal::BadArgument),
+    }
+}
+
+/// Writes the answer to a check to the front of the buffer, and tells of it. If it has no room, its
+/// length is told, and the role is again the one before.
+fn answered(
+    checker: &mut Checker<Global>,
+    before: Role,
+    answer: &[u8],
+    judged: Judged,
+    out: &mut [u8],
+    received: &mut IceReceived,
+) -> Result<u32, Refusal>
+    ensures { LeavesSeen (missing_room (length out.old) (checked answer.now judged))
+        (record { agent = checker.old; given = checked answer.now judged }) (number_answer result)
+        out.old out.new received.old received.new
+        (Some (kind.Checker (record checker.old { role = before })))
+        (Some (kind.Checker checker.new)) }
+{
+    if out.len() < answer.len() {
+        checker.set_role(before);
+        received.length = answer.len();
+        return Err(Refusal::BufferTooSmall);
+    }
+    put(out, answer);
+    received.checked(judged, answer.len());
+    Ok(1)
+}
+
+/// Tells what the answer to a check of this agent comes to.
+fn ended(outcome: &Outcome, received: &mut IceReceived)
+    ensures told { received.new ≡ outcome_told outcome.now received.new.mapped
+        (ice_blank 4 received.old) }
+    ensures mapped { TellsMapped (responded outcome.now) received.new.mapped }
+{
+    match outcome {
+        Outcome::Valid(mapped) => received.valid(mapped),
+        Outcome::RoleConflict { switched } => received.conflict(*switched),
+        Outcome::Failed(failure) => received.failed(*failure),
+        // There is no other one in this release.
+        _ => {}
+    }
+}

@@ -1,0 +1,60 @@
+//! What the call that writes a check does.
+
+ghost use Rattle.std.specs.Prelude.{◌≡◌, Some};
+ghost use Rattle.stun_handles.specs.Numbers.{length_answer};
+ghost use Rattle.stun_c_endpoint.specs.Checks.{WritesCheck, check_asked};
+ghost use Rattle.stun_c_endpoint.specs.Kept.{agent_of};
+
+use crate::handle::endpoint::Kept;
+use crate::ice::told::IceCheck;
+use std::alloc::Global;
+use stun_handles::address::Address;
+use stun_ice::checker::Checker;
+use stun_numbers::buffer::put;
+use stun_numbers::id::transaction_id;
+use stun_numbers::refusal::Refusal;
+
+/// Writes a check of the agent of a handle.
+pub fn write_of(
+    kept: &Kept,
+    id: &[u8; 12],
+    to: &Address,
+    priority: u32,
+    nominate: bool,
+    out: &mut [u8],
+    check: &mut IceCheck,
+) -> Result<usize, Refusal>
+    ensures { WritesCheck (check_asked (agent_of kept.now) id.now to.now priority nominate)
+        (length_answer result) out.old out.new check.old check.new }
+{
+    match kept {
+        Kept::Checker(checker) => write(checker, id, to, priority, nominate, out, check),
+        Kept::Server(_) => Err(Refusal::EmptyHandle),
+        Kept::Users(_) => Err(Refusal::EmptyHandle),
+    }
+}
+
+/// Writes a check to the front of the buffer, and tells what its answer is judged by.
+fn write(
+    checker: &Checker<Global>,
+    id: &[u8; 12],
+    to: &Address,
+    priority: u32,
+    nominate: bool,
+    out: &mut [u8],
+    check: &mut IceCheck,
+) -> Result<usize, Refusal>
+    ensures { WritesCheck (check_asked (Some checker.now) id.now to.now priority nominate)
+        (length_answer result) out.old out.new check.old check.new }
+{
+    let to = to.socket()?;
+    let id = transaction_id(id)?;
+    let written = checker.check(id, to, priority, nominate)?;
+    let bytes = written.bytes();
+    if out.len() < bytes.len() {
+        return Err(Refusal::BufferTooSmall);
+    }
+    put(out, bytes);
+    *check = IceCheck::of(&written);
+    Ok(bytes.len())
+}

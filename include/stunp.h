@@ -276,7 +276,19 @@ typedef enum stunp_attribute_type {
     STUNP_PRIORITY = 0x0024,
     STUNP_USE_CANDIDATE = 0x0025,
     STUNP_ICE_CONTROLLED = 0x8029,
-    STUNP_ICE_CONTROLLING = 0x802a
+    STUNP_ICE_CONTROLLING = 0x802a,
+    /* TURN over TCP and with mobility (RFC 6062, section 6.2.1; RFC 8016, section 3.3) */
+    STUNP_CONNECTION_ID = 0x002a,
+    STUNP_MOBILITY_TICKET = 0x8030,
+    /* third-party authorization (RFC 7635, section 6) */
+    STUNP_ACCESS_TOKEN = 0x001b,
+    STUNP_THIRD_PARTY_AUTHORIZATION = 0x802e,
+    /* NAT behavior discovery (RFC 5780, section 7) */
+    STUNP_CHANGE_REQUEST = 0x0003,
+    STUNP_PADDING = 0x0026,
+    STUNP_RESPONSE_PORT = 0x0027,
+    STUNP_RESPONSE_ORIGIN = 0x802b,
+    STUNP_OTHER_ADDRESS = 0x802c
 } stunp_attribute_type;
 
 /* The algorithms of message integrity. A set of algorithms is a uint32_t; STUNP_SHA1 | STUNP_SHA256

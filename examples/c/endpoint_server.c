@@ -1,5 +1,5 @@
-/* A STUN server with one user, over stunp_endpoint.h. It tells that user the address that it sees,
- * and challenges everybody else.
+/* A STUN server with one user, over stunp_endpoint.h. It answers that user with the address that
+ * the request came from, and challenges everybody else.
  *
  *     endpoint_server PORT REALM NAME PASSWORD
  *

@@ -345,6 +345,67 @@ fn reads_addresses_and_texts() {
     refuses::<AlternateDomain>(&[&[b'a'; 256]]);
 }
 
+/// The values of RFC 5780, section 7, written out by hand.
+#[test]
+fn reads_what_discovery_writes() {
+    for (ip, port, flags) in [
+        (false, false, 0),
+        (false, true, 2),
+        (true, false, 4),
+        (true, true, 6),
+    ] {
+        let value = [0, 0, 0, flags];
+        let raw = RawAttribute::new(ChangeRequest::TYPE, &value);
+        let read = ChangeRequest::from_raw(raw).unwrap();
+        assert_eq!((read.change_ip(), read.change_port()), (ip, port));
+    }
+    let both = stands(ChangeRequest::new(true, true), 0x0003, &[0, 0, 0, 6]);
+    assert!(both.change_ip() && both.change_port());
+    // The other 30 bits are ignored.
+    let raw = RawAttribute::new(ChangeRequest::TYPE, &[0xFF, 0xFF, 0xFF, 0xF9]);
+    assert_eq!(
+        ChangeRequest::from_raw(raw).unwrap(),
+        ChangeRequest::new(false, false)
+    );
+    refuses::<ChangeRequest>(&[&[], &[0; 3], &[0; 8]]);
+
+    let port = stands(ResponsePort::new(0x1234), 0x0027, &[0x12, 0x34]);
+    assert_eq!(port.port(), 0x1234);
+    let raw = RawAttribute::new(ResponsePort::TYPE, &[0x12, 0x34, 7, 7]);
+    assert_eq!(ResponsePort::from_raw(raw).unwrap().port(), 0x1234);
+    refuses::<ResponsePort>(&[&[], &[0; 1], &[0; 3], &[0; 5]]);
+
+    let addr = "192.0.2.1:32853".parse().unwrap();
+    let value = [0, 1, 0x80, 0x55, 192, 0, 2, 1];
+    assert_eq!(
+        stands(ResponseOrigin::new(addr), 0x802B, &value).addr(),
+        addr
+    );
+    assert_eq!(stands(OtherAddress::new(addr), 0x802C, &value).addr(), addr);
+    refuses::<OtherAddress>(&[&[], &value[..7]]);
+    assert_eq!(
+        stands(Padding::new(&[1, 2, 3]), 0x0026, &[1, 2, 3]).padding(),
+        &[1, 2, 3]
+    );
+}
+
+/// RFC 6062, section 6.2.1; RFC 8016, section 3.3; RFC 7635, section 6.
+#[test]
+fn reads_what_extensions_of_turn_write() {
+    let id = stands(ConnectionId::new(0x0102_0304), 0x002A, &[1, 2, 3, 4]);
+    assert_eq!(id.connection(), 0x0102_0304);
+    refuses::<ConnectionId>(&[&[], &[0; 3], &[0; 5]]);
+    assert_eq!(stands(MobilityTicket::new(b""), 0x8030, b"").ticket(), b"");
+    assert_eq!(
+        stands(AccessToken::new(b"token"), 0x001B, b"token").token(),
+        b"token"
+    );
+    let name = ThirdPartyAuthorization::new("turn.example.org").unwrap();
+    let name = stands(name, 0x802E, b"turn.example.org");
+    assert_eq!(name.server_name(), "turn.example.org");
+    refuses::<ThirdPartyAuthorization>(&[&[0xFF]]);
+}
+
 #[test]
 fn nothing_is_fingerprinted_before_it_is_begun() {
     assert_eq!(

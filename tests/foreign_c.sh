@@ -1,5 +1,6 @@
 #!/bin/sh
-# Runs the tests and the transcripts in C over the library for other processors, under qemu:
+# Runs the tests in C over the library for other processors, under qemu, and for aarch64 also the
+# transcripts, whose player takes sizes and orders of bytes for those of x86-64:
 # usage: tests/foreign_c.sh [i686|armv7|aarch64|s390x] ..; all four where none is named. The first
 # two have sizes of 32 bits, and the last has the other order of bytes. It takes what Debian has, as
 # tests/export/foreign.sh does: the least Rust, the standard libraries, C compilers and qemu-user
@@ -44,15 +45,11 @@ passes() {
         $4-gcc $strict -I"$out" tests/c/$name.c $heap "$out/libstunp.a" -o "$out/$name.foreign"
         printf '#!/bin/sh\nexec %s "%s" "$@"\n' "$runs" "$out/$name.foreign" >"$out/$name"
         chmod +x "$out/$name"
-        [ $name = play ] || [ "$("$out/$name")" = "$name: passed" ] || return 1
+        [ $name != play ] || continue
+        [ "$("$out/$name")" = "$name: passed" ] || return 1
         echo "$name: passed"
     done
-    # No length of 64 bits is one on a target of 32.
-    rm -rf "$out/data" && cp -r crates/transcripts/data "$out/data"
-    case $1 in i686 | armv7)
-        sed -i '/^attribute takes 18446744073709551615 /d' "$out/data"/*.txt ;;
-    esac
-    python3 tests/play.py "$out/play" "$out/data"/*.txt
+    [ "$1" != aarch64 ] || python3 tests/play.py "$out/play" crates/transcripts/data/*.txt
 }
 
 every='arguments attributes extra agents endpoint handles hostile many users worked'
@@ -67,6 +64,6 @@ for target; do
     trap 'tail -n 20 "$log" >&2' EXIT
     # (an error ends what runs behind no `||`)
     (passes "$target" $of) >"$log" 2>&1
-    echo "$target: $(grep -c ': passed$' "$log") programs passed, $(tail -n 1 "$log")"
+    echo "$target: $(grep -c ': passed$' "$log") programs passed" "$(grep ^transcripts: "$log" || true)"
     trap - EXIT
 done

@@ -64,6 +64,7 @@ for target; do
     trap 'tail -n 20 "$log" >&2' EXIT
     # (an error ends what runs behind no `||`)
     (passes "$target" $of) >"$log" 2>&1
-    echo "$target: $(grep -c ': passed$' "$log") programs passed" "$(grep ^transcripts: "$log" || true)"
+    echo "$target: $(grep -c ': passed$' "$log") programs passed" \
+        "$(grep ^transcripts: "$log" || true)"
     trap - EXIT
 done

@@ -25,7 +25,8 @@ names() {
 passes() {
     packages="qemu-user gcc-$4"
     dpkg -s $packages >/dev/null 2>&1 ||
-        apt-get install -qq -y --no-install-recommends $packages libc6-dev-"$3"-cross >/dev/null
+        apt-get install -qq -y -o DPkg::Lock::Timeout=300 --no-install-recommends $packages \
+            libc6-dev-"$3"-cross >/dev/null
     upper=$(echo "$2" | tr a-z- A-Z_)
     export "CARGO_TARGET_${upper}_LINKER=$4-gcc" \
         "CARGO_TARGET_${upper}_RUSTFLAGS=--sysroot $(library "$3")"

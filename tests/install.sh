@@ -76,7 +76,7 @@ if [ $kind = proved ]; then
     cmp -s "$STUN_ENDPOINT" "$lib/libstunp_endpoint.a" || fail 'another archive'
 else
     # Nobody is told that they are proved.
-    ! in_root .. install KIND=proved >/dev/null 2>&1 || fail 'the exported archive is installed as proved'
+    ! in_root .. install KIND=proved >/dev/null 2>&1 || fail 'the exported archive counts as proved'
     rm -rf "$root"
     told=$(in_root .. install KIND=exported)
     wanted='the exported libraries: tested, not proved'

@@ -1,7 +1,7 @@
 #!/bin/sh
-# Makes the manual pages of the headers (include/manual.py) and reads each as `man -l` does, where it
-# is there: a warning is a failure, and so is a page that whatis could not list. Each call that the
-# headers declare has a page, which shows the declaration and names its errors in the header's order.
+# Makes the manual pages of the headers (include/manual.py) and reads each as `man -l` does, where
+# it is there: a warning is a failure, and so is a page that whatis could not list. Each call that the
+# headers declare has a page, which shows the declaration and names the errors in their order.
 set -eu
 cd "$(dirname "$0")/.."
 scratch=$(mktemp -d)
@@ -14,7 +14,8 @@ count = errors = 0
 for header in ("stunp.h", "stunp_state.h", "stunp_endpoint.h"):
     text = Path("include", header).read_text()
     for comment, declared, name in re.findall(
-            r"^/\*((?:(?!\*/).)*)\*/\n((?:STUNP_[A-Z_]+\b[^\n]*\n)*?(?:\w[^;{}()]*?\b)(stunp_\w+)\([^)]*\))",
+            r"^/\*((?:(?!\*/).)*)\*/\n"
+            r"((?:STUNP_[A-Z_]+\b[^\n]*\n)*?(?:\w[^;{}()]*?\b)(stunp_\w+)\([^)]*\))",
             text, re.M | re.S):
         page = Path(sys.argv[1], name + ".3").read_text()
         count += 1

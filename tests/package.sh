@@ -5,8 +5,8 @@
 #
 #     tests/package.sh [STUNP-VERSION-source.tar.gz]     without it, that of `make dist` is made
 #
-# The Debian is made by debootstrap and kept in ~/.cache/stunp-package. It is left out where there is
-# no debootstrap, root or network to make it. Rust is Debian's (rustc-web, cargo-web).
+# The Debian is made by debootstrap and kept in ~/.cache/stunp-package. It is left out where there
+# is no debootstrap, root or network to make it. Rust is Debian's (rustc-web, cargo-web).
 set -eu
 [ $# = 0 ] || release=$(realpath "$1")
 cd "$(dirname "$0")/.."
@@ -130,13 +130,13 @@ library=$(sed -n 's/^Package: \(libstunp[0-9].*\)/\1/p' stunp/debian/control)
     echo "libstunp.so.${library#libstunp} $library #MINVER#"
     echo '* Build-Depends-Package: libstunp-dev'
     cat stunp/include/stunp.h stunp/include/stunp_state.h stunp/include/stunp_endpoint.h |
-        sed -n '/^template/d; s/^\([A-Za-z].*[ *]\)\{0,1\}\(stunp_[a-z0-9_]*\)(.*/ \2@Base 0.2.0/p' |
-        LC_ALL=C sort
+        sed -n '/^template/d; s/^\([A-Za-z].*[ *]\)\{0,1\}\(stunp_[a-z0-9_]*\)(.*/\2/p' |
+        LC_ALL=C sort | sed "s/.*/ &@Base $(cat stunp/VERSION)/"
 } >"stunp/debian/$library.symbols"
 (cd stunp && DPKG_GENSYMBOLS_CHECK_LEVEL=4 dpkg-buildpackage -us -uc) >built 2>&1 ||
     { tail -n 40 built && exit 1; }
-# (its findings are its output; a status above 2 is an error of its own)
-lintian --allow-root --no-tag-display-limit --display-info --fail-on none stunp_*.changes >found 2>&1
+lintian --allow-root --tag-display-limit 0 --display-info --fail-on none stunp_*.changes \
+    >found 2>&1
 ! grep '^[EW]: ' found || exit 1
 dpkg -i ./*.deb >installed 2>&1 || { cat installed && exit 1; }
 cc -Wall -Werror three_calls.c -lstunp -o shared
@@ -155,4 +155,4 @@ if unshare -mn true 2>/dev/null; then mount='unshare -mn'; fi
 [ -n "$mount" ] || { echo 'package: left out, the network cannot be taken away'; exit 0; }
 env -i PATH=/usr/sbin:/usr/bin:/sbin:/bin LC_ALL=C.UTF-8 HOME=/root ROOT="$root" $mount sh -c '
     mount -t proc proc "$ROOT/proc" && exec chroot "$ROOT" sh /work/build.sh'
-echo "package: stunp $version is built without network, and lintian finds no error and no warning"
+echo "package: stunp $version is built without network, and lintian finds no error or warning"

@@ -1,6 +1,7 @@
 #!/bin/sh
-# Runs tests of tests/c and the transcripts over the libraries that tools/rust_c.sh left in target/c,
-# and with the word `udp` also programs on sockets.
+# Runs tests of tests/c and the transcripts over the libraries that tools/rust_c.sh left in
+# target/c, looks at their symbols and sizes, reads the manual and installs all of it. With the word
+# `udp` it also runs programs on sockets.
 set -eu
 cd "$(dirname "$0")/.."
 out=$PWD/target/c
@@ -57,8 +58,8 @@ three=$(size_of "$out/three_calls") shared=$(size_of "$out/libstunp.so")
 echo "rust_c: a program of three calls has $three bytes, the shared library $shared"
 case $(uname -sm) in
 'Linux x86_64' | 'Linux aarch64')
-    ${CC:-cc} -std=c11 -O2 -ffreestanding -fno-builtin -nostdlib -static -fno-stack-protector -Wall \
-        -Wextra -Werror -Iinclude tests/c/freestanding.c "$out/libstunp.a" -o "$out/freestanding"
+    ${CC:-cc} -std=c11 -O2 -ffreestanding -fno-builtin -nostdlib -static -fno-stack-protector \
+        -Wall -Wextra -Werror -Iinclude tests/c/freestanding.c "$out/libstunp.a" -o "$out/freestanding"
     "$out/freestanding" || fail "the program without a C library ended with $?"
     echo 'rust_c: a program without a C library passed' ;;
 esac

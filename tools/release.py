@@ -173,7 +173,7 @@ def install(folder):
     with tempfile.TemporaryDirectory() as scratch:
         run("make", "-s", "-C", os.path.join(TOP, "include"), "install", "TO=" + folder,
             "NAMED=$${pcfiledir}/../..", "OUT=" + scratch, "MESSAGES=" + messages,
-            "STATE=" + state, "ENDPOINT=" + endpoint, "PROGRAMS=" + programs,
+            "STATE=" + state, "ENDPOINT=" + endpoint, "PROGRAMS=" + programs, "KIND=proved",
             env={key: word for key, word in os.environ.items() if key[:4] != "MAKE"})
 
 

@@ -4,9 +4,6 @@
  *
  * The counts are changed in one step each, so handles may be used in several threads, each handle
  * in its own. */
-#ifndef STUNP_ANY_RELEASE
-#define STUNP_ANY_RELEASE /* it makes no call, and so wants no archive */
-#endif
 #include "heap.h"
 #include "stunp_state.h"
 #include <stdint.h>

@@ -34,10 +34,12 @@ def read_reasons(path):
         for line in file:
             if line.startswith("  "):
                 name, _, part = line.strip().partition(":")
-                reasons[subject][-1].patterns.append((name, part.strip()))
+                last = reasons[subject][-1]
+                reasons[subject][-1] = last._replace(
+                    patterns=(*last.patterns, (name, part.strip())))
             elif line.strip() and not line.startswith("#"):
                 subject, section, words = (part.strip() for part in line.split("|"))
-                reasons[subject].append(Reason(section, words, []))
+                reasons[subject].append(Reason(section, words, ()))
     return reasons
 
 
@@ -75,8 +77,15 @@ def cell(report):
             f"{sum(report.left.values())}")
 
 
+def unused(name, reports, reasons):
+    """Explanations of a subject that explain nothing any more."""
+    used = {reason_of(other, reasons[name]) for report in reports.values()
+            for other in report.others}
+    return [reason for reason in reasons[name] if reason not in used]
+
+
 def explained(name, reports, reasons):
-    """The lines of a subject's differences, and how many have no explanation."""
+    """The lines of a subject's differences, and those that have no explanation."""
     found, missing = {}, []
     for report in reports.values():
         for other in report.others:
@@ -85,11 +94,16 @@ def explained(name, reports, reasons):
                 missing.append(other)
             else:
                 found.setdefault(reason[:2], []).append(other)
-    lines = [f"- {section}: it {words}. {len(others)} "
-             f"{'line' if len(others) == 1 else 'lines'}, such as `{others[0].raw[:120]}`, "
+    lines = [f"- {section}: it {words}. {counted(others)}, such as `{others[0].raw[:120]}`, "
              f"answered `{str(others[0].came)[:80]}`."
              for (section, words), others in found.items()]
     return lines, missing
+
+
+def counted(others):
+    """How many lines of each mark."""
+    marks = collections.Counter(other.mark.split()[0] for other in others)
+    return ", ".join(f"{count} of a {mark}" for mark, count in sorted(marks.items(), reverse=True))
 
 
 def page(results, reasons):
@@ -117,6 +131,9 @@ def main(words):
     text, unexplained = page(results, reasons)
     for name, other in unexplained:
         print(f"not explained: {name}: {other.file}:{other.line}\n  {other.raw}\n  {other.came}")
+    for name, (reports, _) in results.items():
+        for reason in unused(name, reports, reasons) if reports else []:
+            print(f"explains nothing: {name}: {reason.words}")
     with open(os.path.join(HERE, "RESULTS.md"), "w", encoding="utf-8") as file:
         file.write(text)
     own = sum(len(report.others) for name in OWN for report in (results[name][0] or {}).values())

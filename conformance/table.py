@@ -18,6 +18,8 @@ PACKAGES = {"aioice": "python3-aioice", "pion": "golang-github-pion-stun-dev",
             "libnice": "libnice-dev", "coturn": "coturn", "libre": "libre-dev",
             "turnserver": "coturn"}
 OWN = ("stunp", "model")
+COLUMNS = ("| Section | What it does | MUST | Choice | A line | What came |",
+           "|---|---|---|---|---|---|")
 HEAD = """\
 `conformance/table.py` writes this page; do not edit it. A cell has four counts: the calls that were
 answered as written, those answered otherwise where an RFC says MUST, those answered otherwise where
@@ -85,7 +87,7 @@ def unused(name, reports, reasons):
 
 
 def explained(name, reports, reasons):
-    """The lines of a subject's differences, and those that have no explanation."""
+    """The rows of a subject's differences, and the differences that have no explanation."""
     found, missing = {}, []
     for report in reports.values():
         for other in report.others:
@@ -94,16 +96,16 @@ def explained(name, reports, reasons):
                 missing.append(other)
             else:
                 found.setdefault(reason[:2], []).append(other)
-    lines = [f"- {section}: it {words}. {counted(others)}, such as `{others[0].raw[:120]}`, "
-             f"answered `{str(others[0].came)[:80]}`."
-             for (section, words), others in found.items()]
-    return lines, missing
+    rows = [row(section, words, others) for (section, words), others in found.items()]
+    return rows, missing
 
 
-def counted(others):
-    """How many lines of each mark."""
+def row(section, words, others):
+    """A difference as a row: how many lines of each mark, and the first of them."""
     marks = collections.Counter(other.mark.split()[0] for other in others)
-    return ", ".join(f"{count} of a {mark}" for mark, count in sorted(marks.items(), reverse=True))
+    raw, came = (text.replace("|", "\\|") for text in (others[0].raw, str(others[0].came)))
+    return (f"| {section} | It {words} | {marks['MUST']} | {marks['CHOICE']} | `{raw[:120]}` | "
+            f"`{came[:80]}` |")
 
 
 def page(results, reasons):
@@ -121,7 +123,7 @@ def page(results, reasons):
         told, missing = explained(name, reports, reasons) if reports else ([], [])
         unexplained += [(name, other) for other in missing]
         if told:
-            lines += ["", f"## {name}", "", *told]
+            lines += ["", f"## {name}", "", *COLUMNS, *told]
     return "\n".join(lines) + "\n", unexplained
 
 

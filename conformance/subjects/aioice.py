@@ -1,6 +1,7 @@
-"""aioice as a subject: stun.py for levels 0 and 1, and ice.StunProtocol, under a clock that the player
-sets, for level 3. One call of stun.py reads a whole message and verifies MESSAGE-INTEGRITY and
-FINGERPRINT on the way. It claims RFC 5389."""
+"""aioice as a subject: stun.py for levels 0 and 1, and ice.StunProtocol for level 3.
+
+One call of stun.py reads a whole message and verifies MESSAGE-INTEGRITY and FINGERPRINT on the way.
+StunProtocol runs under a clock that the player sets. It claims RFC 5389."""
 
 import asyncio
 import struct

@@ -14,6 +14,8 @@ DATA = os.path.join(TOP, "crates", "transcripts", "data")
 class Own:
     """A file of a level. A paragraph without a mark is only repeated by others."""
 
+    has_ours = False  # each call is one of the suite
+
     def __init__(self, path, file):
         self.path, self.file = os.path.relpath(path, TOP), file
         for paragraph in file.paragraphs:
@@ -33,6 +35,8 @@ class Own:
 
 class Transcript:
     """A file of crates/transcripts/data, with the marks of an index."""
+
+    has_ours = True
 
     def __init__(self, path, mark):
         self.path, self.mark, self.exceptions = os.path.relpath(path, TOP), mark, []

@@ -108,6 +108,10 @@ class Player:
             return stage.answer(line.words)
         except Words:
             return "?"
+        except Ours:
+            if part.has_ours:
+                raise
+            return "?"
         except Refused:
             return "refused"
         except Strange as strange:

@@ -63,7 +63,8 @@ class Messages:
         kind = reading.type_word(name)
         came = self.ask("attribute", f"0x{kind:04x}", hexadecimal(data))
         try:
-            return came if came == "none" else grammar.readable(kind, came)
+            is_raw = came == "none" or name.startswith("0x")
+            return came if is_raw else grammar.readable(kind, came)
         except UnicodeDecodeError:
             if "raw-texts" in self.claims:
                 raise Left("a text that is not UTF-8") from None
@@ -111,7 +112,7 @@ class Writing:
         method = "0x001" if method == "binding" else method
         data = self.written("begin", name, method, "0x" + "00" * 11 + "01")
         told = self.read(data).partition(" id ")[0]
-        return told + (", binding" if method == "0x001" else "")
+        return told + (", binding" if int(method, 16) == 1 else "")
 
     def written(self, call, *words):
         return from_hexadecimal(self.ask(call, *words))
@@ -127,7 +128,8 @@ class Writing:
             return self.written("sign", hexadecimal(data), used,
                                 hexadecimal(reading.key_for(value, kind)))
         kind = reading.type_word(name)
-        return self.written("add", hexadecimal(data), f"0x{kind:04x}", self.value(kind, value))
+        value = value if name.startswith("0x") else self.value(kind, value)
+        return self.written("add", hexadecimal(data), f"0x{kind:04x}", value)
 
     def value(self, kind, word):
         """A file's word for a value, as a subject is given it."""
@@ -187,7 +189,9 @@ class Writing:
     def attribute_makes(self, *words):
         """The value that is read back from what the subject wrote."""
         data, kind = self.one_attribute(words)
-        return reading.shown(kind, reading.value_in(data, kind), data)
+        value = reading.value_in(data, kind)
+        is_raw = words[-1].startswith("0x")
+        return hexadecimal(value) if is_raw else reading.shown(kind, value, data)
 
     # ---- Short-term credentials (section 9.1).
 
@@ -258,8 +262,9 @@ class Replies:
         """The security bits of its nonce, as sent (section 9.2): those of features 0 and 1."""
         nonce = reading.value_in(self.last(), grammar.TYPES["NONCE"]) or b""
         bits = security_bits(nonce)
-        named = [name for name, bit in (("algorithms", 0x80), ("hashes", 0x40))
-                 if bits and bits[0] & bit]
+        number = int.from_bytes(bits or b"", "big")
+        named = [name for name, mask in (("algorithms", 0x800000), ("hashes", 0x400000),
+                                         ("others", 0x3FFFFF)) if number & mask]
         return " ".join(named) or "none"
 
 
@@ -317,11 +322,15 @@ class Credentials:
         self.user = None
         return self.done("client-new")
 
-    def client_user(self, name, password):
+    def client_user(self, name=None, password=None):
+        if name is None:
+            raise Ours("client user")
         self.user = name, password
         return self.done("client-user", hexadecimal(text(name)), hexadecimal(text(password)))
 
-    def client_hashes(self, word):
+    def client_hashes(self, word=None):
+        if word is None:
+            raise Ours("client hashes")
         if word not in FEATURES:
             raise Words(word)
         return self.done("client-hashes", word)

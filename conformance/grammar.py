@@ -70,6 +70,8 @@ def shown_text(value):
 
 
 def shown_time(moment):
+    if moment >= spelling.FOREVER:
+        return "max"
     return f"{moment // 10**6}ms" if moment % 10**6 == 0 else f"{moment}ns"
 
 

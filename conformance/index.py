@@ -6,13 +6,15 @@ played as they are (GRAMMAR.md, "INDEX")."""
 import os
 
 from grammar import TOP, read_file
-from transcripts import wanted_of
+from transcripts import name_of, wanted_of
 
 DATA = os.path.join(TOP, "crates", "transcripts", "data")
 
 
 class Own:
     """A file of a level. A paragraph without a mark is only repeated by others."""
+
+    has_ours = False  # each call is one of the suite
 
     def __init__(self, path, file):
         self.path, self.file = os.path.relpath(path, TOP), file
@@ -27,9 +29,14 @@ class Own:
     def is_alike(self, stage, line, came):
         return came == line.answer
 
+    def is_ours(self, line):
+        return False
+
 
 class Transcript:
     """A file of crates/transcripts/data, with the marks of an index."""
+
+    has_ours = True
 
     def __init__(self, path, mark):
         self.path, self.mark, self.exceptions = os.path.relpath(path, TOP), mark, []
@@ -49,6 +56,10 @@ class Transcript:
     def is_alike(self, stage, line, came):
         return wanted_of(stage, line, came) == came
 
+    def is_ours(self, line):
+        """The nonces of a server in a transcript are made of drawn numbers as this library does."""
+        return name_of(line.words).startswith("server ")
+
 
 def read_index(path):
     """A line at the margin is a file and its mark; one that is set in, `MARK: TITLE`, an
@@ -65,6 +76,13 @@ def read_index(path):
             mark, _, title = line.strip().partition(": ")
             made[-1].except_for(mark, title)
     return made
+
+
+def file(path):
+    """A file by its path: one of a level, or a transcript, whose paragraphs have no marks."""
+    if os.path.dirname(os.path.abspath(path)) == DATA:
+        return Transcript(os.path.abspath(path), "CHOICE as this transcript says")
+    return Own(path, read_file(path))
 
 
 def level(folder):

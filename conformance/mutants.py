@@ -10,7 +10,7 @@ import os
 import resource
 import sys
 
-from plants import MODEL, Planted, found_by
+from plants import found_by, read_model
 from play import LEVELS, parts_of
 
 MOST_SECONDS, MOST_MEMORY = 5, 1 << 29
@@ -58,30 +58,29 @@ def mutants(source):
             back()
 
 
-def is_found(source, parts):
+def is_found(sources, parts):
     """Plays in a process of its own, because a changed model may never end or fill the memory."""
     child = os.fork()
     if child == 0:
         resource.setrlimit(resource.RLIMIT_CPU, (MOST_SECONDS, MOST_SECONDS))
         resource.setrlimit(resource.RLIMIT_AS, (MOST_MEMORY, MOST_MEMORY))
         try:
-            os._exit(0 if found_by(source, parts) is None else 1)
+            os._exit(0 if found_by(sources, parts) is None else 1)
         except BaseException:  # the changed model cannot even be made, or is too large
             os._exit(1)
     return os.waitpid(child, 0)[1] != 0
 
 
 def main():
-    with open(MODEL, encoding="utf-8") as file:
-        source = file.read()
-    parts, lines, tried, missed = parts_of(LEVELS, ()), source.split("\n"), 0, 0
-    whole = ast.unparse(ast.parse(source)).split("\n")
-    for line, changed in mutants(source):
-        tried += 1
-        if not is_found(changed, parts):
-            missed += 1
-            other = next((new for old, new in zip(whole, changed.split("\n")) if old != new), "")
-            print(f"{line}: {lines[line - 1].strip()}\n    {other.strip()}")
+    model, parts, tried, missed = read_model(), parts_of(LEVELS, ()), 0, 0
+    for name, source in model.items():
+        lines, whole = source.split("\n"), ast.unparse(ast.parse(source)).split("\n")
+        for line, changed in mutants(source):
+            tried += 1
+            if not is_found({**model, name: changed}, parts):
+                missed += 1
+                other = next((new for old, new in zip(whole, changed.split("\n")) if old != new), "")
+                print(f"{name}:{line}: {lines[line - 1].strip()}\n    {other.strip()}")
     print(f"mutants: {tried} tried, {tried - missed} found, {missed} missed")
     return 0
 

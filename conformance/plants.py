@@ -12,16 +12,34 @@ from play import LEVELS, Player, parts_of
 from subject import Module
 
 HERE = os.path.dirname(os.path.abspath(__file__))
-MODEL = os.path.join(HERE, "subjects", "model.py")
+# The files of the model, those first that others import.
+MODEL = ("model.wire", "model.values", "model.credentials", "model.transactions",
+         "subjects.model")
 MOST_MISSED = 4
 
 
-class Planted(Module):
-    """The model with other text."""
+def read_model():
+    """The text of each file of the model, by its name."""
+    sources = {}
+    for name in MODEL:
+        with open(os.path.join(HERE, *name.split(".")) + ".py", encoding="utf-8") as file:
+            sources[name] = file.read()
+    return sources
 
-    def __init__(self, source):
-        self.module = types.ModuleType("planted")
-        exec(compile(source, "planted", "exec"), self.module.__dict__)
+
+class Planted(Module):
+    """The model with other text. Its modules take the place of the model's only while it is made."""
+
+    def __init__(self, sources):
+        old = {name: sys.modules.get(name) for name in MODEL}
+        for name, source in sources.items():
+            self.module = sys.modules[name] = types.ModuleType(name)
+            exec(compile(source, name, "exec"), self.module.__dict__)
+        for name, module in old.items():
+            if module is None:
+                del sys.modules[name]
+            else:
+                sys.modules[name] = module
 
 
 def read_plants(path):
@@ -36,9 +54,9 @@ def read_plants(path):
             yield lines[0], old, new
 
 
-def found_by(source, parts):
+def found_by(sources, parts):
     """The first file and line whose answer comes otherwise, or None."""
-    player = Player(Planted(source))
+    player = Player(Planted(sources))
     for part in parts:
         report = player.play(part)
         if report.others:
@@ -47,8 +65,7 @@ def found_by(source, parts):
 
 
 def main(names):
-    with open(MODEL, encoding="utf-8") as file:
-        model = file.read()
+    model = read_model()
     parts, tried, missed, wrong = parts_of(LEVELS, ()), 0, 0, 0
     if found_by(model, parts) is not None:
         sys.exit("plants: the model itself is answered otherwise")
@@ -56,11 +73,13 @@ def main(names):
         if names and name not in names:
             continue
         tried += 1
-        if model.count(old) != 1:
+        places = [one for one, source in model.items() for _ in range(source.count(old))]
+        if len(places) != 1:
             wrong += 1
-            print(f"cannot be planted: {name} ({model.count(old)} places)")
+            print(f"cannot be planted: {name} ({len(places)} places)")
             continue
-        where = found_by(model.replace(old, new), parts)
+        changed = model[places[0]].replace(old, new)
+        where = found_by({**model, places[0]: changed}, parts)
         missed += where is None
         if where is None or names:
             print(f"{'missed' if where is None else 'found by ' + where}: {name}")

@@ -19,10 +19,10 @@ import time
 
 import index
 from calls import Stage
-from grammar import Words, read_file
+from grammar import Words
 from shipped import start
 from subject import Asker, Left, Ours, Refused, Strange
-from transcripts import is_telling, wanted_of
+from transcripts import is_telling, name_of
 
 LEVELS = ("0-read", "1-write", "2-credentials", "3-transactions")
 HERE = os.path.dirname(os.path.abspath(__file__))
@@ -75,9 +75,9 @@ class Player:
                 if cause is not None:
                     raise cause
                 if line.words[0] == "like":
-                    self.repeat(stage, part.file.named(" ".join(line.words[1:])))
+                    self.repeat(stage, part.file.named(" ".join(line.words[1:])), part)
                     continue
-                came = self.make(stage, line)
+                came = self.make(stage, line, part)
             except Left as left:
                 counted = report.ours if isinstance(left, Ours) else report.left
                 counted[str(left)] += line.answer is not None
@@ -92,19 +92,25 @@ class Player:
                 report.others.append(Other(part.path, line.at, line.raw, came, mark,
                                            paragraph.title))
 
-    def repeat(self, stage, paragraph):
+    def repeat(self, stage, paragraph, part):
         """Plays the lines of another paragraph, whatever is answered."""
         for line in paragraph.lines:
             try:
-                self.make(stage, line)
+                self.make(stage, line, part)
             except Left:
                 if not is_telling(line.words):
                     raise
 
-    def make(self, stage, line):
+    def make(self, stage, line, part):
+        if part.is_ours(line):
+            raise Ours(name_of(line.words))
         try:
             return stage.answer(line.words)
         except Words:
+            return "?"
+        except Ours:
+            if part.has_ours:
+                raise
             return "?"
         except Refused:
             return "refused"
@@ -117,7 +123,7 @@ class Player:
 def parts_of(levels, files):
     """The files to play, with their marks."""
     if files:
-        return [index.Own(path, read_file(path)) for path in files]
+        return [index.file(path) for path in files]
     return [part for level in levels for part in index.level(os.path.join(HERE, "levels", level))]
 
 

@@ -138,3 +138,5 @@ def start(word):
         return (STARTS[word]() if word in STARTS else subject_of(word)), None
     except Missing as why:
         return None, str(why)
+    except OSError as error:
+        raise SystemExit(f"{word} is no subject: {error}") from None

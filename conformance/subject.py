@@ -5,8 +5,11 @@ call `server-hears`. It takes the words of the call as strings, and returns the 
 
 import importlib.util
 import os
+import select
 import shlex
 import subprocess
+
+MOST_SECONDS = 20  # that a program may take for an answer
 
 
 class Left(Exception):
@@ -66,13 +69,20 @@ class Program:
         try:
             self.process.stdin.write(" ".join([call, *words]) + "\n")
             self.process.stdin.flush()
+            if not select.select([self.process.stdout], [], [], MOST_SECONDS)[0]:
+                self.process.kill()
+                self.process.wait()
+                return f"ended after {MOST_SECONDS} s without an answer"
             came = self.process.stdout.readline()
         except BrokenPipeError:
             came = ""
         return came.rstrip("\n") if came else f"ended with status {self.process.wait()}"
 
     def end(self):
-        self.process.stdin.close()
+        try:
+            self.process.stdin.close()
+        except BrokenPipeError:
+            pass  # it has ended by itself
         self.process.wait()
 
 
@@ -103,4 +113,5 @@ class Asker:
 
 def subject_of(word):
     """A Python file by its path, or the command of a program."""
-    return Module(word) if word.endswith(".py") else Program(word)
+    is_file = word.endswith(".py") and " " not in word
+    return Module(word) if is_file else Program(word)

@@ -18,6 +18,8 @@ PACKAGES = {"aioice": "python3-aioice", "pion": "golang-github-pion-stun-dev",
             "libnice": "libnice-dev", "coturn": "coturn", "libre": "libre-dev",
             "turnserver": "coturn"}
 OWN = ("stunp", "model")
+COLUMNS = ("| Section | What it does | MUST | Choice | A line | What came |",
+           "|---|---|---|---|---|---|")
 HEAD = """\
 `conformance/table.py` writes this page; do not edit it. A cell has four counts: the calls that were
 answered as written, those answered otherwise where an RFC says MUST, those answered otherwise where
@@ -34,10 +36,12 @@ def read_reasons(path):
         for line in file:
             if line.startswith("  "):
                 name, _, part = line.strip().partition(":")
-                reasons[subject][-1].patterns.append((name, part.strip()))
+                last = reasons[subject][-1]
+                reasons[subject][-1] = last._replace(
+                    patterns=(*last.patterns, (name, part.strip())))
             elif line.strip() and not line.startswith("#"):
                 subject, section, words = (part.strip() for part in line.split("|"))
-                reasons[subject].append(Reason(section, words, []))
+                reasons[subject].append(Reason(section, words, ()))
     return reasons
 
 
@@ -75,8 +79,15 @@ def cell(report):
             f"{sum(report.left.values())}")
 
 
+def unused(name, reports, reasons):
+    """Explanations of a subject that explain nothing any more."""
+    used = {reason_of(other, reasons[name]) for report in reports.values()
+            for other in report.others}
+    return [reason for reason in reasons[name] if reason not in used]
+
+
 def explained(name, reports, reasons):
-    """The lines of a subject's differences, and how many have no explanation."""
+    """The rows of a subject's differences, and the differences that have no explanation."""
     found, missing = {}, []
     for report in reports.values():
         for other in report.others:
@@ -85,11 +96,16 @@ def explained(name, reports, reasons):
                 missing.append(other)
             else:
                 found.setdefault(reason[:2], []).append(other)
-    lines = [f"- {section}: it {words}. {len(others)} "
-             f"{'line' if len(others) == 1 else 'lines'}, such as `{others[0].raw[:120]}`, "
-             f"answered `{str(others[0].came)[:80]}`."
-             for (section, words), others in found.items()]
-    return lines, missing
+    rows = [row(section, words, others) for (section, words), others in found.items()]
+    return rows, missing
+
+
+def row(section, words, others):
+    """A difference as a row: how many lines of each mark, and the first of them."""
+    marks = collections.Counter(other.mark.split()[0] for other in others)
+    raw, came = (text.replace("|", "\\|") for text in (others[0].raw, str(others[0].came)))
+    return (f"| {section} | It {words} | {marks['MUST']} | {marks['CHOICE']} | `{raw[:120]}` | "
+            f"`{came[:80]}` |")
 
 
 def page(results, reasons):
@@ -107,7 +123,7 @@ def page(results, reasons):
         told, missing = explained(name, reports, reasons) if reports else ([], [])
         unexplained += [(name, other) for other in missing]
         if told:
-            lines += ["", f"## {name}", "", *told]
+            lines += ["", f"## {name}", "", *COLUMNS, *told]
     return "\n".join(lines) + "\n", unexplained
 
 
@@ -117,6 +133,9 @@ def main(words):
     text, unexplained = page(results, reasons)
     for name, other in unexplained:
         print(f"not explained: {name}: {other.file}:{other.line}\n  {other.raw}\n  {other.came}")
+    for name, (reports, _) in results.items():
+        for reason in unused(name, reports, reasons) if reports else []:
+            print(f"explains nothing: {name}: {reason.words}")
     with open(os.path.join(HERE, "RESULTS.md"), "w", encoding="utf-8") as file:
         file.write(text)
     own = sum(len(report.others) for name in OWN for report in (results[name][0] or {}).values())

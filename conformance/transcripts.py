@@ -1,8 +1,6 @@
 """The answers of crates/transcripts/data in the words of the suite: no names of refusals, one
 spelling of an algorithm, and signed messages by their meaning."""
 
-import re
-
 import reading
 from grammar import shown_time, unhex
 from spelling import begins_with_digit
@@ -42,8 +40,6 @@ def is_telling(words):
 
 def plainly(answer):
     """An answer without the names of this library."""
-    if "; " in answer or re.match(r"\d+ (header|[A-Z])", answer):
-        return merged([one.split(" ", 1) for one in answer.split("; ")])
     first = answer.split()[0] if answer else ""
     if first == "MissingAttribute":
         return "none"
@@ -72,8 +68,10 @@ def wanted_of(stage, line, came):
     if name_of(line.words) in ("client signs", "short-term signs") and len(line.answer) >= 40:
         found = reading.difference(stage.reply or b"", unhex(line.answer), stage.secret)
         return came if found is None else f"a message without: {found}"
+    if name_of(line.words) in ("message prefixes", "message tails"):
+        return merged([one.split(" ", 1) for one in line.answer.split("; ")])
     plain = plainly(line.answer)
-    if name_of(line.words) == "digest key" and plain == "none":
+    if name_of(line.words) in ("digest key", "message type") and plain == "none":
         return "refused"
     # The library asks for a poll in an hour where nothing is awaited.
     if came == "idle" and plain == "wait " + shown_time(stage.now + 3600 * 10**9):

@@ -24,7 +24,7 @@ NUMBERS = {0x24: (4, 0), 0x0D: (4, 0), 0x8029: (8, 0), 0x802A: (8, 0), 0x0C: (4,
 EVEN_PORT = 0x18
 # Values that the header has no call for, and the longest texts: the calls that read and write
 # texts leave their lengths to the caller. Both are left out.
-WITHOUT_CALLS = (0x1D, 0x8002, 0x1E, 0x17, 0x8000)
+WITHOUT_CALLS = (0x08, 0x1C, 0x1D, 0x8002, 0x1E, 0x17, 0x8000)
 LIMITS = {6: 513, 0x14: 763, 0x15: 763}
 ROOM, HOUR = 70000, 3600 * 10**9
 SECRET = ctypes.c_char_p(bytes(range(1, 33)))

@@ -8,6 +8,9 @@
 //! Each call is timed in several rounds that do the same, and the least time of each call counts,
 //! so that other work of the machine does not. A row has the median of the calls, the time that
 //! one call in a thousand exceeds, and the longest, in nanoseconds.
+//!
+//! On Linux, `growth memory 100000` prints the resident bytes of an outstanding request, a user and
+//! an address with a nonce, if there are that many.
 
 use seatcrane_stun::Instant;
 use seatcrane_stun::agent::{StunAgent, StunAgentPollRet};
@@ -216,12 +219,61 @@ fn server(size: usize, table: &mut Table) {
     });
 }
 
+/// The resident memory of this process, in bytes.
+fn resident() -> usize {
+    let statm = std::fs::read_to_string("/proc/self/statm").expect("Linux");
+    let pages = statm.split(' ').nth(1).unwrap();
+    4096 * pages.parse::<usize>().unwrap()
+}
+
+fn memory(size: usize) {
+    let before = resident();
+    let remote: SocketAddr = ([192, 0, 2, 1], 3478).into();
+    let mut agent = StunAgent::builder(TransportType::Udp, remote).build();
+    for i in 0..size {
+        let page = Message::builder_request_with_id(BINDING, id(i), MessageWriteVec::new());
+        agent.send_request(&page.finish(), remote, at(0)).unwrap();
+    }
+    let sent = resident();
+    let mut server = LongTermServerAuth::new("example.org".to_string());
+    for i in 0..size {
+        server.add_user(credentials(i));
+    }
+    let added = resident();
+    for i in 0..size {
+        let page = Message::builder_request_with_id(BINDING, id(i), MessageWriteVec::new());
+        let page = page.finish();
+        let request = Message::from_bytes(&page).unwrap();
+        let words = std::array::from_fn(|k| scattered(i * 8 + k) as u32);
+        let judged =
+            server.validate_incoming_message_with_words(&request, address(i), at(0), words);
+        assert!(judged.is_err());
+    }
+    let challenged = resident();
+    println!("| Resident bytes | of {size} |\n|---|---|");
+    println!(
+        "| an outstanding request of 20 bytes | {} |",
+        (sent - before) / size
+    );
+    println!("| a user | {} |", (added - sent) / size);
+    println!(
+        "| an address with a nonce | {} |",
+        (challenged - added) / size
+    );
+    assert!(agent.poll_transmit(at(0)).is_none());
+}
+
 fn main() {
+    let arguments: Vec<String> = std::env::args().skip(1).collect();
+    let size = |text: &String| {
+        text.parse()
+            .expect("a number of requests, or of users and addresses")
+    };
+    if arguments.len() == 2 && arguments[0] == "memory" {
+        return memory(size(&arguments[1]));
+    }
     println!("| Call | of | median | one in 1,000 | longest |\n|---|---|---|---|---|");
-    for size in std::env::args().skip(1) {
-        let size: usize = size
-            .parse()
-            .expect("a number of requests, or of users and addresses");
+    for size in arguments.iter().map(size) {
         let mut table = Table::default();
         for _ in 0..ROUNDS {
             agent(size, &mut table);

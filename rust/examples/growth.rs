@@ -275,10 +275,8 @@ fn main() {
     println!("| Call | of | median | one in 1,000 | longest |\n|---|---|---|---|---|");
     for size in arguments.iter().map(size) {
         let mut table = Table::default();
-        for _ in 0..ROUNDS {
-            agent(size, &mut table);
-            server(size, &mut table);
-        }
+        (0..ROUNDS).for_each(|_| agent(size, &mut table));
+        (0..ROUNDS).for_each(|_| server(size, &mut table));
         table.print(size);
     }
 }

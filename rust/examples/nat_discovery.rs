@@ -152,7 +152,7 @@ impl Tests {
                     match self.socket.recv_from(&mut bytes) {
                         // The client knows one address of its server, the one that it asked.
                         Ok((length, source)) if source == from => {
-                            drop(client.receive(&bytes[..length], to, clock.now()));
+                            let _ = client.receive(&bytes[..length], to, clock.now());
                         }
                         _ => {}
                     }

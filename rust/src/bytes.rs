@@ -58,12 +58,14 @@ bytes_attribute!(
     /// use seatcrane_stun::types::message::*;
     /// use seatcrane_stun::types::prelude::*;
     ///
-    /// # let id = TransactionId::from(*b"any 12 bytes"); # let peer =
-    /// "192.0.2.15:9001".parse().unwrap(); let send =
-    /// MessageType::from_class_method(MessageClass::Indication, TurnMethod::Send.method()); let mut
-    /// send = Message::builder(send, id, MessageWriteVec::new());
+    /// # let id = TransactionId::from(*b"any 12 bytes");
+    /// # let peer = "192.0.2.15:9001".parse().unwrap();
+    /// let send = TurnMethod::Send.method();
+    /// let send = MessageType::from_class_method(MessageClass::Indication, send);
+    /// let mut send = Message::builder(send, id, MessageWriteVec::new());
     /// send.add_attribute(&XorPeerAddress::new(peer, id))?;
-    /// send.add_attribute(&Data::new(b"media"))?; let send = send.finish();
+    /// send.add_attribute(&Data::new(b"media"))?;
+    /// let send = send.finish();
     ///
     /// let send = Message::from_bytes(&send).unwrap();
     /// assert_eq!(send.attribute::<Data>().unwrap().data(), b"media");

@@ -1,5 +1,7 @@
 //! FINGERPRINT, unknown attributes and streams of messages, at the samples of RFC 5769. The values
-//! of further attributes are typed from RFC 8489, 8445 and 8656.
+//! of further attributes are typed from RFC 8489, 8445, 8656, 5780, 6062, 7635 and 8016.
+use seatcrane_stun::Instant;
+use seatcrane_stun::endpoint::{Body, Client, Output};
 use seatcrane_stun::extra::attribute::*;
 use seatcrane_stun::extra::turn::{self, TurnMethod};
 use seatcrane_stun::extra::{
@@ -387,6 +389,26 @@ fn reads_what_discovery_writes() {
         stands(Padding::new(&[1, 2, 3]), 0x0026, &[1, 2, 3]).padding(),
         &[1, 2, 3]
     );
+}
+
+/// A client asks for a long response (RFC 5780, section 7.6), and PADDING must be understood.
+#[test]
+fn a_client_understands_padding() {
+    let server = "192.0.2.1:3478".parse().unwrap();
+    let mut client = Client::builder(server).build([7; 32]).unwrap();
+    let body = Body::new().add(&Padding::new(&[0; 1500])).unwrap();
+    client.request(BINDING, body, Instant::ZERO).unwrap();
+    let Output::Transmit(request) = client.poll(Instant::ZERO) else {
+        panic!("a request is sent");
+    };
+    let request = Message::from_bytes(request).unwrap();
+    let padding = request.attribute::<Padding>().unwrap();
+    let mut success = Message::builder_success(&request, MessageWriteVec::new());
+    success.add_attribute(&padding).unwrap();
+    let success = success.finish();
+    let _ = client.receive(&success, server, Instant::ZERO);
+    let ended = client.poll(Instant::ZERO);
+    assert!(matches!(ended, Output::Ended(_, Ok(_))), "{ended:?}");
 }
 
 /// RFC 6062, section 6.2.1; RFC 8016, section 3.3; RFC 7635, section 6.

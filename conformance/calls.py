@@ -164,8 +164,8 @@ class Writing:
         return "rfc8489" not in self.claims or reading.with_zeros(data) == data
 
     def write_420(self, known, *words):
-        """The response to a request with attributes that are not known. To refuse what is no request
-        is to have none."""
+        """The response to a request with unknown attributes. A subject that refuses a message that
+        is no request has no response to it."""
         try:
             came = self.ask("refuse-unknown", grammar.plain("types", known),
                             hexadecimal(self.message(words)))
@@ -229,6 +229,8 @@ class Replies:
 
     def reply_has(self, *names):
         """The value of an attribute. Of several names, whether all are there."""
+        if "other-address" in self.claims and "XOR-MAPPED-ADDRESS" in names:
+            raise Left("the address that it is asked from")
         values = [reading.value_in(self.last(), reading.type_word(name)) for name in names]
         if len(names) > 1:
             return "no" if None in values else "yes"

@@ -1,8 +1,8 @@
 #!/usr/bin/env python3
 """plants.py [NAME ..]: plants each bug of plants.txt in the model and plays the suite over it.
 
-A bug is found if an answer comes otherwise. Those that are not are printed. The last line counts; the
-status is 1 if a bug of the list cannot be planted, or if more than MOST_MISSED are missed."""
+A bug is found if an answer differs. Each bug that is missed is printed. The last line counts. The
+status is 1 if a bug cannot be planted, or if more than MOST_MISSED are missed."""
 
 import os
 import sys
@@ -25,8 +25,7 @@ class Planted(Module):
 
 
 def read_plants(path):
-    """Names with the lines that are replaced and those that replace them: of a block, `- OLD` and `+
-    NEW` behind its name."""
+    """Yields each bug's name, the text that it replaces (`- OLD`), and the new text (`+ NEW`)."""
     with open(path, encoding="utf-8") as file:
         blocks = [block.split("\n") for block in file.read().strip().split("\n\n")]
     for lines in blocks:

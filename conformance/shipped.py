@@ -12,7 +12,8 @@ HERE = os.path.dirname(os.path.abspath(__file__))
 SUBJECTS = os.path.join(HERE, "subjects")
 BUILT = os.path.join(TOP, "target", "conformance")
 GO_PATH = "/usr/share/gocode"
-NAMES = ("stunp", "model", "aioice", "pion", "libnice", "coturn", "libre")
+NAMES = ("stunp", "model", "aioice", "pion", "libnice", "coturn", "libre",
+         "turnserver")
 
 
 class Missing(Exception):
@@ -47,7 +48,24 @@ def built_c(name, flags):
     return Program(made)
 
 
+def linked(archives):
+    """A shared library of archives for C, such as the proved ones."""
+    compiler = shutil.which(os.environ.get("CC", "cc"))
+    absent = [one for one in archives if not os.path.exists(one)]
+    if compiler is None or absent:
+        raise Missing("no C compiler" if compiler is None else f"{absent[0]} is not built")
+    os.makedirs(BUILT, exist_ok=True)
+    made = os.path.join(BUILT, "linked.so")
+    run([compiler, "-shared", "-fPIC", "-o", made, "-Wl,--whole-archive", *archives,
+         "-Wl,--no-whole-archive", os.path.join(TOP, "examples", "c", "heap.c"),
+         "-I" + os.path.join(TOP, "include")])
+    return made
+
+
 def stunp():
+    archives = os.environ.get("STUNP_ARCHIVES", "").split()
+    if archives:
+        os.environ["STUNP_LIBRARY"] = linked(archives)
     library = os.environ.get("STUNP_LIBRARY", os.path.join(TOP, "target", "c", "libstunp.so"))
     if not os.path.exists(library):
         raise Missing(f"{os.path.relpath(library, TOP)} is not built (`make rust rust-c`)")
@@ -104,7 +122,14 @@ def libre():
     return built_c("libre", ["-I/usr/include/re", "-lre"])
 
 
-STARTS = {one.__name__: one for one in (stunp, model, aioice, pion, libnice, coturn, libre)}
+def turnserver():
+    if shutil.which("turnserver") is None:
+        raise Missing("coturn is not installed")
+    return Module(source("turnserver.py"))
+
+
+STARTS = {one.__name__: one for one in
+          (stunp, model, aioice, pion, libnice, coturn, libre, turnserver)}
 
 
 def start(word):

@@ -1,7 +1,7 @@
 """How a subject is asked: a line of words for a line of words (GRAMMAR.md, "The subject's side").
 
-A subject is a program, or a Python file with a class `Subject`: its method `server_hears` is the call
-`server-hears`. It takes the words of the call as strings, and returns the answer."""
+A subject is a program, or a Python file with a class `Subject`, whose method `server_hears` is the
+call `server-hears`. It takes the words of the call as strings, and returns the answer."""
 
 import importlib.util
 import os

@@ -1,7 +1,7 @@
 #!/usr/bin/env python3
-"""table.py: plays the suite over each subject that is shipped and can be here, and writes RESULTS.md.
+"""table.py: plays the suite over each subject that is shipped and installed, and writes RESULTS.md.
 
-Each difference is explained by a line of differences.txt; those that are not are printed. The last line
+differences.txt explains the differences. Those that it does not explain are printed. The last line
 counts. The status is 1 if a difference is not explained, or if this library answers otherwise."""
 
 import collections
@@ -15,8 +15,15 @@ from shipped import NAMES
 
 HERE = os.path.dirname(os.path.abspath(__file__))
 PACKAGES = {"aioice": "python3-aioice", "pion": "golang-github-pion-stun-dev",
-            "libnice": "libnice-dev", "coturn": "coturn"}
+            "libnice": "libnice-dev", "coturn": "coturn", "libre": "libre-dev",
+            "turnserver": "coturn"}
 OWN = ("stunp", "model")
+HEAD = """\
+`conformance/table.py` writes this page; do not edit it. A cell has four counts: the calls that were
+answered as written, those answered otherwise where an RFC says MUST, those answered otherwise where
+the suite asks for a choice of this library, and those that were left out because the subject does
+not have the call or does not claim what is in the message. [README.md](README.md) says what a
+result means.""".split("\n")
 Reason = collections.namedtuple("Reason", "section words patterns")
 
 
@@ -87,12 +94,8 @@ def explained(name, reports, reasons):
 
 def page(results, reasons):
     """RESULTS.md, and the differences that are not explained."""
-    lines = [f"# Results of {time.strftime('%Y-%m-%d')}", "",
-             "Written by `conformance/table.py`; do not edit. A cell counts the calls that were",
-             "answered as written / otherwise where an RFC says MUST / otherwise where the suite asks",
-             "for a choice of this library / left out, because the subject does not have the call or",
-             "does not claim what is in the message. [README.md](README.md) says what a result means.",
-             "", "| Subject | Version | " + " | ".join(LEVELS) + " |", "|---|---|" + "---|" * 4]
+    lines = [f"# Results of {time.strftime('%Y-%m-%d')}", "", *HEAD, "",
+             "| Subject | Version | " + " | ".join(LEVELS) + " |", "|---|---|" + "---|" * 4]
     unexplained = []
     for name, (reports, why) in results.items():
         if reports is None:
@@ -118,8 +121,8 @@ def main(words):
         file.write(text)
     own = sum(len(report.others) for name in OWN for report in (results[name][0] or {}).values())
     there = sum(reports is not None for reports, _ in results.values())
-    print(f"table: {there} of {len(results)} subjects, {len(unexplained)} differences not explained, "
-          f"{own} of this library and its model")
+    print(f"table: {there} of {len(results)} subjects, {len(unexplained)} differences not "
+          f"explained, {own} of this library and its model")
     return 1 if unexplained or own else 0
 
 

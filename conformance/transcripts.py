@@ -20,6 +20,8 @@ OURS = TELLING + (
     "client algorithm", "client signs-in", "client signs-length", "short-term credentials",
     "short-term key", "short-term signs-in", "short-term signs-length", "short-term size",
 )
+# Calls that tell a setting, and change it if they have a word more.
+SETTINGS = ("client hashes", "client user", "server expiry", "server hashes")
 FAMILIES = ("message", "attribute", "digest", "reply", "nonce", "secret", "write")
 WORDS = {"true": "yes", "false": "no"}
 
@@ -32,7 +34,10 @@ def name_of(words):
 
 def is_telling(words):
     """Whether a call changes nothing that is played on."""
-    return name_of(words) in OURS or name_of(words).split()[0] in FAMILIES
+    name = name_of(words)
+    if name in SETTINGS and words[-1] != name.split()[-1]:
+        return False
+    return name in OURS or name.split()[0] in FAMILIES
 
 
 def plainly(answer):

@@ -15,7 +15,7 @@ from pathlib import Path
 HERE = Path(__file__).resolve().parent
 HEADERS = ("stunp.h", "stunp_state.h", "stunp_endpoint.h")
 PIECE = re.compile(r"^/\*(.*?)\*/\n|^((?:extern )?\w[^;{}]*?\b(\w+)\([^)]*\))(?:;| \{)"
-                   r"|^typedef (?:struct|enum)\b.*?^\} (\w+);", re.M | re.S)
+                   r"|^typedef (?:struct|enum)\b[^\n]*?(?:\n(?!\})[^\n]*)*?\n?\} (\w+);", re.M | re.S)
 NAME = re.compile(r"\b(?:stunp|rattle)_\w+")
 ORDER = "If several apply, the call returns the first of this list."
 

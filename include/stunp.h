@@ -12,16 +12,38 @@
  *
  * Linking
  *
- * Link libstunp.a. There are two archives of this name:
+ * Link -lstunp, for which pkg-config has the name stunp. There are two libraries of this name, and
+ * stunp_is_proved says which of them a program has. `make install` installs the one that is built:
  *
- * - The proved one is crates/stun_c/out/libstun_c.a, which `rt lib` in crates/stun_c proves and
- *   builds. It holds ELF objects for Linux on x86-64-v2 processors, as do those of stunp_state.h
- *   and stunp_endpoint.h.
- * - The tested one is target/c/libstunp.a, which `make rust rust-c` builds on other 64-bit systems,
- *   or without `rt`. It has the calls of all three headers and is not proved.
+ * - The proved one is the archive crates/stun_c/out/libstun_c.a, which `rt lib` in crates/stun_c
+ *   proves and builds. It holds ELF objects for Linux on x86-64-v2 processors, as do those of
+ *   stunp_state.h and stunp_endpoint.h.
+ * - The exported one is libstunp.so and libstunp.a in target/c, which `make lib` builds from the
+ *   same sources with cargo and a C compiler, also for other processors. It has the calls of all
+ *   three headers, is tested, and is not proved. Calls that have their body in a header, such as
+ *   stunp_strerror, are symbols of it too, for programs that do not read C. It needs malloc, abort
+ *   and the functions of <string.h>. If you link the archive with -Wl,--gc-sections, your program
+ *   contains only what it calls.
  *
- * All are position independent, so you may link them into a shared library. The library then
- * exports their calls too, unless you link it with -Wl,--exclude-libs,ALL.
+ * The archives are position independent, so you may link them into a shared library. The library
+ * then exports their calls too, unless you link it with -Wl,--exclude-libs,ALL.
+ *
+ *
+ * Releases
+ *
+ * Before 1.0, releases are compatible if their first two numbers are equal, and from 1.0 on if their
+ * first number is. The shared library has these numbers in its name for the loader
+ * (libstunp.so.0.2), so a program never runs with a release that it was not compiled for. To have
+ * the linker check the same for an archive, see stunp_release_0_2.
+ *
+ * The size of a struct that you own is the same in all compatible releases. A later release that
+ * needs more room uses what is reserved for it, or adds a struct and calls that take it:
+ *
+ * - Structs that begin with their size may grow. From 1.0 on, a library accepts each size that a
+ *   compatible release had.
+ * - stunp_writer has a reserved field.
+ * - stunp_header, stunp_cursor, stunp_address and the handles keep the size that they have in 1.0.
+ *   If stunp_address is to get a field for the scope of an IPv6 address, it does so before.
  *
  *
  * The calls, in the order of this file
@@ -43,7 +65,8 @@
  *   keys: stunp_long_term_key, stunp_userhash
  *   packets and streams: stunp_is_stun, stunp_next_frame, stunp_next_packet_frame,
  *    stunp_next_turn_frame
- *   errors and versions: stunp_error_text, stunp_strerror, stunp_version, stunp_release_0_2
+ *   errors and versions: stunp_error_text, stunp_strerror, stunp_version, stunp_is_proved,
+ *    stunp_release_0_2
  *
  *
  * Memory
@@ -62,8 +85,9 @@
  *
  * Each call may run in many threads at the same time, if each has an output of its own. You may
  * pass a buffer, a cursor or a writer from one thread to another if you synchronize the two, for
- * example with a mutex or a join. The proved archives contain no writable data and no thread-local
- * data; those of target/c contain some, from the Rust library.
+ * example with a mutex or a join. The libraries contain no thread-local data. The proved ones
+ * contain no writable data, and the exported ones two bytes, which store whether the processor has
+ * SHA instructions, and are read and written atomically.
  *
  * No call is written to run in constant time.
  *
@@ -374,10 +398,11 @@ typedef struct {
 /* A message that is being written, for the calls stunp_write_*. Get one from stunp_write or
  * stunp_write_on. You may read the fields; only the calls that take a writer may change them. */
 typedef struct {
-    uint8_t *bytes;  /* your buffer, which starts with the message */
-    size_t room;     /* the length of the buffer */
-    size_t length;   /* the length of the message */
-    int64_t refusal; /* the first error of a call with this writer, or 0 */
+    uint8_t *bytes;       /* your buffer, which starts with the message */
+    size_t room;          /* the length of the buffer */
+    size_t length;        /* the length of the message */
+    int64_t refusal;      /* the first error of a call with this writer, or 0 */
+    uint64_t reserved[2]; /* zeros, for later releases */
 } stunp_writer;
 
 /* A transport address. `octets` starts with the 4 octets of an IPv4 address or the 16 of an IPv6
@@ -942,7 +967,7 @@ STUNP_INLINED void stunp_writer_took(stunp_writer *writer, int64_t answer) {
  * what the call that wrote the message returned, such as stunp_refuse_unknown: the length of the
  * message, or an error, which the writer then keeps. */
 STUNP_INLINED stunp_writer stunp_write_on(int64_t answer, uint8_t *bytes, size_t room) {
-    stunp_writer writer = {bytes, room, 0, 0};
+    stunp_writer writer = {bytes, room, 0, 0, {0, 0}};
     stunp_writer_took(&writer, answer);
     return writer;
 }
@@ -1203,17 +1228,18 @@ STUNP_INLINED const char *stunp_strerror(int64_t answer) {
  * same release. Never fails. */
 int64_t stunp_version(void);
 
-/* Returns whether the library is the proved one: true for the archives of `rt lib` as `make install`
- * installs them, false for the libraries of `make lib`, which were exported from the same sources and
- * are tested. Never fails. */
+/* Returns whether the library is the proved one: true for the archives of `rt lib` as `make
+ * install` installs them, false for the libraries of `make lib`, which were exported from the same
+ * sources and are tested. Never fails. */
 extern bool stunp_is_proved(void);
 
 /* Returns the version of the archive too, but under a name that changes with each release that
  * breaks compatibility.
  *
- * Every file that includes this header refers to that name, so that a program which was compiled
- * for another release does not link. To prevent this, define STUNP_ANY_RELEASE before the include.
- * Compilers other than GCC and clang do not make the check. */
+ * If you define STUNP_CHECK_RELEASE before you include this header, the file refers to that name,
+ * so that a program which was compiled for another release does not link to the archive. Compilers
+ * other than GCC and clang do not make the check. With the shared library it is not needed: the
+ * loader makes it. */
 int64_t stunp_release_0_2(void);
 #if defined __GNUC__ && defined STUNP_CHECK_RELEASE
 static int64_t (*const stunp_release_wanted)(void) __attribute__((used)) = stunp_release_0_2;

@@ -88,8 +88,7 @@
  *   libstunp_heap.a (heap.c) or an allocator of your own (rattle_alloc, stunp_state.h). `rt lib` in
  *   crates/stun_c_endpoint proves and builds out/libstun_c_endpoint.a, which `make install` installs
  *   as libstunp_endpoint.a. It does not need libstunp_state.a.
- * - Tested (`make rust rust-c`): target/c/libstunp.a or libstunp.so, which have the calls of the
- *   three headers.
+ * - Exported (`make lib`): libstunp.so or libstunp.a, which have the calls of the three headers.
  *
  *
  * Handles, memory and errors are those of stunp_state.h, except that a handle may be const, and that
@@ -495,8 +494,8 @@ STUNP_INLINED void stunp_reply_wipe(stunp_reply *reply) {
 int64_t stunp_endpoint_version(void);
 
 /* Returns the version of the archive too, but under a name that changes with each release that
- * breaks compatibility, like stunp_release_0_2 of stunp.h: a program that was compiled for another
- * release does not link. */
+ * breaks compatibility, like stunp_release_0_2 of stunp.h: if you define STUNP_CHECK_RELEASE, a
+ * program that was compiled for another release does not link. */
 int64_t stunp_endpoint_release_0_2(void);
 #if defined __GNUC__ && defined STUNP_CHECK_RELEASE
 static int64_t (*const stunp_endpoint_release_wanted)(void) __attribute__((used)) =

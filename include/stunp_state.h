@@ -24,9 +24,10 @@
  *   (rattle_alloc below). `rt lib` in crates/stun_state proves and builds out/libstun_state.a,
  *   which `make install` installs as libstunp_state.a. Apart from these three it needs only what
  *   every C compiler has: memcpy, memmove, memset, and __udivti3 and __umodti3 of its runtime.
- * - Tested (`make rust rust-c`): target/c/libstunp.a or libstunp.so, which have the calls of all
- *   three headers. They allocate with your three functions if your program has them, and otherwise with
- *   malloc. They need a C library with -lpthread -ldl -lm.
+ * - Exported (`make lib`): libstunp.so or libstunp.a, which have the calls of all three headers.
+ *   They allocate with your three functions if your program has them, and otherwise with malloc.
+ *
+ * The pkg-config file stunp_state names the libraries that are installed.
  *
  *
  * The calls, in the order of this file
@@ -93,8 +94,9 @@
  * each may use and must free. If they share the memory of a handle or of the allocator, only one of
  * the two may go on using it.
  *
- * These rules are trusted, not proved. The proved archives contain no writable data and no
- * thread-local data; the tested ones contain some, from the Rust library.
+ * These rules are trusted, not proved. The libraries contain no thread-local data. The proved ones
+ * contain no writable data, and the exported ones two bytes, which store whether the processor has
+ * SHA instructions, and are read and written atomically.
  *
  *
  * Time and random numbers
@@ -300,7 +302,7 @@ extern "C" {
  * libstunp_heap.a (heap.c) has them over malloc, with a limit. That they behave as described here
  * is trusted.
  *
- * A program that lacks them does not link to the proved archive. target/c/libstunp.a and
+ * A program that lacks them does not link to the proved archive. The exported libstunp.a and
  * libstunp.so then use malloc, and do so too if one of the three is missing. They find the three in
  * any object file of the program, in whatever order it is linked. But a linker takes nothing from a
  * library for a function that may be missing. If yours are in a static library, link with
@@ -1376,8 +1378,8 @@ bool stunp_is_resend(int64_t answer);
 int64_t stunp_state_version(void);
 
 /* Returns the version of the archive too, but under a name that changes with each release that
- * breaks compatibility, like stunp_release_0_2 of stunp.h: a program that was compiled for another
- * release does not link. */
+ * breaks compatibility, like stunp_release_0_2 of stunp.h: if you define STUNP_CHECK_RELEASE, a
+ * program that was compiled for another release does not link. */
 int64_t stunp_state_release_0_2(void);
 #if defined __GNUC__ && defined STUNP_CHECK_RELEASE
 static int64_t (*const stunp_state_release_wanted)(void) __attribute__((used)) =

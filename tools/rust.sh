@@ -3,8 +3,9 @@
 # tests, transcripts. It needs cargo, the Rust of rust/Cargo.toml and Python 3.9. Cargo takes its
 # crates from vendor/ if that is there, as in the release of the sources, or else those of Debian if
 # they are installed (or can be, by root): then it needs no network. Without clippy its warnings are
-# left out. With --build it exports and builds, with --export it exports, and they test and install
-# nothing. With --can it tells by its status whether all that it needs is there, with the crates.
+# left out. With --build it exports, builds and tests nothing; with --export it only exports, and
+# installs nothing. With --can it tells by its status whether all that it needs is there, with the
+# crates.
 set -eu
 cd "$(dirname "$0")/.."
 out=target/export
@@ -28,8 +29,7 @@ if [ -n "$missing" ]; then
     echo "The exported crate wants what is not there: $missing." >&2
     exit 1
 fi
-case ${1:-} in --build | --export) can_install=no ;; *) can_install=yes ;; esac
-if [ $can_install = yes ] && ! has_crates && command -v apt-get > /dev/null && [ "$(id -u)" = 0 ]; then
+if [ "${1:-}" != --export ] && ! has_crates && command -v apt-get > /dev/null && [ "$(id -u)" = 0 ]; then
     { apt-get update -qq &&
         apt-get install -qq -y --no-install-recommends $packages; } > /dev/null ||
         echo "The crates of Debian cannot be installed: cargo fetches them." >&2
@@ -39,7 +39,7 @@ if [ "${1:-}" = --can ]; then
     echo "The crates of Debian are not there: $packages." >&2
     exit 1
 fi
-[ $can_install = no ] || python3 tests/export/export_test.py
+[ -n "${1:-}" ] || python3 tests/export/export_test.py
 python3 tools/export/export.py "$out"
 mkdir -p "$out/.cargo"
 if has_crates; then

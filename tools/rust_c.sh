@@ -1,25 +1,29 @@
 #!/bin/sh
 # Builds the calls for C of the exported crate, and leaves in target/c libstunp.a, libstunp.so and the
 # latter under the name that the loader looks for. With --build it exports first, as `make lib` does,
-# tests nothing and installs nothing. Otherwise target/export must be there (tools/rust.sh), and
-# tests/rust_c.sh follows. It needs cargo, a C compiler and the binutils; CC, CFLAGS, LDFLAGS, LD,
-# OBJCOPY and CARGO_BUILD_TARGET are what they usually are.
+# and tests and installs nothing; a second word names another folder than target/c. Otherwise
+# target/export must be there (tools/rust.sh), and tests/rust_c.sh follows. It needs cargo, a C
+# compiler and the binutils; the variables of make (CC, CFLAGS, LDFLAGS, AR, LD, NM, OBJCOPY) and of
+# cargo (CARGO_BUILD_TARGET, CARGO_TARGET_DIR) name others.
 set -eu
 cd "$(dirname "$0")/.."
-out=$PWD/target/c cc=${CC:-cc} ld=${LD:-ld} objcopy=${OBJCOPY:-objcopy}
-[ "${1-}" != --build ] || tools/rust.sh --export
+out=$PWD/target/c cc=${CC:-cc}
+if [ "${1-}" = --build ]; then
+    out=${2:-$out}
+    tools/rust.sh --export
+fi
 mkdir -p "$out"
 rm -f "$out"/libstunp*
 (cd target/export && cargo build --quiet --release -p seatcrane-stun-c)
-built=target/export/target/${CARGO_BUILD_TARGET:+$CARGO_BUILD_TARGET/}release/libstunp.a
+built=${CARGO_TARGET_DIR:-target/export/target}/${CARGO_BUILD_TARGET:+$CARGO_BUILD_TARGET/}release/libstunp.a
 $cc -std=c99 ${CFLAGS--O2} -fPIC -ffunction-sections -fdata-sections -Iinclude -c rust/capi/inline.c \
     -o "$out/inline.o"
 
 # One object, in which no symbol is seen but the calls. Each function is a section of its own, so a
 # linker that is told --gc-sections takes in what a program calls.
-names=$(nm --defined-only "$built" "$out/inline.o" 2>/dev/null | sed -n 's/^.* T \(stunp_.*\)/\1/p')
-$ld -r --gc-sections $(printf ' -u %s' $names) "$out/inline.o" "$built" -o "$out/one.o"
-$objcopy --wildcard --keep-global-symbol='stunp_*' -R .llvmbc -R .llvmcmd -R .comment "$out/one.o"
+names=$(${NM:-nm} --defined-only "$built" "$out/inline.o" 2>/dev/null | sed -n 's/^.* T \(stunp_.*\)/\1/p')
+${LD:-ld} -r --force-group-allocation --gc-sections $(printf ' -u %s' $names) "$out/inline.o" "$built" -o "$out/one.o"
+${OBJCOPY:-objcopy} --wildcard --keep-global-symbol='stunp_*' -R .llvmbc -R .llvmcmd -R .comment "$out/one.o"
 ${AR:-ar} rcsD "$out/libstunp.a" "$out/one.o"
 # The name for the loader has as many numbers of the version as releases that go together share.
 shared=libstunp.so.$(sed 's/^\(0\.[0-9]*\)\..*/\1/; s/^\([1-9][0-9]*\)\..*/\1/' VERSION)
@@ -28,7 +32,7 @@ $cc -shared -nostartfiles ${LDFLAGS--Wl,-z,relro,-z,now} -Wl,-soname,"$shared" "
 cp "$out/$shared" "$out/libstunp.so"
 rm "$out/one.o" "$out/inline.o"
 if [ "${1-}" = --build ]; then
-    echo "The libraries are in target/c: libstunp.a and $shared."
+    echo "The libraries are in ${out#"$PWD/"}: libstunp.a and $shared."
 else
     exec tests/rust_c.sh "$@"
 fi

@@ -50,7 +50,7 @@ def given(kind, word):
 
 
 def call(method):
-    """What it refuses is a ValueError of its own; struct.error is that of a value that is cut off."""
+    """Turns a ValueError of aioice, and the struct.error of a short value, into `refused`."""
 
     def answer(self, *words):
         try:

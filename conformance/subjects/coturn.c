@@ -118,7 +118,7 @@ static void key(char **words) {
     else print_bytes(made, 16);
 }
 
-/* The length of a message in a stream. -1 says both that bytes are missing and that there is none. */
+/* The length of a message in a stream. -1 means that bytes are missing, or that none begins. */
 static void frame(char **words) {
     size_t unused = 0;
     plain(words[1], &data);

@@ -1,6 +1,6 @@
 """A model of STUN as a subject, written from RFC 8489 (sections without an RFC), RFC 8656 for TURN,
-RFC 8445 for ICE and RFC 4571 for streams. It shares no code with any implementation and is made to be
-read: `plants.py` plants bugs in it, which the suite must find."""
+RFC 8445 for ICE and RFC 4571 for streams. It shares no code with any implementation. `plants.py`
+plants bugs in it, which the suite must find."""
 
 import base64
 import hashlib
@@ -55,7 +55,7 @@ class Message:
             place = end
 
     def visible(self):
-        """Sections 14.5 to 14.7: what follows the integrity attributes and FINGERPRINT is ignored."""
+        """Yields what a receiver may not ignore (sections 14.5 to 14.7)."""
         stage = 0
         for kind, place, value in self.all:
             if stage == 1 and kind not in (INTEGRITY_SHA256, FINGERPRINT):
@@ -515,7 +515,7 @@ class Request:
 
     def __init__(self, now, peer, is_reliable):
         self.begin, self.peer, self.is_reliable = now, peer, is_reliable
-        self.sent, self.ended = 1, None
+        self.sent, self.ended, self.is_silent = 1, None, False
         self.wait(500 * 10**6, 7, 8 * 10**9, 2**64)
 
     def wait(self, initial, count, last, longest):
@@ -525,7 +525,16 @@ class Request:
         self.waits = [sum(waits)] if self.is_reliable else waits
 
     def due(self):
-        return self.begin + sum(self.waits[:self.sent])
+        sent = len(self.waits) if self.is_silent else self.sent
+        return self.begin + sum(self.waits[:sent])
+
+    def is_over(self, now):
+        is_last = self.is_silent or self.sent == len(self.waits)
+        return is_last and self.due() <= now
+
+    def is_due(self, now):
+        is_more = self.sent < len(self.waits) and not self.is_silent
+        return is_more and self.due() <= now and not self.ended
 
 
 class Agent:
@@ -541,7 +550,7 @@ class Agent:
         """The id of the request that is to be sent again now."""
         for identity in sorted(self.requests):
             request = self.requests[identity]
-            if request.sent < len(request.waits) and request.due() <= now and not request.ended:
+            if request.is_due(now):
                 request.sent += 1
                 return str(int.from_bytes(identity, "big"))
         return "none"
@@ -549,10 +558,10 @@ class Agent:
     def poll(self, now):
         for identity in sorted(self.requests):
             request = self.requests[identity]
-            is_late = request.sent == len(request.waits) and request.due() <= now
-            if request.ended or is_late:
+            if request.ended or request.is_over(now):
                 del self.requests[identity]
-                return f"{request.ended or 'timed out'} {int.from_bytes(identity, 'big')}"
+                how = request.ended or ("cancelled" if request.is_silent else "timed out")
+                return f"{how} {int.from_bytes(identity, 'big')}"
         if not self.requests:
             return "idle"
         return f"wait {max(now, min(one.due() for one in self.requests.values()))}"
@@ -761,6 +770,13 @@ class Transactions:
         if request is None:
             return "none"
         request.ended = "cancelled"
+
+    @call
+    def agent_cancel_retransmissions(self, identity):
+        request = self.agent.requests.get(int(identity).to_bytes(12, "big"))
+        if request is None:
+            return "none"
+        request.is_silent = True
 
 
 class Subject(Reading, Writing, Credentials, Transactions):

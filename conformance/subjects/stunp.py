@@ -1,6 +1,7 @@
-"""This library as a subject, through its headers for C: include/stunp.h, stunp_endpoint.h and
-stunp_state.h, of a shared library (`make rust rust-c` builds target/c/libstunp.so; STUNP_LIBRARY names
-another). What the archives for C do not have is left out."""
+"""This library as a subject, through its headers for C: stunp.h, stunp_endpoint.h, stunp_state.h.
+
+`make rust rust-c` builds the shared library target/c/libstunp.so; STUNP_LIBRARY names another one.
+What the headers do not have is left out."""
 
 import ctypes
 import ipaddress
@@ -17,10 +18,13 @@ FINGERPRINTS = ("none", "valid", "invalid", "invalid")
 FEATURES = {"auto": 0, "required": 1, "disabled": 2}
 MISSING, NO_INTEGRITY = -15, -4
 TEXTS, XORED, PLAIN = (6, 0x14, 0x15, 0x8022, 0x8003), (0x20, 0x12, 0x16), (1, 0x8023)
-NUMBERS = {0x24: (4, 0), 0x0D: (4, 0), 0x8029: (8, 0), 0x802A: (8, 0)}
-# Values that the header has no call for, and the lengths of texts, which it leaves to its caller: they
-# are left out.
-WITHOUT_CALLS = (0x1D, 0x8002, 0x1E, 0x0C, 0x17, 0x8000, 0x18, 0x19)
+# Attributes that are numbers: their bytes, and how many bits at their end are unused.
+NUMBERS = {0x24: (4, 0), 0x0D: (4, 0), 0x8029: (8, 0), 0x802A: (8, 0), 0x0C: (4, 16), 0x19: (4, 24),
+           0x18: (1, 7)}
+EVEN_PORT = 0x18
+# Values that the header has no call for, and the longest texts: the calls that read and write
+# texts leave their lengths to the caller. Both are left out.
+WITHOUT_CALLS = (0x1D, 0x8002, 0x1E, 0x17, 0x8000)
 LIMITS = {6: 513, 0x14: 763, 0x15: 763}
 ROOM, HOUR = 70000, 3600 * 10**9
 SECRET = ctypes.c_char_p(bytes(range(1, 33)))
@@ -175,10 +179,7 @@ class Reading:
             length = ask(name, message, place, out, byref(port))
             return address_text(out[:length], port.value)
         if kind in NUMBERS:
-            number = c_uint64()
-            if ask("read_number", message, place, byref(number)) != NUMBERS[kind][0]:
-                raise Refused
-            return str(number.value)
+            return self.number(kind, message, place)
         if kind == 0x0A:
             types = (c_uint16 * 1000)()
             count = ask("read_types", message, place, types)
@@ -186,6 +187,14 @@ class Reading:
         if kind == 9:
             return f"{ask('error_code', message)}:{value[4:].hex() or '-'}"
         return value
+
+    def number(self, kind, message, place):
+        size, unused = NUMBERS[kind]
+        number = c_uint64()
+        if ask("read_number", message, place, byref(number)) != size:
+            raise Refused
+        value = number.value >> unused
+        return ("no", "yes")[value] if kind == EVEN_PORT else str(value)
 
     @call
     def verify(self, key, message):
@@ -243,8 +252,10 @@ class Writing:
             name = "add_xor_address" if kind in XORED else "add_address"
             return changed(name, message, c_uint32(kind), octets, c_uint32(port))
         if kind in NUMBERS:
-            return changed("add_number", message, c_uint32(kind), c_uint64(int(value)),
-                           c_size_t(NUMBERS[kind][0]))
+            size, unused = NUMBERS[kind]
+            number = value == "yes" if kind == EVEN_PORT else int(value)
+            return changed("add_number", message, c_uint32(kind), c_uint64(number << unused),
+                           c_size_t(size))
         if kind in WITHOUT_CALLS and kind != 0x1E:
             return "lacks"
         if kind == 0x0A:

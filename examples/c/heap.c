@@ -18,6 +18,7 @@ typedef union {
     size_t length;
     long double number;
     void *pointer;
+    uint8_t room[16]; /* the widest alignment that the library asks for */
 } head;
 
 static size_t bound = SIZE_MAX, blocks, bytes, asked, refused;

@@ -72,8 +72,10 @@ def commit_of(root):
     """The commit that is exported, or nothing where it is not known. Sources of a release have a
     file that says it."""
     told = root / "COMMIT"
-    if told.exists() or not (root / ".git").exists() or not shutil.which("git"):
-        return f", commit {told.read_text().strip()}" if told.exists() else ""
+    if told.exists():
+        return f", commit {told.read_text().strip()}"
+    if not (root / ".git").exists() or not shutil.which("git"):
+        return ""
     ran = subprocess.run(["git", "describe", "--always", "--dirty=, with changes", "--abbrev=12",
                           "--exclude=*"], cwd=root, capture_output=True, text=True, check=False)
     return f", commit {ran.stdout.strip()}" if ran.returncode == 0 else ""

@@ -69,6 +69,8 @@ def write(out, exported, places, root):
             if name.parts[0] in ("laws.rs", "handle.rs", "handle"):
                 continue
             text = exported(path.read_text(), crate, {**places, **PLACES})
+            # Sizes have 64 bits in the sources, and what the target has here.
+            text = text.replace("usize = 9_223_372_036_854_775_807;", "usize = isize::MAX as usize;")
             module = "::".join([crate, *name.with_suffix("").parts]).removesuffix("::lib")
             border += border_of(text, module)
             text = CALL.sub(lambda found: found.group(1)

@@ -128,8 +128,47 @@ mod no_malloc {
 #[cfg(target_os = "none")]
 use no_malloc::{free, malloc, realloc};
 
-/// The alignment that malloc keeps, which is more than the library asks for.
+/// The alignment that malloc keeps. The library asks for 16 at most, which is more than that on some
+/// targets of 32 bits.
 const MALLOC_ALIGNMENT: usize = 2 * size_of::<usize>();
+
+/// A block of the C library.
+unsafe fn of_malloc(layout: Layout) -> *mut u8 {
+    #[cfg(all(unix, target_pointer_width = "32"))]
+    if layout.align() > MALLOC_ALIGNMENT {
+        unsafe extern "C" {
+            fn aligned_alloc(alignment: usize, length: usize) -> *mut c_void;
+        }
+        let length = layout.pad_to_align().size();
+        // SAFETY: the length is a multiple of the alignment, which is a power of two.
+        return unsafe { aligned_alloc(layout.align(), length) }.cast();
+    }
+    if layout.align() > MALLOC_ALIGNMENT {
+        return ptr::null_mut();
+    }
+    // SAFETY: the length is not 0.
+    unsafe { malloc(layout.size()) }.cast()
+}
+
+/// The same block with another length, or a block that is moved.
+unsafe fn again_of_malloc(at: *mut u8, layout: Layout, length: usize) -> *mut u8 {
+    if layout.align() <= MALLOC_ALIGNMENT {
+        // SAFETY: the block came of malloc, and the length is not 0.
+        return unsafe { realloc(at.cast(), length) }.cast();
+    }
+    let Ok(wanted) = Layout::from_size_align(length, layout.align()) else {
+        return ptr::null_mut();
+    };
+    // SAFETY: as the callers of `realloc` say; the blocks do not overlap.
+    unsafe {
+        let to = of_malloc(wanted);
+        if !to.is_null() {
+            ptr::copy_nonoverlapping(at, to, layout.size().min(length));
+            free(at.cast());
+        }
+        to
+    }
+}
 
 /// The functions of the program, if it has all three.
 #[allow(unused_unsafe)]
@@ -161,9 +200,7 @@ unsafe impl GlobalAlloc for Memory {
         match functions().alloc {
             // SAFETY: as above.
             Some(alloc) => unsafe { alloc(layout.size(), layout.align()) }.pointer(),
-            None if layout.align() > MALLOC_ALIGNMENT => ptr::null_mut(),
-            // SAFETY: as above.
-            None => unsafe { malloc(layout.size()) }.cast(),
+            None => unsafe { of_malloc(layout) },
         }
     }
 
@@ -173,7 +210,7 @@ unsafe impl GlobalAlloc for Memory {
             // SAFETY: the block came of `alloc` or of this function.
             Some(again) => unsafe { again(at.cast(), kept, length, layout.align()) }.pointer(),
             // SAFETY: the same.
-            None => unsafe { realloc(at.cast(), length) }.cast(),
+            None => unsafe { again_of_malloc(at, layout, length) },
         }
     }
 

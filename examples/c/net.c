@@ -347,7 +347,8 @@ void send_to(int socket, const uint8_t *bytes, size_t length, const struct peer 
     sendmsg(socket, &message, 0);
 }
 
-void answer_batch(int socket, const struct datagram *got, const struct answer *answers, int number) {
+void answer_batch(int socket, const struct datagram *got, const struct answer *answers,
+                  int number) {
     static struct peer to[BATCH];
     struct iovec data[BATCH];
     struct mmsghdr messages[BATCH];

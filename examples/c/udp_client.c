@@ -2,7 +2,7 @@
  *
  *     udp_client HOST PORT [NAME PASSWORD] [OPTION]..
  *
- * --user FILE         reads both from the last line `NAME PASSWORD` of a file; `-` is standard input
+ * --user FILE         reads both from the last line of a file, or of standard input if it is `-`
  * --sha256            supports HMAC-SHA256 beside HMAC-SHA1
  * --within SECONDS    gives up after so long; a request ends after 39.5 s
  * --                  what follows is no option, such as a PASSWORD that begins with `-`

@@ -27,31 +27,32 @@ static const char usage[] =
     "usage: udp_server PORT [REALM [NAME PASSWORD].. [--users FILE]] [OPTION]..\n";
 static const char help[] =
     "\n"
-    "Answers everybody with the address that the request came from or, if it has a REALM, the users of\n"
-    "that realm alone. PORT 0 is any free one. The first line of output is `port N`.\n"
+    "Answers everybody with the address that the request came from or, if it has a REALM, the\n"
+    "users of that realm alone. PORT 0 is any free one. The first line of output is `port N`.\n"
     "\n"
-    "  --users FILE      users of a file, or of standard input if it is -. A line is `NAME PASSWORD` or\n"
-    "                    `NAME 0xKEY [0xKEY]` with stored keys of 16 bytes (HMAC-SHA1) and 32 bytes\n"
-    "                    (HMAC-SHA256) in hexadecimal; `#` begins a comment. SIGHUP reads it again\n"
-    "  --secret FILE     what nonces are made of: 32 bytes, or 64 hexadecimal digits. Servers with the\n"
-    "                    same secret, REALM, users, --expiry and --sha256 serve each other's clients.\n"
-    "                    Random unless given\n"
+    "  --users FILE      users of a file, or of standard input if it is -. A line is `NAME\n"
+    "                    PASSWORD` or `NAME 0xKEY [0xKEY]` with stored keys of 16 bytes\n"
+    "                    (HMAC-SHA1) and 32 bytes (HMAC-SHA256) in hexadecimal; `#` begins a\n"
+    "                    comment. SIGHUP reads it again\n"
+    "  --secret FILE     what nonces are made of: 32 bytes, or 64 hexadecimal digits. Servers\n"
+    "                    with the same secret, REALM, users, --expiry and --sha256 serve each\n"
+    "                    other's clients. Random unless given\n"
     "  --sha256          offer HMAC-SHA256 beside HMAC-SHA1\n"
-    "  --expiry SECONDS  how long a nonce is sent, from 30; it is accepted for up to twice as long. 3600\n"
-    "                    unless given\n"
-    "  --at ADDRESS      an IP address to serve; may be repeated. `-` is the socket that is standard\n"
-    "                    input. All of this machine unless given\n"
+    "  --expiry SECONDS  how long a nonce is sent, from 30; it is accepted for up to twice as\n"
+    "                    long. 3600 unless given\n"
+    "  --at ADDRESS      an IP address to serve; may be repeated. `-` is the socket that is\n"
+    "                    standard input. All of this machine unless given\n"
     "  --workers N       so many processes: 1 unless given\n"
     "  --shared          let other servers have the port too (SO_REUSEPORT)\n"
     "  --any-method      judge requests of other methods too, and answer them 420 if they have\n"
-    "                    attributes of TURN, 400 if an Allocate lacks REQUESTED-TRANSPORT, and 508\n"
-    "                    otherwise\n"
+    "                    attributes of TURN, 400 if an Allocate lacks REQUESTED-TRANSPORT, and\n"
+    "                    508 otherwise\n"
     "  --counts SECONDS  print a line of counters so often; SIGUSR1 prints one at once\n"
-    "  --ahead SECONDS   SIGUSR2 moves the clock of the process that gets it so far ahead, to see nonces\n"
-    "                    expire (for tests; with --workers send it to each worker)\n"
-    "  -v                print a line for each datagram: from where, the answer, and who had signed, if\n"
-    "                    the request was accepted and all its attributes are known\n"
-    "  --                what follows is no option, as a PASSWORD that begins with `-`\n"
+    "  --ahead SECONDS   SIGUSR2 moves the clock of the process that gets it so far ahead, to\n"
+    "                    see nonces expire (for tests; with --workers send it to each worker)\n"
+    "  -v                print a line for each datagram: from where, the answer, and who had\n"
+    "                    signed, if the request was accepted and all its attributes are known\n"
+    "  --                what follows is no option, such as a PASSWORD that begins with `-`\n"
     "  --help, --version\n";
 
 enum { MOST_BATCHES = 4 /* of one socket in turn */, MOST_WAIT = 1000 /* milliseconds */ };
@@ -144,9 +145,10 @@ static void count_code(uint32_t code) {
 
 /* The types that must be understood, and are. */
 static const uint16_t known[] = {
-    STUNP_MAPPED_ADDRESS,     STUNP_USERNAME, STUNP_MESSAGE_INTEGRITY, STUNP_ERROR_CODE,
-    STUNP_UNKNOWN_ATTRIBUTES, STUNP_REALM,    STUNP_NONCE,             STUNP_MESSAGE_INTEGRITY_SHA256,
+    STUNP_MAPPED_ADDRESS,     STUNP_USERNAME, STUNP_MESSAGE_INTEGRITY,
+    STUNP_UNKNOWN_ATTRIBUTES, STUNP_REALM,    STUNP_MESSAGE_INTEGRITY_SHA256,
     STUNP_PASSWORD_ALGORITHM, STUNP_USERHASH, STUNP_XOR_MAPPED_ADDRESS,
+    STUNP_ERROR_CODE,         STUNP_NONCE,
 };
 enum { KNOWN_TYPES = sizeof known / sizeof *known };
 
@@ -200,9 +202,9 @@ static uint32_t reply(const struct datagram *got, const stunp_received *received
 /* Judges a datagram at a server of users, and answers it. */
 static void answer_user(const struct datagram *got, struct answer *answer) {
     static stunp_received received = STUNP_INIT(stunp_received);
-    int64_t kind = stunp_endpoint_server_receive(&server, &users, got->bytes, got->length, &got->from,
-                                                 now(), answer->bytes, sizeof answer->bytes,
-                                                 &received);
+    int64_t kind = stunp_endpoint_server_receive(&server, &users, got->bytes, got->length,
+                                                 &got->from, now(), answer->bytes,
+                                                 sizeof answer->bytes, &received);
     if (kind == STUNP_ANSWER) {
         answer->length = received.length;
         tell(&got->from, received.code, &received);

@@ -362,7 +362,7 @@ impl ShortTermUsers {
         name: impl Into<String>,
         credentials: ShortTermCredentials,
     ) -> Result<(), UserError> {
-        let added = self.0.add(text(name.into()), credentials.to_proved());
+        let added = self.0.add(text(name.into()), credentials.into_proved());
         added.map_err(UserError::from)
     }
 

@@ -277,6 +277,27 @@ fn short_term_credentials_sign_each_request() {
     );
 }
 
+/// The response must be signed by the algorithm of the request (RFC 8489, section 9.1.4).
+#[test]
+fn short_term_responses_by_another_algorithm_are_dropped() {
+    let alice = Credentials::short_term("alice", "password", SHA256);
+    let mut client = Client::builder(at(SERVER))
+        .credentials(alice)
+        .build([1; 32])
+        .unwrap();
+    binding(&mut client, ms(0));
+    let bytes = sent(&mut client, 0).unwrap();
+    let request = Message::from_bytes(&bytes).unwrap();
+    let mut answer = Message::builder_success(&request, MessageWriteVec::new());
+    answer
+        .add_message_integrity_with_key(b"password", SHA1)
+        .unwrap();
+    let answer = answer.finish();
+    let input = client.receive(&answer, at(SERVER), ms(0));
+    assert!(matches!(input, Input::Dropped(DropReason::NotVerified)));
+    assert!(ended(&mut client, 0).is_none());
+}
+
 #[test]
 fn errors_say_what_the_server_said() {
     let mut client = Client::builder(at(SERVER)).build([1; 32]).unwrap();

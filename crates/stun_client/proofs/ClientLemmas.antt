@@ -12,7 +12,7 @@ use Rattle.stun_base.specs.declared.wire.message_type.MessageClass.TheVariants.{
 use Rattle.stun_base.specs.declared.wire.message_type.MessageClass.TheVariants.{Success, Error}
 use Rattle.stun_types.specs.Message.{refusal}
 use Rattle.stun_client.specs.Addresses.{is_same_address}
-use Rattle.stun_client.specs.Clients.{ClientSeen, IsAnswer, by_asked, by_class, heard, not_ours}
+use Rattle.stun_client.specs.Clients.{EndpointClient, IsAnswer, by_asked, by_class, heard, not_ours}
 use Rattle.stun_client.specs.Clients.{responded}
 use Rattle.stun_client.specs.Judging.{believed}
 use Rattle.stun_client.specs.Requests.{AskedSeen, answered, at, if_answered, is_answer}
@@ -35,7 +35,7 @@ found_asked bytes (Some b) a is = by (is_answer b.method bytes) refl is
         (is, subst (λ (x : AskedSeen). is_answer x.method bytes ≡ true) same test)
     by false test is = cc
 
-module _ (c : ClientSeen) (from : SocketAddr) (bytes : List ℕ) (number : ℕ)
+module _ (c : EndpointClient) (from : SocketAddr) (bytes : List ℕ) (number : ℕ)
     (signed : Option IntegrityAlgorithm) where
   response : refusal bytes ≡ None → is_same_address from c.server ≡ true
       → (found : Option AskedSeen) → answered c.requests bytes ≡ found

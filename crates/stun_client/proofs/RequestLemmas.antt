@@ -11,9 +11,8 @@ use Rattle.std.specs.Prelude.{Err, Ok, OnOk, Result}
 use Rattle.std.specs.Result.{is_err}
 use Rattle.std.specs.declared.cmp.Ordering.{Ordering}
 use Rattle.std.specs.declared.cmp.Ordering.TheVariants.{Less, Equal, Greater}
-use Rattle.stun_client.specs.Requests.{AllAsked, AreKept, AskedSeen, IsOver, IsSole, IsWith}
-use Rattle.stun_client.specs.Requests.{IsWithout, at}
-use Rattle.stun_client.specs.Requests.{parts_renewed}
+use Rattle.stun_client.specs.Requests.{AllAsked, AskedSeen, IsOver, IsSole, at}
+use Rattle.stun_client.specs.code.Requests.{AreNumbered, IsWith, IsWithout, parts_renewed}
 
 -- ---- keys
 
@@ -53,8 +52,8 @@ left_at : (id : ℕ) (m n : AllAsked) → IsWithout id m n → (k : ℕ) (a : As
     → (is_at (nat_cmp id) k ≡ false) × (at k m ≡ Some a)
 left_at id m n is k a here = left (is_at (nat_cmp id) k) (at k m) a (sym (is k) ∙ here)
 
-pub kept_ended : (most next id : ℕ) (m n : AllAsked) → IsWithout id m n → AreKept most next m
-    → AreKept most next n
+pub kept_ended : (most next id : ℕ) (m n : AllAsked) → IsWithout id m n → AreNumbered most next m
+    → AreNumbered most next n
 kept_ended most next id m n is kept = record {
   below = λ k a here. kept.below k a (left_at id m n is k a here).1;
   bounded = λ k a here. kept.bounded k a (left_at id m n is k a here).1;
@@ -70,7 +69,7 @@ over_ended most next id m n is number over = record {
   ended = λ k a here. over.ended k a (left_at id m n is k a here).1;
 }
 
-pub ended_once : (most next id : ℕ) (m n : AllAsked) → IsWithout id m n → AreKept most next m
+pub ended_once : (most next id : ℕ) (m n : AllAsked) → IsWithout id m n → AreNumbered most next m
     → (found : Option AskedSeen) → found ≡ at id m
     → IfSome found (λ a. IsOver a.number (record { most = most; next = next; asked = n }))
 ended_once most next id m n is kept None found = tt
@@ -94,7 +93,7 @@ put_at id v m n is k a here =
 
 -- a request that is started has the next number
 pub kept_started : (most next id : ℕ) (v : AskedSeen) (m n : AllAsked) → IsWith id v m n
-    → v.number ≡ next → v.challenges ≡ 0 → AreKept most next m → AreKept most (next + 1) n
+    → v.number ≡ next → v.challenges ≡ 0 → AreNumbered most next m → AreNumbered most (next + 1) n
 kept_started most next id v m n is number none kept = record {
   below = λ k a here. elim (put_at id v m n is k a here) [
     | inl new ↦ let same : v.number ≡ a.number = ap (λ (x : AskedSeen). x.number) new.1 in omega arith
@@ -158,7 +157,7 @@ its_number v (Some a) parts = (a, (refl, ap (λ o. option_map_or (λ p. p.0) o 0
 pub kept_renewed : (most next id new_id : ℕ) (v : AskedSeen) (m l n : AllAsked)
     → IsWith new_id v m l → IsWithout id l n
     → Some (v.number, v.method, v.challenges) ≡ option_map parts_renewed (at id m)
-    → v.challenges ≤ most → AreKept most next m → AreKept most next n
+    → v.challenges ≤ most → AreNumbered most next m → AreNumbered most next n
 kept_renewed most next id new_id v m l n with without parts few kept =
     let (a, (found, mine)) = its_number v (at id m) parts in
     record {
@@ -221,13 +220,13 @@ if_ok (Err e) well p = cc
 
 -- ---- finding
 
-pub found_bounded : (most next id : ℕ) (all : AllAsked) → AreKept most next all
+pub found_bounded : (most next id : ℕ) (all : AllAsked) → AreNumbered most next all
     → (found : Option (Bor AskedSeen)) → option_copied found ≡ at id all
     → IfSome found (λ a. a.now.challenges ≤ most)
 found_bounded most next id all kept None here = tt
 found_bounded most next id all kept (Some a) here = kept.bounded id a.now (sym here)
 
-pub found_sole : (most next id : ℕ) (all : AllAsked) → AreKept most next all
+pub found_sole : (most next id : ℕ) (all : AllAsked) → AreNumbered most next all
     → (found : Option (Bor AskedSeen)) → option_copied found ≡ at id all
     → IfSome found (λ a. IsSole a.now.number id all)
 found_sole most next id all kept None here = tt

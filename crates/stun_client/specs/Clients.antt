@@ -22,7 +22,7 @@ use Rattle.stun_client.specs.declared.client.Heard.TheVariants.{Response}
 
 -- the address of the server, how the client proves who it is, the challenge that new requests are
 -- signed for, and the outstanding requests
-pub record ClientSeen : Type 0 where
+pub record EndpointClient : Type 0 where
   pub server : SocketAddr
   pub identity : Identity
   pub standing : StandingSeen
@@ -43,19 +43,19 @@ heard_of (OfServer message) = indicated message
 heard_of (Response message number judged) = responded message number (verdict_of judged)
 
 -- a response must answer an outstanding request
-abbrev pub by_asked : ClientSeen → List ℕ → Option AskedSeen → Given
+abbrev pub by_asked : EndpointClient → List ℕ → Option AskedSeen → Given
 by_asked c bytes None = not_ours
 by_asked c bytes (Some a) =
     responded bytes a.number (judged c.identity c.standing a.signed_for bytes)
 
-abbrev pub by_class : ClientSeen → List ℕ → MessageClass → Given
+abbrev pub by_class : EndpointClient → List ℕ → MessageClass → Given
 by_class c bytes Request = not_ours
 by_class c bytes Indication = indicated bytes
 by_class c bytes Success = by_asked c bytes (answered c.requests bytes)
 by_class c bytes Error = by_asked c bytes (answered c.requests bytes)
 
 -- what a datagram from an address comes to: it must be a message from the server
-abbrev pub heard : ClientSeen → SocketAddr → List ℕ → Given
+abbrev pub heard : EndpointClient → SocketAddr → List ℕ → Given
 heard c from bytes =
     if is_some (refusal bytes) then not_ours
     else if is_same_address from c.server then by_class c bytes (class_in bytes)
@@ -64,7 +64,7 @@ heard c from bytes =
 -- a datagram from an address ends the request with this number by its own, signed so: it is a
 -- message from the server, it is a response with the transaction ID and the method of the
 -- outstanding request, and it may be believed
-pub record IsAnswer (c : ClientSeen) (from : SocketAddr) (bytes : List ℕ) (number : ℕ)
+pub record IsAnswer (c : EndpointClient) (from : SocketAddr) (bytes : List ℕ) (number : ℕ)
     (by : Option IntegrityAlgorithm) : Type 0 where
   pub message : refusal bytes ≡ None
   pub server : is_same_address from c.server ≡ true
@@ -76,7 +76,7 @@ pub record IsAnswer (c : ClientSeen) (from : SocketAddr) (bytes : List ℕ) (num
 
 -- ---- what each call makes of a client
 
-abbrev pub after_starting : ClientSeen → ℕ → ℕ → ClientSeen
+abbrev pub after_starting : EndpointClient → ℕ → ℕ → EndpointClient
 after_starting c method id =
     record c { requests = after_start c.requests method id c.standing.current }
 
@@ -85,7 +85,7 @@ abbrev pub answering : StandingSeen → Option Answered → StandingSeen
 answering standing None = standing
 answering standing (Some c) = after_answer standing c
 
-abbrev pub after_renewing : ClientSeen → ℕ → ℕ → Option Answered → ClientSeen
+abbrev pub after_renewing : EndpointClient → ℕ → ℕ → Option Answered → EndpointClient
 after_renewing c id new_id challenge = record c {
   requests = after_renewal c.requests id new_id challenge;
   standing = answering c.standing challenge;
@@ -96,19 +96,19 @@ abbrev pub confirming : Bool → StandingSeen → Option Answered → StandingSe
 confirming is_success standing challenge =
     if is_success then after_success standing challenge else standing
 
-abbrev pub after_ending : ClientSeen → Bool → ℕ → ClientSeen
+abbrev pub after_ending : EndpointClient → Bool → ℕ → EndpointClient
 after_ending c is_success id = record c {
   requests = after_end c.requests id;
   standing = option_map_or (λ a. confirming is_success c.standing a.signed_for)
       (at id c.requests.asked) c.standing;
 }
 
-abbrev pub after_timing_out : ClientSeen → ℕ → ClientSeen
+abbrev pub after_timing_out : EndpointClient → ℕ → EndpointClient
 after_timing_out c id = record c {
   requests = after_end c.requests id;
   standing = option_map_or (λ a. after_timeout c.standing a.signed_for) (at id c.requests.asked)
       c.standing;
 }
 
-abbrev pub after_cancelling : ClientSeen → ℕ → ClientSeen
+abbrev pub after_cancelling : EndpointClient → ℕ → EndpointClient
 after_cancelling c id = record c { requests = after_end c.requests id }

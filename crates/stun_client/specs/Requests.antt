@@ -1,6 +1,6 @@
 -- The outstanding requests of a client (RFC 8489, sections 6.2 and 9.2.5).
-use Rattle.std.specs.Prelude.{◌≡◌, ℕ, ◌+◌, ◌<◌, ◌≤◌, ◌==◌, Bool, false, nat_le, List, []}
-use Rattle.std.specs.Prelude.{if◌then◌else◌, cond, Option, Some, None}
+use Rattle.std.specs.Prelude.{◌≡◌, ℕ, ◌+◌, ◌<◌, ◌==◌, Bool, false, nat_le, List, []}
+use Rattle.std.specs.Prelude.{if◌then◌else◌, Option, Some, None}
 use Rattle.std.specs.BTreeMap.{insert_entry, is_at}
 use Rattle.std.specs.Map.{lookup, remove_entry}
 use Rattle.std.specs.Option.{is_some, option_map_or}
@@ -38,21 +38,6 @@ pub record RequestsSeen : Type 0 where
 -- the request with a transaction ID
 abbrev pub at : ℕ → AllAsked → Option AskedSeen
 at id all = lookup (is_at (nat_cmp id)) all
-
--- n is m without the request at an ID
-abbrev pub IsWithout : ℕ → AllAsked → AllAsked → Type 0
-IsWithout id m n = (q : ℕ) → at q n ≡ cond (is_at (nat_cmp id) q) None (at q m)
-
--- n is m with a request at an ID
-abbrev pub IsWith : ℕ → AskedSeen → AllAsked → AllAsked → Type 0
-IsWith id v m n = (q : ℕ) → at q n ≡ cond (is_at (nat_cmp id) q) (Some v) (at q m)
-
--- numbers are given out in order, no two requests have the same, and none was challenged too often
-pub record AreKept (most : ℕ) (next : ℕ) (all : AllAsked) : Type 0 where
-  pub below : (id : ℕ) (a : AskedSeen) → at id all ≡ Some a → a.number < next
-  pub bounded : (id : ℕ) (a : AskedSeen) → at id all ≡ Some a → a.challenges ≤ most
-  pub distinct : (id other : ℕ) (a b : AskedSeen) → at id all ≡ Some a → at other all ≡ Some b
-      → a.number ≡ b.number → id ≡ other
 
 -- no request with another transaction ID has this number
 abbrev pub IsSole : ℕ → ℕ → AllAsked → Type 0
@@ -120,10 +105,6 @@ renewal_refusal s id new_id = renewal_refusal_of s new_id (at id s.asked)
 -- the request after another challenge
 abbrev pub renewed : AskedSeen → Option Answered → AskedSeen
 renewed a signed_for = record a { signed_for = signed_for; challenges = a.challenges + 1 }
-
--- its number, its method, and how often it was challenged then
-abbrev pub parts_renewed : AskedSeen → ℕ × ℕ × ℕ
-parts_renewed a = (a.number, a.method, a.challenges + 1)
 
 -- a request at a new ID in place of the one at an ID
 abbrev pub after_replacing : RequestsSeen → ℕ → ℕ → AskedSeen → RequestsSeen

@@ -48,10 +48,10 @@ pub struct Client<A: Allocator = Global> {
 }
 
 impl<A: Allocator> Model for Client<A> {
-    ghost use Rattle.stun_client.specs.Clients.{ClientSeen};
+    ghost use Rattle.stun_client.specs.Clients.{EndpointClient};
     ghost use Rattle.stun_client.specs.Judging.{identity_of};
 
-    ghost Value = { ClientSeen };
+    ghost Value = { EndpointClient };
 
     ghost view = { λ c. record {
       server = c.server;

@@ -11,7 +11,7 @@ ghost use Rattle.stun_auth.specs.Registered.{Registered};
 ghost use Rattle.stun_auth.specs.Signed.{ReadsAs, added_under};
 ghost use Rattle.stun_auth.specs.declared.feature.Feature.{Feature as TheFeature};
 ghost use Rattle.stun_client.specs.Challenges.{Answered, challenge_of};
-ghost use Rattle.stun_client.specs.Clients.{ClientSeen, IsAnswer, heard, responded};
+ghost use Rattle.stun_client.specs.Clients.{EndpointClient, IsAnswer, heard, responded};
 ghost use Rattle.stun_client.specs.Downgrade.{IsNowhereBidDown, IsUpToDate};
 ghost use Rattle.stun_client.specs.Judging.{IsAnsweredAnew, IsBelievable, Identity, anew, believed};
 ghost use Rattle.stun_client.specs.Judging.{judged, long_term};
@@ -66,7 +66,7 @@ pub fn requests_are_sent_again_for_new_challenges()
 /// A datagram ends a request only if it answers it: it came from the server, it has the transaction
 /// ID and the method of the outstanding request, and it may be believed.
 pub fn datagrams_end_the_requests_that_they_answer()
-    ensures { (c : ClientSeen) (from : SocketAddr) (bytes : List ℕ) (number : ℕ)
+    ensures { (c : EndpointClient) (from : SocketAddr) (bytes : List ℕ) (number : ℕ)
         (by : Option IntegrityAlgorithm) → heard c from bytes ≡ responded bytes number (believed by)
         → IsAnswer c from bytes number by }
 {}

@@ -5,11 +5,12 @@ ghost use Rattle.std.specs.Option.{is_some, option_copied, option_map};
 ghost use Rattle.std.specs.Ordering.{nat_cmp};
 ghost use Rattle.std.specs.Prelude.{◌≡◌, ◌≤◌, ℕ, IfErr, IfOk, IsOkUnless, MatchOption, OnErr, OnOk};
 ghost use Rattle.std.specs.Prelude.{Err, None, Some, IfSome, length};
-ghost use Rattle.stun_client.specs.Requests.{IsOver, IsWith, IsWithout, after_end, after_renewal};
+ghost use Rattle.stun_client.specs.Requests.{IsOver, after_end, after_renewal};
 ghost use Rattle.stun_client.specs.Requests.{after_replacing, after_start, answered, at, is_answer};
-ghost use Rattle.stun_client.specs.Requests.{new_requests, parts_renewed, renewal_refusal};
+ghost use Rattle.stun_client.specs.Requests.{new_requests, renewal_refusal};
 ghost use Rattle.stun_client.specs.Requests.{IsSole, renewal_refusal_of};
 ghost use Rattle.stun_client.specs.Requests.{start_refusal};
+ghost use Rattle.stun_client.specs.code.Requests.{IsWith, IsWithout, parts_renewed};
 
 use crate::challenge::Challenge;
 use std::alloc::{AllocError, Allocator, Global};
@@ -105,13 +106,14 @@ pub struct Requests<A: Allocator = Global> {
 }
 
 impl<A: Allocator> Model for Requests<A> {
-    ghost use Rattle.stun_client.specs.Requests.{AreKept, RequestsSeen};
+    ghost use Rattle.stun_client.specs.Requests.{RequestsSeen};
+    ghost use Rattle.stun_client.specs.code.Requests.{AreNumbered};
 
     ghost Value = { RequestsSeen };
 
     ghost view = { λ r. record { most = r.most; next = r.next; asked = r.asked.entries } };
 
-    ghost invariant = { λ r. AreKept r.most r.next r.asked.entries };
+    ghost invariant = { λ r. AreNumbered r.most r.next r.asked.entries };
 }
 
 impl<A: Allocator + Copy> Requests<A> {

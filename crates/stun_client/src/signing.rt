@@ -8,7 +8,8 @@ ghost use Rattle.stun_auth.specs.Signed.{IsUnsigned};
 ghost use Rattle.stun_auth.specs.code.Additions.{IsOutcome};
 ghost use Rattle.stun_client.specs.Downgrade.{IsNowhereBidDown};
 ghost use Rattle.stun_client.specs.Judging.{identity_of};
-ghost use Rattle.stun_client.specs.Signing.{additions_of, challenge_for, short_term_additions};
+ghost use Rattle.stun_client.specs.Signing.{additions_of, challenge_for};
+ghost use Rattle.stun_client.specs.code.Signing.{short_term_additions};
 
 use crate::addition::{AddedAttribute, add, add_integrity};
 use crate::challenge::Challenge;

@@ -38,7 +38,8 @@ impl Credentials {
         Credentials(Kind::None)
     }
 
-    /// Each request is signed with this password (RFC 8489, section 9.1).
+    /// Each request is signed with this password, and so is each response that is accepted, by the
+    /// same algorithm (RFC 8489, section 9.1).
     pub fn short_term(
         name: impl Into<String>,
         password: impl Into<String>,

@@ -2,7 +2,8 @@
 use Rattle.std.proofs.Common.{◌∙◌, subst, sym}
 use Rattle.std.specs.Prelude.{◌≡◌, ◌≤◌, Some}
 use Rattle.std.specs.Option.{option_map}
-use Rattle.stun_client.specs.Requests.{RequestsSeen, at, parts_renewed}
+use Rattle.stun_client.specs.Requests.{RequestsSeen, at}
+use Rattle.stun_client.specs.code.Requests.{parts_renewed}
 use Rattle.stun_client.proofs.RequestLemmas.{if_ok, kept_renewed}
 use Rattle.stun_client.proofs.requests.Requests.replace.Goals as goal
 

@@ -1,14 +1,17 @@
-# The words of this repository. All but `export`, `rust`, `test`, `rust-c`, `install` and `uninstall`
-# need the toolchain (rt).
-.PHONY: help export rust test rust-c prove c check wrong bench install uninstall release verify-release
+# The words of this repository. Those above `With the toolchain` need none (rt), and the sources of a
+# release have no others.
+.PHONY: help lib export rust test rust-c dist prove c check wrong bench install uninstall release verify-release
 
 help:
+	@echo "make lib      export the calls for C, and build libstunp.a and libstunp.so to target/c"
+	@echo "make install  install the libraries, or the proved archives if they are built, headers,"
+	@echo "              manual and programs; PREFIX=/usr/local LIBDIR=PREFIX/lib DESTDIR="
+	@echo "make uninstall  remove them again"
 	@echo "make export   export the proved sources as plain Rust to target/export, and build them"
 	@echo "make rust     export the proved sources as plain Rust to target/export, and run its tests"
 	@echo "make test     the same: what is tested without rt"
 	@echo "make rust-c   after it, build its calls for C to target/c, and test them"
-	@echo "make install  install archives, headers and programs that are built; PREFIX=/usr/local"
-	@echo "make uninstall  remove them again"
+	@echo "make dist     release/stunp-VERSION-source.tar.gz, with the crates of others"
 	@echo "With the toolchain (rt):"
 	@echo "make c        prove and build the archives for C (minutes)"
 	@echo "make prove    prove everything, and run all tests (rt ci)"
@@ -16,6 +19,9 @@ help:
 	@echo "make wrong    try all wrong edits, which the prover must refuse, and record it (an hour)"
 	@echo "make bench    prove and build the archive of messages (minutes), and time its calls"
 	@echo "make release  release/ from what .ci/run built and said; make verify-release tries it"
+
+lib:
+	@tools/rust_c.sh --build
 
 export:
 	@tools/rust.sh --build
@@ -36,6 +42,9 @@ install:
 
 uninstall:
 	@$(MAKE) --no-print-directory -C include uninstall
+
+dist:
+	@python3 tools/release.py --source release
 
 prove:
 	rt ci

@@ -12,16 +12,38 @@
  *
  * Linking
  *
- * Link libstunp.a. There are two archives of this name:
+ * Link -lstunp, for which pkg-config has the name stunp. There are two libraries of this name, and
+ * stunp_is_proved says which of them a program has. `make install` installs the one that is built:
  *
- * - The proved one is crates/stun_c/out/libstun_c.a, which `rt lib` in crates/stun_c proves and
- *   builds. It holds ELF objects for Linux on x86-64-v2 processors, as do those of stunp_state.h
- *   and stunp_endpoint.h.
- * - The tested one is target/c/libstunp.a, which `make rust rust-c` builds on other 64-bit systems,
- *   or without `rt`. It has the calls of all three headers and is not proved.
+ * - The proved one is the archive crates/stun_c/out/libstun_c.a, which `rt lib` in crates/stun_c
+ *   proves and builds. It holds ELF objects for Linux on x86-64-v2 processors, as do those of
+ *   stunp_state.h and stunp_endpoint.h.
+ * - The exported one is libstunp.so and libstunp.a in target/c, which `make lib` builds from the
+ *   same sources with cargo and a C compiler, also for other processors. It has the calls of all
+ *   three headers, is tested, and is not proved. Calls that have their body in a header, such as
+ *   stunp_strerror, are symbols of it too, for programs that do not read C. It needs malloc, abort
+ *   and the functions of <string.h>. If you link the archive with -Wl,--gc-sections, your program
+ *   contains only what it calls.
  *
- * All are position independent, so you may link them into a shared library. The library then
- * exports their calls too, unless you link it with -Wl,--exclude-libs,ALL.
+ * The archives are position independent, so you may link them into a shared library. The library
+ * then exports their calls too, unless you link it with -Wl,--exclude-libs,ALL.
+ *
+ *
+ * Releases
+ *
+ * Before 1.0, releases are compatible if their first two numbers are equal, and from 1.0 on if their
+ * first number is. The shared library has these numbers in its name for the loader
+ * (libstunp.so.0.2), so a program never runs with a release that it was not compiled for. To have
+ * the linker check the same for an archive, see stunp_release_0_2.
+ *
+ * The size of a struct that you own is the same in all compatible releases. A later release that
+ * needs more room uses what is reserved for it, or adds a struct and calls that take it:
+ *
+ * - Structs that begin with their size may grow. From 1.0 on, a library accepts each size that a
+ *   compatible release had.
+ * - stunp_writer has a reserved field.
+ * - stunp_header, stunp_cursor, stunp_address and the handles keep the size that they have in 1.0.
+ *   If stunp_address is to get a field for the scope of an IPv6 address, it does so before.
  *
  *
  * The calls, in the order of this file
@@ -43,7 +65,8 @@
  *   keys: stunp_long_term_key, stunp_userhash
  *   packets and streams: stunp_is_stun, stunp_next_frame, stunp_next_packet_frame,
  *    stunp_next_turn_frame
- *   errors and versions: stunp_error_text, stunp_strerror, stunp_version, stunp_release_0_2
+ *   errors and versions: stunp_error_text, stunp_strerror, stunp_version, stunp_is_proved,
+ *    stunp_release_0_2
  *
  *
  * Memory
@@ -62,8 +85,9 @@
  *
  * Each call may run in many threads at the same time, if each has an output of its own. You may
  * pass a buffer, a cursor or a writer from one thread to another if you synchronize the two, for
- * example with a mutex or a join. The proved archives contain no writable data and no thread-local
- * data; those of target/c contain some, from the Rust library.
+ * example with a mutex or a join. The libraries contain no thread-local data. The proved ones
+ * contain no writable data, and the exported ones two bytes, which store whether the processor has
+ * SHA instructions, and are read and written atomically.
  *
  * No call is written to run in constant time.
  *
@@ -185,6 +209,12 @@ extern "C" {
 #define STUNP_CHANGES(p, n)
 #endif
 
+/* How the calls are declared whose bodies are in the headers. A program need not define it: the
+ * library itself does, to have each of them as a symbol, for callers that do not read C. */
+#ifndef STUNP_INLINED
+#define STUNP_INLINED static inline
+#endif
+
 /* The version of this header: 10000 times its first number, plus 100 times its second, plus its
  * third. stunp_version returns that of the archive. */
 #define STUNP_VERSION 200
@@ -246,7 +276,19 @@ typedef enum stunp_attribute_type {
     STUNP_PRIORITY = 0x0024,
     STUNP_USE_CANDIDATE = 0x0025,
     STUNP_ICE_CONTROLLED = 0x8029,
-    STUNP_ICE_CONTROLLING = 0x802a
+    STUNP_ICE_CONTROLLING = 0x802a,
+    /* TURN over TCP and with mobility (RFC 6062, section 6.2.1; RFC 8016, section 3.3) */
+    STUNP_CONNECTION_ID = 0x002a,
+    STUNP_MOBILITY_TICKET = 0x8030,
+    /* third-party authorization (RFC 7635, section 6) */
+    STUNP_ACCESS_TOKEN = 0x001b,
+    STUNP_THIRD_PARTY_AUTHORIZATION = 0x802e,
+    /* NAT behavior discovery (RFC 5780, section 7) */
+    STUNP_CHANGE_REQUEST = 0x0003,
+    STUNP_PADDING = 0x0026,
+    STUNP_RESPONSE_PORT = 0x0027,
+    STUNP_RESPONSE_ORIGIN = 0x802b,
+    STUNP_OTHER_ADDRESS = 0x802c
 } stunp_attribute_type;
 
 /* The algorithms of message integrity. A set of algorithms is a uint32_t; STUNP_SHA1 | STUNP_SHA256
@@ -356,10 +398,11 @@ typedef struct {
 /* A message that is being written, for the calls stunp_write_*. Get one from stunp_write or
  * stunp_write_on. You may read the fields; only the calls that take a writer may change them. */
 typedef struct {
-    uint8_t *bytes;  /* your buffer, which starts with the message */
-    size_t room;     /* the length of the buffer */
-    size_t length;   /* the length of the message */
-    int64_t refusal; /* the first error of a call with this writer, or 0 */
+    uint8_t *bytes;       /* your buffer, which starts with the message */
+    size_t room;          /* the length of the buffer */
+    size_t length;        /* the length of the message */
+    int64_t refusal;      /* the first error of a call with this writer, or 0 */
+    uint64_t reserved[2]; /* zeros, for later releases */
 } stunp_writer;
 
 /* A transport address. `octets` starts with the 4 octets of an IPv4 address or the 16 of an IPv6
@@ -578,7 +621,7 @@ int64_t stunp_read_types(const uint8_t *message, size_t length, size_t place, ui
  *                            the bytes are not one whole message (stunp_parse)
  *   STUNP_MISSING_ATTRIBUTE  no attribute of this type is visible
  *   STUNP_NOT_TEXT           the value is not UTF-8 */
-static inline int64_t stunp_find_text(const uint8_t *message, size_t length, uint32_t type,
+STUNP_INLINED int64_t stunp_find_text(const uint8_t *message, size_t length, uint32_t type,
                                       size_t *text_length) {
     size_t value_length;
     int64_t place = stunp_find(message, length, type, &value_length);
@@ -594,7 +637,7 @@ static inline int64_t stunp_find_text(const uint8_t *message, size_t length, uin
  *                              the bytes are not one whole message (stunp_parse)
  *   STUNP_MISSING_ATTRIBUTE    no attribute of this type is visible
  *   STUNP_MALFORMED_ATTRIBUTE  the value does not have 1, 2, 4 or 8 bytes */
-static inline int64_t stunp_find_number(const uint8_t *message, size_t length, uint32_t type,
+STUNP_INLINED int64_t stunp_find_number(const uint8_t *message, size_t length, uint32_t type,
                                         uint64_t *number) {
     size_t value_length;
     int64_t place = stunp_find(message, length, type, &value_length);
@@ -610,7 +653,7 @@ static inline int64_t stunp_find_number(const uint8_t *message, size_t length, u
  *   STUNP_MISSING_ATTRIBUTE    no attribute of this type is visible
  *   STUNP_MALFORMED_ATTRIBUTE  the value is not an address
  *   STUNP_BUFFER_TOO_SMALL     `out` has no room for the address */
-static inline int64_t stunp_find_address(const uint8_t *message, size_t length, uint32_t type,
+STUNP_INLINED int64_t stunp_find_address(const uint8_t *message, size_t length, uint32_t type,
                                          uint8_t *out, size_t out_length, uint16_t *port) {
     size_t value_length;
     int64_t place = stunp_find(message, length, type, &value_length);
@@ -629,7 +672,7 @@ static inline int64_t stunp_find_address(const uint8_t *message, size_t length, 
  *   STUNP_MISSING_ATTRIBUTE    no attribute of this type is visible
  *   STUNP_MALFORMED_ATTRIBUTE  the value is not an address
  *   STUNP_BUFFER_TOO_SMALL     `out` has no room for the address */
-static inline int64_t stunp_find_xor_address(const uint8_t *message, size_t length, uint32_t type,
+STUNP_INLINED int64_t stunp_find_xor_address(const uint8_t *message, size_t length, uint32_t type,
                                              uint8_t *out, size_t out_length, uint16_t *port) {
     size_t value_length;
     int64_t place = stunp_find(message, length, type, &value_length);
@@ -645,7 +688,7 @@ static inline int64_t stunp_find_xor_address(const uint8_t *message, size_t leng
  *                              the bytes are not one whole message (stunp_parse)
  *   STUNP_MISSING_ATTRIBUTE    no attribute of this type is visible
  *   STUNP_MALFORMED_ATTRIBUTE  the value has an odd number of bytes */
-static inline int64_t stunp_find_types(const uint8_t *message, size_t length, uint32_t type,
+STUNP_INLINED int64_t stunp_find_types(const uint8_t *message, size_t length, uint32_t type,
                                        uint16_t *types, size_t types_length) {
     size_t value_length;
     int64_t place = stunp_find(message, length, type, &value_length);
@@ -701,7 +744,7 @@ int64_t stunp_verify(const uint8_t *message, size_t length, const void *key, siz
 
 /* Returns whether a message is signed with this key: whether stunp_verify returns an algorithm. */
 STUNP_USE_RESULT STUNP_READS(1, 2) STUNP_READS(3, 4)
-static inline bool stunp_is_signed(const uint8_t *message, size_t length, const void *key,
+STUNP_INLINED bool stunp_is_signed(const uint8_t *message, size_t length, const void *key,
                                    size_t key_length) {
     return stunp_verify(message, length, key, key_length) > 0;
 }
@@ -718,7 +761,7 @@ int64_t stunp_check_fingerprint(const uint8_t *message, size_t length);
 /* Returns whether the last attribute of a message is a FINGERPRINT that matches the message:
  * whether stunp_check_fingerprint returns STUNP_RIGHT_FINGERPRINT. */
 STUNP_USE_RESULT STUNP_READS(1, 2)
-static inline bool stunp_has_right_fingerprint(const uint8_t *message, size_t length) {
+STUNP_INLINED bool stunp_has_right_fingerprint(const uint8_t *message, size_t length) {
     return stunp_check_fingerprint(message, length) == STUNP_RIGHT_FINGERPRINT;
 }
 
@@ -915,7 +958,7 @@ int64_t stunp_add_fingerprint(uint8_t *buffer, size_t room, size_t length);
 
 /* Stores the result of a call that appends to the message of a writer: the new length, or an error.
  * With it you can write calls of your own for a writer, like stunp_write_bytes below. */
-static inline void stunp_writer_took(stunp_writer *writer, int64_t answer) {
+STUNP_INLINED void stunp_writer_took(stunp_writer *writer, int64_t answer) {
     if (answer < 0) writer->refusal = answer;
     else writer->length = (size_t)answer;
 }
@@ -923,22 +966,22 @@ static inline void stunp_writer_took(stunp_writer *writer, int64_t answer) {
 /* Returns a writer that continues the message at the front of a buffer of `room` bytes. `answer` is
  * what the call that wrote the message returned, such as stunp_refuse_unknown: the length of the
  * message, or an error, which the writer then keeps. */
-static inline stunp_writer stunp_write_on(int64_t answer, uint8_t *bytes, size_t room) {
-    stunp_writer writer = {bytes, room, 0, 0};
+STUNP_INLINED stunp_writer stunp_write_on(int64_t answer, uint8_t *bytes, size_t room) {
+    stunp_writer writer = {bytes, room, 0, 0, {0, 0}};
     stunp_writer_took(&writer, answer);
     return writer;
 }
 
 /* Starts a message without attributes (stunp_begin) in a buffer of `room` bytes, and returns a
  * writer for it. */
-static inline stunp_writer stunp_write(stunp_message_class message_class, uint32_t method,
+STUNP_INLINED stunp_writer stunp_write(stunp_message_class message_class, uint32_t method,
                                        const uint8_t id[12], uint8_t *bytes, size_t room) {
     int64_t begun = stunp_begin(message_class, method, id, STUNP_ID_LENGTH, bytes, room);
     return stunp_write_on(begun, bytes, room);
 }
 
 /* Appends an attribute with this value (stunp_add). */
-static inline void stunp_write_bytes(stunp_writer *writer, uint32_t type, const void *value,
+STUNP_INLINED void stunp_write_bytes(stunp_writer *writer, uint32_t type, const void *value,
                                      size_t value_length) {
     if (writer->refusal < 0) return;
     stunp_writer_took(writer, stunp_add(writer->bytes, writer->room, writer->length, type, value,
@@ -947,12 +990,12 @@ static inline void stunp_write_bytes(stunp_writer *writer, uint32_t type, const 
 
 /* Appends an attribute with this text (stunp_add). The zero byte that ends the text is not
  * written. */
-static inline void stunp_write_text(stunp_writer *writer, uint32_t type, const char *text) {
+STUNP_INLINED void stunp_write_text(stunp_writer *writer, uint32_t type, const char *text) {
     stunp_write_bytes(writer, type, text, strlen(text));
 }
 
 /* Appends an attribute with a number of `size` bytes (stunp_add_number). */
-static inline void stunp_write_number(stunp_writer *writer, uint32_t type, uint64_t number,
+STUNP_INLINED void stunp_write_number(stunp_writer *writer, uint32_t type, uint64_t number,
                                       size_t size) {
     if (writer->refusal < 0) return;
     stunp_writer_took(writer, stunp_add_number(writer->bytes, writer->room, writer->length, type,
@@ -960,7 +1003,7 @@ static inline void stunp_write_number(stunp_writer *writer, uint32_t type, uint6
 }
 
 /* Appends an attribute with an address that is not XORed (stunp_add_address). */
-static inline void stunp_write_address(stunp_writer *writer, uint32_t type, const uint8_t *address,
+STUNP_INLINED void stunp_write_address(stunp_writer *writer, uint32_t type, const uint8_t *address,
                                        size_t address_length, uint32_t port) {
     if (writer->refusal < 0) return;
     stunp_writer_took(writer, stunp_add_address(writer->bytes, writer->room, writer->length, type,
@@ -969,7 +1012,7 @@ static inline void stunp_write_address(stunp_writer *writer, uint32_t type, cons
 
 /* Appends an attribute with an XORed address (stunp_add_xor_address), such as
  * STUNP_XOR_MAPPED_ADDRESS. */
-static inline void stunp_write_xor_address(stunp_writer *writer, uint32_t type,
+STUNP_INLINED void stunp_write_xor_address(stunp_writer *writer, uint32_t type,
                                            const uint8_t *address, size_t address_length,
                                            uint32_t port) {
     if (writer->refusal < 0) return;
@@ -978,14 +1021,14 @@ static inline void stunp_write_xor_address(stunp_writer *writer, uint32_t type,
 }
 
 /* Appends ERROR-CODE (stunp_add_error). The zero byte that ends the reason is not written. */
-static inline void stunp_write_error(stunp_writer *writer, uint32_t code, const char *reason) {
+STUNP_INLINED void stunp_write_error(stunp_writer *writer, uint32_t code, const char *reason) {
     if (writer->refusal < 0) return;
     stunp_writer_took(writer, stunp_add_error(writer->bytes, writer->room, writer->length, code,
                                               reason, strlen(reason)));
 }
 
 /* Signs the message (stunp_sign). */
-static inline void stunp_write_integrity(stunp_writer *writer, stunp_algorithm algorithm,
+STUNP_INLINED void stunp_write_integrity(stunp_writer *writer, stunp_algorithm algorithm,
                                          const void *key, size_t key_length) {
     if (writer->refusal < 0) return;
     stunp_writer_took(writer, stunp_sign(writer->bytes, writer->room, writer->length, algorithm,
@@ -993,7 +1036,7 @@ static inline void stunp_write_integrity(stunp_writer *writer, stunp_algorithm a
 }
 
 /* Appends FINGERPRINT (stunp_add_fingerprint). */
-static inline void stunp_write_fingerprint(stunp_writer *writer) {
+STUNP_INLINED void stunp_write_fingerprint(stunp_writer *writer) {
     if (writer->refusal < 0) return;
     stunp_writer_took(writer, stunp_add_fingerprint(writer->bytes, writer->room, writer->length));
 }
@@ -1004,7 +1047,7 @@ static inline void stunp_write_fingerprint(stunp_writer *writer) {
  * Otherwise returns the error of the first call that failed. The buffer then holds the message
  * without what that call and the ones after it would have added. */
 STUNP_USE_RESULT STUNP_NOT_NULL(1)
-static inline int64_t stunp_written(const stunp_writer *writer) { return writer->refusal; }
+STUNP_INLINED int64_t stunp_written(const stunp_writer *writer) { return writer->refusal; }
 
 /* ---- Whole messages */
 
@@ -1146,7 +1189,7 @@ int64_t stunp_error_text(int64_t answer, uint8_t *out, size_t out_length);
 
 /* Returns the text of stunp_error_text for a result of a call. The text is a constant: do not free
  * it. */
-static inline const char *stunp_strerror(int64_t answer) {
+STUNP_INLINED const char *stunp_strerror(int64_t answer) {
     static const char *const texts[] = {
         "no error",
         "bytes are missing at the end",
@@ -1185,14 +1228,20 @@ static inline const char *stunp_strerror(int64_t answer) {
  * same release. Never fails. */
 int64_t stunp_version(void);
 
+/* Returns whether the library is the proved one: true for the archives of `rt lib` as `make
+ * install` installs them, false for the libraries of `make lib`, which were exported from the same
+ * sources and are tested. Never fails. */
+extern bool stunp_is_proved(void);
+
 /* Returns the version of the archive too, but under a name that changes with each release that
  * breaks compatibility.
  *
- * Every file that includes this header refers to that name, so that a program which was compiled
- * for another release does not link. To prevent this, define STUNP_ANY_RELEASE before the include.
- * Compilers other than GCC and clang do not make the check. */
+ * If you define STUNP_CHECK_RELEASE before you include this header, the file refers to that name,
+ * so that a program which was compiled for another release does not link to the archive. Compilers
+ * other than GCC and clang do not make the check. With the shared library it is not needed: the
+ * loader makes it. */
 int64_t stunp_release_0_2(void);
-#if defined __GNUC__ && !defined STUNP_ANY_RELEASE
+#if defined __GNUC__ && defined STUNP_CHECK_RELEASE
 static int64_t (*const stunp_release_wanted)(void) __attribute__((used)) = stunp_release_0_2;
 #endif
 

@@ -168,8 +168,7 @@
  *   libstunp_heap.a (heap.c) or an allocator of your own (rattle_alloc, stunp_state.h). `rt lib` in
  *   crates/stun_c_endpoint proves and builds out/libstun_c_endpoint.a, which `make install` installs
  *   as libstunp_endpoint.a. It does not need libstunp_state.a.
- * - Tested (`make rust rust-c`): target/c/libstunp.a or libstunp.so, which have the calls of the
- *   three headers.
+ * - Exported (`make lib`): libstunp.so or libstunp.a, which have the calls of the three headers.
  *
  *
  * Handles, memory and errors are those of stunp_state.h, except that a handle may be const, and that
@@ -492,7 +491,7 @@ int64_t stunp_endpoint_server_new_with(stunp_endpoint_server *server, const void
  * Returns 0. Errors:
  *   STUNP_BAD_ARGUMENT   `size` is wrong, or `secret` or `realm` is null
  * and then those of stunp_endpoint_server_new_with. */
-static inline int64_t
+STUNP_INLINED int64_t
 stunp_endpoint_server_new(stunp_endpoint_server *server,
                           const stunp_endpoint_server_settings *settings) {
     if (settings->size != sizeof *settings) return STUNP_BAD_ARGUMENT;
@@ -514,7 +513,7 @@ void stunp_endpoint_server_clear(stunp_endpoint_server *server);
 
 /* Frees a server and makes its handle empty. Does nothing if the handle is empty or the pointer is
  * null. Tables of users that it made go on. */
-static inline void stunp_endpoint_server_free(stunp_endpoint_server *server) {
+STUNP_INLINED void stunp_endpoint_server_free(stunp_endpoint_server *server) {
     if (server != NULL) stunp_endpoint_server_clear(server);
 }
 
@@ -536,7 +535,7 @@ int64_t stunp_endpoint_users_new_own(stunp_endpoint_users *users, stunp_endpoint
  *   STUNP_FULL_HANDLE    the table's handle is not empty
  *   STUNP_EMPTY_HANDLE   the server's handle has no server
  *   STUNP_OUT_OF_MEMORY  an allocation failed */
-static inline int64_t stunp_endpoint_users_new(stunp_endpoint_users *users,
+STUNP_INLINED int64_t stunp_endpoint_users_new(stunp_endpoint_users *users,
                                                const stunp_endpoint_server *server) {
     stunp_endpoint_server own = *server;
     return stunp_endpoint_users_new_own(users, &own);
@@ -586,7 +585,7 @@ void stunp_endpoint_users_clear(stunp_endpoint_users *users);
 
 /* Frees a table and makes its handle empty. Does nothing if the handle is empty or the pointer is
  * null. */
-static inline void stunp_endpoint_users_free(stunp_endpoint_users *users) {
+STUNP_INLINED void stunp_endpoint_users_free(stunp_endpoint_users *users) {
     if (users != NULL) stunp_endpoint_users_clear(users);
 }
 
@@ -629,7 +628,7 @@ int64_t stunp_endpoint_server_receive_own(stunp_endpoint_server *server,
  *   STUNP_BUFFER_TOO_SMALL  the answer does not fit into `room` bytes. `received->length` is then its
  *                           length, and nothing else of `*received` changes */
 STUNP_USE_RESULT
-static inline int64_t
+STUNP_INLINED int64_t
 stunp_endpoint_server_receive(const stunp_endpoint_server *server,
                               const stunp_endpoint_users *users, const uint8_t *bytes,
                               size_t length, const stunp_address *from, uint64_t unix_seconds,
@@ -642,7 +641,7 @@ stunp_endpoint_server_receive(const stunp_endpoint_server *server,
 }
 
 /* Returns a text for the reason of STUNP_DROPPED, as stunp_strerror does for an error. */
-static inline const char *stunp_drop_text(uint32_t why) {
+STUNP_INLINED const char *stunp_drop_text(uint32_t why) {
     switch (why) {
     case STUNP_DROP_NOT_STUN: return "it is not STUN";
     case STUNP_DROP_MALFORMED: return "it is not what its header says";
@@ -738,14 +737,14 @@ stunp_endpoint_server_resume(const stunp_endpoint_server *server, const stunp_fo
 
 /* Starts the success response to a request in a buffer of `room` bytes, and returns a writer for
  * it. */
-static inline stunp_writer stunp_reply_success(const stunp_reply *reply, uint8_t *out,
+STUNP_INLINED stunp_writer stunp_reply_success(const stunp_reply *reply, uint8_t *out,
                                                size_t room) {
     return stunp_write(STUNP_SUCCESS, reply->method, reply->id, out, room);
 }
 
 /* Starts an error response to a request, with ERROR-CODE, and returns a writer for it. `code` is 300
  * to 699. */
-static inline stunp_writer stunp_reply_error(const stunp_reply *reply, uint32_t code,
+STUNP_INLINED stunp_writer stunp_reply_error(const stunp_reply *reply, uint32_t code,
                                              const char *reason, uint8_t *out, size_t room) {
     stunp_writer answer = stunp_write(STUNP_ERROR, reply->method, reply->id, out, room);
     stunp_write_error(&answer, code, reason);
@@ -757,7 +756,7 @@ static inline stunp_writer stunp_reply_error(const stunp_reply *reply, uint32_t 
  * Returns the length of the response; or the first error of a call with this writer, these two
  * (stunp_sign, stunp_add_fingerprint) among them. */
 STUNP_USE_RESULT
-static inline int64_t stunp_reply_finish(const stunp_reply *reply, stunp_writer *answer) {
+STUNP_INLINED int64_t stunp_reply_finish(const stunp_reply *reply, stunp_writer *answer) {
     if (reply->integrity != 0)
         stunp_write_integrity(answer, (stunp_algorithm)reply->integrity, reply->key,
                               reply->key_length);
@@ -766,7 +765,7 @@ static inline int64_t stunp_reply_finish(const stunp_reply *reply, stunp_writer 
 }
 
 /* Overwrites a reply and the key that it contains. */
-static inline void stunp_reply_wipe(stunp_reply *reply) {
+STUNP_INLINED void stunp_reply_wipe(stunp_reply *reply) {
     volatile uint8_t *bytes = (volatile uint8_t *)reply;
     for (size_t i = 0; i < sizeof *reply; i++) bytes[i] = 0;
 }
@@ -921,10 +920,10 @@ static inline int64_t stunp_ice_checker_receive(stunp_ice_checker *checker, cons
 int64_t stunp_endpoint_version(void);
 
 /* Returns the version of the archive too, but under a name that changes with each release that
- * breaks compatibility, like stunp_release_0_2 of stunp.h: a program that was compiled for another
- * release does not link. */
+ * breaks compatibility, like stunp_release_0_2 of stunp.h: if you define STUNP_CHECK_RELEASE, a
+ * program that was compiled for another release does not link. */
 int64_t stunp_endpoint_release_0_2(void);
-#if defined __GNUC__ && !defined STUNP_ANY_RELEASE
+#if defined __GNUC__ && defined STUNP_CHECK_RELEASE
 static int64_t (*const stunp_endpoint_release_wanted)(void) __attribute__((used)) =
     stunp_endpoint_release_0_2;
 #endif

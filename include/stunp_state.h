@@ -24,9 +24,10 @@
  *   (rattle_alloc below). `rt lib` in crates/stun_state proves and builds out/libstun_state.a,
  *   which `make install` installs as libstunp_state.a. Apart from these three it needs only what
  *   every C compiler has: memcpy, memmove, memset, and __udivti3 and __umodti3 of its runtime.
- * - Tested (`make rust rust-c`): target/c/libstunp.a or libstunp.so, which have the calls of all
- *   three headers. They allocate with your three functions if your program has them, and otherwise with
- *   malloc. They need a C library with -lpthread -ldl -lm.
+ * - Exported (`make lib`): libstunp.so or libstunp.a, which have the calls of all three headers.
+ *   They allocate with your three functions if your program has them, and otherwise with malloc.
+ *
+ * The pkg-config file stunp_state names the libraries that are installed.
  *
  *
  * The calls, in the order of this file
@@ -93,8 +94,9 @@
  * each may use and must free. If they share the memory of a handle or of the allocator, only one of
  * the two may go on using it.
  *
- * These rules are trusted, not proved. The proved archives contain no writable data and no
- * thread-local data; the tested ones contain some, from the Rust library.
+ * These rules are trusted, not proved. The libraries contain no thread-local data. The proved ones
+ * contain no writable data, and the exported ones two bytes, which store whether the processor has
+ * SHA instructions, and are read and written atomically.
  *
  *
  * Time and random numbers
@@ -300,7 +302,7 @@ extern "C" {
  * libstunp_heap.a (heap.c) has them over malloc, with a limit. That they behave as described here
  * is trusted.
  *
- * A program that lacks them does not link to the proved archive. target/c/libstunp.a and
+ * A program that lacks them does not link to the proved archive. The exported libstunp.a and
  * libstunp.so then use malloc, and do so too if one of the three is missing. They find the three in
  * any object file of the program, in whatever order it is linked. But a linker takes nothing from a
  * library for a function that may be missing. If yours are in a static library, link with
@@ -502,7 +504,7 @@ void stunp_agent_clear(stunp_agent *agent);
 
 /* Frees an agent and makes its handle empty. Does nothing if the handle is empty or the pointer is
  * null. */
-static inline void stunp_agent_free(stunp_agent *agent) {
+STUNP_INLINED void stunp_agent_free(stunp_agent *agent) {
     if (agent != NULL) stunp_agent_clear(agent);
 }
 
@@ -777,7 +779,7 @@ void stunp_server_clear(stunp_server *server);
 
 /* Frees a server and makes its handle empty. Does nothing if the handle is empty or the pointer is
  * null. */
-static inline void stunp_server_free(stunp_server *server) {
+STUNP_INLINED void stunp_server_free(stunp_server *server) {
     if (server != NULL) stunp_server_clear(server);
 }
 
@@ -862,7 +864,7 @@ int64_t stunp_server_validate(stunp_server *server, const uint8_t *message, size
  * stunp_server_validate_of_keys or stunp_client_validate is that the message is authentic: whether
  * it is STUNP_SHA1 or STUNP_SHA256. */
 STUNP_USE_RESULT
-static inline bool stunp_is_authentic(int64_t verdict) {
+STUNP_INLINED bool stunp_is_authentic(int64_t verdict) {
     return verdict == STUNP_SHA1 || verdict == STUNP_SHA256;
 }
 
@@ -922,7 +924,7 @@ int64_t stunp_server_sign(stunp_server *server, uint8_t *buffer, size_t room, si
 
 /* Signs the message of a writer (stunp_server_sign), which keeps the new length or the error. Does
  * nothing if an earlier call with this writer has failed. */
-static inline void stunp_write_server_sign(stunp_writer *writer, stunp_server *server,
+STUNP_INLINED void stunp_write_server_sign(stunp_writer *writer, stunp_server *server,
                                            const stunp_address *to) {
     if (writer->refusal < 0) return;
     stunp_writer_took(writer, stunp_server_sign(server, writer->bytes, writer->room,
@@ -1086,7 +1088,7 @@ int64_t stunp_server_sign_of_keys(stunp_server *server, uint8_t *buffer, size_t 
 
 /* Signs the message of a writer (stunp_server_sign_of), which keeps the new length or the error.
  * Does nothing if an earlier call with this writer has failed. */
-static inline void stunp_write_server_sign_of(stunp_writer *writer, stunp_server *server,
+STUNP_INLINED void stunp_write_server_sign_of(stunp_writer *writer, stunp_server *server,
                                               const stunp_address *to, const void *name,
                                               size_t name_length, const void *password,
                                               size_t password_length) {
@@ -1098,7 +1100,7 @@ static inline void stunp_write_server_sign_of(stunp_writer *writer, stunp_server
 
 /* Signs the message of a writer (stunp_server_sign_of_keys), which keeps the new length or the
  * error. Does nothing if an earlier call with this writer has failed. */
-static inline void stunp_write_server_sign_of_keys(stunp_writer *writer, stunp_server *server,
+STUNP_INLINED void stunp_write_server_sign_of_keys(stunp_writer *writer, stunp_server *server,
                                                    const stunp_address *to, const void *name,
                                                    size_t name_length, const uint8_t *sha1,
                                                    size_t sha1_length, const uint8_t *sha256,
@@ -1265,7 +1267,7 @@ void stunp_client_clear(stunp_client *client);
 
 /* Frees a client and makes its handle empty. Does nothing if the handle is empty or the pointer is
  * null. */
-static inline void stunp_client_free(stunp_client *client) {
+STUNP_INLINED void stunp_client_free(stunp_client *client) {
     if (client != NULL) stunp_client_clear(client);
 }
 
@@ -1304,7 +1306,7 @@ int64_t stunp_client_sign(const stunp_client *client, uint8_t *buffer, size_t ro
 
 /* Signs the message of a writer (stunp_client_sign), which keeps the new length or the error. Does
  * nothing if an earlier call with this writer has failed. */
-static inline void stunp_write_client_sign(stunp_writer *writer, const stunp_client *client) {
+STUNP_INLINED void stunp_write_client_sign(stunp_writer *writer, const stunp_client *client) {
     if (writer->refusal < 0) return;
     stunp_writer_took(writer, stunp_client_sign(client, writer->bytes, writer->room,
                                                 writer->length));
@@ -1376,10 +1378,10 @@ bool stunp_is_resend(int64_t answer);
 int64_t stunp_state_version(void);
 
 /* Returns the version of the archive too, but under a name that changes with each release that
- * breaks compatibility, like stunp_release_0_2 of stunp.h: a program that was compiled for another
- * release does not link. */
+ * breaks compatibility, like stunp_release_0_2 of stunp.h: if you define STUNP_CHECK_RELEASE, a
+ * program that was compiled for another release does not link. */
 int64_t stunp_state_release_0_2(void);
-#if defined __GNUC__ && !defined STUNP_ANY_RELEASE
+#if defined __GNUC__ && defined STUNP_CHECK_RELEASE
 static int64_t (*const stunp_state_release_wanted)(void) __attribute__((used)) =
     stunp_state_release_0_2;
 #endif

@@ -125,8 +125,12 @@ if python3 -c "$loopback" >/dev/null 2>&1; then
     checked="$checked; $(tail -n 1 "$scratch/twice")"
     twice udp/ways.py "$@"
     checked="$checked; $(tail -n 1 "$scratch/twice")"
-    # ICE between two of the programs, and with libnice, aioice and coturn where they are installed.
-    twice udp/ice_turn.py
+    # ICE between two of the programs, and with libnice and aioice, TURN with coturn and pion where
+    # they are installed.
+    set --
+    built="../target/export/target/debug/examples/turn_client"
+    if [ -x "$built" ]; then set -- --turn-client "$built"; fi
+    twice udp/ice_turn.py "$@"
     checked="$checked; $(tail -n 1 "$scratch/twice")"
 fi
 echo "examples: passed in $checked"

@@ -2,7 +2,8 @@
 # Installs the archives that STUN_C, STUN_STATE and STUN_ENDPOINT (without it, that of STUN_STATE)
 # name, by absolute paths, or those of `rt lib`,
 # into a scratch folder, builds programs over it, by pkg-config and by CMake where they are there,
-# and takes all of it out again. LIBRARIES tells what the archives want beside. Where an archive is
+# and takes all of it out again. If STUN_STATE is the exported archive, that is installed with the
+# shared library beside it. Where an archive is
 # missing, make says what to run, and proves nothing. Without a C compiler and make this checks
 # nothing. The last line says what was checked.
 set -eu
@@ -15,11 +16,17 @@ if ! there "${CC-}" cc || ! command -v make >/dev/null; then
 fi
 scratch=$(mktemp -d)
 trap 'rm -rf "$scratch"' EXIT
-root=$scratch/root
 given=${STUN_STATE:-../crates/stun_c_endpoint/out/libstun_c_endpoint.a}
 STUN_ENDPOINT=${STUN_ENDPOINT:-$given}
 STUN_C=${STUN_C:-../crates/stun_c/out/libstun_c.a}
 STUN_STATE=${STUN_STATE:-../crates/stun_state/out/libstun_state.a}
+kind=proved of_heap=''
+if ${NM:-nm} "$STUN_STATE" 2>/dev/null | grep -q ' T stunp_is_proved$'; then
+    kind=exported of_heap=stunp_heap
+fi
+machine=$($cc -print-multiarch 2>/dev/null) || machine=''
+libdir=/usr/lib${machine:+/$machine}
+root=$scratch/root lib=$scratch/root$libdir
 unset MAKEFLAGS MAKELEVEL
 
 fail() {
@@ -36,15 +43,17 @@ printf '#!/bin/sh\necho "$@" >>%s/started\n' "$scratch" >"$scratch/bin/rt"
 chmod +x "$scratch/bin/rt"
 refuses() {
     ! PATH="$scratch/bin:$PATH" make -s -C "$@" >"$scratch/told" 2>&1 || fail "make -C $* passed"
-    grep -q 'is missing: `rt lib`' "$scratch/told" && [ "$(wc -l <"$scratch/told")" = 1 ] ||
+    grep -q 'is missing: .*`rt lib`' "$scratch/told" && [ "$(wc -l <"$scratch/told")" = 1 ] ||
         fail "make -C $* told $(cat "$scratch/told")"
     [ ! -e "$scratch/started" ] || fail "make -C $* started rt"
 }
 absent=$scratch/absent.a
-refuses ../include install DESTDIR="$root" MESSAGES="$absent" STATE="$STUN_STATE" OUT="$scratch"
+refuses ../include install KIND=proved DESTDIR="$root" MESSAGES="$absent" STATE="$STUN_STATE" \
+    OUT="$scratch"
 refuses ../include install DESTDIR="$root" MESSAGES="$STUN_C" STATE="$absent" OUT="$scratch"
 refuses ../include install DESTDIR="$root" MESSAGES="$STUN_C" STATE="$STUN_STATE" \
     ENDPOINT="$absent" OUT="$scratch"
+refuses ../include install DESTDIR="$root" MESSAGES="$absent" EXPORTED="$scratch" OUT="$scratch"
 refuses ../examples/c OUT="$scratch/examples" LIBRARY="$absent" STATE="$STUN_STATE"
 refuses ../examples/c udp OUT="$scratch/examples" LIBRARY="$STUN_C" STATE="$absent"
 refuses ../examples/c udp OUT="$scratch/examples" LIBRARY="$STUN_C" STATE="$STUN_STATE" \
@@ -53,49 +62,72 @@ refuses ../examples/c udp OUT="$scratch/examples" LIBRARY="$STUN_C" STATE="$STUN
 # One program is built, and one is not.
 echo tool >"$scratch/bin/stun_tool"
 chmod +x "$scratch/bin/stun_tool"
+# in_root FOLDER WORD..
 in_root() {
-    make -s -C "$@" CC="$cc" DESTDIR="$root" PREFIX=/usr OUT="$scratch/heap" \
-        MESSAGES="$STUN_C" STATE="$STUN_STATE" ENDPOINT="$STUN_ENDPOINT" SYSTEM="${LIBRARIES-}" \
+    make -s -C "$@" CC="$cc" DESTDIR="$root" PREFIX=/usr LIBDIR="$libdir" OUT="$scratch/heap" \
+        MESSAGES="$STUN_C" STATE="$STUN_STATE" ENDPOINT="$STUN_ENDPOINT" \
+        EXPORTED="$(dirname "$STUN_STATE")" \
         PROGRAMS="$scratch/bin/stun_tool $scratch/bin/stun_inspect"
 }
-told=$(in_root .. install)
-[ "$told" = "left out: $scratch/bin/stun_inspect is not built" ] || fail "told $told"
-for file in bin/stun_tool share/man/man1/stun_tool.1 share/stunp/heap.c; do
+if [ $kind = proved ]; then
+    told=$(in_root .. install)
+    wanted='the proved archives'
+    cmp -s "$STUN_STATE" "$lib/libstunp_state.a" || fail 'another archive'
+    cmp -s "$STUN_ENDPOINT" "$lib/libstunp_endpoint.a" || fail 'another archive'
+else
+    # Nobody is told that they are proved.
+    ! in_root .. install KIND=proved >/dev/null 2>&1 || fail 'the exported archive counts as proved'
+    rm -rf "$root"
+    told=$(in_root .. install KIND=exported)
+    wanted='the exported libraries: tested, not proved'
+    cmp -s "$STUN_STATE" "$lib/libstunp.a" || fail 'another archive'
+    loaded=$(objdump -p "$lib/libstunp.so" | sed -n 's/^ *SONAME *//p')
+    [ "$(readlink "$lib/libstunp.so")" = "$loaded" ] && [ -f "$lib/$loaded" ] ||
+        fail "no library of the name $loaded"
+fi
+[ "$told" = "left out: $scratch/bin/stun_inspect is not built
+installed: $wanted" ] || fail "told $told"
+for file in bin/stun_tool share/man/man1/stun_tool.1 share/man/man3/stunp_parse.3 \
+    share/stunp/heap.c include/stunp.hpp; do
     [ -s "$root/usr/$file" ] || fail "no $file"
 done
 [ ! -e "$root/usr/share/man/man1/stun_inspect.1" ] || fail 'a page of a program that is left out'
-cmp -s "$STUN_STATE" "$root/usr/lib/libstunp_state.a" || fail 'another archive'
-cmp -s "$STUN_ENDPOINT" "$root/usr/lib/libstunp_endpoint.a" || fail 'another archive'
 
 # prints WANTED PROGRAM
 prints() {
-    printed=$("$2") || fail "$2 ended with $?"
+    printed=$(LD_LIBRARY_PATH=$lib "$2") || fail "$2 ended with $?"
     [ "$printed" = "$1" ] || fail "$2 printed '$printed', not '$1'"
 }
-version=$(sed -n 's/^Version: //p' "$root/usr/lib/pkgconfig/stunp.pc")
+version=$(sed -n 's/^Version: //p' "$lib/pkgconfig/stunp.pc")
 checked='make'
 
 # flags NAME..: for a compiler, of the files for pkg-config.
 flags() {
     if command -v pkg-config >/dev/null; then
-        PKG_CONFIG_PATH="$root/usr/lib/pkgconfig" PKG_CONFIG_SYSROOT_DIR="$root" \
+        PKG_CONFIG_PATH="$lib/pkgconfig" PKG_CONFIG_SYSROOT_DIR="$root" \
             PKG_CONFIG_ALLOW_SYSTEM_CFLAGS=1 PKG_CONFIG_ALLOW_SYSTEM_LIBS=1 \
             pkg-config --cflags --libs "$@"
+    elif [ $kind = proved ]; then
+        echo "-I$root/usr/include -L$lib -lstunp_state -lstunp_endpoint -lstunp -lstunp_heap"
     else
-        echo "-I$root/usr/include -L$root/usr/lib -lstunp_state -lstunp_endpoint -lstunp" \
-            "${LIBRARIES-} -lstunp_heap"
+        echo "-I$root/usr/include -L$lib -lstunp -Wl,-u,rattle_alloc -lstunp_heap"
     fi
 }
 strict='-std=c99 -Wall -Wextra -Wpedantic -Werror'
 for memory in LIBRARYS_MEMORY OWN_MEMORY; do
-    $cc $strict -D$memory c/installed.c $(flags stunp_state) -o "$scratch/installed"
+    $cc $strict -D$memory c/installed.c $(flags stunp_state $of_heap) -o "$scratch/installed"
     prints "$version" "$scratch/installed"
 done
-$cc $strict -DENDPOINT c/installed.c $(flags stunp_endpoint) -o "$scratch/endpoint"
+$cc $strict -DENDPOINT c/installed.c $(flags stunp_endpoint $of_heap) -o "$scratch/endpoint"
 prints "$version" "$scratch/endpoint"
 # The first archive wants no memory.
 $cc c/arguments.c $(flags stunp) -o "$scratch/arguments"
 prints 'arguments: passed' "$scratch/arguments"
+# What is installed says which it is.
+printf '#include <stdio.h>\n#include <stunp.h>\n%s\n' \
+    'int main(void) { puts(stunp_is_proved() ? "proved" : "exported"); return 0; }' >"$scratch/is.c"
+$cc $strict "$scratch/is.c" $(flags stunp) -o "$scratch/is"
+prints $kind "$scratch/is"
 if command -v pkg-config >/dev/null; then checked="$checked, pkg-config"; fi
 # The header for C++.
 if there "${CXX-}" c++; then
@@ -103,17 +135,18 @@ if there "${CXX-}" c++; then
         >"$scratch/made.cpp"
     ${CXX:-c++} -std=c++17 -Wall -Wextra -Wpedantic -Werror "$scratch/made.cpp" \
         $(flags stunp_state) -o "$scratch/made"
-    "$scratch/made" || fail "the program in C++ ended with $?"
+    prints '' "$scratch/made"
     checked="$checked, C++"
 fi
 # The memory functions under other names, by the recipe of stunp_state.h.
 if command -v objcopy >/dev/null; then
-    renamed=''
+    renamed='' archive=$lib/libstunp_state.a
+    [ $kind = proved ] || archive=$lib/libstunp.a
     for name in alloc realloc dealloc; do
         renamed="$renamed --redefine-sym rattle_$name=mine_$name"
         strict="$strict -Drattle_$name=mine_$name"
     done
-    objcopy $renamed "$root/usr/lib/libstunp_state.a" "$scratch/renamed.a"
+    objcopy $renamed "$archive" "$scratch/renamed.a"
     $cc $strict -DOWN_MEMORY c/installed.c "$scratch/renamed.a" $(flags stunp) -o "$scratch/renamed"
     prints "$version" "$scratch/renamed"
     checked="$checked, renamed memory"
@@ -130,12 +163,20 @@ if(stunp_FOUND)
 endif()
 find_package(stunp ${RELEASE} REQUIRED)
 add_executable(installed ${SOURCE})
-target_link_libraries(installed stunp::stunp_state)
+target_link_libraries(installed stunp::stunp_state stunp::stunp_heap)
+add_executable(alone ${SOURCE})
+target_compile_definitions(alone PRIVATE OWN_MEMORY)
+if(TARGET stunp::stunp_static)
+    target_link_libraries(alone stunp::stunp_static)
+else()
+    target_link_libraries(alone stunp::stunp_state)
+endif()
 PROJECT
     quiet env CC="$cc" cmake -S "$scratch/project" -B "$scratch/built" \
         -DCMAKE_PREFIX_PATH="$root/usr" -DRELEASE="$version" -DSOURCE="$PWD/c/installed.c"
     quiet cmake --build "$scratch/built"
     prints "$version" "$scratch/built/installed"
+    prints "$version" "$scratch/built/alone"
     checked="$checked, CMake"
 fi
 
@@ -145,4 +186,4 @@ left=$(find "$root" ! -type d)
 left=$(find "$root" -name '*stun*')
 [ -z "$left" ] || fail "left $left"
 in_root ../include uninstall
-echo "install: passed with $checked"
+echo "install: passed with the $kind libraries, $checked"

@@ -307,5 +307,5 @@ def sources(root, crate):
     public_types = {"Vec", "String", "SocketAddr", "Duration"}
     for path in paths:
         with open(path) as opened:
-            public_types |= set(re.findall(r"\bpub\s+(?:struct|enum|trait)\s+(\w+)", opened.read()))
+            public_types |= set(re.findall(r"\bpub\s+(?:struct|enum|trait|type)\s+(\w+)", opened.read()))
     return [Source(path, public_types) for path in paths if "/tests" not in path]

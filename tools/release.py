@@ -2,7 +2,10 @@
 """Puts a release together from what is built, and looks at one.
 
     tools/release.py OUT [LOG]       OUT/stunp-VERSION and OUT/stunp-VERSION.tar.gz; LOG is what the
-                                     gate printed at this commit (target/gate.log of .ci/run)
+                                     gate printed at this commit (target/gate.log of .ci/run); and
+    tools/release.py --source OUT    OUT/stunp-VERSION-source.tar.gz: the files of this repository,
+                                     and in vendor/ the crates of others, so that `make lib` needs
+                                     cargo, Python, a C compiler and no network
     tools/release.py --verify OUT    the sums; what is made again from this repository is the same,
                                      or each file that differs; it installs and runs on a clean root
 
@@ -170,7 +173,7 @@ def install(folder):
     with tempfile.TemporaryDirectory() as scratch:
         run("make", "-s", "-C", os.path.join(TOP, "include"), "install", "TO=" + folder,
             "NAMED=$${pcfiledir}/../..", "OUT=" + scratch, "MESSAGES=" + messages,
-            "STATE=" + state, "ENDPOINT=" + endpoint, "PROGRAMS=" + programs,
+            "STATE=" + state, "ENDPOINT=" + endpoint, "PROGRAMS=" + programs, "KIND=proved",
             env={key: word for key, word in os.environ.items() if key[:4] != "MAKE"})
 
 
@@ -201,9 +204,11 @@ def sums(folder):
 
 
 def pack(folder, archive):
-    """Without times and owners, so that the same files give the same bytes."""
+    """With the time of the commit and without owners, so that the same files give the same bytes."""
+    time = int(run("git", "log", "-1", "--format=%ct", cwd=TOP))
+
     def plain(entry):
-        entry.mtime, entry.uid, entry.gid, entry.uname, entry.gname = 0, 0, 0, "", ""
+        entry.mtime, entry.uid, entry.gid, entry.uname, entry.gname = time, 0, 0, "", ""
         entry.mode = 0o755 if entry.isdir() or entry.mode & 0o100 else 0o644
         return entry
     with open(archive, "wb") as raw, gzip.GzipFile("", "wb", 9, raw, mtime=0) as packed, \
@@ -227,6 +232,24 @@ def assemble(folder, log, is_tried=True):
     crate(folder, is_tried)
     write(os.path.join(folder, "PROOF"), proof)
     write(os.path.join(folder, "SHA256SUMS"), sums(folder))
+
+
+def source(out):
+    """Packs the files that git knows, as they are here, with the crates that cargo needs beside."""
+    folder = os.path.abspath(os.path.join(out, "stunp-%s-source" % version()))
+    shutil.rmtree(folder, ignore_errors=True)
+    for name in run("git", "ls-files", "-z", cwd=TOP).split("\0"):
+        if name and os.path.exists(os.path.join(TOP, name)):
+            os.makedirs(os.path.dirname(os.path.join(folder, name)), exist_ok=True)
+            shutil.copy(os.path.join(TOP, name), os.path.join(folder, name))
+    write(os.path.join(folder, "COMMIT"), run("git", "describe", "--always", "--abbrev=12",
+                                              "--dirty=, with changes", "--exclude=*", cwd=TOP))
+    run("tools/rust.sh", "--export", cwd=TOP)
+    run("cargo", "vendor", "--quiet", "--respect-source-config", os.path.join(folder, "vendor"),
+        cwd=EXPORTED)
+    pack(folder, folder + ".tar.gz")
+    shutil.rmtree(folder)
+    print("release: %s.tar.gz" % folder)
 
 
 def differences(one, other):
@@ -257,6 +280,8 @@ def verify(out, log):
 
 def main():
     words = sys.argv[1:]
+    if words[:1] == ["--source"] and len(words) == 2:
+        return source(words[1])
     is_verified = words[:1] == ["--verify"]
     words = words[is_verified:]
     if len(words) not in (1, 2) or words[0].startswith("-"):
@@ -268,6 +293,7 @@ def main():
     assemble(folder, log)
     pack(folder, folder + ".tar.gz")
     print("release: %s.tar.gz" % folder)
+    source(words[0])
 
 
 if __name__ == "__main__":

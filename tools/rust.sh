@@ -1,16 +1,18 @@
 #!/bin/sh
 # Exports the library as plain Rust to target/export, and tries what comes out: warnings, pages,
-# tests, transcripts. It needs cargo, the Rust of rust/Cargo.toml and Python 3.9. Where the crates
-# of Debian are installed, or can be by root, it needs no network beside. Without clippy its
-# warnings are left out. With --build it exports and builds, and tests nothing. With --can it tells
-# by its status whether all that it needs is there, with the crates of Debian.
+# tests, transcripts. It needs cargo, the Rust of rust/Cargo.toml and Python 3.9. Cargo takes its
+# crates from vendor/ if that is there, as in the release of the sources, or else those of Debian if
+# they are installed (or can be, by root): then it needs no network. Without clippy its warnings are
+# left out. With --build it exports, builds and tests nothing; with --export it only exports, and
+# installs nothing. With --can it tells by its status whether all that it needs is there, with the
+# crates.
 set -eu
 cd "$(dirname "$0")/.."
 out=target/export
 packages="librust-getrandom-dev librust-md-5-dev librust-sha1-dev librust-sha2-dev librust-tracing-dev"
 
-has_packages() {
-    command -v dpkg > /dev/null && dpkg -s $packages > /dev/null 2>&1
+has_crates() {
+    [ -d vendor ] || { command -v dpkg > /dev/null && dpkg -s $packages > /dev/null 2>&1; }
 }
 
 # has_rust VERSION: whether this Rust is as new, and cargo is there.
@@ -27,26 +29,28 @@ if [ -n "$missing" ]; then
     echo "The exported crate wants what is not there: $missing." >&2
     exit 1
 fi
-if ! has_packages && command -v apt-get > /dev/null && [ "$(id -u)" = 0 ]; then
+if [ "${1:-}" != --export ] && ! has_crates && command -v apt-get > /dev/null && [ "$(id -u)" = 0 ]; then
     { apt-get update -qq &&
         apt-get install -qq -y --no-install-recommends $packages; } > /dev/null ||
         echo "The crates of Debian cannot be installed: cargo fetches them." >&2
 fi
 if [ "${1:-}" = --can ]; then
-    has_packages && exit
+    has_crates && exit
     echo "The crates of Debian are not there: $packages." >&2
     exit 1
 fi
-[ "${1:-}" = --build ] || python3 tests/export/export_test.py
+[ -n "${1:-}" ] || python3 tests/export/export_test.py
 python3 tools/export/export.py "$out"
 mkdir -p "$out/.cargo"
-if has_packages; then
-    printf '%s\n' '[source.crates-io]' 'replace-with = "debian"' '[source.debian]' \
-        'directory = "/usr/share/cargo/registry"' '[net]' 'offline = true' \
-        > "$out/.cargo/config.toml"
+if has_crates; then
+    from=/usr/share/cargo/registry
+    [ ! -d vendor ] || from=$PWD/vendor
+    printf '%s\n' '[source.crates-io]' 'replace-with = "here"' '[source.here]' \
+        "directory = \"$from\"" '[net]' 'offline = true' > "$out/.cargo/config.toml"
 else
     rm -f "$out/.cargo/config.toml"
 fi
+[ "${1:-}" != --export ] || exit 0
 
 if [ "${1:-}" = --build ]; then
     cd "$out"

@@ -218,17 +218,29 @@ def in_rust(folder):
                                                ["sh", "-ec", command[1]], cwd=TOP):
         return False
     source = os.path.join(folder, "examples", "readme.rs")
-    lines = block_after(readme(), "in `Cargo.toml`:")
+    jobs = readme().split("## Everyday jobs")[1].split("\n## ")[0]
+    jobs = [job for job in re.findall(r"\n\n((?:    .*\n|\n(?=    ))+)", jobs) if "pub fn" in job]
+    lines = ["mod job%d {\n%s}\n" % job for job in enumerate(jobs)]
     try:
         with open(source, "w") as opened:
-            opened.write(lines + "\nfn main() {\n    println!(\"{}\", is_signed(b\"no message\", "
-                                 "\"password\"));\n}\n")
-        if not prints("false\n", ["cargo", "run", "--quiet", "--example", "readme"], cwd=folder):
+            opened.write("#![allow(dead_code)]\n%s%s" % ("".join(lines), SERVED))
+        if not prints("401\n", ["cargo", "run", "--quiet", "--example", "readme"], cwd=folder):
             return False
     finally:
         os.remove(source)
-    print("transcripts: the command and the lines of Rust of README.md do what README.md says")
+    print("transcripts: the command and the %d jobs in Rust of README.md do what it says" % len(jobs))
     return True
+
+
+# The server of the third job challenges the client of the first, which has no credentials.
+SERVED = """fn main() {
+    let socket = std::net::UdpSocket::bind("127.0.0.1:0").unwrap();
+    let server = socket.local_addr().unwrap();
+    std::thread::spawn(move || job2::serve(&socket, [7; 32]).unwrap());
+    let error = job0::my_address(server, [7; 32]).unwrap_err();
+    println!("{}", error.to_string().split(|c: char| !c.is_ascii_digit()).collect::<String>());
+}
+"""
 
 
 if __name__ == "__main__":

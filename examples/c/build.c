@@ -3,7 +3,7 @@
  *     build 1|2 USERNAME PASSWORD > MESSAGE
  *
  * 1 is MESSAGE-INTEGRITY, and 2 MESSAGE-INTEGRITY-SHA256. Status 0; or 1, and why on standard
- * error; or 2 for wrong words. */
+ * error; or 2 for wrong arguments. */
 #include "stunp.h"
 #include <stdbool.h>
 #include <stdio.h>

@@ -1,5 +1,5 @@
-/* A STUN server with one user, over stunp_endpoint.h. It tells that user the address that it sees,
- * and challenges everybody else.
+/* A STUN server with one user, over stunp_endpoint.h. It answers that user with the address that
+ * the request came from, and challenges everybody else.
  *
  *     endpoint_server PORT REALM NAME PASSWORD
  *
@@ -31,11 +31,13 @@ static bool set_up(const char *realm, const char *name, const char *password) {
 static void answer(int socket, const struct datagram *got) {
     static uint8_t out[STUNP_ANSWER_MAX];
     static stunp_received received = STUNP_INIT(stunp_received);
-    int64_t kind = stunp_endpoint_server_receive(&server, &users, got->bytes, got->length, &got->from,
-                                                 (uint64_t)time(NULL), out, sizeof out, &received);
+    int64_t kind = stunp_endpoint_server_receive(&server, &users, got->bytes, got->length,
+                                                 &got->from, (uint64_t)time(NULL), out,
+                                                 sizeof out, &received);
     int64_t length = kind == STUNP_ANSWER ? (int64_t)received.length : 0;
     if (kind == STUNP_IS_REQUEST) { /* of the user, and not Binding */
-        stunp_writer error = stunp_reply_error(&received.reply, 400, "Bad Request", out, sizeof out);
+        stunp_writer error =
+            stunp_reply_error(&received.reply, 400, "Bad Request", out, sizeof out);
         length = stunp_reply_finish(&received.reply, &error);
         stunp_reply_wipe(&received.reply);
     }

@@ -126,14 +126,3 @@ void send_again(struct exchange *exchange, uint64_t now) {
         exchange->repeated++;
     }
 }
-
-enum event wait_until(struct exchange *exchange, uint64_t until, struct datagram *got) {
-    uint8_t id[STUNP_ID_LENGTH];
-    uint64_t now = moment(), next;
-    send_again(exchange, now);
-    if (stunp_agent_poll(&exchange->agent, now, &next, id, sizeof id) != 0) return NO_ANSWER;
-    if (until < next) next = until;
-    enum arrival came = wait_for(exchange->socket, next > now ? next - now : 0);
-    if (came == ERROR_REPORT) return hard_error(exchange->socket) != 0 ? NO_ANSWER : NOTHING_CAME;
-    return came == DATAGRAM && receive(exchange->socket, got) ? DATAGRAM_CAME : NOTHING_CAME;
-}

@@ -1,5 +1,4 @@
-/* What ice_check.c and turn_client.c share: what is read of a datagram, and an agent with its
- * socket. */
+/* Parts of ice_check.c: what is read of a datagram, and an agent with its socket. */
 #ifndef STUN_EXCHANGE_H
 #define STUN_EXCHANGE_H
 
@@ -60,10 +59,5 @@ int64_t end_request(struct exchange *exchange, const struct datagram *got);
 
 /* Sends again what is due; some of it, where that is much, since answers are to be read between. */
 void send_again(struct exchange *exchange, uint64_t now);
-
-/* Sends again what is due, and waits for a datagram, but no longer than to a moment: for a program
- * with one socket, which asks one thing at a time. */
-enum event { NOTHING_CAME, DATAGRAM_CAME, NO_ANSWER };
-enum event wait_until(struct exchange *exchange, uint64_t until, struct datagram *got);
 
 #endif

@@ -4,9 +4,6 @@
  *
  * The counts are changed in one step each, so handles may be used in several threads, each handle
  * in its own. */
-#ifndef STUNP_ANY_RELEASE
-#define STUNP_ANY_RELEASE /* it makes no call, and so wants no archive */
-#endif
 #include "heap.h"
 #include "stunp_state.h"
 #include <stdint.h>
@@ -18,6 +15,7 @@ typedef union {
     size_t length;
     long double number;
     void *pointer;
+    uint8_t room[16]; /* the widest alignment that the library asks for */
 } head;
 
 static size_t bound = SIZE_MAX, blocks, bytes, asked, refused;

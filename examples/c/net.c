@@ -16,7 +16,7 @@
 
 enum { RECEIVE_BUFFER = 4 << 20, REST = 10000000 /* nanoseconds */ };
 
-/* A port that is free for one family may be taken in the other. */
+/* A port that is free in one family may be in use in the other. */
 enum { MOST_TRIES = 16 };
 
 uint64_t moment(void) {
@@ -93,7 +93,7 @@ static void forget_interface(struct msghdr *message) {
 
 /* ---- Sockets */
 
-/* Closes what is no use, and answers -1. errno goes on to tell why. */
+/* Closes a socket, and returns -1. errno stays as it was. */
 static int give_up(int fd) {
     int error = errno;
     close(fd);
@@ -105,8 +105,8 @@ static void set(int fd, int level, int name, int value) {
     setsockopt(fd, level, name, &value, sizeof value);
 }
 
-/* Which address a datagram came to is told beside it, and a burst waits here. Who is not root gets no
- * more of it than net.core.rmem_max. */
+/* Has the kernel say at which address each datagram arrived, and sets the buffer in which a burst
+ * waits. Without the rights of root the buffer is at most net.core.rmem_max. */
 static void prepare(int fd, int family) {
     if (family == AF_INET6) set(fd, IPPROTO_IPV6, IPV6_RECVPKTINFO, 1);
     else set(fd, IPPROTO_IP, IP_PKTINFO, 1);
@@ -114,7 +114,7 @@ static void prepare(int fd, int family) {
     set(fd, SOL_SOCKET, SO_RCVBUFFORCE, RECEIVE_BUFFER);
 }
 
-/* The port that a socket has. The port of an IPv6 address is where that of an IPv4 address is. */
+/* Reads the port of a socket. It is at the same offset in addresses of both families. */
 static bool has_port(int fd, unsigned long *port) {
     struct sockaddr_in6 name;
     socklen_t length = sizeof name;
@@ -123,7 +123,7 @@ static bool has_port(int fd, unsigned long *port) {
     return true;
 }
 
-/* A socket of an address on a port, or -1, and errno tells why. */
+/* Opens a socket at an address and a port. Returns -1 if that fails, with the reason in errno. */
 static int open_at(const struct sockaddr_storage *at, unsigned long *port, bool is_shared) {
     struct sockaddr_in6 name;
     int fd = socket(at->ss_family, SOCK_DGRAM | SOCK_NONBLOCK | SOCK_CLOEXEC, 0);
@@ -150,7 +150,7 @@ static int inherited(unsigned long *port) {
     return give_up(fd);
 }
 
-/* Reads an address. EINVAL where it is none. */
+/* Reads an address. Sets errno to EINVAL if it is none. */
 static bool read_address(const char *word, struct sockaddr_storage *at) {
     struct sockaddr_in *four = (struct sockaddr_in *)at;
     struct sockaddr_in6 *six = (struct sockaddr_in6 *)at;
@@ -161,6 +161,14 @@ static bool read_address(const char *word, struct sockaddr_storage *at) {
     if (inet_pton(AF_INET6, word, &six->sin6_addr) == 1) return true;
     errno = EINVAL;
     return false;
+}
+
+bool read_host(const char *host, unsigned long port, stunp_address *address) {
+    struct peer peer;
+    if (!read_address(host, &peer.name)) return false;
+    *address = address_of(&peer);
+    address->port = (uint16_t)port;
+    return true;
 }
 
 /* A socket of each address on one port. */
@@ -210,7 +218,8 @@ void close_server(const struct listener *listener) {
     for (int i = 0; i < listener->number; i++) close(listener->sockets[i]);
 }
 
-/* A socket of a server's family, whose own address it writes, or -1, and errno tells why. */
+/* Opens a socket of a server's family, and writes its own address. Returns -1 if that fails, with
+ * the reason in errno. */
 static int open_to(const struct peer *server, stunp_address *own) {
     struct peer any = {.name.ss_family = server->name.ss_family,
                        .name_length = server->name_length};
@@ -278,7 +287,7 @@ static void rest_after(const char *what) {
     nanosleep(&rest, NULL);
 }
 
-/* Where a datagram and its peer are read to, or an answer and its peer are sent from. */
+/* Returns the header by which a datagram and its peer are read, or an answer is sent. */
 static struct msghdr header_of(struct peer *peer, struct iovec *data) {
     return (struct msghdr){.msg_name = &peer->name,
                            .msg_namelen = sizeof peer->name,
@@ -288,7 +297,7 @@ static struct msghdr header_of(struct peer *peer, struct iovec *data) {
                            .msg_controllen = sizeof peer->here};
 }
 
-/* What a read left. False where there was no room. */
+/* Sets the length and the sender of a datagram that was read. Returns false if it was too long. */
 static bool was_read(struct msghdr *message, size_t length, struct datagram *got) {
     forget_interface(message);
     got->peer.name_length = message->msg_namelen;
@@ -323,7 +332,7 @@ int receive_batch(int socket, struct datagram got[BATCH]) {
     return number < 0 ? 0 : number;
 }
 
-/* The header of an answer that goes where a datagram came from. */
+/* Returns the header of an answer to the sender of a datagram. */
 static struct msghdr answer_to(struct peer *to, struct iovec *data) {
     struct msghdr message = header_of(to, data);
     message.msg_namelen = to->name_length;
@@ -338,7 +347,8 @@ void send_to(int socket, const uint8_t *bytes, size_t length, const struct peer 
     sendmsg(socket, &message, 0);
 }
 
-void answer_batch(int socket, const struct datagram *got, const struct answer *answers, int number) {
+void answer_batch(int socket, const struct datagram *got, const struct answer *answers,
+                  int number) {
     static struct peer to[BATCH];
     struct iovec data[BATCH];
     struct mmsghdr messages[BATCH];

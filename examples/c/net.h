@@ -1,4 +1,4 @@
-/* What the library leaves to its caller: a clock, random bytes, UDP sockets and their addresses. */
+/* What the library leaves to you: a clock, random bytes, UDP sockets and their addresses. */
 #ifndef STUN_NET_H
 #define STUN_NET_H
 
@@ -9,13 +9,14 @@
 
 #define SECOND UINT64_C(1000000000)
 
-/* Nanoseconds since some start, which never go back, and go on while the machine sleeps. */
+/* Returns nanoseconds of a clock that never goes back, and goes on while the machine sleeps. */
 uint64_t moment(void);
 
-/* Without random bytes there are no ids and no nonces, so it ends the program. */
+/* Fills a buffer with random bytes. It ends the program if there are none, because IDs and nonces
+ * depend on them. */
 void fill_randomly(void *out, size_t length);
 
-/* The other end of a datagram, and at which address of this machine it came. */
+/* The other end of a datagram, and the address of this machine at which it arrived. */
 struct peer {
     struct sockaddr_storage name;
     socklen_t name_length;
@@ -24,7 +25,7 @@ struct peer {
     size_t here_length;
 };
 
-/* A datagram that came, and from whom. */
+/* A datagram that arrived, and its sender. */
 enum { MOST_BYTES = 4096 };
 struct datagram {
     uint8_t bytes[MOST_BYTES];
@@ -33,12 +34,15 @@ struct datagram {
     stunp_address from;
 };
 
-/* The address of a peer for the library. An IPv4 address that is mapped into IPv6 is IPv4. */
+/* Returns the address of a peer for the library: an IPv4 address, if it is one mapped into IPv6. */
 stunp_address address_of(const struct peer *peer);
 
 bool is_same(const stunp_address *one, const stunp_address *other);
 
-/* An address as `IPv4:PORT` or `[IPv6]:PORT`, until the next call. */
+/* Reads an IPv4 or IPv6 address of numbers. */
+bool read_host(const char *host, unsigned long port, stunp_address *address);
+
+/* Returns an address as `IPv4:PORT` or `[IPv6]:PORT`, until the next call. */
 const char *text_of(const stunp_address *address);
 
 /* The sockets of a server, on one port: one for each of its addresses. */
@@ -48,37 +52,39 @@ struct listener {
     int number;
 };
 
-/* Opens them, for epoll: no call waits on them. `at` are `count` addresses, of IPv4 or IPv6; without
- * any they are all of this machine, of both families where it has both. `-` is the socket that is
- * standard input, and has its port. Port 0 becomes one that was free for each. A shared port may
- * have more listeners. False after it told why on standard error. */
+/* Opens the sockets of a server, on which no call waits (use epoll). `at` are `count` IPv4 or IPv6
+ * addresses; without any they are all addresses of this machine, of both families if it has both.
+ * `-` is the socket that is standard input, with its port. Port 0 becomes one that was free at each
+ * address. If the port is shared, other sockets may be bound to it too. Returns false after it
+ * printed the reason on standard error. */
 bool open_server(const char *const *at, int count, unsigned long *port, bool is_shared,
                  struct listener *listener);
 void close_server(const struct listener *listener);
 
-/* Finds a server, and opens a socket of its kind, whose own address it writes. Of several addresses
- * it takes the first to which a socket opens. Answers -1 after it told why. */
+/* Finds a server, and opens a socket of its family, whose own address it writes. If the host has
+ * several addresses, it is the first to which a socket opens. Returns the socket, or -1 after it
+ * printed the reason on standard error. */
 int open_client(const char *host, const char *port, struct peer *server, stunp_address *own);
 
-/* What comes to a socket within so many nanoseconds: a datagram, or word of one that was sent. */
+/* What arrives at a socket within so many nanoseconds: a datagram, or an error report about one
+ * that was sent. */
 enum arrival { NOTHING, DATAGRAM, ERROR_REPORT };
 enum arrival wait_for(int socket, uint64_t nanoseconds);
 
-/* What ICMP told of the datagrams that a client sent: the error where none will ever be answered,
- * as by a closed port, or 0. */
+/* Reads what ICMP reported about the datagrams that a client sent. Returns the error if none of
+ * them will ever be answered, such as from a closed port, or 0. */
 int hard_error(int socket);
 
-/* Takes a datagram. False where none came or there was no room for it. Where the socket fails it
- * rests for a moment, and tells why now and then. */
+/* Reads a datagram. Returns false if none was there or it was too long. If the socket fails, it
+ * waits for 10 ms and prints the reason now and then. */
 bool receive(int socket, struct datagram *got);
 
-/* Sends a datagram from the address that the peer's came to. What is lost here is as what is lost
- * on the way. */
+/* Sends a datagram from the address at which the peer's arrived. It may be lost, as on the way. */
 void send_to(int socket, const uint8_t *bytes, size_t length, const struct peer *peer);
 
-/* The same of several datagrams in one call of the system: takes those that wait, and answers how
- * many; one for which there was no room has length 0. And sends an answer to each of these that has
- * one, which is one whose length is not 0. */
+/* Read up to BATCH datagrams in one system call, and answer them in one: `receive_batch` returns
+ * how many it read, of which one that was too long has length 0, and `answer_batch` sends each
+ * answer whose length is not 0. */
 enum { BATCH = 32 };
 struct answer {
     uint8_t bytes[MOST_BYTES];

@@ -6,18 +6,18 @@
 #include "net.h"
 #include <signal.h>
 
-/* SIGTERM or SIGINT came, once `hear_signals` was called, and how often SIGHUP (read the users again)
- * and SIGUSR1 (tell the counters) did. A pipe that goes away (SIGPIPE) ends nothing. */
+/* Whether SIGTERM or SIGINT arrived since `hear_signals` was called, and how often SIGHUP (read the
+ * users again) and SIGUSR1 (print the counters) did. SIGPIPE is ignored. */
 extern volatile sig_atomic_t is_ending, hangups, reports;
 void hear_signals(void);
 
-/* Prints as printf does, or nothing where it would have to wait. */
+/* Prints like printf, or nothing if it would have to wait. */
 void say(const char *format, ...) __attribute__((format(printf, 1, 2)));
 
-/* What is served: at which addresses and on which port (open_server), by how many processes, whether
- * others may have the port too, and how. `serve` gets the number of its process from 0, and answers
- * whether all went well. `look` is called now and then in the process that began, which serves
- * itself only if it is alone. */
+/* What is served: at which addresses and on which port (open_server), by how many processes,
+ * whether other servers may have the port too, and how. `serve` gets the number of its process from
+ * 0, and returns whether all went well. `look` is called now and then in the first process, which
+ * serves only if it is alone. */
 enum { MOST_PROCESSES = 64 };
 struct service {
     const char *const *at;
@@ -28,9 +28,9 @@ struct service {
     void (*look)(void);
 };
 
-/* Prints `port N` and serves, in one process or in more, of which each has sockets of its own on
- * the port: the kernel gives an address's datagrams to one of them, as long as none comes or goes.
- * SIGHUP is passed on to each. Answers the status of the program. */
+/* Prints `port N` and serves, in one process or in several, each of which has sockets of its own on
+ * the port: the kernel gives the datagrams of an address to one of them, as long as none comes or
+ * goes. SIGHUP is passed on to each. Returns the status of the program. */
 int serve_in_processes(const struct service *service);
 
 #endif

@@ -1,8 +1,9 @@
 /* A STUN server on UDP (RFC 8489), IPv4 and IPv6, with users, over stunp_endpoint.h.
  *
- * It tells whoever asks the address that it sees. If it has a realm and users, it tells only them,
- * and challenges everybody else (section 9.2.4). It stores nothing of an address, so that a flood takes no memory, and any number
- * of processes and machines can serve the same clients if they have the same secret.
+ * It answers everybody with the address that the request came from or, if it has a realm, the users
+ * of that realm alone, and challenges everybody else (section 9.2.4). It stores nothing about an
+ * address, so a flood takes no memory, and any number of processes and machines can serve the same
+ * clients if they have the same secret.
  *
  *     udp_server PORT [REALM [NAME PASSWORD].. [--users FILE]] [OPTION]..
  *
@@ -12,7 +13,6 @@
 #include "heap.h"
 #include "net.h"
 #include "processes.h"
-#include "request.h"
 #include "stunp_endpoint.h"
 #include "users.h"
 #include "words.h"
@@ -27,31 +27,32 @@ static const char usage[] =
     "usage: udp_server PORT [REALM [NAME PASSWORD].. [--users FILE]] [OPTION]..\n";
 static const char help[] =
     "\n"
-    "Tells everybody who asks the address that it sees or, if it has a REALM, the users of that realm\n"
-    "alone. PORT 0 is any free one. The first line of output is `port N`.\n"
+    "Answers everybody with the address that the request came from or, if it has a REALM, the\n"
+    "users of that realm alone. PORT 0 is any free one. The first line of output is `port N`.\n"
     "\n"
-    "  --users FILE      users of a file, or of standard input if it is -. A line is `NAME PASSWORD` or\n"
-    "                    `NAME 0xKEY [0xKEY]` with stored keys of 16 bytes (HMAC-SHA1) and 32 bytes\n"
-    "                    (HMAC-SHA256) in hexadecimal; `#` begins a comment. SIGHUP reads it again\n"
-    "  --secret FILE     what nonces are made of: 32 bytes, or 64 hexadecimal digits. Servers with the\n"
-    "                    same secret, REALM, users, --expiry and --sha256 serve each other's clients.\n"
-    "                    Random unless given\n"
+    "  --users FILE      users of a file, or of standard input if it is -. A line is `NAME\n"
+    "                    PASSWORD` or `NAME 0xKEY [0xKEY]` with stored keys of 16 bytes\n"
+    "                    (HMAC-SHA1) and 32 bytes (HMAC-SHA256) in hexadecimal; `#` begins a\n"
+    "                    comment. SIGHUP reads it again\n"
+    "  --secret FILE     what nonces are made of: 32 bytes, or 64 hexadecimal digits. Servers\n"
+    "                    with the same secret, REALM, users, --expiry and --sha256 serve each\n"
+    "                    other's clients. Random unless given\n"
     "  --sha256          offer HMAC-SHA256 beside HMAC-SHA1\n"
-    "  --expiry SECONDS  how long a nonce is sent, from 30; it is accepted for up to twice as long. 3600\n"
-    "                    unless given\n"
-    "  --at ADDRESS      an IP address to serve; may be repeated. `-` is the socket that is standard\n"
-    "                    input. All of this machine unless given\n"
+    "  --expiry SECONDS  how long a nonce is sent, from 30; it is accepted for up to twice as\n"
+    "                    long. 3600 unless given\n"
+    "  --at ADDRESS      an IP address to serve; may be repeated. `-` is the socket that is\n"
+    "                    standard input. All of this machine unless given\n"
     "  --workers N       so many processes: 1 unless given\n"
     "  --shared          let other servers have the port too (SO_REUSEPORT)\n"
     "  --any-method      judge requests of other methods too, and answer them 420 if they have\n"
-    "                    attributes of TURN, 400 if an Allocate lacks REQUESTED-TRANSPORT, and 508\n"
-    "                    otherwise\n"
+    "                    attributes of TURN, 400 if an Allocate lacks REQUESTED-TRANSPORT, and\n"
+    "                    508 otherwise\n"
     "  --counts SECONDS  print a line of counters so often; SIGUSR1 prints one at once\n"
-    "  --ahead SECONDS   SIGUSR2 moves the clock of the process that gets it so far ahead, to see nonces\n"
-    "                    expire (for tests; with --workers send it to each worker)\n"
-    "  -v                print a line for each datagram: from where, the answer, and who had signed, if\n"
-    "                    the request was accepted and all its attributes are known\n"
-    "  --                what follows is no option, as a PASSWORD that begins with `-`\n"
+    "  --ahead SECONDS   SIGUSR2 moves the clock of the process that gets it so far ahead, to\n"
+    "                    see nonces expire (for tests; with --workers send it to each worker)\n"
+    "  -v                print a line for each datagram: from where, the answer, and who had\n"
+    "                    signed, if the request was accepted and all its attributes are known\n"
+    "  --                what follows is no option, such as a PASSWORD that begins with `-`\n"
     "  --help, --version\n";
 
 enum { MOST_BATCHES = 4 /* of one socket in turn */, MOST_WAIT = 1000 /* milliseconds */ };
@@ -97,7 +98,9 @@ static uint64_t now(void) {
 
 /* ---- Counters, of each process in memory that all share */
 
-enum { REFUSALS = 4, REASONS = 6 };
+enum { REFUSALS = 4 };
+enum reason { NOT_STUN, MALFORMED, WRONG_FINGERPRINT, UNKNOWN_ATTRIBUTE, OUT_OF_MEMORY, OTHER,
+              REASONS };
 static const uint32_t codes[REFUSALS] = {400, 401, 420, 438};
 static const char *const reasons[REASONS] = {"NotStun", "Malformed", "WrongFingerprint",
                                              "UnknownAttribute", "OutOfMemory", "Other"};
@@ -140,34 +143,34 @@ static void count_code(uint32_t code) {
 
 /* ---- Answers */
 
-/* Whether a request lacks what its method must have: an Allocate without REQUESTED-TRANSPORT (RFC
- * 8656, section 7.2). */
-static bool is_malformed(const struct datagram *got, uint32_t method) {
-    return method == STUNP_ALLOCATE
+/* The types that must be understood, and are. */
+static const uint16_t known[] = {
+    STUNP_MAPPED_ADDRESS,     STUNP_USERNAME, STUNP_MESSAGE_INTEGRITY,
+    STUNP_UNKNOWN_ATTRIBUTES, STUNP_REALM,    STUNP_MESSAGE_INTEGRITY_SHA256,
+    STUNP_PASSWORD_ALGORITHM, STUNP_USERHASH, STUNP_XOR_MAPPED_ADDRESS,
+    STUNP_ERROR_CODE,         STUNP_NONCE,
+};
+enum { KNOWN_TYPES = sizeof known / sizeof *known };
+
+/* Returns the code of the answer to a request that is understood: 200 to Binding, 400 to an
+ * Allocate without REQUESTED-TRANSPORT (RFC 8656, section 7.2), and 508 to all else. */
+static uint32_t code_of(const struct datagram *got, uint32_t method) {
+    bool is_malformed =
+        method == STUNP_ALLOCATE
         && stunp_find(got->bytes, got->length, STUNP_REQUESTED_TRANSPORT, &(size_t){0}) < 0;
+    return method == STUNP_BINDING ? 200 : is_malformed ? 400 : 508;
 }
 
-/* Answers an accepted request: with the address of the client, or with 400 or 508. */
-static uint32_t write_reply(const struct datagram *got, const stunp_received *received,
-                            struct answer *answer) {
-    const stunp_reply *reply = &received->reply;
-    const stunp_address *from = &got->from;
-    bool is_binding = received->method == STUNP_BINDING;
-    uint32_t code = is_binding ? 200 : is_malformed(got, received->method) ? 400 : 508;
-    stunp_writer writer =
-        code == 200   ? stunp_reply_success(reply, answer->bytes, sizeof answer->bytes)
-        : code == 400 ? stunp_reply_error(reply, 400, "Bad Request", answer->bytes, MOST_BYTES)
-                      : stunp_reply_error(reply, 508, "Insufficient Capacity", answer->bytes,
-                                          MOST_BYTES);
-    if (is_binding)
-        stunp_write_xor_address(&writer, STUNP_XOR_MAPPED_ADDRESS, from->octets, from->length,
+/* Adds what such an answer has: the address of the client, or the error. */
+static void fill_answer(stunp_writer *writer, uint32_t code, const stunp_address *from) {
+    if (code == 200)
+        stunp_write_xor_address(writer, STUNP_XOR_MAPPED_ADDRESS, from->octets, from->length,
                                 from->port);
-    int64_t length = stunp_reply_finish(reply, &writer);
-    answer->length = length < 0 ? 0 : (size_t)length;
-    return code;
+    else stunp_write_error(writer, code, code == 400 ? "Bad Request" : "Insufficient Capacity");
 }
 
-/* Whom the library accepted is who it is told, and not the USERNAME of a message. */
+/* Counts an answer, and logs it. The name is that of the user whom the library accepted, and not
+ * the USERNAME of a message. */
 static void tell(const stunp_address *from, uint32_t code, const stunp_received *received) {
     count_code(code);
     if (!settings.is_verbose) return;
@@ -183,45 +186,66 @@ static void drop(const stunp_address *from, uint64_t *number, const char *why) {
     if (settings.is_verbose) say("%s dropped: %s\n", text_of(from), why);
 }
 
-/* What a datagram gets at a server of users. */
+/* Answers an accepted request. */
+static uint32_t reply(const struct datagram *got, const stunp_received *received,
+                      struct answer *answer) {
+    uint32_t code = code_of(got, received->method);
+    const stunp_reply *to = &received->reply;
+    stunp_writer writer = stunp_write(code == 200 ? STUNP_SUCCESS : STUNP_ERROR, to->method, to->id,
+                                      answer->bytes, sizeof answer->bytes);
+    fill_answer(&writer, code, &got->from);
+    int64_t length = stunp_reply_finish(to, &writer);
+    answer->length = length < 0 ? 0 : (size_t)length;
+    return code;
+}
+
+/* Judges a datagram at a server of users, and answers it. */
 static void answer_user(const struct datagram *got, struct answer *answer) {
     static stunp_received received = STUNP_INIT(stunp_received);
-    int64_t kind = stunp_endpoint_server_receive(&server, &users, got->bytes, got->length, &got->from,
-                                                 now(), answer->bytes, sizeof answer->bytes,
-                                                 &received);
+    int64_t kind = stunp_endpoint_server_receive(&server, &users, got->bytes, got->length,
+                                                 &got->from, now(), answer->bytes,
+                                                 sizeof answer->bytes, &received);
     if (kind == STUNP_ANSWER) {
         answer->length = received.length;
         tell(&got->from, received.code, &received);
     } else if (kind == STUNP_IS_REQUEST) {
-        tell(&got->from, write_reply(got, &received, answer), &received);
+        tell(&got->from, reply(got, &received, answer), &received);
         stunp_reply_wipe(&received.reply);
     } else if (kind == STUNP_DROPPED)
         drop(&got->from, &counts->dropped[received.why - 1], stunp_drop_text(received.why));
     else if (kind < 0)
-        drop(&got->from, &counts->dropped[kind == STUNP_OUT_OF_MEMORY ? 4 : 5], stunp_strerror(kind));
+        drop(&got->from, &counts->dropped[kind == STUNP_OUT_OF_MEMORY ? OUT_OF_MEMORY : OTHER],
+             stunp_strerror(kind));
     else drop(&got->from, &counts->others, "not a request");
 }
 
-/* What a datagram gets at a server that everybody may ask. */
+/* Judges a datagram at a server that everybody may ask, and answers it. */
 static void answer_anybody(const struct datagram *got, struct answer *answer) {
-    struct message request;
-    const char *why = read_message(got, &request);
-    if (why != NULL) {
-        drop(&got->from, &counts->dropped[stunp_is_stun(got->bytes, got->length) ? 1 : 0], why);
-        return;
-    }
-    if (request.header.message_class != STUNP_REQUEST) {
+    stunp_header header;
+    int64_t fingerprint = stunp_check_fingerprint(got->bytes, got->length);
+    if (fingerprint < 0)
+        drop(&got->from,
+             &counts->dropped[stunp_is_stun(got->bytes, got->length) ? MALFORMED : NOT_STUN],
+             stunp_strerror(fingerprint));
+    else if (fingerprint > STUNP_RIGHT_FINGERPRINT)
+        drop(&got->from, &counts->dropped[WRONG_FINGERPRINT], "wrong FINGERPRINT");
+    else if (stunp_read_header(got->bytes, got->length, &header) != 0
+             || header.message_class != STUNP_REQUEST)
         drop(&got->from, &counts->others, "not a request");
-        return;
+    else {
+        const size_t room = sizeof answer->bytes;
+        int64_t refusal = stunp_refuse_unknown(got->bytes, got->length, known, KNOWN_TYPES,
+                                               answer->bytes, room);
+        uint32_t code = refusal != 0 ? 420 : code_of(got, header.method);
+        stunp_writer writer =
+            refusal != 0 ? stunp_write_on(refusal, answer->bytes, room)
+                         : stunp_write(code == 200 ? STUNP_SUCCESS : STUNP_ERROR, header.method,
+                                       header.id, answer->bytes, room);
+        if (refusal == 0) fill_answer(&writer, code, &got->from);
+        if (fingerprint == STUNP_RIGHT_FINGERPRINT) stunp_write_fingerprint(&writer);
+        answer->length = stunp_written(&writer) < 0 ? 0 : writer.length;
+        tell(&got->from, code, NULL);
     }
-    uint32_t code = !request.is_understood                          ? 420
-                    : is_malformed(got, request.header.method)      ? 400
-                    : request.header.method == STUNP_BINDING        ? 200
-                                                                    : 508;
-    stunp_writer writer = begin_answer(&request, code, answer->bytes, sizeof answer->bytes);
-    if (request.has_fingerprint) stunp_write_fingerprint(&writer);
-    answer->length = stunp_written(&writer) < 0 ? 0 : writer.length;
-    tell(&got->from, code, NULL);
 }
 
 static void answer_one(const struct datagram *got, struct answer *answer) {
@@ -235,7 +259,7 @@ static void answer_one(const struct datagram *got, struct answer *answer) {
 
 /* ---- Users */
 
-/* Fills a table with the users of words and of the file. */
+/* Fills a table with the users of the arguments and of the file. */
 static bool fill(stunp_endpoint_users *table, const char *what) {
     int64_t answer = stunp_endpoint_users_new(table, &server);
     if (answer < 0) {
@@ -281,7 +305,7 @@ static int watch(const struct listener *listener) {
     return queue;
 }
 
-/* What the process that began does now and then: it tells the counters. */
+/* Prints the counters if they are due or asked for. The first process calls this now and then. */
 static void look(void) {
     static sig_atomic_t told;
     static uint64_t due;
@@ -325,7 +349,7 @@ static bool begin(const char *realm) {
     return false;
 }
 
-/* A port, and where there is a realm, users of words or of a file. */
+/* Returns whether there is a port and, if there is a realm, users from arguments or from a file. */
 static bool has_right_words(int number, char **words) {
     bool has_rest = number == 1 ? settings.file == NULL
                                 : number % 2 == 0 && (number > 2 || settings.file != NULL);

@@ -70,7 +70,7 @@ static bool read_keys(const char *text, struct keys *keys) {
     return true;
 }
 
-/* Adds the user of a line. STUNP_NOT_TEXT and such where that is none. */
+/* Adds the user of a line. Returns STUNP_NOT_TEXT or another refusal if the line is none. */
 static int64_t add_line(stunp_endpoint_users *users, char *line) {
     struct keys keys;
     size_t name = strcspn(line, " \t");
@@ -85,7 +85,7 @@ static int64_t add_line(stunp_endpoint_users *users, char *line) {
     return answer;
 }
 
-/* Adds the users of lines, and answers how many lines are none, or -1 where it gave up. */
+/* Adds the users of lines. Returns how many lines are none, or -1 if it gave up. */
 static long add_lines(stunp_endpoint_users *users, const char *path, const char *what,
                       FILE *file) {
     static char line[LONGEST_LINE];

@@ -2,7 +2,7 @@
  *
  *     verify PASSWORD < MESSAGE
  *
- * Status 0; or 1 where none does or nothing can be read, or 2 for wrong words. */
+ * Status 0; or 1 if none is valid or nothing can be read, or 2 for wrong arguments. */
 #include "stunp.h"
 #include <stdio.h>
 

@@ -3,11 +3,9 @@
 #include "words.h"
 #include "net.h"
 #include <errno.h>
-#include <fcntl.h>
 #include <stdio.h>
 #include <stdlib.h>
 #include <string.h>
-#include <unistd.h>
 
 /* ---- Options */
 
@@ -56,47 +54,28 @@ int read_options(int count, char **words, const struct option *options) {
     return left;
 }
 
-/* ---- Users */
+/* ---- A user */
 
-int64_t take_words(char **words, int count, take_user *take, void *taker) {
-    int64_t answer = 0;
-    for (int i = 0; i + 1 < count; i += 2) {
-        if (answer >= 0) answer = take(taker, words[i], words[i + 1]);
-        explicit_bzero(words[i + 1], strlen(words[i + 1]));
+bool read_user(const char *path, char line[LONGEST_LINE], char *pair[2]) {
+    bool is_input = strcmp(path, "-") == 0;
+    char next[LONGEST_LINE] = "";
+    FILE *file = is_input ? stdin : fopen(path, "re");
+    if (file == NULL) {
+        perror(path);
+        return false;
     }
-    return answer;
-}
-
-static int64_t take_lines(char *text, take_user *take, void *taker) {
-    int64_t answer = 0;
-    for (char *rest = text, *line; answer >= 0 && (line = strsep(&rest, "\n")) != NULL;) {
-        line[strcspn(line, "\r")] = 0;
-        char *password = strpbrk(line, " \t");
-        if (*line == 0) continue;
-        if (password == NULL) {
-            fprintf(stderr, "a line is `NAME PASSWORD`\n");
-            return NOT_READ;
-        }
-        *password++ = 0;
-        answer = take(taker, line, password);
+    setvbuf(file, NULL, _IONBF, 0); /* so that no other copy of a password is left */
+    *line = 0;
+    while (fgets(next, sizeof next, file) != NULL) {
+        next[strcspn(next, "\r\n")] = 0;
+        if (*next != 0) memcpy(line, next, sizeof next);
     }
-    return answer;
-}
-
-int64_t take_file(const char *path, take_user *take, void *taker) {
-    static char text[(64 << 10) + 1];
-    int fd = strcmp(path, "-") == 0 ? STDIN_FILENO : open(path, O_RDONLY | O_CLOEXEC);
-    size_t length = 0;
-    ssize_t more = fd < 0 ? -1 : 1;
-    while (more > 0 && length < sizeof text - 1) {
-        more = read(fd, text + length, sizeof text - 1 - length);
-        if (more < 0 && errno == EINTR) more = 1;
-        else if (more > 0) length += (size_t)more;
-    }
-    if (more != 0) fprintf(stderr, "%s: %s\n", path, more < 0 ? strerror(errno) : "too long");
-    text[length] = 0;
-    int64_t answer = more != 0 ? NOT_READ : take_lines(text, take, taker);
-    explicit_bzero(text, sizeof text);
-    if (fd > STDIN_FILENO) close(fd);
-    return answer;
+    explicit_bzero(next, sizeof next);
+    if (!is_input) fclose(file);
+    pair[0] = line;
+    pair[1] = strpbrk(line, " \t");
+    if (pair[1] != NULL) *pair[1]++ = 0;
+    if (*line == 0) fprintf(stderr, "failed: nobody in the file\n");
+    else if (pair[1] == NULL) fprintf(stderr, "failed: a line is `NAME PASSWORD`\n");
+    return *line != 0 && pair[1] != NULL;
 }

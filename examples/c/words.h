@@ -1,4 +1,4 @@
-/* The words of a command line, and users with their passwords, of words or of a file. */
+/* The arguments of a command line, and a user of a file. */
 #ifndef STUN_WORDS_H
 #define STUN_WORDS_H
 
@@ -13,7 +13,7 @@ struct texts {
     int count;
 };
 
-/* An option: a flag, or what follows it, a text, one more text, a number or seconds within bounds. */
+/* An option: a flag, or what follows it: a text, one more text, a number or bounded seconds. */
 struct option {
     const char *name;
     bool *flag;
@@ -26,19 +26,15 @@ struct option {
 
 bool read_number(const char *word, unsigned long least, unsigned long most, unsigned long *number);
 
-/* Takes the options, which end with one without a name, out of the words. The others are left at
- * their front, and their number is the answer, or -1. No word after `--` is an option. */
+/* Reads the options out of the arguments; the list of options ends with one without a name. Moves
+ * the other arguments to the front, and returns their number, or -1 if an option is wrong. What
+ * follows `--` is no option. */
 int read_options(int count, char **words, const struct option *options);
 
-/* Hands users to a call until it answers below 0, and answers what it answered last. Passwords are
- * overwritten once they were handed on: `ps` shows the words of a program for as long as it runs,
- * but not what was overwritten. */
-typedef int64_t take_user(void *taker, const char *name, const char *password);
-int64_t take_words(char **words, int count, take_user *take, void *taker);
-
-/* The same of a file with a line for each, `NAME PASSWORD`, of less than 64 KiB; `-` is standard
- * input. The name ends with the first blank. Answers NOT_READ after it told why. */
-enum { NOT_READ = -1000 };
-int64_t take_file(const char *path, take_user *take, void *taker);
+/* Reads the last line `NAME PASSWORD` of a file, or of standard input if it is `-`, into `line`,
+ * and sets `pair` to the two in it. The name ends with the first blank. Overwrite `line` after use.
+ * Returns false after it printed the reason on standard error. */
+enum { LONGEST_LINE = 2048 };
+bool read_user(const char *path, char line[LONGEST_LINE], char *pair[2]);
 
 #endif

@@ -3,7 +3,10 @@
 //! their ratio. `bench/rust.sh` runs it.
 
 use md5::{Digest, Md5};
-use seatcrane_stun::types::attribute::Username;
+use seatcrane_stun::auth::ShortTermAuth;
+use seatcrane_stun::extra::attribute::{IceControlled, IceControlling, Priority};
+use seatcrane_stun::extra::{Fingerprint, check_fingerprint, finish_with_fingerprint, has_unknown};
+use seatcrane_stun::types::attribute::{AttributeType, Software, Username};
 use seatcrane_stun::types::message::*;
 use seatcrane_stun::types::prelude::*;
 use sha1::Sha1;
@@ -55,6 +58,42 @@ fn is_signed<D: Digest>(message: &[u8], place: usize, value: usize) -> bool {
         .fold(0, |differ, (a, b)| differ | (a ^ b))
         == 0
 }
+
+/// CRC-32 a byte at a time, as anybody writes it with a table.
+fn crc32(table: &[u32; 256], bytes: &[u8]) -> u32 {
+    let step = |crc: u32, byte: &u8| crc >> 8 ^ table[usize::from(crc as u8 ^ byte)];
+    !bytes.iter().fold(!0, step)
+}
+
+fn crc_table() -> [u32; 256] {
+    std::array::from_fn(|byte| {
+        let step = |crc: u32, _| crc >> 1 ^ if crc % 2 == 1 { 0xedb8_8320 } else { 0 };
+        (0..8).fold(byte as u32, step)
+    })
+}
+
+/// Judges a connectivity check of ICE by the calls that an agent makes.
+fn judge(auth: &mut ShortTermAuth, bytes: &[u8]) {
+    let check = Message::from_bytes(bytes).unwrap();
+    assert_eq!(check_fingerprint(&check), Fingerprint::Right);
+    assert!(check.has_class(MessageClass::Request) && check.has_method(BINDING));
+    assert_eq!(
+        check.attribute::<Username<'_>>().unwrap().username(),
+        "evtj:h6vY"
+    );
+    auth.validate_incoming_message(&check).unwrap().unwrap();
+    assert!(!has_unknown(&check, &KNOWN));
+    black_box(check.attribute::<Priority>().unwrap().priority());
+    assert!(check.attribute::<IceControlling>().is_err());
+    black_box(check.attribute::<IceControlled>().unwrap());
+}
+
+const KNOWN: [AttributeType; 4] = [
+    AttributeType::USERNAME,
+    AttributeType::PRIORITY,
+    AttributeType::MESSAGE_INTEGRITY,
+    AttributeType::USE_CANDIDATE,
+];
 
 fn request(algorithm: IntegrityAlgorithm) -> Vec<u8> {
     let id = TransactionId::from([7; 12]);
@@ -160,4 +199,67 @@ fn main() {
             plain,
         );
     }
+    measure_ice();
+}
+
+/// A check like that of RFC 5769, section 2.1, which has 108 bytes.
+fn check() -> Result<Vec<u8>, StunWriteError> {
+    let id = TransactionId::from([7; 12]);
+    let mut check = Message::builder_request_with_id(BINDING, id, MessageWriteVec::new());
+    check.add_attribute(&Software::new("STUN test client").unwrap())?;
+    check.add_attribute(&Priority::new(0x6e00_01ff))?;
+    check.add_attribute(&IceControlled::new(0x932f_f9b1_5126_3b36))?;
+    check.add_attribute(&Username::new("evtj:h6vY").unwrap())?;
+    check.add_message_integrity_with_key(PASSWORD, IntegrityAlgorithm::Sha1)?;
+    finish_with_fingerprint(check)
+}
+
+/// The lines of a check of ICE.
+fn measure_ice() {
+    let bytes = &check().unwrap()[..];
+    let message = Message::from_bytes(bytes).unwrap();
+    let (table, covered) = (crc_table(), &bytes[..bytes.len() - 8]);
+    let checked = || assert_eq!(check_fingerprint(black_box(&message)), Fingerprint::Right);
+    let by_byte = || {
+        black_box(crc32(black_box(&table), black_box(covered)));
+    };
+    let title = format!(
+        "FINGERPRINT of {} bytes (plain: a table, byte by byte)",
+        bytes.len()
+    );
+    measure(&title, checked, by_byte);
+    let mut auth = ShortTermAuth::new();
+    let password = String::from_utf8(PASSWORD.to_vec()).unwrap();
+    auth.set_credentials(
+        ShortTermCredentials::new(password),
+        IntegrityAlgorithm::Sha1,
+    );
+    let digest = || {
+        black_box(hmac::<Sha1>(black_box(PASSWORD), [&[], black_box(covered)]));
+    };
+    let judged = || judge(&mut auth, black_box(bytes));
+    let title = "a check of ICE, judged (plain: the digest alone)";
+    measure(title, judged, digest);
+    let built = || {
+        let id = TransactionId::from(black_box([7; 12]));
+        let mut request = Message::builder_request_with_id(BINDING, id, MessageWriteVec::new());
+        request
+            .add_attribute(&Username::new(black_box("evtj:h6vY")).unwrap())
+            .unwrap();
+        request
+            .add_message_integrity_with_key(PASSWORD, IntegrityAlgorithm::Sha1)
+            .unwrap();
+        black_box(request.finish());
+    };
+    let digest = || {
+        black_box(hmac::<Sha1>(
+            black_box(PASSWORD),
+            [&[], black_box(&bytes[..36])],
+        ));
+    };
+    measure(
+        "build and sign into a Vec, SHA-1 (plain: the digest alone)",
+        built,
+        digest,
+    );
 }

@@ -1,6 +1,6 @@
-//! A STUN server on UDP and TCP (RFC 8489), IPv4 and IPv6, over `endpoint::Server`. It tells
-//! everybody the address that it sees or, if it has a realm, its users alone (section 9.2.4).
-//! `--help` lists its arguments. The first line of output is `port N`.
+//! A STUN server on UDP and TCP (RFC 8489), IPv4 and IPv6, over `endpoint::Server`. It answers
+//! everybody with the address that the request came from or, if it has a realm, its users alone
+//! (section 9.2.4). `--help` lists its arguments. The first line of output is `port N`.
 //!
 //! It stores nothing about addresses, so a flood takes no memory, and any number of threads,
 //! processes and machines can serve the same clients if they have the same secret. While it serves,
@@ -22,8 +22,8 @@ mod open;
 #[path = "udp_server/users.rs"]
 mod users;
 
-use counts::Counts;
-use seatcrane_stun::endpoint::{LongTerm, Received, Server, UnixTime, Users};
+use counts::{Counts, Outcome};
+use seatcrane_stun::endpoint::{LongTerm, Server, UnixTime, Users};
 use seatcrane_stun::extra::{Frame, next_frame};
 use seatcrane_stun::types::message::*;
 use std::error::Error;
@@ -37,8 +37,8 @@ use std::time::Duration;
 
 const USAGE: &str = "usage: udp_server PORT [REALM [NAME PASSWORD].. [--users FILE]] [OPTION]..";
 const HELP: &str = "
-Tells everybody who asks the address that it sees or, if it has a REALM, the users of that realm
-alone. PORT 0 is any free one. The first line of output is `port N`.
+Answers everybody with the address that the request came from or, if it has a REALM, the users of
+that realm alone. PORT 0 is any free one. The first line of output is `port N`.
 
   --users FILE      users of a file, or of standard input if it is -. A line is `NAME PASSWORD` or
                     `NAME 0xKEY [0xKEY]` with stored keys of 16 bytes (HMAC-SHA1) and 32 bytes
@@ -63,6 +63,7 @@ const CONNECTIONS: usize = 64;
 const SILENCE: Duration = Duration::from_secs(30);
 
 /// The arguments of the command line.
+#[derive(Default)]
 struct Settings {
     port: u16,
     at: Vec<String>,
@@ -107,33 +108,25 @@ impl Service {
         })
     }
 
-    /// Returns the bytes of the answer to a message, if it gets one.
+    /// Returns the bytes of the answer to a message, if it gets one. Messages with a method that is
+    /// not supported get none (section 6.3).
     fn answer(&self, bytes: &[u8], from: SocketAddr) -> Option<Vec<u8>> {
         let is_ours = |header: MessageHeader| header.get_type().method() == BINDING;
-        if !MessageHeader::from_bytes(bytes).map_or(true, is_ours) {
-            self.counts.other();
-            return None; // a method that is not supported (section 6.3)
-        }
-        let Some((server, users)) = &self.of_realm else {
-            let answer = open::answer(bytes, from);
-            self.counts.open(answer.as_ref());
-            return answer;
+        let outcome = match &self.of_realm {
+            _ if !MessageHeader::from_bytes(bytes).map_or(true, is_ours) => Outcome::Other,
+            None => open::judge(bytes, from),
+            Some((server, users)) => {
+                let users = users.read().unwrap_or_else(PoisonError::into_inner);
+                Outcome::from(server.receive(bytes, from, UnixTime::now(), &users))
+            }
         };
-        let users = users.read().unwrap_or_else(PoisonError::into_inner);
-        let received = server.receive(bytes, from, UnixTime::now(), &users);
-        self.counts.note(&received);
+        self.counts.note(&outcome);
         if self.is_verbose {
-            let _ = match &received {
-                Received::Answer(answer) => match answer.refusal() {
-                    Some(refusal) => writeln!(io::stdout(), "{from} {}", refusal.code()),
-                    None => writeln!(io::stdout(), "{from} 200"),
-                },
-                Received::Dropped(why) => writeln!(io::stdout(), "{from} dropped: {why}"),
-                _ => writeln!(io::stdout(), "{from} dropped: no Binding request"),
-            };
+            let from = SocketAddr::new(from.ip().to_canonical(), from.port());
+            let _ = writeln!(io::stdout(), "{from} {outcome}");
         }
-        match received {
-            Received::Answer(answer) => Some(answer.into_bytes()),
+        match outcome {
+            Outcome::Answer(_, answer) => Some(answer),
             _ => None,
         }
     }
@@ -297,18 +290,9 @@ fn run(settings: &Settings) -> Result<(), Box<dyn Error>> {
 /// Returns the settings of the arguments, or `None` if they are wrong.
 fn settings(mut words: impl Iterator<Item = String>) -> Option<Settings> {
     let mut settings = Settings {
-        port: 0,
-        at: Vec::new(),
-        realm: None,
-        users: Vec::new(),
-        file: None,
-        secret: None,
-        has_sha256: false,
-        has_tcp: false,
         expiry: 3600,
         workers: 1,
-        counts: None,
-        is_verbose: false,
+        ..Settings::default()
     };
     let number = |word: Option<String>, least: u64, most: u64| {
         let number = word?.parse().ok()?;

@@ -1,4 +1,5 @@
-//! Attributes with an XORed address, with the `TransactionId` of this crate's front.
+//! Attributes whose value is an address, each as a type of its own. Those whose address is XORed
+//! have the `TransactionId` of this crate's front.
 
 use crate::exported::stun_extra::attribute as further;
 use crate::exported::stun_types::attribute::{
@@ -6,7 +7,9 @@ use crate::exported::stun_types::attribute::{
 };
 use crate::exported::stun_types::message::StunParseError;
 use crate::exported::stun_types::prelude::MessageWrite;
+use crate::newtype::forward_attribute;
 use crate::transaction::TransactionId;
+use core::fmt;
 use core::net::SocketAddr;
 
 macro_rules! hidden_address {
@@ -30,33 +33,38 @@ macro_rules! hidden_address {
             }
         }
 
-        impl AttributeStaticType for $name {
-            const TYPE: AttributeType = <$proved>::TYPE;
+        forward_attribute!($name, $proved);
+    };
+}
 
-            fn static_type() -> AttributeType {
-                Self::TYPE
+macro_rules! plain_address {
+    ($(#[doc = $doc:literal])* $name:ident, $address:ident) => {
+        $(#[doc = $doc])*
+        #[derive(Clone, Copy, PartialEq, Eq)]
+        pub struct $name(further::$name);
+
+        impl $name {
+            /// Creates the attribute from an address.
+            ///
+            /// The flow information and the scope ID of an IPv6 address are dropped.
+            pub fn new(address: SocketAddr) -> $name {
+                $name(further::$name::new(address))
+            }
+
+            /// Returns the address. The flow information and the scope ID of an IPv6 address are 0.
+            pub fn $address(&self) -> SocketAddr {
+                self.0.addr()
             }
         }
 
-        impl Attribute for $name {
-            fn get_type(&self) -> AttributeType {
-                self.0.get_type()
-            }
-
-            fn length(&self) -> usize {
-                self.0.length()
-            }
-
-            fn write_into<W: MessageWrite>(&self, writer: &mut W) {
-                self.0.write_into(writer);
+        impl fmt::Debug for $name {
+            fn fmt(&self, f: &mut fmt::Formatter<'_>) -> fmt::Result {
+                let mut shown = f.debug_struct(stringify!($name));
+                shown.field(stringify!($address), &self.$address()).finish()
             }
         }
 
-        impl<'a> AttributeFromRaw<'a> for $name {
-            fn from_raw(raw: RawAttribute<'a>) -> Result<Self, StunParseError> {
-                <$proved>::from_raw(raw).map($name)
-            }
-        }
+        forward_attribute!($name, further::$name);
     };
 }
 
@@ -133,4 +141,101 @@ hidden_address!(
     /// ```
     XorRelayedAddress,
     further::XorRelayedAddress
+);
+
+plain_address!(
+    /// MAPPED-ADDRESS (RFC 8489, section 14.1): the address from which a request came, not XORed.
+    ///
+    /// # Examples
+    ///
+    /// ```
+    /// use seatcrane_stun::extra::attribute::MappedAddress;
+    /// use seatcrane_stun::types::message::Message;
+    /// use std::net::SocketAddr;
+    ///
+    /// /// Returns the address that a server saw, also that of an old server.
+    /// fn mapped(success: &Message<'_>) -> Option<SocketAddr> {
+    ///     let old = || Some(success.attribute::<MappedAddress>().ok()?.addr());
+    ///     success.xor_mapped_address().ok().or_else(old)
+    /// }
+    /// # let success = b"\x01\x01\0\x0c\x21\x12\xa4\x42 any 12 byte\
+    /// #                 \0\x01\0\x08\0\x01\x0d\x96\xc0\0\x02\x01";
+    /// # let success = Message::from_bytes(success).unwrap();
+    /// # assert_eq!(mapped(&success), Some("192.0.2.1:3478".parse().unwrap()));
+    /// ```
+    MappedAddress,
+    addr
+);
+
+plain_address!(
+    /// ALTERNATE-SERVER (RFC 8489, section 14.15): the server that a client should try instead.
+    ///
+    /// # Examples
+    ///
+    /// ```
+    /// use seatcrane_stun::extra::attribute::AlternateServer;
+    /// use seatcrane_stun::types::message::{Message, StunParseError};
+    /// use std::net::SocketAddr;
+    ///
+    /// /// Returns the server that a 300 names.
+    /// fn other_server(error: &Message<'_>) -> Result<SocketAddr, StunParseError> {
+    ///     Ok(error.attribute::<AlternateServer>()?.server())
+    /// }
+    /// # let error = b"\x01\x11\0\x0c\x21\x12\xa4\x42 any 12 byte\
+    /// #               \x80\x23\0\x08\0\x01\x0d\x96\xc0\0\x02\x01";
+    /// # let error = Message::from_bytes(error).unwrap();
+    /// # assert_eq!(other_server(&error), Ok("192.0.2.1:3478".parse().unwrap()));
+    /// ```
+    AlternateServer,
+    server
+);
+
+plain_address!(
+    /// RESPONSE-ORIGIN (RFC 5780, section 7.3): the address that a response was sent from. If it is
+    /// not the address that the response came from, there is a NAT in front of the server.
+    ///
+    /// # Examples
+    ///
+    /// ```
+    /// use seatcrane_stun::extra::attribute::ResponseOrigin;
+    /// use seatcrane_stun::types::message::*;
+    /// use seatcrane_stun::types::prelude::*;
+    ///
+    /// # let id = TransactionId::from(*b"any 12 bytes");
+    /// let mut message = Message::builder_request_with_id(BINDING, id, MessageWriteVec::new());
+    /// message.add_attribute(&ResponseOrigin::new("192.0.2.1:3478".parse().unwrap()))?;
+    /// let bytes = message.finish();
+    ///
+    /// let message = Message::from_bytes(&bytes).unwrap();
+    /// let origin = message.attribute::<ResponseOrigin>().unwrap();
+    /// assert_eq!(origin.addr(), "192.0.2.1:3478".parse().unwrap());
+    /// # Ok::<(), StunWriteError>(())
+    /// ```
+    ResponseOrigin,
+    addr
+);
+
+plain_address!(
+    /// OTHER-ADDRESS (RFC 5780, section 7.4): the address and the port that a server answers from
+    /// if a client asks, in CHANGE-REQUEST, for another address and another port.
+    ///
+    /// # Examples
+    ///
+    /// ```
+    /// use seatcrane_stun::extra::attribute::OtherAddress;
+    /// use seatcrane_stun::types::message::*;
+    /// use seatcrane_stun::types::prelude::*;
+    ///
+    /// # let id = TransactionId::from(*b"any 12 bytes");
+    /// let mut message = Message::builder_request_with_id(BINDING, id, MessageWriteVec::new());
+    /// message.add_attribute(&OtherAddress::new("192.0.2.2:3479".parse().unwrap()))?;
+    /// let bytes = message.finish();
+    ///
+    /// let message = Message::from_bytes(&bytes).unwrap();
+    /// let other = message.attribute::<OtherAddress>().unwrap();
+    /// assert_eq!(other.addr(), "192.0.2.2:3479".parse().unwrap());
+    /// # Ok::<(), StunWriteError>(())
+    /// ```
+    OtherAddress,
+    addr
 );

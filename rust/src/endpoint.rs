@@ -2,6 +2,7 @@
 //!
 //! [`Server::receive`] takes a datagram, and returns a response to send, an accepted request for
 //! you, an indication, a response, or why the datagram is dropped. It has no record of any address.
+//! [`OpenServer`] answers everybody, and [`ShortTermServer`] has short-term credentials.
 //! [`Client::poll`] says what to send and how requests ended, and [`Client::receive`] takes what
 //! arrives. You own the sockets and the clocks.
 //!
@@ -44,6 +45,7 @@ mod client_outcomes;
 mod client_settings;
 #[cfg(feature = "std")]
 mod clock;
+mod open;
 mod server;
 mod stream;
 
@@ -65,6 +67,10 @@ pub use client_settings::{
 #[cfg(feature = "std")]
 #[cfg_attr(docsrs, doc(cfg(feature = "std")))]
 pub use clock::Clock;
+pub use open::{
+    OpenReceived, OpenRequest, OpenServer, ResponseSettings, ShortTermIndication, ShortTermReceived,
+    ShortTermServer, ShortTermUsers,
+};
 pub use server::{
     Answer, Identified, LongTerm, Lookup, Received, Reply, ReplyWriter, Request, Server,
     ServerBuilder, User, UserError, Users,

@@ -1,5 +1,5 @@
 //! Beyond the core of STUN: FINGERPRINT, unknown attributes, framing over streams, and the
-//! attributes of ICE and TURN.
+//! attributes of ICE, of TURN and of NAT behavior discovery.
 //!
 //! - FINGERPRINT: [`finish_with_fingerprint`] and [`check_fingerprint`].
 //! - Unknown attributes: [`answer_unknown`] for a server, [`ends_failed`] for a client,
@@ -57,8 +57,9 @@ pub use crate::exported::stun_extra::unknown::{
     UNKNOWN_ATTRIBUTE, UNKNOWN_ATTRIBUTES, UnknownAttributes, UnknownTypes,
 };
 
-/// Further attributes: of STUN (RFC 8489, section 14), of ICE (RFC 8445, section 16.1) and of TURN
-/// (RFC 8656, section 18).
+/// Further attributes: of STUN (RFC 8489, section 14), of ICE (RFC 8445, section 16.1), of TURN
+/// (RFC 8656, section 18; RFC 6062; RFC 8016), of third-party authorization (RFC 7635), and of NAT
+/// behavior discovery (RFC 5780, section 7).
 ///
 /// Add them with [`add_attribute`](crate::types::prelude::MessageWriteExt::add_attribute), and
 /// parse them with [`Message::attribute`].
@@ -84,14 +85,19 @@ pub use crate::exported::stun_extra::unknown::{
 /// # Ok::<(), StunWriteError>(())
 /// ```
 pub mod attribute {
-    pub use crate::address::{XorPeerAddress, XorRelayedAddress};
+    pub use crate::address::{
+        AlternateServer, MappedAddress, OtherAddress, ResponseOrigin, XorPeerAddress,
+        XorRelayedAddress,
+    };
+    pub use crate::bytes::{AccessToken, Data, MobilityTicket, Padding};
     pub use crate::exported::stun_extra::attribute::{
-        AdditionalAddressFamily, AddressFamily, AlternateDomain, AlternateServer, ChannelNumber,
-        DOMAIN_LIMIT, Data, DontFragment, EvenPort, IceControlled, IceControlling, Lifetime,
-        MappedAddress, Priority, RequestedAddressFamily, RequestedTransport, ReservationToken,
-        Software, UseCandidate,
+        AdditionalAddressFamily, AddressFamily, ChangeRequest, ChannelNumber, DOMAIN_LIMIT,
+        DontFragment, EvenPort, RequestedAddressFamily, RequestedTransport, ReservationToken,
+        ResponsePort, UseCandidate,
     };
     pub use crate::exported::stun_extra::unknown::UnknownAttributes;
+    pub use crate::number::{ConnectionId, IceControlled, IceControlling, Lifetime, Priority};
+    pub use crate::text::{AlternateDomain, Software, ThirdPartyAuthorization};
 }
 
 /// Checks the FINGERPRINT of a message (RFC 8489, section 14.7).

@@ -32,6 +32,7 @@ extern crate std;
 pub mod agent;
 mod address;
 pub mod auth;
+mod bytes;
 mod copies;
 mod credentials;
 // The public modules export a part of these.
@@ -47,7 +48,9 @@ mod instant;
 mod kit;
 mod message;
 mod names;
+mod newtype;
 mod nonce;
+mod number;
 mod ported;
 mod random;
 // For tests that compare the crate with the proved sources.

@@ -1,18 +1,21 @@
 //! Attributes whose value is a text, each as a type of its own.
 
 use crate::copies::copy;
+use crate::exported::stun_extra::attribute as further;
 use crate::exported::stun_types::attribute::{
     self as proved, Attribute, AttributeFromRaw, AttributeStaticType, AttributeType, RawAttribute,
 };
 use crate::exported::stun_types::message::{StunParseError, StunWriteError};
 use crate::exported::stun_types::prelude::MessageWrite;
+use crate::newtype::forward_attribute;
 use core::fmt;
 
 macro_rules! text_attribute {
-    ($(#[doc = $doc:literal])* $name:ident, $text:ident, $limit:literal) => {
+    ($(#[doc = $doc:literal])* $name:ident, $proved:ident::$core:ident, $text:ident,
+        $limit:literal) => {
         $(#[doc = $doc])*
         #[derive(PartialEq, Eq)]
-        pub struct $name<'a>(proved::$name<'a>);
+        pub struct $name<'a>($proved::$core<'a>);
 
         impl<'a> $name<'a> {
             /// Creates the attribute from a text, which is used as it is.
@@ -21,7 +24,7 @@ macro_rules! text_attribute {
             ///
             #[doc = concat!("- `TooLarge`: the text has more than ", $limit, " bytes.")]
             pub fn new(text: &'a str) -> Result<$name<'a>, StunWriteError> {
-                proved::$name::new(text).map($name)
+                $proved::$core::new(text).map($name)
             }
 
             /// Returns the text.
@@ -45,7 +48,8 @@ macro_rules! text_attribute {
 
         impl fmt::Debug for $name<'_> {
             fn fmt(&self, f: &mut fmt::Formatter<'_>) -> fmt::Result {
-                fmt::Debug::fmt(&self.0, f)
+                let mut shown = f.debug_struct(stringify!($name));
+                shown.field("text", &self.$text()).finish()
             }
         }
 
@@ -64,33 +68,7 @@ macro_rules! text_attribute {
             }
         }
 
-        impl AttributeStaticType for $name<'_> {
-            const TYPE: AttributeType = <proved::$name<'_>>::TYPE;
-
-            fn static_type() -> AttributeType {
-                Self::TYPE
-            }
-        }
-
-        impl Attribute for $name<'_> {
-            fn get_type(&self) -> AttributeType {
-                self.0.get_type()
-            }
-
-            fn length(&self) -> usize {
-                self.0.length()
-            }
-
-            fn write_into<W: MessageWrite>(&self, writer: &mut W) {
-                self.0.write_into(writer);
-            }
-        }
-
-        impl<'a> AttributeFromRaw<'a> for $name<'a> {
-            fn from_raw(raw: RawAttribute<'a>) -> Result<Self, StunParseError> {
-                proved::$name::from_raw(raw).map($name)
-            }
-        }
+        forward_attribute!($name, $proved::$core<'a>, $name<'a>, 'a);
     };
 }
 
@@ -113,6 +91,7 @@ text_attribute!(
     /// # Ok::<(), StunWriteError>(())
     /// ```
     Username,
+    proved::Username,
     username,
     "513"
 );
@@ -130,6 +109,7 @@ text_attribute!(
     /// assert_eq!(realm.to_string(), "example.org");
     /// ```
     Realm,
+    proved::Realm,
     realm,
     "763"
 );
@@ -150,6 +130,80 @@ text_attribute!(
     /// assert!(NonceSecurityBits::from_nonce(nonce.nonce()).is_some());
     /// ```
     Nonce,
+    proved::Nonce,
     nonce,
     "763"
+);
+
+text_attribute!(
+    /// SOFTWARE (RFC 8489, section 14.14): a description of the software that the sender uses,
+    /// UTF-8 of at most 763 bytes.
+    ///
+    /// # Examples
+    ///
+    /// ```
+    /// use seatcrane_stun::extra::attribute::Software;
+    /// use seatcrane_stun::types::message::*;
+    /// use seatcrane_stun::types::prelude::*;
+    ///
+    /// # let id = TransactionId::from(*b"any 12 bytes");
+    /// let mut message = Message::builder_request_with_id(BINDING, id, MessageWriteVec::new());
+    /// message.add_attribute(&Software::new("example 1.0")?)?;
+    /// let bytes = message.finish();
+    ///
+    /// let message = Message::from_bytes(&bytes).unwrap();
+    /// assert_eq!(message.attribute::<Software>().unwrap().software(), "example 1.0");
+    /// # Ok::<(), StunWriteError>(())
+    /// ```
+    Software,
+    further::Software,
+    software,
+    "763"
+);
+
+text_attribute!(
+    /// ALTERNATE-DOMAIN (RFC 8489, section 14.16): the domain name of the server in
+    /// ALTERNATE-SERVER, which its TLS certificate must contain. It has at most 255 bytes. It is
+    /// not checked to be a domain name.
+    ///
+    /// # Examples
+    ///
+    /// ```
+    /// use seatcrane_stun::extra::attribute::AlternateDomain;
+    ///
+    /// let domain = AlternateDomain::new("stun.example.org").unwrap();
+    /// assert_eq!(domain.domain(), "stun.example.org");
+    /// assert!(AlternateDomain::new(&"x".repeat(256)).is_err());
+    /// ```
+    AlternateDomain,
+    further::AlternateDomain,
+    domain,
+    "255"
+);
+
+text_attribute!(
+    /// THIRD-PARTY-AUTHORIZATION (RFC 7635, section 6.1): the name of the server, with which a
+    /// client asks an authorization server for a token.
+    ///
+    /// # Examples
+    ///
+    /// ```
+    /// use seatcrane_stun::extra::attribute::ThirdPartyAuthorization;
+    /// use seatcrane_stun::types::message::*;
+    /// use seatcrane_stun::types::prelude::*;
+    ///
+    /// # let id = TransactionId::from(*b"any 12 bytes");
+    /// let mut message = Message::builder_request_with_id(BINDING, id, MessageWriteVec::new());
+    /// message.add_attribute(&ThirdPartyAuthorization::new("turn.example.org")?)?;
+    /// let bytes = message.finish();
+    ///
+    /// let message = Message::from_bytes(&bytes).unwrap();
+    /// let third = message.attribute::<ThirdPartyAuthorization>().unwrap();
+    /// assert_eq!(third.server_name(), "turn.example.org");
+    /// # Ok::<(), StunWriteError>(())
+    /// ```
+    ThirdPartyAuthorization,
+    further::ThirdPartyAuthorization,
+    server_name,
+    "65535"
 );

@@ -12,7 +12,6 @@ pub use crate::ported::{ICE, STUN, TURN};
 /// Attributes: their types, their values and their raw form.
 pub mod attribute {
     pub use crate::address::XorMappedAddress;
-    pub use crate::exported::stun_extra::attribute::Software;
     pub use crate::exported::stun_types::attribute::{
         ATTRIBUTE_HEADER_LENGTH, Attribute, AttributeFromRaw, AttributeStaticType, AttributeType,
         ErrorCode, ErrorCodeBuilder, MessageIntegrity, MessageIntegritySha256, PasswordAlgorithm,
@@ -20,15 +19,10 @@ pub mod attribute {
     };
     // The crate `stun-types` has all of them here. Their pages are those of `extra::attribute`.
     #[doc(no_inline)]
-    pub use crate::extra::attribute::{
-        AdditionalAddressFamily, AddressFamily, AlternateDomain, AlternateServer, ChannelNumber,
-        DOMAIN_LIMIT, Data, DontFragment, EvenPort, IceControlled, IceControlling, Lifetime,
-        MappedAddress, Priority, RequestedAddressFamily, RequestedTransport, ReservationToken,
-        UnknownAttributes, UseCandidate, XorPeerAddress, XorRelayedAddress,
-    };
+    pub use crate::extra::attribute::*;
     pub use crate::names::AttributeExt;
     pub use crate::ported::DynAttribute;
-    pub use crate::text::{Nonce, Realm, Username};
+    pub use crate::text::{Nonce, Realm, Software, Username};
 }
 
 /// Messages: parsing, verifying, building and signing them, and the credentials for this.

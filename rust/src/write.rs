@@ -400,10 +400,19 @@ pub(crate) fn with_header<W: MessageWrite>(writer: W) -> Result<W, StunWriteErro
 /// ```
 pub struct MessageWriteVec(proved::MessageWriteVec<Global>);
 
+/// The number of bytes that a new writer reserves.
+const CAPACITY: usize = 256;
+
 impl MessageWriteVec {
-    /// Creates an empty writer. This does not allocate.
+    /// Creates an empty writer, with the capacity for a message of 256 bytes. Most messages are
+    /// shorter, so that no call that adds to them has to allocate.
+    ///
+    /// If the allocation fails, the writer has no capacity yet, and the first call that adds to it
+    /// allocates.
     pub fn new() -> MessageWriteVec {
-        MessageWriteVec(proved::MessageWriteVec::new(Global))
+        let mut writer = proved::MessageWriteVec::new(Global);
+        let _ = writer.reserve(CAPACITY);
+        MessageWriteVec(writer)
     }
 }
 

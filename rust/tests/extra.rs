@@ -1,5 +1,7 @@
 //! FINGERPRINT, unknown attributes and streams of messages, at the samples of RFC 5769. The values
-//! of further attributes are typed from RFC 8489, 8445 and 8656.
+//! of further attributes are typed from RFC 8489, 8445, 8656, 5780, 6062, 7635 and 8016.
+use seatcrane_stun::Instant;
+use seatcrane_stun::endpoint::{Body, Client, Output};
 use seatcrane_stun::extra::attribute::*;
 use seatcrane_stun::extra::turn::{self, TurnMethod};
 use seatcrane_stun::extra::{
@@ -343,6 +345,87 @@ fn reads_addresses_and_texts() {
     assert_eq!(error, StunWriteError::TooLarge);
     refuses::<Software>(&[&[0xFF], &[b'a'; 764]]);
     refuses::<AlternateDomain>(&[&[b'a'; 256]]);
+}
+
+/// The values of RFC 5780, section 7, written out by hand.
+#[test]
+fn reads_what_discovery_writes() {
+    for (ip, port, flags) in [
+        (false, false, 0),
+        (false, true, 2),
+        (true, false, 4),
+        (true, true, 6),
+    ] {
+        let value = [0, 0, 0, flags];
+        let raw = RawAttribute::new(ChangeRequest::TYPE, &value);
+        let read = ChangeRequest::from_raw(raw).unwrap();
+        assert_eq!((read.change_ip(), read.change_port()), (ip, port));
+    }
+    let both = stands(ChangeRequest::new(true, true), 0x0003, &[0, 0, 0, 6]);
+    assert!(both.change_ip() && both.change_port());
+    // The other 30 bits are ignored.
+    let raw = RawAttribute::new(ChangeRequest::TYPE, &[0xFF, 0xFF, 0xFF, 0xF9]);
+    assert_eq!(
+        ChangeRequest::from_raw(raw).unwrap(),
+        ChangeRequest::new(false, false)
+    );
+    refuses::<ChangeRequest>(&[&[], &[0; 3], &[0; 8]]);
+
+    let port = stands(ResponsePort::new(0x1234), 0x0027, &[0x12, 0x34]);
+    assert_eq!(port.port(), 0x1234);
+    let raw = RawAttribute::new(ResponsePort::TYPE, &[0x12, 0x34, 7, 7]);
+    assert_eq!(ResponsePort::from_raw(raw).unwrap().port(), 0x1234);
+    refuses::<ResponsePort>(&[&[], &[0; 1], &[0; 3], &[0; 5]]);
+
+    let addr = "192.0.2.1:32853".parse().unwrap();
+    let value = [0, 1, 0x80, 0x55, 192, 0, 2, 1];
+    assert_eq!(
+        stands(ResponseOrigin::new(addr), 0x802B, &value).addr(),
+        addr
+    );
+    assert_eq!(stands(OtherAddress::new(addr), 0x802C, &value).addr(), addr);
+    refuses::<OtherAddress>(&[&[], &value[..7]]);
+    assert_eq!(
+        stands(Padding::new(&[1, 2, 3]), 0x0026, &[1, 2, 3]).padding(),
+        &[1, 2, 3]
+    );
+}
+
+/// A client asks for a long response (RFC 5780, section 7.6), and PADDING must be understood.
+#[test]
+fn a_client_understands_padding() {
+    let server = "192.0.2.1:3478".parse().unwrap();
+    let mut client = Client::builder(server).build([7; 32]).unwrap();
+    let body = Body::new().add(&Padding::new(&[0; 1500])).unwrap();
+    client.request(BINDING, body, Instant::ZERO).unwrap();
+    let Output::Transmit(request) = client.poll(Instant::ZERO) else {
+        panic!("a request is sent");
+    };
+    let request = Message::from_bytes(request).unwrap();
+    let padding = request.attribute::<Padding>().unwrap();
+    let mut success = Message::builder_success(&request, MessageWriteVec::new());
+    success.add_attribute(&padding).unwrap();
+    let success = success.finish();
+    let _ = client.receive(&success, server, Instant::ZERO);
+    let ended = client.poll(Instant::ZERO);
+    assert!(matches!(ended, Output::Ended(_, Ok(_))), "{ended:?}");
+}
+
+/// RFC 6062, section 6.2.1; RFC 8016, section 3.3; RFC 7635, section 6.
+#[test]
+fn reads_what_extensions_of_turn_write() {
+    let id = stands(ConnectionId::new(0x0102_0304), 0x002A, &[1, 2, 3, 4]);
+    assert_eq!(id.connection(), 0x0102_0304);
+    refuses::<ConnectionId>(&[&[], &[0; 3], &[0; 5]]);
+    assert_eq!(stands(MobilityTicket::new(b""), 0x8030, b"").ticket(), b"");
+    assert_eq!(
+        stands(AccessToken::new(b"token"), 0x001B, b"token").token(),
+        b"token"
+    );
+    let name = ThirdPartyAuthorization::new("turn.example.org").unwrap();
+    let name = stands(name, 0x802E, b"turn.example.org");
+    assert_eq!(name.server_name(), "turn.example.org");
+    refuses::<ThirdPartyAuthorization>(&[&[0xFF]]);
 }
 
 #[test]

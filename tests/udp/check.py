@@ -6,7 +6,8 @@
 The programs of examples/c are built with all warnings, and with sanitizers where the compiler has
 them. Programs that are named take the same words (examples/c/udp_server.c,
 examples/c/udp_client.c), a server those of rust/examples/udp_server.rs too. They are tried as well:
-each client against each server (pairs.py), and each alone (alone.py, endpoint.py). What goes over
+each client against each server (pairs.py), and each alone (alone.py, endpoint.py), and the program
+`many` beside a client (rust/examples/many.rs). What goes over
 the wire is judged by stun.py, which shares nothing with the library. Every port is a free one, every
 wait has an end, and only processes of its own are ended.
 
@@ -73,7 +74,8 @@ def of_server(server, first):
 
 def of_others(server, exhausted):
     one = lambda what, *words: named(label(server), what, server, *words)
-    for what in (endpoint.addresses_of_both, endpoint.reloaded, endpoint.too_many_users):
+    for what in (endpoint.addresses_of_both, endpoint.one_port, endpoint.reloaded,
+                 endpoint.too_many_users):
         yield one(what)
     yield from (one(endpoint.streams, words) for words in BOTH)
     yield one(endpoint.no_memory, exhausted)
@@ -81,7 +83,8 @@ def of_others(server, exhausted):
 
 def of_client(client):
     for what in (pairs.nobody_there, pairs.discards, pairs.not_understood, pairs.no_code,
-                 pairs.closed_port, pairs.nobody_in_the_file):
+                 pairs.unsigned_error, pairs.older_types, pairs.closed_port,
+                 pairs.nobody_in_the_file):
         yield named(label(client), what, client)
     yield named(label(client), alone.wrong_words, client, *WRONG_CLIENT_WORDS)
 
@@ -112,6 +115,10 @@ def cases(servers, clients, hosts):
         yield from of_client(client)
         for server in servers:
             yield from of_pair(server, client, hosts, server == servers[0])
+        beside = pathlib.Path(client).parent / "many"
+        if beside.exists():
+            for words in BOTH:
+                yield named(label(client), pairs.many, servers[0], beside, words)
     yield named(label(clients[0]), pairs.drained, clients[0])
     yield named(label(clients[0]), pairs.password_of_a_file, servers[0], clients[0])
 

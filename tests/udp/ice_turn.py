@@ -1,17 +1,20 @@
 #!/usr/bin/env python3
 """Tries ice_check against itself and the agents of libnice and aioice, and turn_client against
-coturn, over loopback, and prints a Markdown table of what was seen.
+coturn and pion, over loopback, and prints a Markdown table of what was seen.
 
-    ice_turn.py [--install]
+    ice_turn.py [--install] [--turn-client PROGRAM]..
 
-The peers are Debian's packages libnice-dev, python3-aioice and coturn. With --install those that
-are missing are installed by apt-get; without it what needs them is left out. The programs of
-examples/c are built with all warnings, and with sanitizers where the compiler has them.
-docs/INTEROP.md has the table of a run. Status 0 where each row came out as it should; the last line
-says with whom.
+The peers are Debian's packages libnice-dev, python3-aioice, coturn and
+golang-github-pion-turn.v2-dev. With --install those that are missing are installed by apt-get;
+without it what needs them is left out. The programs of examples/c are built with all warnings, and
+with sanitizers where the compiler has them. Programs that are named take the words of turn_client,
+such as that of rust/examples, and are tried with coturn and pion too. docs/INTEROP.md has the table
+of a run. Status 0 where each row came out as it should; the last line says with whom.
 """
 import concurrent.futures
 import contextlib
+import os
+import pathlib
 import re
 import shutil
 import socket
@@ -26,7 +29,8 @@ from harness import NAME, PASSWORD, REALM, stun
 from meeting import CONTROLLED, CONTROLLING, PRIORITY, USE_CANDIDATE
 from meeting import Side, everything, fails, is_message, met, met_over, role_of
 
-PACKAGES = ("libnice-dev", "pkg-config", "python3-aioice", "coturn")
+PACKAGES = ("libnice-dev", "pkg-config", "python3-aioice", "coturn", "golang-go",
+            "golang-github-pion-turn.v2-dev")
 LARGEST = str((1 << 64) - 1)
 UNKNOWN = 0x7777  # a type that must be understood
 OURS, LOOPBACK = "ice_check", "--allow-loopback-peers"
@@ -369,8 +373,8 @@ def is_refused(program, server, peer, why, lines, **words):
     """It says why, and ended what was allocated."""
     status, printed, err = session(program, ("127.0.0.1", server.port), peer, **words)
     printed = [line.split()[0] for line in printed]
-    assert (status, printed, err) == (1, lines, why), (status, printed, err)
-    return f"`{why}`" + ("; ended" if lines else "")
+    assert (status, printed) == (1, lines) and err.startswith(why), (status, printed, err)
+    return f"`{err}`" + ("; ended" if lines else "")
 
 
 def is_refused_at(program, server, peer, why):
@@ -446,9 +450,9 @@ def turnserver(folder, *words):
                    "--log-file=stdout", *files, *users, *words, port=port)
 
 
-def of_coturn(name, turn_client, start):
+def of_coturn(name, turn_client, folder, start):
     """Rows at servers that `start` keeps until the end."""
-    at = lambda *words: start(turnserver(turn_client.parent, *words))
+    at = lambda *words: start(turnserver(folder, *words))
     run = lambda what, *words, **more: lambda: what(turn_client, *words, **more)
     server, echo, port = at(LOOPBACK), Echo("127.0.0.1"), interop.free_port()
     start(started("turnutils_peer", "-L", "127.0.0.1", port=port))
@@ -469,7 +473,7 @@ def of_coturn(name, turn_client, start):
     yield (name, "`--stale-nonce=1`, the third request held back",
            run(relayed, short, "127.0.0.1", peer, holds, (401, 200, 438, 200, 200, 200)))
     yield (name, "wrong password",
-           run(is_refused, server, peer, "Allocate: refused 401", [], password="wrong"))
+           run(is_refused, server, peer, "Allocate: refused", [], password="wrong"))
     strict, silent = at(), Echo("127.0.0.1", is_silent=True)
     ended = ["relayed", "ended"]
     yield (name, "a peer on loopback, where none is allowed",
@@ -479,6 +483,29 @@ def of_coturn(name, turn_client, start):
                "by indication: nothing came back", ended, within="3"))
 
 
+def built_pion(folder):
+    """pion's TURN server."""
+    go = {**os.environ, "GO111MODULE": "off", "GOPATH": "/usr/share/gocode",
+          "GOCACHE": str(folder / "cache"), "GOFLAGS": ""}
+    program = folder / "pion_turn"
+    subprocess.run(["go", "build", "-o", program, harness.HERE / "pion_turn.go"], env=go,
+                   check=True)
+    return program
+
+
+def of_pion(name, turn_client, pion, start):
+    """A session over each family, and a wrong password, for which pion signs no refusal."""
+    run = lambda what, *words, **more: lambda: what(turn_client, *words, **more)
+    for host in ("127.0.0.1", "::1") if harness.has_ipv6() else ("127.0.0.1",):
+        server, echo = start(interop.Peer(pion, host, REALM, NAME, PASSWORD)), Echo("127.0.0.1")
+        kind, peer = "IPv6" if ":" in host else "IPv4", ("127.0.0.1", echo.port)
+        yield name, f"server over {kind}", run(relayed, server, host, peer)
+        if host == "127.0.0.1":
+            yield (name, "wrong password",
+                   run(is_refused, server, peer, "Allocate: no answer; ", [], password="wrong",
+                       within="3"))
+
+
 def installed():
     """The versions of the packages, or None of those that are not there."""
     if "--install" in sys.argv:
@@ -486,6 +513,12 @@ def installed():
         interop.install()
     has_packages = shutil.which("dpkg-query") is not None
     return {package: interop.version(package) if has_packages else None for package in PACKAGES}
+
+
+def named():
+    """The programs after each --turn-client."""
+    words = zip(sys.argv, sys.argv[1:])
+    return [pathlib.Path(path) for option, path in words if option == "--turn-client"]
 
 
 def cases(folder, versions, start):
@@ -501,7 +534,15 @@ def cases(folder, versions, start):
         aioice = [interop.PYTHON, harness.HERE / "aioice_ice.py"]
         yield from of_agent(f"aioice {versions['python3-aioice']}", aioice, ice_check)
     if versions["coturn"]:
-        yield from of_coturn(f"coturn {versions['coturn']}", turn_client, start)
+        name = f"coturn {versions['coturn']}"
+        yield from of_coturn(name, turn_client, folder, start)
+        for program in named():
+            yield from of_coturn(f"{name}, {program.name} in Rust", program, folder, start)
+    if versions["golang-github-pion-turn.v2-dev"] and versions["golang-go"]:
+        name, pion = f"pion {versions['golang-github-pion-turn.v2-dev']}", built_pion(folder)
+        yield from of_pion(name, turn_client, pion, start)
+        for program in named():
+            yield from of_pion(f"{name}, {program.name} in Rust", program, pion, start)
 
 
 def tried(case):
@@ -531,7 +572,8 @@ def main():
     failed = [row for row in rows if row[2].startswith("FAILED")]
     for row in failed:
         print(": ".join(row), file=sys.stderr)
-    others = {row[0]: None for row in rows if row[0].split()[0] in ("libnice", "aioice", "coturn")}
+    peers = ("libnice", "aioice", "coturn", "pion")
+    others = {row[0].split(",")[0]: None for row in rows if row[0].split()[0] in peers}
     with_whom = ", ".join(["our own", *others])
     sanitizers = "with" if is_sanitized else "without"
     print(f"ice and turn: {len(rows) - len(failed)} passed, {len(failed)} failed, with "

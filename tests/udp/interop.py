@@ -2,12 +2,14 @@
 """Tries udp_server and udp_client against other STUN programs over loopback, and prints a Markdown
 table of what was seen.
 
-    interop.py [--install]
+    interop.py [--install] [--server PROGRAM --client PROGRAM]
 
-The peers are Debian's packages coturn, libnice-dev, python3-aioice, golang-github-pion-stun-dev and
-stun-client. With --install those that are missing, and what builds them, are installed by apt-get;
-without it a line after the table names them. docs/INTEROP.md has the table of a run. Status 0 where
-each row that could be tried came out as it should.
+The peers are Debian's packages coturn, libnice-dev, python3-aioice, golang-github-pion-stun-dev,
+stun-client and stun-server. With --install those that are missing, and what builds them, are
+installed by apt-get; without it a line after the table names them. The programs are those of
+examples/c, or others that take the same words, such as those of rust/examples; rows that need
+`--any-method` are left out then. docs/INTEROP.md has the table of a run. Status 0 where each row
+that could be tried came out as it should.
 """
 import contextlib
 import os
@@ -23,10 +25,21 @@ import harness
 from harness import stun
 
 REALM, NAME, PASSWORD = harness.USER
-SERVER, CLIENT = (harness.TOP / "examples/c/out" / name for name in ("udp_server", "udp_client"))
+
+
+def named(option, default):
+    """What follows an option, or what there is without it."""
+    words = dict(zip(sys.argv, sys.argv[1:]))
+    return pathlib.Path(words.get(option, harness.TOP / "examples/c/out" / default))
+
+
+SERVER, CLIENT = named("--server", "udp_server"), named("--client", "udp_client")
+IS_IN_C = "--server" not in sys.argv
+# Options that only the server in C has.
+ANY, AHEAD = (("--any-method",), ("--ahead", "300")) if IS_IN_C else ((), ())
 PYTHON = "/usr/bin/python3"  # Debian's, for which Debian packages aioice
 PACKAGES = ("coturn", "libnice-dev", "pkg-config", "python3-aioice", "golang-github-pion-stun-dev",
-            "golang-go", "stun-client")
+            "golang-go", "stun-client", "stun-server")
 ROWS = []
 
 
@@ -55,9 +68,15 @@ def row(peer, what, judge, algorithm, trial):
     algorithm, and what came of it."""
     try:
         came = trial()
+    except NotOffered:
+        return
     except Exception as error:
         came = f"FAILED: {type(error).__name__}: {error}"
     ROWS.append((peer, what, judge, algorithm, came))
+
+
+class NotOffered(Exception):
+    """The server has no option for this row."""
 
 
 def wants(condition, seen):
@@ -149,15 +168,19 @@ def old_stun():
     with harness.Server(SERVER, "-v") as server:
         run("stun", f"127.0.0.1:{server.port}", timeout=60)
         until(lambda: server.lines[1:])
-        wants(all("dropped: the bytes are not a STUN message" in line for line in server.lines[1:])
-              and len(server.lines) > 1, server.lines)
+        wants(all(" dropped: " in line for line in server.lines[1:]) and len(server.lines) > 1,
+              server.lines)
         return "not answered: RFC 3489 has no magic cookie"
 
 
 def asks(words, wanted, line, *offered):
     """Their client prints what it should, and the server's last line says that it validated the
     request."""
-    with harness.Server(SERVER, *harness.USER, "--any-method", "-v", *offered) as server:
+    if not IS_IN_C:
+        line = line.removesuffix(f" SHA1 {NAME}")
+        if line.endswith("420"):
+            raise NotOffered
+    with harness.Server(SERVER, *harness.USER, *ANY, "-v", *offered) as server:
         out, _ = run(*(str(server.port) if word == "PORT" else word for word in words))
         wants(wanted in out and until(lambda: server.lines[-1].endswith(line)),
               (out, server.lines))
@@ -165,7 +188,9 @@ def asks(words, wanted, line, *offered):
 
 
 def refused(words):
-    with harness.Server(SERVER, *harness.USER, "--any-method", "-v") as server:
+    if not IS_IN_C and words[0] == "turnutils_uclient":
+        raise NotOffered
+    with harness.Server(SERVER, *harness.USER, *ANY, "-v") as server:
         out, _ = run(*(str(server.port) if word == "PORT" else word for word in words))
         wants(until(lambda: server.lines[1:]) and ended(server, " 401") == server.lines[1:],
               (out, server.lines))
@@ -194,7 +219,9 @@ def forgets(relay, first, second):
 def goes_on(words, way, codes, *offered):
     """The server starts anew, or forgets the client's address, when the answer to its challenge is
     on the way. The client then draws these codes first; the last tells whether it went on."""
-    settings = (*harness.USER, "--any-method", "--expiry", "30", "--ahead", "300", "-v", *offered)
+    if not IS_IN_C and (way is forgets or codes[-1] != 200):
+        raise NotOffered
+    settings = (*harness.USER, *ANY, "--expiry", "30", *AHEAD, "-v", *offered)
     with harness.Server(SERVER, *settings) as first, harness.Server(SERVER, *settings) as second:
         moved = []
 
@@ -211,7 +238,9 @@ def goes_on(words, way, codes, *offered):
                 wants(drawn == codes and out.startswith("438"), (drawn, out))
                 return f"codes {codes}: it gives up"
             wants(drawn[:len(codes)] == codes, (drawn, out))
-            wants(until(lambda: any(line.endswith(f" {codes[-1]} SHA1 {NAME}")
+            is_named = IS_IN_C and codes[-1] == 200
+            last = f" {codes[-1]} SHA1 {NAME}" if is_named else f" {codes[-1]}"
+            wants(until(lambda: any(line.endswith(last)
                                     for line in first.lines + second.lines)), out)
             return f"codes {codes}: it goes on"
 
@@ -305,6 +334,9 @@ def with_coturn(number):
                     lambda: client_prints(server, host, NAME, PASSWORD, *words))
         row(peer, "the same, wrong password", "coturn refused udp_client", "HMAC-SHA1",
             lambda: client_is_refused(server, NAME, "wrong"))
+    with turnserver(*(word for word in secure if word != "--secure-stun")) as server:
+        row(peer, "udp_client with a name → `turnserver --lt-cred-mech`, which signs no Binding",
+            "nobody", "none", lambda: client_is_refused(server, NAME, PASSWORD))
     with turnserver(*secure, "--stale-nonce=1") as server:
         row(peer, "udp_client → the same with `--stale-nonce=1`, request held back",
             "each validated the other", "HMAC-SHA1", lambda: stale(server))
@@ -383,6 +415,14 @@ def with_pion(number, folder):
             lambda: client_is_refused(server, NAME, "wrong"))
 
 
+def with_stund(number):
+    """A server of RFC 3489: its success has SOURCE-ADDRESS and CHANGED-ADDRESS."""
+    here = ("-h", "127.0.0.1", "-a", "127.0.0.2", "-p", port := free_port(), "-o", free_port())
+    with Peer("/usr/sbin/stund", *here, port=port) as server:
+        row(f"stund {number}", "udp_client → stund", "nobody", "none",
+            lambda: client_prints(server, "127.0.0.1"))
+
+
 def install():
     """Installs the packages that are missing."""
     missing = [package for package in PACKAGES if version(package) is None]
@@ -395,8 +435,10 @@ def install():
 def main():
     if "--install" in sys.argv:
         install()
-    subprocess.run(["make", "-s", "-C", harness.TOP / "examples/c", "udp", f"STATE={harness.STATE}",
-                    f"LIBRARY={harness.STATELESS}", f"SYSTEM={harness.BESIDE}"], check=True)
+    if IS_IN_C:
+        subprocess.run(["make", "-s", "-C", harness.TOP / "examples/c", "udp",
+                        f"STATE={harness.STATE}", f"ENDPOINT={harness.ENDPOINT}",
+                        f"LIBRARY={harness.STATELESS}", f"SYSTEM={harness.BESIDE}"], check=True)
     versions = {package: version(package) for package in PACKAGES}
     if versions["coturn"]:
         with_coturn(versions["coturn"])
@@ -411,6 +453,8 @@ def main():
     if versions["stun-client"]:
         row(f"stun-client {versions['stun-client']}", "`stun` → udp_server", "nobody", "none",
             old_stun)
+    if versions["stun-server"]:
+        with_stund(versions["stun-server"])
     print("| Peer | What | Who validated whose digest | Algorithm | Seen |\n|---|---|---|---|---|")
     for one in ROWS:
         print("| " + " | ".join(one) + " |")

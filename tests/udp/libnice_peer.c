@@ -40,7 +40,7 @@ static int client(int fd, const struct sockaddr_in *server) {
     stun_agent_init(&agent, STUN_ALL_KNOWN_ATTRIBUTES, STUN_COMPATIBILITY_RFC5389,
                     STUN_AGENT_USAGE_LONG_TERM_CREDENTIALS | STUN_AGENT_USAGE_USE_FINGERPRINT);
     for (int ask = 0; ask < 3; ask++) {
-        stun_agent_init_request(&agent, &request, out, sizeof out, STUNP_BINDING);
+        stun_agent_init_request(&agent, &request, out, sizeof out, STUN_BINDING);
         if (ask > 0) {
             uint16_t length;
             const uint8_t *value = stun_message_find(&response, STUN_ATTRIBUTE_REALM, &length);
@@ -63,7 +63,7 @@ static int client(int fd, const struct sockaddr_in *server) {
             fprintf(stderr, "libnice: validation status %d\n", status);
             return 1;
         }
-        if (stun_message_get_class(&response) == STUNP_ERROR) continue;
+        if (stun_message_get_class(&response) == STUN_ERROR) continue;
         struct sockaddr_storage seen;
         socklen_t seen_length = sizeof seen;
         stun_message_find_xor_addr(&response, STUN_ATTRIBUTE_XOR_MAPPED_ADDRESS, &seen,

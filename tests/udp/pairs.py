@@ -41,9 +41,27 @@ def long_term(server, client, host, offered, supported):
 
 
 def unsigned_answer(server, client):
-    """A client that has a password takes no answer that nobody signed."""
+    """A client that has a password accepts no answer that nobody signed, and says so."""
     with Server(server) as running:
-        fails(ask(client, "127.0.0.1", running.port, NAME, PASSWORD, within="1"), "no answer")
+        asked = ask(client, "127.0.0.1", running.port, NAME, PASSWORD, within="1")
+        fails(asked, "no answer; 2 dropped")
+
+
+def unsigned_error(client):
+    """Nor an error, of which it prints the code."""
+    bad = [(stun.ERROR_CODE, b"\0\0\4\0")]
+    with Answers(lambda request, peer: [stun.message(stun.ERROR, bad, request[8:20])]) as server:
+        asked = ask(client, "127.0.0.1", server.port, NAME, PASSWORD, within="1")
+        fails(asked, "no answer; 2 dropped")
+        assert "error 400" in asked.err, asked
+
+
+def older_types(client):
+    """It ignores the reserved types that older servers send: SOURCE-ADDRESS, CHANGED-ADDRESS and
+    BANDWIDTH."""
+    older = [(kind, bytes(8)) for kind in (0x0004, 0x0005, 0x0010)]
+    with Answers(lambda request, peer: [success(request, RIGHT, extra=older)]) as server:
+        succeeds(ask(client, "127.0.0.1", server.port), RIGHT)
 
 
 def no_name(server, client):
@@ -298,6 +316,18 @@ def drained(client):
     program = pathlib.Path(client).parent / "drained"
     run = subprocess.run([program], capture_output=True, text=True, timeout=20)
     assert run.stdout == "drained: passed\n", run
+
+
+def many(server, program, words):
+    """200 threads share one client: each request is answered, the first ones after a challenge to
+    each. Nobody is answered without a name."""
+    with Server(server, *USER, *words) as running:
+        where = (program, "127.0.0.1", str(running.port))
+        run = subprocess.run([*where, "200", "5", NAME, PASSWORD], capture_output=True, text=True,
+                             timeout=60)
+        assert run.returncode == 0 and run.stdout.startswith("answered 1000 of 1000"), run
+        run = subprocess.run([*where, "2", "2"], capture_output=True, text=True, timeout=60)
+        assert run.returncode == 1 and run.stderr == "refused 401\n" * 4, run
 
 
 def password_of_a_file(server, client):

@@ -254,7 +254,7 @@ def rewrite_imports(text):
 def rewrite_paths(text, crate, places):
     """Crates are modules here, and what Rust lacks stands in the modules `kit` and `host`."""
     new = {**PATHS, **places, "crate": places[crate]}
-    if crate in LIBRARY:
+    if crate in LIBRARY + export_c.CRATES:
         new["std"] = "core"
     ends = (name + (r"\b" if "::" in name else r"(?=::)|(?<=\buse )" + name + r"(?= as |;)")
             for name in sorted(new, key=len, reverse=True))

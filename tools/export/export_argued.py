@@ -4,6 +4,7 @@ where the prover checked it, and under which premises. `tests/export/argued.py` 
 such places.
 """
 import re
+import shutil
 import subprocess
 
 from export_text import Unknown, closing, mask
@@ -68,7 +69,13 @@ def closed(text):
 
 
 def commit_of(root):
-    """The commit that is exported, or nothing where it is not known."""
+    """The commit that is exported, or nothing where it is not known. Sources of a release have a
+    file that says it."""
+    told = root / "COMMIT"
+    if told.exists():
+        return f", commit {told.read_text().strip()}"
+    if not (root / ".git").exists() or not shutil.which("git"):
+        return ""
     ran = subprocess.run(["git", "describe", "--always", "--dirty=, with changes", "--abbrev=12",
                           "--exclude=*"], cwd=root, capture_output=True, text=True, check=False)
     return f", commit {ran.stdout.strip()}" if ran.returncode == 0 else ""

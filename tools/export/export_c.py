@@ -15,6 +15,9 @@ CRATES = ["stun_numbers", "stun_handles", "stun_c", "stun_state", "stun_c_endpoi
 PLACES = {crate: f"crate::calls::{crate}" for crate in CRATES}
 CALL = re.compile(r'((?:^///[^\n]*\n)+)^#\[unsafe\(no_mangle\)\]\npub extern "C" fn '
                   r'(\w+)\(([^)]*)\)(?: -> (\w+))?', re.M)
+# Sizes are those of 64 bits in the sources, and of the target here.
+SIZES = [("usize = 9_223_372_036_854_775_807;", "usize = isize::MAX as usize;"),
+         ("RECEIVED_SIZE: usize = 640;", "RECEIVED_SIZE: usize = size_of::<Received>();")]
 SLICES = {"&[u8]": ("*const u8", "read"), "&mut [u8]": ("*mut u8", "written"),
           "&[u16]": ("*const u16", "read"), "&mut [u16]": ("*mut u16", "written")}
 
@@ -70,6 +73,8 @@ def write(out, exported, places, root):
             if name.parts[0] in ("laws.rs", "handle.rs", "handle"):
                 continue
             text = exported(path.read_text(), crate, {**places, **PLACES})
+            for old, new in SIZES:
+                text = text.replace(old, new)
             module = "::".join([crate, *name.with_suffix("").parts]).removesuffix("::lib")
             border += border_of(text, module)
             text = CALL.sub(lambda found: found.group(1)

@@ -12,10 +12,10 @@ use std::io;
 use std::io::{ErrorKind, Read};
 
 /// How often a command asks its reader, at most.
-const MAX_READS: u32 = 1_048_576;
+pub const MAX_READS: u32 = 1_048_576;
 
 /// How many bytes one read may give.
-const READ_SIZE: usize = 256;
+pub const READ_SIZE: usize = 256;
 
 /// A reader that counts how often it is read, so that contracts can bound it.
 pub trait CountedRead: Read {

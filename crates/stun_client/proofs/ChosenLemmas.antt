@@ -1,6 +1,6 @@
 -- What the rule chooses: a supported algorithm, and the strongest that both sides support where a
 -- server's own list is chosen from.
-use Rattle.std.proofs.Common.{◌≡◌, Bool, true, false, ℕ, List, [], ◌∷◌, Option, Some, None, refl}
+use Rattle.std.proofs.Common.{◌≡◌, Bool, true, false, ℕ, List, [], Option, Some, None, refl}
 use Rattle.std.proofs.Common.{◌∙◌, ap, subst, sym}
 use Rattle.std.specs.Prelude.{cond, find}
 use Rattle.std.specs.Option.{option_map}
@@ -19,7 +19,7 @@ use Rattle.stun_client.specs.Challenges.{by_rule, by_rule_if, challenge_of, list
 use Rattle.stun_client.specs.Challenging.{is_challenge, nonce_in, realm_in}
 use Rattle.stun_client.specs.Downgrade.{IsStrongestOfBoth}
 use Rattle.stun_client.specs.Preferences.{supports}
-use Rattle.stun_client.specs.Rule.{IsByRule, IsChosen, chosen, is_hashed, lacks_userhash}
+use Rattle.stun_client.specs.Rule.{IsByRule, IsChosen, chosen, lacks_userhash}
 use Rattle.stun_client.specs.declared.preferences.Preferences.{Preferences}
 
 -- one algorithm alone, where it is supported

@@ -4,28 +4,28 @@
 use Rattle.std.proofs.Common.{◌≡◌, ◌⊎◌, inl, inr, Bool, true, false, ℕ, List, [], ◌∷◌}
 use Rattle.std.proofs.Common.{Option, Some, None, refl, ◌∙◌, ap, sym}
 use Rattle.std.specs.Prelude.{cond, find, ◌&&◌, ◌||◌}
-use Rattle.std.specs.Option.{IsSome, option_and_then, option_map}
+use Rattle.std.specs.Option.{option_and_then, option_map}
 use Rattle.stun_base.specs.declared.keys.algorithm.IntegrityAlgorithm.{IntegrityAlgorithm}
 use Rattle.stun_base.specs.declared.keys.algorithm.IntegrityAlgorithm.TheVariants.{Sha1, Sha256}
 use Rattle.stun_base.specs.declared.wire.message_type.MessageClass.{MessageClass}
 use Rattle.stun_types.specs.Integrity.{deciding, deciding_algorithm, integrity_algorithm}
 use Rattle.stun_types.specs.Integrity.{is_digest, verified_algorithm, verified_at}
 use Rattle.stun_types.specs.Walk.{Member}
-use Rattle.stun_auth.specs.Algorithms.{algorithms_of, contains, has, is_sha256, offered_list}
+use Rattle.stun_auth.specs.Algorithms.{algorithms_of, has, is_sha256, offered_list}
 use Rattle.stun_auth.specs.Algorithms.{same_algorithm, same_list}
 use Rattle.stun_auth.specs.Client.{Challenge}
 use Rattle.stun_auth.specs.Feature.{is_possible}
 use Rattle.stun_auth.specs.Nonces.{asks_for_algorithms, asks_for_userhash}
-use Rattle.stun_auth.specs.Reading.{Reading, has_visible_integrity, reading_of, verified_under}
+use Rattle.stun_auth.specs.Reading.{has_visible_integrity, reading_of, verified_under}
 use Rattle.stun_auth.specs.Registered.{Registered}
 use Rattle.stun_auth.specs.Seen.{ClientSeen}
-use Rattle.stun_auth.specs.Server.{IsAccepted, agreement, choice}
-use Rattle.stun_auth.specs.Signed.{ReadsAs, added_under, is_listed, only_if, plain_name}
+use Rattle.stun_auth.specs.Server.{IsAccepted, choice}
+use Rattle.stun_auth.specs.Signed.{ReadsAs, added_under, is_listed, only_if}
 use Rattle.stun_auth.specs.declared.algorithm_set.AlgorithmSet.{AlgorithmSet}
 use Rattle.stun_auth.specs.declared.feature.Feature.{Feature}
 use Rattle.stun_client.specs.Downgrade.{IsNotBidDown, IsStrongestOfBoth, IsUpToDate}
 use Rattle.stun_client.specs.Preferences.{supports}
-use Rattle.stun_client.specs.Rule.{IsChosen, chosen, is_hashed}
+use Rattle.stun_client.specs.Rule.{IsChosen, is_hashed}
 use Rattle.stun_client.specs.declared.preferences.Preferences.{Preferences}
 use Rattle.stun_client.proofs.ChosenLemmas.{strongest_found}
 

@@ -1,4 +1,7 @@
 -- Lemmas of the crate.
 pub mod ChosenLemmas
 pub mod DowngradeLemmas
+pub mod ClientLemmas
+pub mod JudgingLemmas
+pub mod RequestLemmas
 pub mod SigningLemmas

@@ -1,9 +1,7 @@
 -- What a signed message reads as: what the challenge added.
-use Rattle.std.proofs.Common.{◌≡◌, true, ℕ, List, Option, Some, None, refl, ◌∙◌, ap, sym, Ok, Err}
-use Rattle.std.specs.Prelude.{IfOk, IsUtf8, length, string_bytes}
-use Rattle.std.specs.Option.{IfSome}
+use Rattle.std.proofs.Common.{◌≡◌, true, ℕ, List, ◌∙◌, ap, sym, Ok, Err}
+use Rattle.std.specs.Prelude.{IfOk}
 use Rattle.std.specs.declared.result.Result.{Result}
-use Rattle.std.proofs.lemmas.Str.{IsUtf8-string_bytes}
 use Rattle.stun_base.specs.MessageType.{class_in}
 use Rattle.stun_base.specs.declared.wire.error.StunWriteError.{StunWriteError}
 use Rattle.stun_auth.specs.Additions.{Page, UnlessMemory, added_all, page_in, written_page}

@@ -1,6 +1,6 @@
 -- What a client reads of a challenge: the first visible attribute of each type, where that is well
 -- formed (RFC 8489, section 14).
-use Rattle.std.specs.Prelude.{ℕ, ◌==◌, Bool, false, ◌||◌, if◌then◌else◌, List, map, Option, Some, None}
+use Rattle.std.specs.Prelude.{ℕ, Bool, ◌||◌, if◌then◌else◌, List, map, Option, None}
 use Rattle.std.specs.Option.{option_and_then, option_map}
 use Rattle.stun_base.specs.Attributes.{ERROR_CODE, NONCE, PASSWORD_ALGORITHMS, REALM}
 use Rattle.stun_base.specs.MessageType.{class_in, is_error}

@@ -13,6 +13,18 @@ pub mod Challenges
 pub mod Downgrade
 -- which challenge new requests are signed for
 pub mod Standing
+-- what a response to an outstanding request comes to
+pub mod Judging
+-- what a client adds to a request to sign it
+pub mod Signing
+-- how a response that is believed ends its request
+pub mod Outcomes
+-- the outstanding requests, each under its transaction ID
+pub mod Requests
+-- addresses, whose two spellings of IPv4 are one
+pub mod Addresses
+-- a client, what a datagram comes to, and what each call makes of it
+pub mod Clients
 -- the transaction IDs of a client
 pub mod Ids
 -- what no clause of a public call cites: views of the code's own structs

@@ -15,7 +15,7 @@ ghost use Rattle.stun_client.specs.Challenging.{list_in};
 ghost use Rattle.stun_client.specs.code.Kept.{challenge_seen};
 
 mod kept;
-mod reading;
+pub(crate) mod reading;
 mod rule;
 mod signing;
 
@@ -44,8 +44,10 @@ use stun_types::message::{IntegrityAlgorithm, LongTermCredentials, Message, Prep
 /// 3. The user name is sent as a hash if the nonce allows it and the client does it. A client that
 ///    must do it ignores a nonce that does not allow it.
 ///
-/// Nothing that was read before decides, so an attacker who forges challenges cannot make a request
-/// that the real server accepts by less than the strongest algorithm that both sides support.
+/// Of what was read before, only the list of the challenge before decides, and only for a 438 that
+/// has none and is signed with that challenge's key. So an attacker who forges challenges cannot make
+/// a request that the real server accepts by less than the strongest algorithm that both sides
+/// support.
 ///
 /// `Debug` shows nothing of the contents.
 ///

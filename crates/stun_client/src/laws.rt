@@ -1,6 +1,8 @@
 //! Laws over the definitions that the contracts of this crate cite. They do nothing when they run.
-ghost use Rattle.std.specs.Prelude.{◌≡◌, ℕ, List, Option, Some, None, true};
+ghost use Rattle.std.specs.Prelude.{◌≡◌, ℕ, Bool, List, Option, Some, true};
+ghost use Rattle.std.specs.declared.net.socket_addr.SocketAddr.{SocketAddr};
 ghost use Rattle.stun_base.specs.Credentials.{NameAndPassword};
+ghost use Rattle.stun_base.specs.declared.keys.algorithm.IntegrityAlgorithm.{IntegrityAlgorithm};
 ghost use Rattle.stun_base.specs.declared.wire.message_type.MessageClass.{MessageClass};
 ghost use Rattle.stun_auth.specs.Client.{Challenge};
 ghost use Rattle.stun_auth.specs.Nonces.{nonce_of};
@@ -8,9 +10,13 @@ ghost use Rattle.stun_auth.specs.Reading.{reading_of};
 ghost use Rattle.stun_auth.specs.Registered.{Registered};
 ghost use Rattle.stun_auth.specs.Signed.{ReadsAs, added_under};
 ghost use Rattle.stun_auth.specs.declared.feature.Feature.{Feature as TheFeature};
-ghost use Rattle.stun_client.specs.Challenges.{challenge_of};
+ghost use Rattle.stun_client.specs.Challenges.{Answered, challenge_of};
+ghost use Rattle.stun_client.specs.Clients.{ClientSeen, IsAnswer, heard, responded};
 ghost use Rattle.stun_client.specs.Downgrade.{IsNowhereBidDown, IsUpToDate};
+ghost use Rattle.stun_client.specs.Judging.{IsAnsweredAnew, IsBelievable, Identity, anew, believed};
+ghost use Rattle.stun_client.specs.Judging.{judged, long_term};
 ghost use Rattle.stun_client.specs.Rule.{IsByRule, IsChosen};
+ghost use Rattle.stun_client.specs.Standing.{StandingSeen};
 ghost use Rattle.stun_client.specs.declared.preferences.Preferences.{Preferences as ThePreferences};
 
 /// Each challenge of a message is by the rule, whatever challenge was there before.
@@ -39,3 +45,28 @@ pub fn nonces_of_a_server_are_up_to_date()
 {
     stun_auth::laws::nonces_ask_for_what_is_supported();
 }
+
+/// Each response that is believed may be: without credentials, or signed as its request was.
+pub fn responses_are_believed_if_verified()
+    ensures { (identity : Identity) (standing : StandingSeen) (before : Option Answered)
+        (bytes : List ℕ) (by : Option IntegrityAlgorithm)
+        → judged identity standing before bytes ≡ believed by
+        → IsBelievable identity before bytes by }
+{}
+
+/// A request is sent again for no other challenge than the one of the response, by the rule, and
+/// neither for the one that it was signed for nor for one that is ignored.
+pub fn requests_are_sent_again_for_new_challenges()
+    ensures { (who : NameAndPassword) (p : ThePreferences) (accepts_unsigned : Bool)
+        (standing : StandingSeen) (before : Option Answered) (bytes : List ℕ) (c : Answered)
+        → judged (long_term who p accepts_unsigned) standing before bytes ≡ anew (Some c)
+        → IsAnsweredAnew p who standing before bytes c }
+{}
+
+/// A datagram ends a request only if it answers it: it came from the server, it has the transaction
+/// ID and the method of the outstanding request, and it may be believed.
+pub fn datagrams_end_the_requests_that_they_answer()
+    ensures { (c : ClientSeen) (from : SocketAddr) (bytes : List ℕ) (number : ℕ)
+        (by : Option IntegrityAlgorithm) → heard c from bytes ≡ responded bytes number (believed by)
+        → IsAnswer c from bytes number by }
+{}

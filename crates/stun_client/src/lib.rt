@@ -1,11 +1,18 @@
-//! The client side of long-term credentials: challenges by one rule, under which no server accepts a
-//! request by less than the strongest algorithm that both sides support (RFC 8489, section 9.2.5).
+//! A client of one server: its outstanding requests, what a datagram comes to, and challenges by one
+//! rule, under which no server accepts a request by less than the strongest algorithm that both sides
+//! support (RFC 8489, section 9.2.5).
 #![tactic(auto)]
 
 mod addition;
+mod address;
 pub mod challenge;
+pub mod client;
+pub mod credentials;
 pub mod ids;
+pub mod judged;
 pub mod laws;
 mod limited_text;
 pub mod preferences;
+pub mod requests;
+mod signing;
 pub mod standing;

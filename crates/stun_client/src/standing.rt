@@ -1,7 +1,5 @@
 //! Which challenge new requests are signed for, and which one a success has confirmed.
 ghost use Rattle.std.specs.Prelude.{◌≡◌};
-ghost use Rattle.std.specs.Option.{option_map};
-ghost use Rattle.stun_client.specs.Challenges.{Answered};
 ghost use Rattle.stun_client.specs.Standing.{after_answer, after_success, after_timeout};
 ghost use Rattle.stun_client.specs.Standing.{is_ignored, is_standing, new_standing};
 

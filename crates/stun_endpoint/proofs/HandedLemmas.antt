@@ -1,5 +1,5 @@
 -- Who is handed to the caller is accepted, and who gets a 400 has the current nonce or is malformed.
-use Rattle.std.proofs.Common.{◌≡◌, ◌⊎◌, inl, inr, ℕ, List, Some, None}
+use Rattle.std.proofs.Common.{◌≡◌, ◌⊎◌, inl, inr, ℕ, List, Option, Some, None}
 use Rattle.std.proofs.Common.{Bool, true, false, refl, sym, ◌∙◌, ap, Ok, Err}
 use Rattle.std.specs.Prelude.{cond, ◌||◌, ◌&&◌}
 use Rattle.std.specs.Option.{is_some}
@@ -23,24 +23,32 @@ use Rattle.stun_extra.specs.Fingerprint.{fingerprint_in}
 use Rattle.stun_extra.specs.Unknown.{unknown_types}
 use Rattle.stun_endpoint.specs.Judged.{IsAcceptedAt, Realm, judged, key_of_client}
 use Rattle.stun_endpoint.specs.Nonces.{current_nonce, epoch_of}
+use Rattle.stun_endpoint.specs.Answers.{Signature}
 use Rattle.stun_endpoint.specs.Received.{AcceptedRequest, Answer, Outcome, answer_to_refused}
-use Rattle.stun_endpoint.specs.Received.{binding_answer, stale_answer, unauthenticated_answer}
-use Rattle.stun_endpoint.specs.Received.{unknown_answer}
-use Rattle.stun_endpoint.specs.Received.{answered, by_class, by_verdict, dropped, indicated}
-use Rattle.stun_endpoint.specs.Received.{is_binding, is_empty, is_wrong, received_by, requested}
+use Rattle.stun_endpoint.specs.Received.{answered, by_class, by_verdict, challenge_answer, dropped}
+use Rattle.stun_endpoint.specs.Received.{indicated, is_binding, is_empty, is_wrong, or_handed}
+use Rattle.stun_endpoint.specs.Received.{received_by, requested, responding_of, signature_for}
+use Rattle.stun_endpoint.specs.Responding.{Responding, binding_by, own_answer, reply_by, unknown_by}
 use Rattle.stun_endpoint.specs.Settings.{Settings}
 use Rattle.stun_endpoint.specs.declared.received.DropReason.{DropReason}
+use Rattle.stun_endpoint.specs.declared.received.Refusal.{Refusal}
 use Rattle.stun_endpoint.specs.declared.received.Refusal.TheVariants as refused
 use Rattle.stun_endpoint.proofs.AcceptedLemmas.{accepted_at}
 
 -- ---- outcomes
 
-handed : (b c : Bool) (one other : Answer) (request q : AcceptedRequest)
-    → cond b (cond c (answered one) (requested request)) (answered other) ≡ requested q
-    → request ≡ q
-handed true true one other request q h = cc
-handed true false one other request q h = cc
-handed false c one other request q h = cc
+handed : (s : Settings) (key : List ℕ) (from : SocketAddr) (bytes : List ℕ) (client : ClientSeen)
+    (o : Option Answer) (q : AcceptedRequest)
+    → or_handed s key from bytes client o ≡ requested q → client ≡ q.client
+handed s key from bytes client (Some answer) q h = cc
+handed s key from bytes client None q h =
+    let request : AcceptedRequest = record {
+      message = bytes;
+      client = client;
+      reply = reply_by (responding_of s) (signature_for key bytes) from bytes;
+    } in
+    let same : request ≡ q = cc in
+    ap (λ (x : AcceptedRequest). x.client) same
 
 pub not_indicated : (b : Bool) (bytes : List ℕ) (why : DropReason) (q : AcceptedRequest) (A : Type 0)
     → cond b (indicated bytes) (dropped why) ≡ requested q → A
@@ -65,16 +73,17 @@ not_dropped_answer false true why other rest a h = cc
 not_dropped_answer false false why other rest a h = h
 
 -- an accepted request does not get a 400
-not_bad : (b c : Bool) (one other : Answer) (request : AcceptedRequest) (a : Answer)
+not_bad : (b c : Bool) (one other : Answer) (s : Settings) (key : List ℕ) (from : SocketAddr)
+    (bytes : List ℕ) (client : ClientSeen) (a : Answer)
     → one.refusal ≡ None → other.refusal ≡ Some refused.UnknownAttribute
-    → cond b (cond c (answered one) (requested request)) (answered other) ≡ answered a
+    → or_handed s key from bytes client (cond b (cond c (Some one) None) (Some other)) ≡ answered a
     → a.refusal ≡ Some refused.BadRequest → (A : Type 0) → A
-not_bad true true one other request a fine odd h bad A =
+not_bad true true one other s key from bytes client a fine odd h bad A =
     let same : one ≡ a = cc in
     let wrong : None ≡ Some refused.BadRequest =
     sym fine ∙ ap (λ (x : Answer). x.refusal) same ∙ bad in cc
-not_bad true false one other request a fine odd h bad A = cc
-not_bad false c one other request a fine odd h bad A =
+not_bad true false one other s key from bytes client a fine odd h bad A = cc
+not_bad false c one other s key from bytes client a fine odd h bad A =
     let same : other ≡ a = cc in
     let wrong : Some refused.UnknownAttribute ≡ Some refused.BadRequest =
     sym odd ∙ ap (λ (x : Answer). x.refusal) same ∙ bad in cc
@@ -93,25 +102,20 @@ told_of nonce r verdict.Unauthorized h = cc
 told_of nonce r verdict.StaleNonce h = cc
 told_of nonce r verdict.BadRequest h = told_so (is_malformed r) (bytes_eq (their_nonce r) nonce) h
 
-binding_fine : (s : Settings) (key : List ℕ) (from : SocketAddr) (bytes : List ℕ)
-    → (binding_answer s key from bytes).refusal ≡ None
-unfolding binding_answer
-binding_fine s key from bytes = refl
+binding_fine : (s : Responding) (by : Option Signature) (from : SocketAddr) (bytes : List ℕ)
+    → (binding_by s by from bytes).refusal ≡ None
+unfolding binding_by
+binding_fine s by from bytes = refl
 
-unknown_odd : (s : Settings) (key : List ℕ) (from : SocketAddr) (bytes : List ℕ)
-    → (unknown_answer s key from bytes).refusal ≡ Some refused.UnknownAttribute
-unfolding unknown_answer
-unknown_odd s key from bytes = refl
+unknown_odd : (s : Responding) (by : Option Signature) (from : SocketAddr) (bytes : List ℕ)
+    → (unknown_by s by from bytes).refusal ≡ Some refused.UnknownAttribute
+unfolding unknown_by
+unknown_odd s by from bytes = refl
 
-unsigned_told : (s : Settings) (nonce : List ℕ) (from : SocketAddr) (bytes : List ℕ)
-    → (unauthenticated_answer s nonce from bytes).refusal ≡ Some refused.Unauthenticated
-unfolding unauthenticated_answer
-unsigned_told s nonce from bytes = refl
-
-stale_told : (s : Settings) (nonce : List ℕ) (from : SocketAddr) (bytes : List ℕ)
-    → (stale_answer s nonce from bytes).refusal ≡ Some refused.StaleNonce
-unfolding stale_answer
-stale_told s nonce from bytes = refl
+challenge_told : (s : Settings) (why : Refusal) (nonce : List ℕ) (from : SocketAddr)
+    (bytes : List ℕ) → (challenge_answer s why nonce from bytes).refusal ≡ Some why
+unfolding challenge_answer
+challenge_told s why nonce from bytes = refl
 
 told_bad : (s : Settings) (nonce : List ℕ) (from : SocketAddr) (bytes : List ℕ)
     (told : VerdictRefusal)
@@ -119,19 +123,20 @@ told_bad : (s : Settings) (nonce : List ℕ) (from : SocketAddr) (bytes : List �
     → told ≡ verdict.BadRequest
 told_bad s nonce from bytes verdict.Unauthorized h =
     let wrong : Some refused.Unauthenticated ≡ Some refused.BadRequest =
-    sym (unsigned_told s nonce from bytes) ∙ h in cc
+    sym (challenge_told s refused.Unauthenticated nonce from bytes) ∙ h in cc
 told_bad s nonce from bytes verdict.StaleNonce h =
     let wrong : Some refused.StaleNonce ≡ Some refused.BadRequest =
-    sym (stale_told s nonce from bytes) ∙ h in cc
+    sym (challenge_told s refused.StaleNonce nonce from bytes) ∙ h in cc
 told_bad s nonce from bytes verdict.BadRequest h = refl
 
 module _ (s : Settings) (realm : Realm) (from : SocketAddr) (now : ℕ) (bytes : List ℕ) where
   verdict_of_handed : (q : AcceptedRequest) (v : Result ClientSeen VerdictRefusal)
       → by_verdict s realm from now bytes v ≡ requested q → v ≡ Ok q.client
   verdict_of_handed q (Ok client) h =
-      ap (λ (x : AcceptedRequest). Ok x.client)
-      (handed (is_empty (unknown_types s.known bytes)) (s.answers_binding && is_binding bytes)
-      _ _ _ q h)
+      let key = key_of_client realm client in
+      ap (λ (c : ClientSeen). Ok c)
+      (handed s key from bytes client
+      (own_answer (responding_of s) (signature_for key bytes) from bytes) q h)
   verdict_of_handed q (Err why) h = cc
 
   class_of_handed : (q : AcceptedRequest) (class : MessageClass)
@@ -162,9 +167,12 @@ module _ (s : Settings) (realm : Realm) (from : SocketAddr) (now : ℕ) (bytes :
       → (is_malformed (reading_of bytes) ≡ true)
       ⊎ (bytes_eq (their_nonce (reading_of bytes)) (current_nonce s from now) ≡ true)
   verdict_of_bad a (Ok client) h bad =
+      let key = key_of_client realm client in
+      let by = signature_for key bytes in
       not_bad (is_empty (unknown_types s.known bytes)) (s.answers_binding && is_binding bytes)
-      _ _ _ a (binding_fine s (key_of_client realm client) from bytes)
-      (unknown_odd s (key_of_client realm client) from bytes) h bad _
+      (binding_by (responding_of s) by from bytes) (unknown_by (responding_of s) by from bytes)
+      s key from bytes client a (binding_fine (responding_of s) by from bytes)
+      (unknown_odd (responding_of s) by from bytes) h bad _
   verdict_of_bad a (Err why) h bad =
       let nonce = current_nonce s from now in
       let told = told_refusal nonce (reading_of bytes) why in

@@ -1,8 +1,8 @@
 -- What is done needs no user, and what waits has an accepted nonce.
-use Rattle.std.proofs.Common.{◌≡◌, ◌⊎◌, inl, inr, ℕ, List, [], ◌∷◌, Option, Some, None}
+use Rattle.std.proofs.Common.{◌≡◌, inl, inr, ℕ, List, [], ◌∷◌, Option, Some, None}
 use Rattle.std.proofs.Common.{Bool, true, false, refl, sym, subst, ◌∙◌, ap}
 use Rattle.std.specs.Prelude.{cond, ◌||◌, ◌&&◌}
-use Rattle.std.specs.Option.{is_some, unwrap_or, IsSome}
+use Rattle.std.specs.Option.{is_some, unwrap_or}
 use Rattle.std.specs.Str.{bytes_eq}
 use Rattle.std.proofs.lemmas.Slice.Eq.{bytes_eq-Decides}
 use Rattle.std.specs.declared.net.socket_addr.SocketAddr.{SocketAddr}
@@ -18,14 +18,14 @@ use Rattle.stun_auth.specs.Registered.{Registered}
 use Rattle.stun_auth.specs.Server.{agreement, their_nonce}
 use Rattle.stun_auth.specs.Validation.{is_complete}
 use Rattle.stun_extra.specs.Fingerprint.{fingerprint_in}
-use Rattle.stun_endpoint.specs.Judged.{Realm, judged, realm_of_user}
+use Rattle.stun_endpoint.specs.Judged.{realm_of_user}
 use Rattle.stun_endpoint.specs.Lookups.{Identification, IsOneOf, LookupSeen, WaitsUnderItsNonce}
 use Rattle.stun_endpoint.specs.Lookups.{accepted_nonces, awaited, done, has_one_of, identified_as}
 use Rattle.stun_endpoint.specs.Lookups.{identified_by, is_ready, looked_up, waiting_by_class}
 use Rattle.stun_endpoint.specs.Lookups.{waits_for}
-use Rattle.stun_endpoint.specs.Nonces.{epoch_of, nonce_in}
+use Rattle.stun_endpoint.specs.Nonces.{epoch_of}
 use Rattle.stun_endpoint.specs.Received.{Outcome, by_class, by_verdict, dropped, is_wrong}
-use Rattle.stun_endpoint.specs.Received.{no_message, received_by, refused_with}
+use Rattle.stun_endpoint.specs.Received.{no_message, received_by}
 use Rattle.stun_endpoint.specs.Settings.{Settings}
 use Rattle.stun_endpoint.specs.declared.received.DropReason.TheVariants.{WrongFingerprint}
 use Rattle.stun_endpoint.proofs.UnnamedLemmas.{unnamed_is_refused}

@@ -1,15 +1,12 @@
 -- What a request comes to by the verdict that the code found is what it comes to by definition.
-use Rattle.std.proofs.Common.{◌≡◌, ℕ, List, [], Option, Some, None, refl, sym, ◌∙◌, ap, Ok, Err}
+use Rattle.std.proofs.Common.{◌≡◌, ℕ, List, [], Some, None, sym, ◌∙◌, ap, Ok, Err}
 use Rattle.std.specs.Prelude.{IfOk, cond, unwrap_or}
-use Rattle.std.specs.Option.{is_some}
 use Rattle.std.specs.declared.net.socket_addr.SocketAddr.{SocketAddr}
 use Rattle.std.specs.declared.result.Result.{Result}
 use Rattle.stun_base.specs.MessageType.{class_in}
 use Rattle.stun_types.specs.Message.{refusal}
 use Rattle.stun_auth.specs.Judged.{AcceptedSeen, HasVerifyingKey, client_judged}
-use Rattle.stun_auth.specs.Reading.{Reading, reading_of}
-use Rattle.stun_auth.specs.Registered.{Registered}
-use Rattle.stun_auth.specs.Seen.{ClientSeen}
+use Rattle.stun_auth.specs.Reading.{reading_of}
 use Rattle.stun_auth.specs.Server.{verdict}
 use Rattle.stun_auth.specs.declared.server.reason.VerdictRefusal.{VerdictRefusal}
 use Rattle.stun_extra.specs.Fingerprint.{fingerprint_in}

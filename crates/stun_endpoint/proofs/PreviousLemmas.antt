@@ -3,7 +3,6 @@ use Rattle.std.proofs.Common.{◌≡◌, ◌-◌, ◌<◌, ℕ, zero, suc, List,
 use Rattle.std.proofs.Common.{ap, arith, sym, [], Ok, Err}
 use Rattle.std.specs.Prelude.{unwrap_or}
 use Rattle.std.specs.declared.net.socket_addr.SocketAddr.{SocketAddr}
-use Rattle.std.specs.declared.result.Result.{Result}
 use Rattle.stun_auth.specs.declared.server.reason.VerdictRefusal.{VerdictRefusal}
 use Rattle.stun_auth.specs.declared.server.reason.VerdictRefusal.TheVariants.{Unauthorized}
 use Rattle.stun_auth.specs.declared.server.reason.VerdictRefusal.TheVariants.{BadRequest}

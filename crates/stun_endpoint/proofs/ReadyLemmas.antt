@@ -1,27 +1,20 @@
 -- What the code finds of a request that waits: that it is stale under the empty nonce, and which
 -- nonce it has.
 use Rattle.std.proofs.Common.{◌⊎◌, inl, inr}
-use Rattle.std.proofs.Common.{◌≡◌, ◌<◌, ◌+◌, ◌-◌, ◌≤◌, ℕ, zero, suc, List, [], ◌∷◌, ◌++◌}
+use Rattle.std.proofs.Common.{◌≡◌, ◌<◌, ◌-◌, ℕ, zero, suc, List, [], ◌∷◌, ◌++◌}
 use Rattle.std.proofs.Common.{length, map, take, Option, Some, None, Bool, true, false, refl, sym}
-use Rattle.std.proofs.Common.{◌∙◌, ap, arith, Ok, Err, length-append}
+use Rattle.std.proofs.Common.{◌∙◌, ap, arith}
 use Rattle.std.specs.Prelude.{cond, not, ◌||◌, ◌&&◌, ◌==◌, drop}
-use Rattle.std.specs.Option.{is_some, is_none, option_map}
+use Rattle.std.specs.Option.{is_none}
 use Rattle.std.specs.Str.{bytes_eq}
 use Rattle.std.proofs.lemmas.Slice.Eq.{bytes_eq-Decides}
 use Rattle.std.specs.declared.net.socket_addr.SocketAddr.{SocketAddr}
-use Rattle.std.specs.declared.result.Result.{Result}
 use Rattle.sha1.specs.Sha1.{digest_bytes, sha1}
 use Rattle.stun_base.specs.Hmac.{hmac}
-use Rattle.stun_base.specs.declared.keys.algorithm.IntegrityAlgorithm.TheVariants.{Sha256}
-use Rattle.stun_auth.specs.Algorithms.{contains}
-use Rattle.stun_auth.specs.Feature.{is_possible}
 use Rattle.stun_auth.specs.Nonces.{begins_with_cookie, front, letter, nonce_of, security_bits}
 use Rattle.stun_auth.specs.Nonces.{security_byte, spelled_bits, without_cookie}
 use Rattle.stun_auth.specs.declared.algorithm_set.AlgorithmSet.{AlgorithmSet}
 use Rattle.stun_auth.specs.declared.feature.Feature.{Feature}
-use Rattle.stun_auth.specs.declared.server.reason.VerdictRefusal.{VerdictRefusal}
-use Rattle.stun_auth.specs.declared.server.reason.VerdictRefusal.TheVariants.{Unauthorized}
-use Rattle.stun_auth.specs.declared.server.reason.VerdictRefusal.TheVariants.{BadRequest}
 use Rattle.stun_auth.specs.declared.server.reason.VerdictRefusal.TheVariants.{StaleNonce}
 use Rattle.stun_auth.specs.Handed.{Named, named_in}
 use Rattle.stun_auth.specs.Reading.{Reading}

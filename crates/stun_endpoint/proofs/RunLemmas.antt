@@ -1,7 +1,7 @@
 -- The calls for each datagram give the endpoint's verdict, and leave no record.
 use Rattle.std.proofs.Common.{◌≡◌, ◌≤◌, ℕ, zero, suc, List, [], ◌∷◌, map, Option, Some, None}
 use Rattle.std.proofs.Common.{Bool, true, false, refl, sym, ◌∙◌, ap, Ok, Err, arith}
-use Rattle.std.specs.Prelude.{cond, not, nat_le, min, ◌||◌, ◌&&◌}
+use Rattle.std.specs.Prelude.{cond, not, nat_le, ◌||◌, ◌&&◌}
 use Rattle.std.proofs.lemmas.Bool.{le-leb}
 use Rattle.std.specs.FinMap as fin
 use Rattle.std.specs.Option.{is_some, is_none}
@@ -26,28 +26,28 @@ use Rattle.stun_auth.specs.declared.server.reason.VerdictRefusal.TheVariants.{Ba
 use Rattle.stun_auth.specs.declared.server.reason.VerdictRefusal.TheVariants.{StaleNonce}
 use Rattle.stun_auth.specs.Epochs.{or_before}
 use Rattle.stun_auth.specs.Handed.{with_users}
-use Rattle.stun_auth.specs.Judged.{offered_after, verdict_by_nonce}
+use Rattle.stun_auth.specs.Judged.{offered_after}
 use Rattle.stun_auth.specs.Nonces.{nonce_of}
 use Rattle.stun_auth.specs.Reading.{Reading, reading_of}
 use Rattle.stun_auth.specs.Registered.{Registered, UserSecret, name_cmp}
 use Rattle.stun_auth.specs.Seen.{ClientSeen}
-use Rattle.stun_auth.specs.Server.{agreement, bits_differ, client_of, current_place}
+use Rattle.stun_auth.specs.Server.{agreement, client_of, current_place}
 use Rattle.stun_auth.specs.Server.{nonce_refusal, their_nonce, verdict, verified_named}
-use Rattle.stun_auth.specs.Validation.{Answer as Validation, ServerSeen, answer, answer_to}
-use Rattle.stun_auth.specs.Validation.{is_malformed, needs_nonce, sight}
+use Rattle.stun_auth.specs.Validation.{Answer as Validation, ServerSeen, answer_to}
+use Rattle.stun_auth.specs.Validation.{is_malformed, sight}
 use Rattle.stun_auth.proofs.Accepting.{unresponded}
 use Rattle.stun_auth.proofs.JudgedRuns.{run-answer, run-forgotten}
 use Rattle.stun_auth.proofs.VerdictLemmas.{by_rows, verdict-rows}
 use Rattle.stun_extra.specs.Fingerprint.{fingerprint_in}
 use Rattle.stun_extra.specs.Unknown.{unknown_types}
-use Rattle.stun_endpoint.specs.Judged.{Realm, judged, judged_in, judged_under, or_previous}
+use Rattle.stun_endpoint.specs.Judged.{Realm, judged, judged_under, or_previous}
 use Rattle.stun_endpoint.specs.Judged.{realm_of_user}
 use Rattle.stun_endpoint.specs.Nonces.{epoch_of, words_of}
 use Rattle.stun_endpoint.specs.Realm.{table_of}
 use Rattle.stun_endpoint.specs.Received.{AcceptedRequest, Outcome, dropped, is_empty, is_wrong}
 use Rattle.stun_endpoint.specs.Received.{no_message, received_by, requested}
 use Rattle.stun_endpoint.specs.Received.{by_class as by_class_of}
-use Rattle.stun_endpoint.specs.Runs.{Arrival, after_run, asked, asked_in, asked_previous}
+use Rattle.stun_endpoint.specs.Runs.{Arrival, after_run, asked, asked_previous}
 use Rattle.stun_endpoint.specs.Runs.{asked_under, or_next, run, served, served_by_class, told}
 use Rattle.stun_endpoint.specs.Runs.{users_at, verdict_by_class, verdict_on}
 use Rattle.stun_endpoint.specs.Settings.{Settings, registered_of}

@@ -1,12 +1,11 @@
 -- A request that waits for nobody is refused alike whoever the users are: for the reason that the
 -- current nonce gives.
 use Rattle.std.proofs.Common.{◌≡◌, ◌⊎◌, inl, inr, ℕ, zero, suc, List, [], ◌∷◌, ◌++◌}
-use Rattle.std.proofs.Common.{Option, Some, None, Bool, true, false, refl, sym, ◌∙◌, ap, Ok, Err}
+use Rattle.std.proofs.Common.{Option, Some, None, Bool, true, false, refl, sym, ◌∙◌, ap, Err}
 use Rattle.std.specs.Prelude.{cond, not, ◌||◌, ◌&&◌}
 use Rattle.std.specs.Option.{is_some, is_none, option_and_then}
 use Rattle.std.specs.Str.{bytes_eq}
 use Rattle.std.specs.declared.net.socket_addr.SocketAddr.{SocketAddr}
-use Rattle.std.specs.declared.result.Result.{Result}
 use Rattle.stun_base.specs.declared.keys.algorithm.IntegrityAlgorithm.{IntegrityAlgorithm}
 use Rattle.stun_auth.specs.declared.feature.Feature.{Feature}
 use Rattle.stun_auth.specs.declared.server.reason.VerdictRefusal.{VerdictRefusal}
@@ -15,14 +14,14 @@ use Rattle.stun_auth.specs.declared.server.reason.VerdictRefusal.TheVariants.{Ba
 use Rattle.stun_auth.specs.declared.server.reason.VerdictRefusal.TheVariants.{StaleNonce}
 use Rattle.stun_auth.specs.Epochs.{or_before}
 use Rattle.stun_auth.specs.Feature.{is_possible}
-use Rattle.stun_auth.specs.Handed.{Named, named_in, by_hash}
+use Rattle.stun_auth.specs.Handed.{named_in, by_hash}
 use Rattle.stun_auth.specs.Reading.{Reading}
 use Rattle.stun_auth.specs.Registered.{Registered, RegisteredUser, user_with_hash}
 use Rattle.stun_auth.specs.Seen.{ClientSeen}
 use Rattle.stun_auth.specs.Server.{agreement, client_of, named_by, named_user, nonce_refusal}
 use Rattle.stun_auth.specs.Server.{their_nonce, verdict, verified_for, verified_named}
 use Rattle.stun_auth.proofs.VerdictLemmas.{by_rows, verdict-rows}
-use Rattle.stun_endpoint.specs.Judged.{Realm, judged_in, judged_under, or_previous}
+use Rattle.stun_endpoint.specs.Judged.{judged_in, judged_under, or_previous}
 use Rattle.stun_endpoint.specs.Lookups.{accepted_nonces, has_one_of, is_ready, nonces_of}
 use Rattle.stun_endpoint.specs.Lookups.{previous_nonces, waits_for}
 use Rattle.stun_endpoint.specs.Nonces.{nonce_in}

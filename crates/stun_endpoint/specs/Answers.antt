@@ -1,9 +1,8 @@
 -- The responses of a server, byte by byte (RFC 8489, sections 6.3.1, 9.2.4 and 14.8).
-use Rattle.std.specs.Prelude.{◌≡◌, ℕ, List, [], ◌∷◌, Bool, true, false, codes, take}
+use Rattle.std.specs.Prelude.{◌≡◌, ℕ, List, [], ◌∷◌, Bool, true, false, take}
 use Rattle.std.specs.Prelude.{if◌then◌else◌, Option, Some, None}
 use Rattle.std.specs.Net.Addr.{ipv4_octets, ipv6_octets, ipv6_segments, low_octets}
 use Rattle.std.specs.Net.Socket.{socket_ip, socket_port}
-use Rattle.std.specs.Option.{option_map}
 use Rattle.std.specs.Str.{bytes_eq}
 use Rattle.std.specs.declared.net.ip_addr.IpAddr.{IpAddr}
 use Rattle.std.specs.declared.net.ip_addr.IpAddr.TheVariants.{V4, V6}
@@ -15,7 +14,7 @@ use Rattle.stun_base.specs.declared.keys.algorithm.IntegrityAlgorithm.TheVariant
 use Rattle.stun_base.specs.declared.wire.message_type.MessageClass.TheVariants.{Error, Success}
 use Rattle.stun_types.specs.Attribute.{TypedValue}
 use Rattle.stun_types.specs.ErrorCode.{error_value}
-use Rattle.stun_types.specs.Integrity.{deciding_algorithm, verified_by}
+use Rattle.stun_types.specs.Integrity.{verified_by}
 use Rattle.stun_types.specs.Writing.{empty_answer, with_attribute, with_integrity}
 use Rattle.stun_types.specs.XorMappedAddress.{XoredAddress, xor_bytes, xor_key, xor_port}
 use Rattle.stun_types.specs.XorMappedAddress.{xored_value}
@@ -24,7 +23,6 @@ use Rattle.stun_auth.specs.Algorithms.{algorithms_of, contains}
 use Rattle.stun_auth.specs.declared.algorithm_set.AlgorithmSet.{AlgorithmSet}
 use Rattle.stun_extra.specs.AttributeTypes.{SOFTWARE}
 use Rattle.stun_extra.specs.Fingerprint.{fingerprint_in, with_fingerprint}
-use Rattle.stun_extra.specs.Unknown.{refusing_answer}
 use Rattle.stun_extra.specs.declared.fingerprint.Fingerprint.{Fingerprint}
 use Rattle.stun_extra.specs.declared.fingerprint.Fingerprint.TheVariants.{Right, Wrong}
 use Rattle.stun_extra.specs.declared.fingerprint.Fingerprint.TheVariants.{Misplaced, Absent}
@@ -72,23 +70,6 @@ is_right Absent = false
 abbrev pub is_fingerprinted : List ℕ → Bool
 is_fingerprinted request = is_right (fingerprint_in request)
 
--- the end of a response that nobody's key signs
-abbrev pub unsigned_end : Settings → List ℕ → Ending
-unsigned_end s request = record {
-  software = s.software;
-  signature = None;
-  has_fingerprint = is_fingerprinted request;
-}
-
--- the end of a response to an accepted request: it is signed under the key of its user, with the
--- integrity attribute that the request has (section 9.2.4)
-abbrev pub signed_end : Settings → List ℕ → List ℕ → Ending
-signed_end s key request = record {
-  software = s.software;
-  signature = option_map (λ a. record { algorithm = a; key = key }) (deciding_algorithm request);
-  has_fingerprint = is_fingerprinted request;
-}
-
 -- the digest of a response verifies under the key that signs it. Nothing is said of one that is not
 -- signed
 abbrev pub VerifiesBy : Option Signature → List ℕ → Type 0
@@ -127,26 +108,6 @@ challenge_page s nonce request code reason =
     with_attributes (error_page request code reason)
     (added.nonce nonce ∷ added.realm s.realm ∷ offered s.algorithms)
 
--- 401 to a request that nobody's key signs
-abbrev pub unauthenticated : Settings → List ℕ → List ℕ → List ℕ
-unauthenticated s nonce request =
-    with_end (unsigned_end s request) (challenge_page s nonce request 401 (codes "Unauthenticated"))
-
--- 438 to a request with another nonce
-abbrev pub stale_nonce : Settings → List ℕ → List ℕ → List ℕ
-stale_nonce s nonce request =
-    with_end (unsigned_end s request) (challenge_page s nonce request 438 (codes "Stale Nonce"))
-
--- 400 to a malformed request
-abbrev pub bad_request : Settings → List ℕ → List ℕ
-bad_request s request =
-    with_end (unsigned_end s request) (error_page request 400 (codes "Bad Request"))
-
--- 420 to an accepted request, with the types that it must not have
-abbrev pub unknown_attribute : Settings → List ℕ → List ℕ → List ℕ
-unknown_attribute s key request =
-    with_end (signed_end s key request) (refusing_answer s.known request)
-
 -- whether segments are those of ::ffff:a.b.c.d
 abbrev pub is_mapped : List ℕ → Bool
 is_mapped segments = bytes_eq (take 6 segments) (0 ∷ 0 ∷ 0 ∷ 0 ∷ 0 ∷ 0xffff ∷ [])
@@ -174,8 +135,3 @@ mapped_address from request = record {
 unfoldable pub binding_page : SocketAddr → List ℕ → List ℕ
 binding_page from request =
     with_attribute (empty_answer Success request) (mapped_address from request)
-
--- the success response to an accepted Binding request
-abbrev pub binding_success : Settings → List ℕ → SocketAddr → List ℕ → List ℕ
-binding_success s key from request =
-    with_end (signed_end s key request) (binding_page from request)

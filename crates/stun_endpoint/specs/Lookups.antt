@@ -2,6 +2,7 @@
 -- user, and waits for the user if that decides (RFC 8489, section 9.2.4).
 use Rattle.std.specs.Prelude.{◌≡◌, ◌⊎◌, ℕ, zero, suc, List, [], ◌∷◌, ◌++◌, Bool, false}
 use Rattle.std.specs.Prelude.{◌&&◌, ◌||◌, if◌then◌else◌, Option, Some, None}
+use Rattle.std.specs.FinMap as map
 use Rattle.std.specs.Option.{is_some, IsSome}
 use Rattle.std.specs.Str.{bytes_eq}
 use Rattle.std.specs.declared.net.socket_addr.SocketAddr.{SocketAddr}
@@ -13,13 +14,14 @@ use Rattle.stun_base.specs.declared.wire.message_type.MessageClass.TheVariants.{
 use Rattle.stun_types.specs.Message.{refusal}
 use Rattle.stun_auth.specs.Handed.{Named, named_in}
 use Rattle.stun_auth.specs.Reading.{Reading, reading_of}
+use Rattle.stun_auth.specs.Registered.{Registered, UserSecret, name_cmp}
 use Rattle.stun_auth.specs.Server.{agreement, their_nonce}
 use Rattle.stun_auth.specs.Validation.{is_complete}
 use Rattle.stun_extra.specs.Fingerprint.{fingerprint_in}
 use Rattle.stun_endpoint.specs.Judged.{realm_of_user}
 use Rattle.stun_endpoint.specs.Nonces.{epoch_of, nonce_in}
 use Rattle.stun_endpoint.specs.Received.{Outcome, is_wrong, received_by}
-use Rattle.stun_endpoint.specs.Settings.{Settings}
+use Rattle.stun_endpoint.specs.Settings.{Settings, registered_of}
 
 -- ---- the nonces that are accepted
 
@@ -94,6 +96,10 @@ identified_as s from now bytes (Some user) =
 -- a datagram that waits for nobody comes to what it does at a server without users
 abbrev pub identified_by : Settings → SocketAddr → ℕ → List ℕ → Identification
 identified_by s from now bytes = identified_as s from now bytes (awaited s from now bytes)
+
+-- the server's realm with these users
+abbrev pub users_with : Settings → map.FinMap name_cmp UserSecret → Registered
+users_with s secrets = record (registered_of s) { secrets = secrets }
 
 -- ---- what a look-up says of its request
 

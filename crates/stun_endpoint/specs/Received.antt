@@ -1,18 +1,16 @@
 -- What a datagram comes to at a server (RFC 8489, sections 6.3 and 9.2.4). It is a function of the
 -- settings, the users, the source, the time and the datagram, and so of no earlier datagram.
-use Rattle.std.specs.Prelude.{ℕ, List, [], ◌∷◌, Bool, true, false, ◌==◌, ◌&&◌}
-use Rattle.std.specs.Prelude.{if◌then◌else◌, Option, Some, None}
-use Rattle.std.specs.Option.{is_some}
+use Rattle.std.specs.Prelude.{ℕ, List, if◌then◌else◌, Option, Some, None}
+use Rattle.std.specs.Option.{is_some, option_map}
 use Rattle.std.specs.declared.net.socket_addr.SocketAddr.{SocketAddr}
 use Rattle.std.specs.declared.result.Result.{Result}
 use Rattle.std.specs.declared.result.Result.TheVariants.{Ok, Err}
-use Rattle.stun_base.specs.Header.{header_refusal, transaction_id_field, type_field}
-use Rattle.stun_base.specs.MessageType.{class_in, method_of}
-use Rattle.stun_base.specs.declared.wire.attribute_type.AttributeType.{AttributeType}
+use Rattle.stun_base.specs.MessageType.{class_in}
 use Rattle.stun_base.specs.declared.wire.message_type.MessageClass.{MessageClass}
 use Rattle.stun_base.specs.declared.wire.message_type.MessageClass.TheVariants.{Request}
 use Rattle.stun_base.specs.declared.wire.message_type.MessageClass.TheVariants.{Indication}
 use Rattle.stun_base.specs.declared.wire.message_type.MessageClass.TheVariants.{Success, Error}
+use Rattle.stun_types.specs.Integrity.{deciding_algorithm}
 use Rattle.stun_types.specs.Message.{refusal}
 use Rattle.stun_auth.specs.Datagrams.{told_refusal}
 use Rattle.stun_auth.specs.Reading.{reading_of}
@@ -21,34 +19,20 @@ use Rattle.stun_auth.specs.declared.server.reason.VerdictRefusal.{VerdictRefusal
 use Rattle.stun_auth.specs.declared.server.reason.VerdictRefusal.TheVariants as verdict
 use Rattle.stun_extra.specs.Fingerprint.{fingerprint_in}
 use Rattle.stun_extra.specs.Unknown.{unknown_types}
-use Rattle.stun_extra.specs.declared.fingerprint.Fingerprint.{Fingerprint}
-use Rattle.stun_extra.specs.declared.fingerprint.Fingerprint.TheVariants.{Right, Wrong}
-use Rattle.stun_extra.specs.declared.fingerprint.Fingerprint.TheVariants.{Misplaced, Absent}
-use Rattle.stun_endpoint.specs.Answers.{Ending, bad_request, binding_success, signed_end}
-use Rattle.stun_endpoint.specs.Answers.{stale_nonce, unauthenticated, unknown_attribute}
+use Rattle.stun_endpoint.specs.Answers.{Signature, challenge_page, with_end}
 use Rattle.stun_endpoint.specs.Judged.{Realm, judged, key_of_client}
 use Rattle.stun_endpoint.specs.Nonces.{current_nonce}
+use Rattle.stun_endpoint.specs.Refusals.{code_of, phrase_of}
+use Rattle.stun_endpoint.specs.Responding.{Responding, ending_by, own_answer, refusal_by}
+use Rattle.stun_endpoint.specs.Responding.{reply_by}
+pub use Rattle.stun_endpoint.specs.Responding.{Answer, Reply, is_binding, is_empty, is_wrong}
+pub use Rattle.stun_endpoint.specs.Responding.{no_message}
 use Rattle.stun_endpoint.specs.Settings.{Settings}
 use Rattle.stun_endpoint.specs.declared.received.DropReason.{DropReason}
-use Rattle.stun_endpoint.specs.declared.received.DropReason.TheVariants.{NotStun, Malformed}
 use Rattle.stun_endpoint.specs.declared.received.DropReason.TheVariants.{WrongFingerprint}
 use Rattle.stun_endpoint.specs.declared.received.DropReason.TheVariants.{UnknownAttribute}
 use Rattle.stun_endpoint.specs.declared.received.Refusal.{Refusal}
 use Rattle.stun_endpoint.specs.declared.received.Refusal.TheVariants as refused
-
--- a response to send: its bytes, where it goes, and how it refuses the request, if it does
-pub record Answer : Type 0 where
-  pub to : SocketAddr
-  pub refusal : Option Refusal
-  pub bytes : List ℕ
-
--- what is needed to respond to a request: its method, its id, where the response goes, and how each
--- response ends
-pub record Reply : Type 0 where
-  pub method : ℕ
-  pub id : ℕ
-  pub to : SocketAddr
-  pub ending : Ending
 
 -- an accepted request: the message, its user, and the algorithm that both sides agreed on
 pub record AcceptedRequest : Type 0 where
@@ -66,76 +50,51 @@ pub data Outcome : Type 0 where
 
 -- ---- an accepted request
 
--- the reply to a request
-abbrev pub reply_to : Settings → List ℕ → SocketAddr → List ℕ → Reply
-reply_to s key from bytes = record {
-  method = method_of (type_field bytes);
-  id = transaction_id_field bytes;
-  to = from;
-  ending = signed_end s key bytes;
-}
+-- what the settings say of responses
+abbrev pub responding_of : Settings → Responding
+responding_of s =
+    record { known = s.known; software = s.software; answers_binding = s.answers_binding }
 
-abbrev pub is_empty : List AttributeType → Bool
-is_empty [] = true
-is_empty (kind ∷ kinds) = false
+-- what the responses to an accepted request are signed by: the integrity attribute that the request
+-- has, under the key of its user (section 9.2.4)
+abbrev pub signature_for : List ℕ → List ℕ → Option Signature
+signature_for key bytes =
+    option_map (λ a. record { algorithm = a; key = key }) (deciding_algorithm bytes)
 
--- the method of a Binding request (section 3)
-abbrev pub is_binding : List ℕ → Bool
-is_binding bytes = method_of (type_field bytes) == 1
+-- an accepted request gets the response that the server is to give, or else is for the caller
+abbrev pub or_handed : Settings → List ℕ → SocketAddr → List ℕ → ClientSeen → Option Answer
+    → Outcome
+or_handed s key from bytes client (Some answer) = answered answer
+or_handed s key from bytes client None = requested (record {
+  message = bytes;
+  client = client;
+  reply = reply_by (responding_of s) (signature_for key bytes) from bytes;
+})
 
--- the 420 to an accepted request
-unfoldable pub unknown_answer : Settings → List ℕ → SocketAddr → List ℕ → Answer
-unknown_answer s key from bytes = record {
-  to = from;
-  refusal = Some refused.UnknownAttribute;
-  bytes = unknown_attribute s key bytes;
-}
-
--- the success response to an accepted Binding request
-unfoldable pub binding_answer : Settings → List ℕ → SocketAddr → List ℕ → Answer
-binding_answer s key from bytes =
-    record { to = from; refusal = None; bytes = binding_success s key from bytes }
-
--- an accepted request that has attributes which are not understood gets a 420. A Binding request
--- gets its answer, if the server is to give it. All others are for the caller
 abbrev pub outcome_of_accepted : Settings → List ℕ → SocketAddr → List ℕ → ClientSeen → Outcome
 outcome_of_accepted s key from bytes client =
-    if is_empty (unknown_types s.known bytes)
-    then if s.answers_binding && is_binding bytes then answered (binding_answer s key from bytes)
-    else requested (record {
-      message = bytes;
-      client = client;
-      reply = reply_to s key from bytes;
-    })
-    else answered (unknown_answer s key from bytes)
+    or_handed s key from bytes client
+    (own_answer (responding_of s) (signature_for key bytes) from bytes)
 
 -- ---- a refused request
 
--- 401, 438 and 400, the first two with the nonce that is current
-unfoldable pub unauthenticated_answer : Settings → List ℕ → SocketAddr → List ℕ → Answer
-unauthenticated_answer s nonce from bytes = record {
+-- 401 and 438: an error response that asks for credentials, with the nonce that is current
+unfoldable pub challenge_answer : Settings → Refusal → List ℕ → SocketAddr → List ℕ → Answer
+challenge_answer s refusal nonce from request = record {
   to = from;
-  refusal = Some refused.Unauthenticated;
-  bytes = unauthenticated s nonce bytes;
+  refusal = Some refusal;
+  bytes = with_end (ending_by (responding_of s) None request)
+      (challenge_page s nonce request (code_of refusal) (phrase_of refusal));
 }
-
-unfoldable pub stale_answer : Settings → List ℕ → SocketAddr → List ℕ → Answer
-stale_answer s nonce from bytes = record {
-  to = from;
-  refusal = Some refused.StaleNonce;
-  bytes = stale_nonce s nonce bytes;
-}
-
-unfoldable pub bad_answer : Settings → SocketAddr → List ℕ → Answer
-bad_answer s from bytes =
-    record { to = from; refusal = Some refused.BadRequest; bytes = bad_request s bytes }
 
 -- the response to a refused request
 abbrev pub answer_to_refused : Settings → List ℕ → SocketAddr → List ℕ → VerdictRefusal → Answer
 answer_to_refused s nonce from bytes verdict.Unauthorized =
-    unauthenticated_answer s nonce from bytes
-answer_to_refused s nonce from bytes verdict.StaleNonce = stale_answer s nonce from bytes
-answer_to_refused s nonce from bytes verdict.BadRequest = bad_answer s from bytes
+    challenge_answer s refused.Unauthenticated nonce from bytes
+answer_to_refused s nonce from bytes verdict.StaleNonce =
+    challenge_answer s refused.StaleNonce nonce from bytes
+answer_to_refused s nonce from bytes verdict.BadRequest =
+    refusal_by (responding_of s) refused.BadRequest from bytes
 
 -- a refused request is answered. A 400 is for one that is malformed, or that has the current nonce
 -- and algorithms that were not offered with it
@@ -163,17 +122,6 @@ by_class s realm from now bytes Indication =
     if is_empty (unknown_types s.known bytes) then indicated bytes else dropped UnknownAttribute
 by_class s realm from now bytes Success = responded bytes
 by_class s realm from now bytes Error = responded bytes
-
--- whether a FINGERPRINT is there and is wrong
-abbrev pub is_wrong : Fingerprint → Bool
-is_wrong Wrong = true
-is_wrong Right = false
-is_wrong Misplaced = false
-is_wrong Absent = false
-
--- why a datagram that is no message is dropped: it has no header, or is not what its header says
-abbrev pub no_message : List ℕ → DropReason
-no_message bytes = if is_some (header_refusal bytes) then NotStun else Malformed
 
 -- what a datagram comes to
 abbrev pub received_by : Settings → Realm → SocketAddr → ℕ → List ℕ → Outcome

@@ -2,7 +2,7 @@
 -- signed, it is validated again, and its address is forgotten, once for each nonce that is accepted.
 -- These are `validate_incoming_message`, `sign_outgoing_message` and `forget` of
 -- `LongTermServerAuth`, whose contracts cite these definitions.
-use Rattle.std.specs.Prelude.{◌≡◌, ◌≤◌, ℕ, zero, suc, List, [], ◌∷◌, if◌then◌else◌, true, map}
+use Rattle.std.specs.Prelude.{ℕ, zero, suc, List, [], ◌∷◌, if◌then◌else◌}
 use Rattle.std.specs.Prelude.{Option, Some, None}
 use Rattle.std.specs.FinMap as fin
 use Rattle.std.specs.Option.{is_some}

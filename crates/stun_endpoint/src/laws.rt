@@ -5,13 +5,15 @@ ghost use Rattle.std.specs.Str.{bytes_eq};
 ghost use Rattle.std.specs.declared.net.socket_addr.SocketAddr.{SocketAddr};
 ghost use Rattle.stun_auth.specs.declared.server.reason.LongTermServerValidation.TheVariants.{Validated};
 ghost use Rattle.stun_auth.specs.Reading.{Reading, reading_of};
-ghost use Rattle.stun_auth.specs.Registered.{Registered};
+ghost use Rattle.stun_auth.specs.Handed.{just, user_of, with_users};
+ghost use Rattle.stun_auth.specs.Registered.{Registered, UserSecret, name_cmp};
 ghost use Rattle.stun_auth.specs.Seen.{ClientSeen};
 ghost use Rattle.stun_auth.specs.Server.{their_nonce};
 ghost use Rattle.stun_auth.specs.Validation.{is_malformed};
-ghost use Rattle.stun_endpoint.specs.Judged.{IsAcceptedAt, Realm, judged, realm_of_user};
+ghost use Rattle.stun_endpoint.specs.Judged.{IsAcceptedAt, Realm, judged, realm_of_table};
+ghost use Rattle.stun_endpoint.specs.Judged.{realm_of_user};
 ghost use Rattle.stun_endpoint.specs.Lookups.{LookupSeen, WaitsUnderItsNonce, done};
-ghost use Rattle.stun_endpoint.specs.Lookups.{identified_by, looked_up};
+ghost use Rattle.stun_endpoint.specs.Lookups.{identified_by, looked_up, users_with};
 ghost use Rattle.stun_base.specs.Moments.{last_moment};
 ghost use Rattle.stun_endpoint.specs.Nonces.{current_nonce};
 ghost use Rattle.stun_endpoint.specs.Realm.{table_of};
@@ -19,6 +21,7 @@ ghost use Rattle.stun_endpoint.specs.Received.{AcceptedRequest, Answer as TheAns
 ghost use Rattle.stun_endpoint.specs.Received.{answered, received_by, requested};
 ghost use Rattle.stun_endpoint.specs.Runs.{Arrival, after_run, run, users_at, verdict_on};
 ghost use Rattle.stun_endpoint.specs.Settings.{Settings};
+ghost use Rattle.stun_endpoint.specs.ShortTerm.{IsSignedBy, Keys, Signer, signer_of};
 ghost use Rattle.stun_endpoint.specs.declared.received.Refusal.TheVariants as refused;
 
 /// A client is accepted at a time if and only if it is accepted under one of the nonces of its
@@ -55,6 +58,21 @@ pub fn identify_needs_no_user()
         → received_by s (realm_of_user s user) from now bytes ≡ outcome }
 {}
 
+/// A look-up comes to what `receive` does with a table of all users, if the user whom it names is
+/// looked up among them: by name, or by hash. `resume` with that user, or with nobody if there is no
+/// such user, returns what `receive` does at the time at which the request arrived.
+pub fn resume_is_receive_with_all_users()
+    ensures { (s : Settings) (secrets : fin.FinMap name_cmp UserSecret) (from : SocketAddr) (now : ℕ)
+        (bytes : List ℕ) (lookup : LookupSeen)
+        → identified_by s from now bytes ≡ looked_up lookup
+        → let all = users_with s secrets in
+        received_by s (realm_of_user s (Some (just all (user_of all lookup.user)))) lookup.from
+        lookup.arrived lookup.message
+        ≡ received_by s (realm_of_table (with_users (table_of s) all)) from now bytes }
+{
+    stun_auth::laws::the_named_user_is_enough_to_judge();
+}
+
 /// Whom `identify` has looked up is named by a request that is signed, and that has a nonce which
 /// the server accepts for its source at the time at which the request arrived: that of the epoch or
 /// of the epoch before, of the secret or of the previous secret.
@@ -84,4 +102,12 @@ pub fn datagrams_are_a_run_of_calls()
         → received_by s (realm_of_user s (Some (users_at s d))) d.from d.now d.bytes
         ≡ requested request
         → verdict_on s d ≡ Some (Ok (Validated request.client.algorithm)) }
+{}
+
+/// A server with short-term credentials takes a message for a user's if and only if `IsSignedBy`
+/// holds: the first USERNAME before the signature is the name of the user, and the signature is the
+/// digest under the user's key. No earlier datagram is looked at.
+pub fn signers_are_known_exactly()
+    ensures { (users : Keys) (bytes : List ℕ) (signer : Signer)
+        → (signer_of users bytes ≡ Ok signer) ↔ IsSignedBy users bytes signer }
 {}

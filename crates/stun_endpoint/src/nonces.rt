@@ -1,7 +1,6 @@
 //! The sixteen numbers that the nonce of an address is made of.
 
 ghost use Rattle.std.specs.Prelude.{◌≡◌, take};
-ghost use Rattle.std.specs.Net.Socket.{socket_ip, socket_port};
 ghost use Rattle.stun_endpoint.specs.Nonces.{address_octets, algorithms_number, words_of};
 ghost use Rattle.stun_endpoint.specs.Realm.{algorithms_for};
 

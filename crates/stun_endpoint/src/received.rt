@@ -4,7 +4,7 @@ ghost use Rattle.std.specs.Prelude.{◌≡◌, Some, codes};
 ghost use Rattle.std.specs.Fmt.{WritesOnOk, WritesStyledOnOk};
 ghost use Rattle.stun_base.specs.Header.{type_field};
 ghost use Rattle.stun_base.specs.MessageType.{method_of};
-ghost use Rattle.stun_endpoint.specs.Refusals.{code_of};
+ghost use Rattle.stun_endpoint.specs.Refusals.{code_of, phrase_of};
 
 use crate::reply::Reply;
 use std::alloc::{Allocator, Global};
@@ -49,14 +49,16 @@ pub enum DropReason {
 #[derive(Clone, Copy, Debug, PartialEq, Eq)]
 #[non_exhaustive]
 pub enum Refusal {
-    /// 400: the realm, the nonce or the name is missing, or the algorithms are not those that were
-    /// offered with the current nonce.
+    /// 400. With long-term credentials, the realm, the nonce or the name is missing, or the
+    /// algorithms are not those that were offered with the current nonce. With short-term
+    /// credentials, the signature or the name is missing.
     BadRequest,
-    /// 401: the request is not signed, or not by a user of this realm.
+    /// 401: the request is not signed by one of the users. With long-term credentials, a request
+    /// that is not signed gets it too.
     Unauthenticated,
     /// 420: the request is accepted, but has an attribute that must be understood and is not.
     UnknownAttribute,
-    /// 438: the nonce is not one that is accepted.
+    /// 438: the nonce is not one that is accepted. Only a server with long-term credentials has it.
     StaleNonce,
 }
 
@@ -70,6 +72,18 @@ impl Refusal {
             Refusal::Unauthenticated => 401,
             Refusal::UnknownAttribute => 420,
             Refusal::StaleNonce => 438,
+        }
+    }
+
+    /// Returns the reason phrase of the error response.
+    pub(crate) fn phrase(self) -> &'static str
+        ensures { result.now ≡ phrase_of self }
+    {
+        match self {
+            Refusal::BadRequest => "Bad Request",
+            Refusal::Unauthenticated => "Unauthenticated",
+            Refusal::UnknownAttribute => "Unknown Attribute",
+            Refusal::StaleNonce => "Stale Nonce",
         }
     }
 }
@@ -214,7 +228,8 @@ impl<'a, A: Allocator> Request<'a, A> {
         self.user
     }
 
-    /// Returns the algorithm that both sides agreed on. Its key has signed the request.
+    /// Returns the algorithm that both sides agreed on: with short-term credentials, that of the
+    /// signature.
     pub fn algorithm(&self) -> IntegrityAlgorithm
         ensures { result ≡ self.now.client.algorithm }
     {

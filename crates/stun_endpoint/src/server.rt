@@ -11,6 +11,7 @@ ghost use Rattle.stun_endpoint.specs.Realm.{table_of};
 ghost use Rattle.stun_endpoint.specs.Settings.{registered_of};
 
 use crate::nonces::words_of;
+use crate::responder::Responder;
 use crate::server::settings::empty_realm;
 use crate::unix_time::UnixTime;
 use crate::users::Users;
@@ -19,7 +20,6 @@ use std::fmt;
 use std::marker::Model;
 use std::net::SocketAddr;
 use stun_auth::auth::{LongTermServerAuth, LongTermServerUser, StoredKeys};
-use stun_base::attribute_type::AttributeType;
 use stun_base::credentials::LongTermCredentials;
 use stun_base::prepared_key::PreparedKey;
 
@@ -52,15 +52,11 @@ pub struct Server<A: Allocator = Global> {
     secret: PreparedKey<A>,
     previous: Option<PreparedKey<A>>,
     lifetime: u64,
-    known: Vec<AttributeType, A>,
-    software: Option<String<A>>,
-    answers_binding: bool,
+    responder: Responder<A>,
 }
 
 impl<A: Allocator> Model for Server<A> {
     ghost use Rattle.std.specs.Prelude.{◌≡◌, ◌<◌};
-    ghost use Rattle.std.specs.Option.{option_map};
-    ghost use Rattle.std.specs.String.{string_bytes};
     ghost use Rattle.stun_endpoint.specs.Realm.{empty_realm, feature_for};
     ghost use Rattle.stun_endpoint.specs.Settings.{Settings};
 
@@ -73,9 +69,9 @@ impl<A: Allocator> Model for Server<A> {
       secret = server.secret;
       previous = server.previous;
       lifetime = server.lifetime;
-      known = server.known.items;
-      software = option_map string_bytes server.software;
-      answers_binding = server.answers_binding;
+      known = server.responder.known;
+      software = server.responder.software;
+      answers_binding = server.responder.answers_binding;
     } };
 
     ghost invariant = { λ server. (0 < server.lifetime)

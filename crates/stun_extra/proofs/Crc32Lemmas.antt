@@ -1,18 +1,20 @@
 -- Eight steps of the division at once: the bits of a byte may be subtracted before them, and what
 -- is above the lowest byte is only moved.
-use Rattle.std.proofs.Common.{◌≡◌, ℕ, zero, suc, ◌+◌, ◌*◌, ◌/◌, ◌%◌, ◌<◌, ◌^◌}
-use Rattle.std.proofs.Common.{Bool, true, false, cond, List, [], ◌∷◌, ◌++◌, ◌≢◌}
+use Rattle.std.proofs.Common.{◌≡◌, ℕ, zero, suc, ◌+◌, ◌-◌, ◌*◌, ◌/◌, ◌%◌, ◌<◌, ◌^◌}
+use Rattle.std.proofs.Common.{Bool, true, false, cond, List, [], ◌∷◌, ◌++◌, ◌≢◌, length}
 use Rattle.std.proofs.Common.{refl, sym, ◌∙◌, ap, arith, get_or, map, subst}
 use Rattle.std.specs.Prelude.{bit_xor, fold, ◌==◌}
+use Rattle.std.specs.Int.{to_le_bytes, w32}
 use Rattle.std.specs.List.{AllByRecursion, range_with_len}
 use Rattle.std.proofs.Math.Nat.{mul_assoc, pow-suc}
-use Rattle.std.proofs.lemmas.List.FromFn.{get_or-map-range_with_len}
+use Rattle.std.proofs.lemmas.List.FromFn.{fill_by_all, get_or-map-range_with_len}
 use Rattle.std.proofs.lemmas.Bool.Decides.{nat_tests}
 use Rattle.std.proofs.lemmas.List.Sums.{fold-append}
 use lib.Bits.{xor_assoc, xor_comm, xor_lt, xor_shr, xor_mod}
 use lib.Bits.{xor_self, xor_zero_l, xor_zero_r, xor_shifted}
-use Rattle.stun_extra.specs.declared.crc32.TheConstants.{TABLE}
+use Rattle.stun_extra.specs.declared.crc32.TheConstants.{TABLES}
 use Rattle.stun_extra.specs.Crc32.{ONES, POLYNOMIAL, after_bit, after_byte, bits_of, crc32}
+use Rattle.stun_extra.specs.code.Crc32.{after_zeros}
 
 -- two bits differ where they are not the same
 same_bit : (a b : ℕ) → a < 2 → b < 2 → (bit_xor a b == 0) ≡ (a == b)
@@ -129,15 +131,6 @@ after_byte-by_table remainder byte below =
     after_byte-zeros remainder byte below
     ∙ (ap (zeros 8) first
     ∙ (moved 8 index high ∙ (ap (λ n. bit_xor n high) alone ∙ xor_comm (after_byte 0 index) high)))
-
-table_is : TABLE ≡ map (after_byte 0) (range_with_len 0 256)
-table_is = refl
-
--- the table has the remainder after each byte alone
-pub TABLE-entry : (byte : ℕ) → byte < 256 → get_or TABLE byte 0 ≡ after_byte 0 byte
-TABLE-entry byte below =
-    ap (λ t. get_or t byte 0) table_is
-    ∙ get_or-map-range_with_len (after_byte 0) 0 256 byte byte 0 below (omega arith)
 
 -- ---- the CRC-32 has 32 bits
 
@@ -289,3 +282,140 @@ crc32-apart front behind byte other small other_small same =
     (bytes-apart (after_byte remainder byte) (after_byte remainder other) behind
     (fold-below remainder (bits_of byte) below) (fold-below remainder (bits_of other) below)
     behind_front)
+
+-- ---- eight bytes at once: the remainder of a sum is the sum of the remainders
+
+-- the last of three terms may come before the second
+xor_last : (a b c : ℕ) → bit_xor (bit_xor a b) c ≡ bit_xor (bit_xor a c) b
+xor_last a b c = xor_assoc a b c ∙ (ap (bit_xor a) (xor_comm b c) ∙ sym (xor_assoc a c b))
+
+-- a step of the division, of a sum
+sum_of_steps : (a b p q : ℕ) → a < 2 → b < 2
+    → cond (bit_xor a b == 0) (bit_xor p q) (bit_xor (bit_xor p q) POLYNOMIAL)
+    ≡ bit_xor (cond (a == 0) p (bit_xor p POLYNOMIAL)) (cond (b == 0) q (bit_xor q POLYNOMIAL))
+sum_of_steps zero zero p q a_bit b_bit = refl
+sum_of_steps zero (suc zero) p q a_bit b_bit = xor_assoc p q POLYNOMIAL
+sum_of_steps (suc zero) zero p q a_bit b_bit = xor_last p q POLYNOMIAL
+sum_of_steps (suc zero) (suc zero) p q a_bit b_bit =
+    sym
+    (xor_assoc p POLYNOMIAL (bit_xor q POLYNOMIAL)
+    ∙ ap (bit_xor p)
+    (ap (bit_xor POLYNOMIAL) (xor_comm q POLYNOMIAL)
+    ∙ (sym (xor_assoc POLYNOMIAL POLYNOMIAL q)
+    ∙ (ap (λ n. bit_xor n q) (xor_self POLYNOMIAL) ∙ xor_zero_l q))))
+sum_of_steps (suc (suc a)) b p q a_bit b_bit = absurd (omega (arith, a_bit))
+sum_of_steps zero (suc (suc b)) p q a_bit b_bit = absurd (omega (arith, b_bit))
+sum_of_steps (suc zero) (suc (suc b)) p q a_bit b_bit = absurd (omega (arith, b_bit))
+
+after_bit-sum : (x y : ℕ) → after_bit (bit_xor x y) 0 ≡ bit_xor (after_bit x 0) (after_bit y 0)
+after_bit-sum x y =
+    let halves : bit_xor x y / 2 ≡ bit_xor (x / 2) (y / 2) = xor_shr x y 1 in
+    let lowest : bit_xor x y % 2 ≡ bit_xor (x % 2) (y % 2) = xor_mod x y 1 in
+    (λ i. cond (lowest i == 0) (halves i) (bit_xor (halves i) POLYNOMIAL))
+    ∙ sum_of_steps (x % 2) (y % 2) (x / 2) (y / 2) (omega arith) (omega arith)
+
+zeros-sum : (n x y : ℕ) → zeros n (bit_xor x y) ≡ bit_xor (zeros n x) (zeros n y)
+zeros-sum zero x y = refl
+zeros-sum (suc n) x y =
+    ap (zeros n) (after_bit-sum x y) ∙ zeros-sum n (after_bit x 0) (after_bit y 0)
+
+-- a byte is subtracted from one part of a sum
+after_byte-sum : (x y byte : ℕ) → byte < 256
+    → after_byte (bit_xor x y) byte ≡ bit_xor (after_byte x byte) (after_byte y 0)
+after_byte-sum x y byte below =
+    after_byte-zeros (bit_xor x y) byte below
+    ∙ (ap (zeros 8) (xor_last x y byte)
+    ∙ (zeros-sum 8 (bit_xor x byte) y
+    ∙ ap (λ n. bit_xor n (zeros 8 y)) (sym (after_byte-zeros x byte below))))
+
+-- so are all bytes
+fold-sum : (x y : ℕ) (bytes : List ℕ) → AllByRecursion (λ byte. byte < 256) bytes
+    → fold after_byte (bit_xor x y) bytes
+    ≡ bit_xor (fold after_byte x bytes) (after_zeros (length bytes) y)
+fold-sum x y [] below = refl
+fold-sum x y (byte ∷ bytes) below =
+    ap (λ r. fold after_byte r bytes) (after_byte-sum x y byte below.0)
+    ∙ fold-sum (after_byte x byte) (after_byte y 0) bytes below.1
+
+-- what the first of several bytes adds to the remainder after all of them
+first_byte : (remainder byte : ℕ) (bytes : List ℕ) → byte < 256
+    → AllByRecursion (λ byte. byte < 256) bytes
+    → fold after_byte remainder (byte ∷ bytes)
+    ≡ bit_xor (fold after_byte (remainder / 256) bytes)
+    (after_zeros (length bytes) (after_byte 0 (bit_xor (remainder % 256) byte)))
+first_byte remainder byte bytes small below =
+    ap (λ r. fold after_byte r bytes) (after_byte-by_table remainder byte small)
+    ∙ fold-sum (remainder / 256) (after_byte 0 (bit_xor (remainder % 256) byte)) bytes below
+
+-- the same if nothing is left of the remainder
+first_alone : (byte : ℕ) (bytes : List ℕ) → AllByRecursion (λ byte. byte < 256) bytes
+    → fold after_byte 0 (byte ∷ bytes)
+    ≡ bit_xor (fold after_byte 0 bytes) (after_zeros (length bytes) (after_byte 0 byte))
+first_alone byte bytes below =
+    ap (λ r. fold after_byte r bytes) (sym (xor_zero_l (after_byte 0 byte)))
+    ∙ fold-sum 0 (after_byte 0 byte) bytes below
+
+-- the remainder after a byte alone, and so many bytes of zeros
+abbrev pub alone : ℕ → ℕ → ℕ
+alone n byte = after_zeros n (after_byte 0 byte)
+
+-- items that all fit a byte
+all_small : (at : ℕ → ℕ) (k n : ℕ) → ((i : ℕ) → at i < 256)
+    → AllByRecursion (λ byte. byte < 256) (map at (range_with_len k n))
+all_small at k zero small = tt
+all_small at k (suc n) small = (small k, all_small at (k + 1) n small)
+
+-- the sum of those of eight bytes, the first of which are added to those of a remainder
+abbrev pub sum_alone : List ℕ → List ℕ → ℕ
+sum_alone words bytes =
+    let word : ℕ → ℕ = λ i. get_or words i 0 in
+    let at : ℕ → ℕ = λ i. get_or bytes i 0 in
+    bit_xor
+    (bit_xor
+    (bit_xor
+    (bit_xor
+    (bit_xor (bit_xor (bit_xor (alone 0 (at 7)) (alone 1 (at 6))) (alone 2 (at 5)))
+    (alone 3 (at 4))) (alone 4 (bit_xor (word 3) (at 3)))) (alone 5 (bit_xor (word 2) (at 2))))
+    (alone 6 (bit_xor (word 1) (at 1)))) (alone 7 (bit_xor (word 0) (at 0)))
+
+-- the remainder after eight bytes is that sum
+pub eight_alone : (remainder : ℕ) (words bytes : List ℕ) → remainder < 2 ^ 32
+    → words ≡ to_le_bytes w32 remainder → length bytes ≡ 8 → ((i : ℕ) → get_or bytes i 0 < 256)
+    → sum_alone words bytes ≡ fold after_byte remainder bytes
+eight_alone remainder words bytes fits same long small =
+    let at : ℕ → ℕ = λ i. get_or bytes i 0 in
+    let items : bytes ≡ map at (range_with_len 0 8) = fill_by_all at bytes 8 0 long (λ k lt. refl) in
+    let below : (k n : ℕ) → AllByRecursion (λ byte. byte < 256) (map at (range_with_len k n)) =
+    λ k n. all_small at k n small in
+    let r2 : remainder / 256 / 256 % 256 ≡ remainder / 65536 % 256 = omega arith in
+    let r3 : remainder / 256 / 256 / 256 % 256 ≡ remainder / 16777216 % 256 = omega arith in
+    let r4 : remainder / 256 / 256 / 256 / 256 ≡ 0 = omega (arith, fits) in
+    let rest : (n : ℕ) → List ℕ = λ n. map at (range_with_len (8 - n) n) in
+    let last : fold after_byte (remainder / 256 / 256 / 256 / 256) (rest 4) ≡ bit_xor
+    (bit_xor (bit_xor (alone 0 (at 7)) (alone 1 (at 6))) (alone 2 (at 5))) (alone 3 (at 4)) =
+    ap (λ r. fold after_byte r (rest 4)) r4
+    ∙ (first_alone (at 4) (rest 3) (below 5 3)
+    ∙ ap (λ r. bit_xor r (alone 3 (at 4)))
+    (first_alone (at 5) (rest 2) (below 6 2)
+    ∙ ap (λ r. bit_xor r (alone 2 (at 5))) (first_alone (at 6) (rest 1) (below 7 1)))) in
+    let d = first_byte (remainder / 256 / 256 / 256) (at 3) (rest 4) (small 3) (below 4 4)
+    ∙ (λ i. bit_xor (last i) (alone 4 (bit_xor (r3 i) (at 3)))) in
+    let c = first_byte (remainder / 256 / 256) (at 2) (rest 5) (small 2) (below 3 5)
+    ∙ (λ i. bit_xor (d i) (alone 5 (bit_xor (r2 i) (at 2)))) in
+    let b = first_byte (remainder / 256) (at 1) (rest 6) (small 1) (below 2 6)
+    ∙ (λ i. bit_xor (c i) (alone 6 (bit_xor (remainder / 256 % 256) (at 1)))) in
+    let a = first_byte remainder (at 0) (rest 7) (small 0) (below 1 7)
+    ∙ (λ i. bit_xor (b i) (alone 7 (bit_xor (remainder % 256) (at 0)))) in
+    ap (λ words. sum_alone words bytes) same ∙ sym (ap (fold after_byte remainder) items ∙ a)
+
+-- the tables have the remainder after each byte alone, and so many bytes of zeros
+tables_are : TABLES ≡ map (λ n. map (alone n) (range_with_len 0 256)) (range_with_len 0 8)
+tables_are = refl
+
+pub TABLES-entry : (n byte : ℕ) → n < 8 → byte < 256
+    → get_or (get_or TABLES n []) byte 0 ≡ alone n byte
+TABLES-entry n byte few below =
+    ap (λ t. get_or (get_or t n []) byte 0) tables_are
+    ∙ (ap (λ t. get_or t byte 0)
+    (get_or-map-range_with_len (λ n. map (alone n) (range_with_len 0 256)) 0 8 n n [] few (omega arith))
+    ∙ get_or-map-range_with_len (alone n) 0 256 byte byte 0 below (omega arith))

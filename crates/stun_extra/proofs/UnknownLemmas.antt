@@ -1,6 +1,6 @@
 -- What is left to tell, from one attribute to the next.
 use Rattle.std.proofs.Common.{◌≡◌, ℕ, ◌*◌, ◌≤◌, true, false, List, [], ◌∷◌, length, refl, ap, arith}
-use Rattle.std.specs.Prelude.{filter, not, ◌==◌, ◌||◌}
+use Rattle.std.specs.Prelude.{Option, filter, not, ◌==◌, ◌||◌}
 use Rattle.std.proofs.lemmas.List.{length-map}
 use Rattle.std.proofs.lemmas.List.Sums.{count_by-le-length, length-filter}
 use Rattle.stun_base.specs.declared.wire.attribute_type.AttributeType.{AttributeType}
@@ -12,13 +12,13 @@ use Rattle.stun_extra.specs.code.Told.{is_new, is_told, left_to_tell}
 use Rattle.stun_extra.proofs.OnceLemmas.{untold-none, untold-skipped, untold-told}
 
 -- nothing is left after the last attribute
-pub left_to_tell-end : (known : List AttributeType) (words : List ℕ)
+pub left_to_tell-end : (known : List AttributeType) (words : Option (List ℕ))
     → left_to_tell known words [] ≡ []
 unfolding left_to_tell
 left_to_tell-end known words = refl
 
 -- an attribute that is not new is passed over
-pub left_to_tell-skipped : (known : List AttributeType) (words : List ℕ) (m : Member)
+pub left_to_tell-skipped : (known : List AttributeType) (words : Option (List ℕ)) (m : Member)
     (left : List Member)
     → is_new known words m.1.kind ≡ false
     → left_to_tell known words (m ∷ left) ≡ left_to_tell known words left
@@ -27,7 +27,7 @@ left_to_tell-skipped known words m left skipped =
     ap types_of (untold-skipped (is_unknown known) (is_told words) m.1.kind (kinds_of left) skipped)
 
 -- the type of a new one is told
-pub left_to_tell-told : (known : List AttributeType) (words more : List ℕ) (m : Member)
+pub left_to_tell-told : (known : List AttributeType) (words more : Option (List ℕ)) (m : Member)
     (left : List Member)
     → is_new known words m.1.kind ≡ true
     → ((other : ℕ) → is_told more other ≡ (is_told words other || (other == m.1.kind)))
@@ -39,7 +39,7 @@ left_to_tell-told known words more m left shown add =
     shown add)
 
 -- where nothing was told all is left
-pub left_to_tell-none : (known : List AttributeType) (words bytes : List ℕ)
+pub left_to_tell-none : (known : List AttributeType) (words : Option (List ℕ)) (bytes : List ℕ)
     → ((kind : ℕ) → is_told words kind ≡ false)
     → left_to_tell known words (visible bytes) ≡ unknown_types known bytes
 unfolding left_to_tell

@@ -1,5 +1,5 @@
--- MAPPED-ADDRESS and ALTERNATE-SERVER (RFC 8489, sections 14.1 and 14.15): a reserved byte, zero
--- when written and ignored when read, the family, the port and the octets of an address.
+-- Addresses that are not XORed, as in MAPPED-ADDRESS (RFC 8489, section 14.1): a reserved byte,
+-- zero when written and ignored when read, the family, the port and the octets of an address.
 use Rattle.std.specs.Prelude.{◌≡◌, ◌<◌, ◌^◌, ℕ, List, ◌∷◌, ◌++◌, length, drop, slice_index}
 use Rattle.std.specs.Prelude.{Option, Some, None, nat_le, ◌==◌, ◌&&◌, if◌then◌else◌}
 use Rattle.std.proofs.Common.{arith, rules, refl, ◌/◌, ◌%◌, ap}

@@ -1,5 +1,6 @@
--- The types of attributes: of STUN (RFC 8489, section 18.3), of ICE (RFC 8445, section 16.1) and of
--- TURN (RFC 8656, section 18).
+-- The types of attributes: of STUN (RFC 8489, section 18.3), of ICE (RFC 8445, section 16.1), of
+-- TURN (RFC 8656, section 18; RFC 6062; RFC 8016), of third-party authorization (RFC 7635), and of
+-- NAT behavior discovery (RFC 5780, section 7).
 use Rattle.std.specs.Prelude.{ℕ}
 
 -- MAPPED-ADDRESS (RFC 8489, section 14.1)
@@ -81,3 +82,39 @@ RESERVATION_TOKEN = 0x0022
 -- ADDITIONAL-ADDRESS-FAMILY (RFC 8656, section 18.11)
 abbrev pub ADDITIONAL_ADDRESS_FAMILY : ℕ
 ADDITIONAL_ADDRESS_FAMILY = 0x8000
+
+-- CONNECTION-ID (RFC 6062, section 6.2.1)
+abbrev pub CONNECTION_ID : ℕ
+CONNECTION_ID = 0x002A
+
+-- MOBILITY-TICKET (RFC 8016, section 3.3)
+abbrev pub MOBILITY_TICKET : ℕ
+MOBILITY_TICKET = 0x8030
+
+-- ACCESS-TOKEN (RFC 7635, section 6.2)
+abbrev pub ACCESS_TOKEN : ℕ
+ACCESS_TOKEN = 0x001B
+
+-- THIRD-PARTY-AUTHORIZATION (RFC 7635, section 6.1)
+abbrev pub THIRD_PARTY_AUTHORIZATION : ℕ
+THIRD_PARTY_AUTHORIZATION = 0x802E
+
+-- CHANGE-REQUEST (RFC 5780, section 7.2)
+abbrev pub CHANGE_REQUEST : ℕ
+CHANGE_REQUEST = 0x0003
+
+-- RESPONSE-ORIGIN (RFC 5780, section 7.3)
+abbrev pub RESPONSE_ORIGIN : ℕ
+RESPONSE_ORIGIN = 0x802B
+
+-- OTHER-ADDRESS (RFC 5780, section 7.4)
+abbrev pub OTHER_ADDRESS : ℕ
+OTHER_ADDRESS = 0x802C
+
+-- RESPONSE-PORT (RFC 5780, section 7.5)
+abbrev pub RESPONSE_PORT : ℕ
+RESPONSE_PORT = 0x0027
+
+-- PADDING (RFC 5780, section 7.6)
+abbrev pub PADDING : ℕ
+PADDING = 0x0026

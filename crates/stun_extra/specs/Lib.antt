@@ -11,15 +11,17 @@ pub mod Unknown
 -- messages in a stream of bytes, and in packets among those of other protocols (sections 6.2.2 and
 -- 7)
 pub mod Framing
--- the types of attributes of STUN, ICE and TURN
+-- the types of attributes of STUN, ICE, TURN and NAT behavior discovery
 pub mod AttributeTypes
 -- how values of one form are read
 pub mod Values
--- MAPPED-ADDRESS and ALTERNATE-SERVER (RFC 8489, sections 14.1 and 14.15)
+-- addresses that are not XORed (RFC 8489, section 14.1)
 pub mod Address
 -- the values of TURN's attributes (RFC 8656, section 18)
 pub mod Turn
+-- the values of the attributes of NAT behavior discovery (RFC 5780, section 7)
+pub mod Discovery
 -- the methods of TURN (RFC 8656, section 17)
 pub mod TurnMethods
--- what no clause of a public call cites: views of structs
+-- what no clause of a public call cites: views of structs, and the entries of tables
 pub mod code

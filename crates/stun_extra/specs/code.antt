@@ -1,3 +1,4 @@
--- Views of structs.
+-- What no clause of a public call cites: views of structs, and the entries of tables.
+pub mod Crc32
 pub mod Told
 pub mod UnknownSource

@@ -1,51 +1,416 @@
-//! Further attributes: of STUN (RFC 8489, section 14), of ICE (RFC 8445, section 16.1) and of TURN
-//! (RFC 8656, section 18).
+//! Further attributes: of STUN (RFC 8489, section 14), of ICE (RFC 8445, section 16.1), of TURN
+//! (RFC 8656, section 18; RFC 6062; RFC 8016), of third-party authorization (RFC 7635), and of NAT
+//! behavior discovery (RFC 5780, section 7).
+//!
+//! Attributes whose values have the same form share a type, such as [`Number`], and are its aliases
+//! below. The others have a file each.
+ghost use Rattle.std.specs.Prelude.{◌≡◌, ◌≤◌, length};
+ghost use Rattle.std.specs.Net.Socket.{IsPlainSocket, socket_ip, socket_port};
+ghost use Rattle.stun_extra.specs.AttributeTypes.{ACCESS_TOKEN, ALTERNATE_DOMAIN};
+ghost use Rattle.stun_extra.specs.AttributeTypes.{ALTERNATE_SERVER, CONNECTION_ID, DATA};
+ghost use Rattle.stun_extra.specs.AttributeTypes.{ICE_CONTROLLED, ICE_CONTROLLING, LIFETIME};
+ghost use Rattle.stun_extra.specs.AttributeTypes.{MAPPED_ADDRESS, MOBILITY_TICKET, OTHER_ADDRESS};
+ghost use Rattle.stun_extra.specs.AttributeTypes.{PADDING, PRIORITY, RESPONSE_ORIGIN, SOFTWARE};
+ghost use Rattle.stun_extra.specs.AttributeTypes.{THIRD_PARTY_AUTHORIZATION, XOR_PEER_ADDRESS};
+ghost use Rattle.stun_extra.specs.AttributeTypes.{XOR_RELAYED_ADDRESS};
+ghost use Rattle.stun_extra.specs.Values.{DOMAIN_LIMIT};
+ghost use Rattle.stun_types.specs.Limits.{TEXT_LIMIT};
 
 mod additional_address_family;
 mod address;
 mod address_family;
-mod alternate_domain;
-mod alternate_server;
+mod bytes;
+mod change_request;
 mod channel_number;
-mod data;
 mod dont_fragment;
 mod even_port;
-mod ice_controlled;
-mod ice_controlling;
-mod lifetime;
-mod mapped_address;
-mod priority;
+mod number;
 mod requested_address_family;
 mod requested_transport;
 mod reservation_token;
-mod software;
+mod response_port;
 mod text;
+mod tie_breaker;
 mod use_candidate;
 mod value;
-mod xor_peer_address;
-mod xor_relayed_address;
 mod xored;
 
 pub use additional_address_family::AdditionalAddressFamily;
+pub use address::PlainAddress;
 pub use address_family::AddressFamily;
-pub use alternate_domain::AlternateDomain;
-pub use alternate_server::AlternateServer;
+pub use bytes::Bytes;
+pub use change_request::ChangeRequest;
 pub use channel_number::ChannelNumber;
-pub use data::Data;
 pub use dont_fragment::DontFragment;
 pub use even_port::EvenPort;
-pub use ice_controlled::IceControlled;
-pub use ice_controlling::IceControlling;
-pub use lifetime::Lifetime;
-pub use mapped_address::MappedAddress;
-pub use priority::Priority;
+pub use number::Number;
 pub use requested_address_family::RequestedAddressFamily;
 pub use requested_transport::RequestedTransport;
 pub use reservation_token::ReservationToken;
-pub use software::Software;
+pub use response_port::ResponsePort;
+use std::net::SocketAddr;
+use stun_types::attribute::AttributeType;
+use stun_types::limits::TEXT_LIMIT;
+use stun_types::prelude::*;
+pub use text::Text;
+pub use tie_breaker::TieBreaker;
 pub use use_candidate::UseCandidate;
-pub use xor_peer_address::XorPeerAddress;
-pub use xor_relayed_address::XorRelayedAddress;
+pub use xored::XorAddress;
 
 /// The largest number of bytes of an ALTERNATE-DOMAIN (RFC 8489, section 14.16).
 pub const DOMAIN_LIMIT: usize = 255;
+
+/// The largest number of bytes of any value (RFC 8489, section 14).
+const VALUE_LIMIT: usize = 65535;
+
+/// MAPPED-ADDRESS (RFC 8489, section 14.1): the address from which a request came, not XORed.
+pub type MappedAddress = PlainAddress<0x0001>;
+
+impl AttributeStaticType for MappedAddress {
+    const TYPE: AttributeType = AttributeType(0x0001);
+
+    ghost static_kind = { MAPPED_ADDRESS };
+
+    fn static_type() -> AttributeType
+        ensures { result.0 ≡ MAPPED_ADDRESS }
+    {
+        Self::TYPE
+    }
+}
+
+/// SOFTWARE (RFC 8489, section 14.14): a description of the software that the sender uses, UTF-8 of
+/// at most 763 bytes.
+pub type Software<'a> = Text<'a, 0x8022, TEXT_LIMIT>;
+
+impl<'a> Software<'a> {
+    /// Returns the text.
+    pub fn software(&self) -> &'a str
+        ensures text { result.now ≡ self.now }
+        ensures within_limit { length result.now ≤ TEXT_LIMIT }
+    {
+        self.text()
+    }
+}
+
+impl<'a> AttributeStaticType for Software<'a> {
+    const TYPE: AttributeType = AttributeType(0x8022);
+
+    ghost static_kind = { SOFTWARE };
+
+    fn static_type() -> AttributeType
+        ensures { result.0 ≡ SOFTWARE }
+    {
+        Self::TYPE
+    }
+}
+
+/// ALTERNATE-SERVER (RFC 8489, section 14.15): the server that a client should try instead.
+pub type AlternateServer = PlainAddress<0x8023>;
+
+impl AlternateServer {
+    /// Returns the address of the server. The flow information and the scope of an IPv6 address are
+    /// 0.
+    pub fn server(&self) -> SocketAddr
+        ensures ip { socket_ip result ≡ self.now.ip }
+        ensures port { IsPlainSocket result self.now.port }
+    {
+        self.addr()
+    }
+}
+
+impl AttributeStaticType for AlternateServer {
+    const TYPE: AttributeType = AttributeType(0x8023);
+
+    ghost static_kind = { ALTERNATE_SERVER };
+
+    fn static_type() -> AttributeType
+        ensures { result.0 ≡ ALTERNATE_SERVER }
+    {
+        Self::TYPE
+    }
+}
+
+/// ALTERNATE-DOMAIN (RFC 8489, section 14.16): the domain name of the server in ALTERNATE-SERVER,
+/// which its TLS certificate must contain. It has at most 255 bytes. It is not checked to be a
+/// domain name.
+pub type AlternateDomain<'a> = Text<'a, 0x8003, DOMAIN_LIMIT>;
+
+impl<'a> AlternateDomain<'a> {
+    /// Returns the domain name.
+    pub fn domain(&self) -> &'a str
+        ensures text { result.now ≡ self.now }
+        ensures within_limit { length result.now ≤ DOMAIN_LIMIT }
+    {
+        self.text()
+    }
+}
+
+impl<'a> AttributeStaticType for AlternateDomain<'a> {
+    const TYPE: AttributeType = AttributeType(0x8003);
+
+    ghost static_kind = { ALTERNATE_DOMAIN };
+
+    fn static_type() -> AttributeType
+        ensures { result.0 ≡ ALTERNATE_DOMAIN }
+    {
+        Self::TYPE
+    }
+}
+
+/// PRIORITY (RFC 8445, section 16.1): the priority of a peer-reflexive candidate that this check
+/// may discover.
+pub type Priority = Number<0x0024>;
+
+impl Priority {
+    /// Returns the priority.
+    pub fn priority(&self) -> u32
+        ensures { result ≡ self.now }
+    {
+        self.number()
+    }
+}
+
+impl AttributeStaticType for Priority {
+    const TYPE: AttributeType = AttributeType(0x0024);
+
+    ghost static_kind = { PRIORITY };
+
+    fn static_type() -> AttributeType
+        ensures { result.0 ≡ PRIORITY }
+    {
+        Self::TYPE
+    }
+}
+
+/// ICE-CONTROLLED (RFC 8445, section 16.1): the sender is in the controlled role. The tie-breaker,
+/// a random number of 64 bits, resolves a role conflict.
+pub type IceControlled = TieBreaker<0x8029>;
+
+impl AttributeStaticType for IceControlled {
+    const TYPE: AttributeType = AttributeType(0x8029);
+
+    ghost static_kind = { ICE_CONTROLLED };
+
+    fn static_type() -> AttributeType
+        ensures { result.0 ≡ ICE_CONTROLLED }
+    {
+        Self::TYPE
+    }
+}
+
+/// ICE-CONTROLLING (RFC 8445, section 16.1): the sender is in the controlling role. The
+/// tie-breaker, a random number of 64 bits, resolves a role conflict.
+pub type IceControlling = TieBreaker<0x802A>;
+
+impl AttributeStaticType for IceControlling {
+    const TYPE: AttributeType = AttributeType(0x802A);
+
+    ghost static_kind = { ICE_CONTROLLING };
+
+    fn static_type() -> AttributeType
+        ensures { result.0 ≡ ICE_CONTROLLING }
+    {
+        Self::TYPE
+    }
+}
+
+/// LIFETIME (RFC 8656, section 18.2): the number of seconds after which an allocation expires if it
+/// is not refreshed.
+pub type Lifetime = Number<0x000D>;
+
+impl Lifetime {
+    /// Returns the number of seconds.
+    pub fn seconds(&self) -> u32
+        ensures { result ≡ self.now }
+    {
+        self.number()
+    }
+}
+
+impl AttributeStaticType for Lifetime {
+    const TYPE: AttributeType = AttributeType(0x000D);
+
+    ghost static_kind = { LIFETIME };
+
+    fn static_type() -> AttributeType
+        ensures { result.0 ≡ LIFETIME }
+    {
+        Self::TYPE
+    }
+}
+
+/// XOR-PEER-ADDRESS (RFC 8656, section 18.3): the address of a peer, XORed as in
+/// XOR-MAPPED-ADDRESS.
+pub type XorPeerAddress = XorAddress<0x0012>;
+
+impl AttributeStaticType for XorPeerAddress {
+    const TYPE: AttributeType = AttributeType(0x0012);
+
+    ghost static_kind = { XOR_PEER_ADDRESS };
+
+    fn static_type() -> AttributeType
+        ensures { result.0 ≡ XOR_PEER_ADDRESS }
+    {
+        Self::TYPE
+    }
+}
+
+/// DATA (RFC 8656, section 18.4): the data of a datagram to or from a peer, borrowed.
+pub type Data<'a> = Bytes<'a, 0x0013>;
+
+impl<'a> Data<'a> {
+    /// Returns the bytes.
+    pub fn data(&self) -> &'a [u8]
+        ensures { result.now ≡ self.now }
+    {
+        self.bytes()
+    }
+}
+
+impl<'a> AttributeStaticType for Data<'a> {
+    const TYPE: AttributeType = AttributeType(0x0013);
+
+    ghost static_kind = { DATA };
+
+    fn static_type() -> AttributeType
+        ensures { result.0 ≡ DATA }
+    {
+        Self::TYPE
+    }
+}
+
+/// XOR-RELAYED-ADDRESS (RFC 8656, section 18.5): the address that a server relays from, XORed as in
+/// XOR-MAPPED-ADDRESS.
+pub type XorRelayedAddress = XorAddress<0x0016>;
+
+impl AttributeStaticType for XorRelayedAddress {
+    const TYPE: AttributeType = AttributeType(0x0016);
+
+    ghost static_kind = { XOR_RELAYED_ADDRESS };
+
+    fn static_type() -> AttributeType
+        ensures { result.0 ≡ XOR_RELAYED_ADDRESS }
+    {
+        Self::TYPE
+    }
+}
+
+/// CONNECTION-ID (RFC 6062, section 6.2.1): the number of a TCP connection to a peer of a TURN
+/// client.
+pub type ConnectionId = Number<0x002A>;
+
+impl AttributeStaticType for ConnectionId {
+    const TYPE: AttributeType = AttributeType(0x002A);
+
+    ghost static_kind = { CONNECTION_ID };
+
+    fn static_type() -> AttributeType
+        ensures { result.0 ≡ CONNECTION_ID }
+    {
+        Self::TYPE
+    }
+}
+
+/// MOBILITY-TICKET (RFC 8016, section 3.3): what a TURN server recognizes an allocation by when its
+/// client comes from another address. A client that asks for one sends it empty.
+pub type MobilityTicket<'a> = Bytes<'a, 0x8030>;
+
+impl<'a> AttributeStaticType for MobilityTicket<'a> {
+    const TYPE: AttributeType = AttributeType(0x8030);
+
+    ghost static_kind = { MOBILITY_TICKET };
+
+    fn static_type() -> AttributeType
+        ensures { result.0 ≡ MOBILITY_TICKET }
+    {
+        Self::TYPE
+    }
+}
+
+/// THIRD-PARTY-AUTHORIZATION (RFC 7635, section 6.1): the name of the server, with which a client
+/// asks an authorization server for a token.
+pub type ThirdPartyAuthorization<'a> = Text<'a, 0x802E, VALUE_LIMIT>;
+
+impl<'a> ThirdPartyAuthorization<'a> {
+    /// Returns the name of the server.
+    pub fn server_name(&self) -> &'a str
+        ensures { result.now ≡ self.now }
+    {
+        self.text()
+    }
+}
+
+impl<'a> AttributeStaticType for ThirdPartyAuthorization<'a> {
+    const TYPE: AttributeType = AttributeType(0x802E);
+
+    ghost static_kind = { THIRD_PARTY_AUTHORIZATION };
+
+    fn static_type() -> AttributeType
+        ensures { result.0 ≡ THIRD_PARTY_AUTHORIZATION }
+    {
+        Self::TYPE
+    }
+}
+
+/// ACCESS-TOKEN (RFC 7635, section 6.2): the token that an authorization server has issued. Only
+/// the STUN server can decrypt it.
+pub type AccessToken<'a> = Bytes<'a, 0x001B>;
+
+impl<'a> AttributeStaticType for AccessToken<'a> {
+    const TYPE: AttributeType = AttributeType(0x001B);
+
+    ghost static_kind = { ACCESS_TOKEN };
+
+    fn static_type() -> AttributeType
+        ensures { result.0 ≡ ACCESS_TOKEN }
+    {
+        Self::TYPE
+    }
+}
+
+/// RESPONSE-ORIGIN (RFC 5780, section 7.3): the address that a response was sent from.
+pub type ResponseOrigin = PlainAddress<0x802B>;
+
+impl AttributeStaticType for ResponseOrigin {
+    const TYPE: AttributeType = AttributeType(0x802B);
+
+    ghost static_kind = { RESPONSE_ORIGIN };
+
+    fn static_type() -> AttributeType
+        ensures { result.0 ≡ RESPONSE_ORIGIN }
+    {
+        Self::TYPE
+    }
+}
+
+/// OTHER-ADDRESS (RFC 5780, section 7.4): the address and the port that a server answers from if a
+/// client asks for another address and another port.
+pub type OtherAddress = PlainAddress<0x802C>;
+
+impl AttributeStaticType for OtherAddress {
+    const TYPE: AttributeType = AttributeType(0x802C);
+
+    ghost static_kind = { OTHER_ADDRESS };
+
+    fn static_type() -> AttributeType
+        ensures { result.0 ≡ OTHER_ADDRESS }
+    {
+        Self::TYPE
+    }
+}
+
+/// PADDING (RFC 5780, section 7.6): bytes without a meaning, which make a message long enough to be
+/// sent in fragments.
+pub type Padding<'a> = Bytes<'a, 0x0026>;
+
+impl<'a> AttributeStaticType for Padding<'a> {
+    const TYPE: AttributeType = AttributeType(0x0026);
+
+    ghost static_kind = { PADDING };
+
+    fn static_type() -> AttributeType
+        ensures { result.0 ≡ PADDING }
+    {
+        Self::TYPE
+    }
+}

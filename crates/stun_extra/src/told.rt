@@ -1,11 +1,13 @@
 //! The types that an iterator has already returned.
 ghost use Rattle.std.specs.Prelude.{◌≡◌, ◌<◌, ◌^◌, ℕ, ◌==◌, ◌||◌, false};
-ghost use Rattle.stun_extra.specs.code.Told.{is_told};
+ghost use Rattle.stun_extra.specs.code.Told.{is_set, is_told};
 
-/// A bit for each type below 0x8000, which must be understood: whether it was returned.
+/// A bit for each type below 0x8000, which must be understood: whether it was returned. There are
+/// no bits before the first type, because most messages have none, and to clear the bits takes
+/// longer than to look for it.
 #[derive(Debug, Drop)]
 pub(crate) struct Told {
-    words: [u64; 512],
+    words: Option<[u64; 512]>,
 }
 
 impl Told {
@@ -13,7 +15,7 @@ impl Told {
     pub(crate) fn none() -> Told
         ensures { (kind : ℕ) → is_told result.words kind ≡ false }
     {
-        Told { words: [0; 512] }
+        Told { words: None }
     }
 
     /// Returns `true` if a type was returned.
@@ -21,7 +23,10 @@ impl Told {
         requires { kind < 2 ^ 15 }
         ensures { result ≡ is_told self.now.words kind }
     {
-        (self.words[usize::from(kind / 64)] >> (kind % 64)) & 1 == 1
+        match &self.words {
+            Some(words) => (words[usize::from(kind / 64)] >> (kind % 64)) & 1 == 1,
+            None => false,
+        }
     }
 
     /// Records that a type is returned.
@@ -30,6 +35,21 @@ impl Told {
         ensures { (other : ℕ) → is_told self.new.words other
             ≡ (is_told self.old.words other || (other == kind)) }
     {
-        self.words[usize::from(kind / 64)] |= 1 << (kind % 64);
+        match &mut self.words {
+            Some(words) => set(words, kind),
+            None => {
+                let mut words = [0; 512];
+                set(&mut words, kind);
+                self.words = Some(words);
+            }
+        }
     }
+}
+
+/// Sets the bit of a type.
+fn set(words: &mut [u64; 512], kind: u16)
+    requires { kind < 2 ^ 15 }
+    ensures { (other : ℕ) → is_set words.new other ≡ (is_set words.old other || (other == kind)) }
+{
+    words[usize::from(kind / 64)] |= 1 << (kind % 64);
 }

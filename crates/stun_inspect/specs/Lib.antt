@@ -8,6 +8,8 @@ pub mod Telling
 pub mod Fingerprint
 -- what `decode` prints
 pub mod Decode
+-- the names of attributes in what it prints
+pub mod Names
 -- what `verify` prints
 pub mod Verify
 -- how `verify` says what holds of a message

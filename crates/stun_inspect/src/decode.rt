@@ -2,13 +2,14 @@
 ghost use Rattle.std.specs.Prelude.{◌≡◌, false, IfOk, length, string_bytes};
 ghost use Rattle.stun_cli.specs.Line.{has_line_feed, IsLine};
 ghost use Rattle.stun_inspect.specs.Decode.{AreLinesOn, Describes, IsHeader, IsLineOn, NAME_LENGTH};
+ghost use Rattle.stun_inspect.specs.Names.{IsName};
 
 use crate::fingerprint::ending_of;
 use crate::registry::{Form, attribute, attribute_name, method_name};
 use crate::telling::{Told, tell};
 use crate::value::{push_digits, push_value};
 use std::alloc::{AllocError, Allocator};
-use stun_cli::output::{has_line_feed, line_of, unbroken};
+use stun_cli::output::{line_of, unbroken};
 use stun_types::message::{Message, MessageClass, TransactionId};
 
 /// What is printed of a message: its class, method and id, and then a line on each attribute. Fails
@@ -117,19 +118,15 @@ const NAME_LENGTH: usize = 28;
 
 /// The column of a name, with blanks after it.
 fn column_of<A: Allocator + Copy>(alloc: A, name: &str) -> Result<String<A>, AllocError>
+    requires { IsName name.now }
     ensures length { IfOk result (λ column. length (string_bytes column) ≡ NAME_LENGTH) }
     ensures unbroken { IfOk result (λ column. has_line_feed (string_bytes column) ≡ false) }
 {
-    let mut column = [b' '; NAME_LENGTH];
-    for (place, byte) in name.bytes().enumerate() {
-        if place < NAME_LENGTH {
-            column[place] = byte;
-        }
+    let mut column = String::from_str(alloc, name)?;
+    for _place in name.len()..NAME_LENGTH {
+        column.push(' ')?;
     }
-    match str::from_utf8(&column) {
-        Ok(text) if !has_line_feed(text) => String::from_str(alloc, text),
-        _ => String::from_str(alloc, "                            "),
-    }
+    Ok(column)
 }
 
 /// The blanks that fill a column of five digits after a place.

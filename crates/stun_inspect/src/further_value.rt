@@ -1,14 +1,14 @@
 //! The values of further attributes as text: of STUN (RFC 8489, section 14), of ICE (RFC 8445,
-//! section 16.1) and of TURN (RFC 8656, section 18). Each function returns whether the value is one
-//! of its type.
+//! section 16.1), of TURN (RFC 8656, section 18) and of NAT behavior discovery (RFC 5780, section 7).
+//! Each function returns whether the value is one of its type.
 
 use crate::registry::attribute_name;
 use crate::value::{push_address, push_digits, push_quoted};
 use std::alloc::{AllocError, Allocator};
 use stun_extra::attribute::{
-    AddressFamily, AlternateDomain, ChannelNumber, EvenPort, IceControlled, Lifetime,
-    MappedAddress, Priority, RequestedAddressFamily, RequestedTransport, ReservationToken,
-    Software, UseCandidate, XorPeerAddress,
+    AddressFamily, AlternateDomain, ChangeRequest, ChannelNumber, EvenPort, IceControlled,
+    Lifetime, MappedAddress, Priority, RequestedAddressFamily, RequestedTransport,
+    ReservationToken, ResponsePort, Software, UseCandidate, XorPeerAddress,
 };
 use stun_extra::unknown::UnknownAttributes;
 use stun_types::attribute::RawAttribute;
@@ -85,14 +85,15 @@ pub fn push_types<A: Allocator + Copy>(
     Ok(true)
 }
 
-pub fn push_priority<A: Allocator + Copy>(
+/// A number of 32 bits, as that of PRIORITY.
+pub fn push_number<A: Allocator + Copy>(
     text: &mut String<A>,
     value: &[u8],
 ) -> Result<bool, AllocError> {
     let Ok(priority) = Priority::from_raw(RawAttribute::new(Priority::TYPE, value)) else {
         return Ok(false);
     };
-    let number = priority.priority();
+    let number = priority.number();
     write!(text, "{number}")?;
     Ok(true)
 }
@@ -204,4 +205,34 @@ pub fn push_token<A: Allocator + Copy>(
         return Ok(false);
     };
     push_digits(text, reservation.token())
+}
+
+pub fn push_change_request<A: Allocator + Copy>(
+    text: &mut String<A>,
+    value: &[u8],
+) -> Result<bool, AllocError> {
+    let raw = RawAttribute::new(ChangeRequest::TYPE, value);
+    let Ok(request) = ChangeRequest::from_raw(raw) else {
+        return Ok(false);
+    };
+    text.push_str(match (request.change_ip(), request.change_port()) {
+        (true, true) => "another address and another port",
+        (true, false) => "another address",
+        (false, true) => "another port",
+        (false, false) => "no change",
+    })?;
+    Ok(true)
+}
+
+pub fn push_response_port<A: Allocator + Copy>(
+    text: &mut String<A>,
+    value: &[u8],
+) -> Result<bool, AllocError> {
+    let raw = RawAttribute::new(ResponsePort::TYPE, value);
+    let Ok(response) = ResponsePort::from_raw(raw) else {
+        return Ok(false);
+    };
+    let port = response.port();
+    write!(text, "port {port}")?;
+    Ok(true)
 }

@@ -1,4 +1,6 @@
 //! The names of IANA's registry of STUN parameters, and how a value of each type is read.
+ghost use Rattle.std.specs.Prelude.{IfSome};
+ghost use Rattle.stun_inspect.specs.Names.{IsName};
 
 /// How the value of an attribute is read.
 #[derive(Clone, Copy, Debug, PartialEq, Eq)]
@@ -23,8 +25,8 @@ pub enum Form {
     Algorithm,
     /// Password algorithms (section 14.11).
     Algorithms,
-    /// A priority (RFC 8445, section 16.1).
-    Priority,
+    /// A number of 32 bits.
+    Number,
     /// A tie-breaker (RFC 8445, section 16.1).
     TieBreaker,
     /// An empty value: the attribute is a flag.
@@ -41,6 +43,10 @@ pub enum Form {
     Transport,
     /// What names a reserved port (RFC 8656, section 18.10).
     Token,
+    /// What a response should be sent from (RFC 5780, section 7.2).
+    ChangeRequest,
+    /// The port that a response should be sent to (RFC 5780, section 7.5).
+    ResponsePort,
     /// The 20 bytes of an HMAC-SHA1 (section 14.5).
     Sha1,
     /// The 16 to 32 bytes of an HMAC-SHA256, a multiple of 4 (section 14.6).
@@ -58,12 +64,17 @@ pub struct Registered {
     pub form: Form,
 }
 
-fn entry(name: &'static str, form: Form) -> Option<Registered> {
+fn entry(name: &'static str, form: Form) -> Option<Registered>
+    requires { IsName name.now }
+    ensures { IfSome result (λ entry. IsName entry.name.now) }
+{
     Some(Registered { name, form })
 }
 
 /// The attribute of this type, where the registry has one.
-pub fn attribute(number: u16) -> Option<Registered> {
+pub fn attribute(number: u16) -> Option<Registered>
+    ensures { IfSome result (λ entry. IsName entry.name.now) }
+{
     if number < 0x8000 {
         required(number)
     } else {
@@ -72,10 +83,12 @@ pub fn attribute(number: u16) -> Option<Registered> {
 }
 
 /// The attributes that must be understood.
-fn required(number: u16) -> Option<Registered> {
+fn required(number: u16) -> Option<Registered>
+    ensures { IfSome result (λ entry. IsName entry.name.now) }
+{
     match number {
         0x0001 => entry("MAPPED-ADDRESS", Form::Address),
-        0x0003 => entry("CHANGE-REQUEST", Form::Bytes),
+        0x0003 => entry("CHANGE-REQUEST", Form::ChangeRequest),
         0x0006 => entry("USERNAME", Form::Text),
         0x0008 => entry("MESSAGE-INTEGRITY", Form::Sha1),
         0x0009 => entry("ERROR-CODE", Form::Error),
@@ -97,18 +110,20 @@ fn required(number: u16) -> Option<Registered> {
         0x001E => entry("USERHASH", Form::Userhash),
         0x0020 => entry("XOR-MAPPED-ADDRESS", Form::XorAddress),
         0x0022 => entry("RESERVATION-TOKEN", Form::Token),
-        0x0024 => entry("PRIORITY", Form::Priority),
+        0x0024 => entry("PRIORITY", Form::Number),
         0x0025 => entry("USE-CANDIDATE", Form::Flag),
         0x0026 => entry("PADDING", Form::Bytes),
-        0x0027 => entry("RESPONSE-PORT", Form::Bytes),
-        0x002A => entry("CONNECTION-ID", Form::Bytes),
+        0x0027 => entry("RESPONSE-PORT", Form::ResponsePort),
+        0x002A => entry("CONNECTION-ID", Form::Number),
         _ => reserved(number),
     }
 }
 
 /// The attributes that older RFCs had, whose types the registry keeps reserved (RFC 8489, section
 /// 18.3; RFC 5766, section 14.9; RFC 3489, section 11.2).
-fn reserved(number: u16) -> Option<Registered> {
+fn reserved(number: u16) -> Option<Registered>
+    ensures { IfSome result (λ entry. IsName entry.name.now) }
+{
     match number {
         0x0000 | 0x000E | 0x000F => entry("reserved", Form::Bytes),
         0x0002 => entry("RESPONSE-ADDRESS (reserved)", Form::Address),
@@ -124,7 +139,9 @@ fn reserved(number: u16) -> Option<Registered> {
 }
 
 /// The attributes that may be ignored.
-fn optional(number: u16) -> Option<Registered> {
+fn optional(number: u16) -> Option<Registered>
+    ensures { IfSome result (λ entry. IsName entry.name.now) }
+{
     match number {
         0x8000 => entry("ADDITIONAL-ADDRESS-FAMILY", Form::Family),
         0x8001 => entry("ADDRESS-ERROR-CODE", Form::Bytes),

@@ -2,9 +2,9 @@
 
 use crate::algorithms::{push_algorithm, push_algorithms};
 use crate::further_value::{
-    push_channel, push_domain, push_even_port, push_family, push_flag, push_lifetime,
-    push_plain_address, push_priority, push_software, push_tie_breaker, push_token, push_transport,
-    push_types, push_xored_address,
+    push_change_request, push_channel, push_domain, push_even_port, push_family, push_flag,
+    push_lifetime, push_number, push_plain_address, push_response_port, push_software,
+    push_tie_breaker, push_token, push_transport, push_types, push_xored_address,
 };
 use crate::registry::{Form, error_name};
 use std::alloc::{AllocError, Allocator};
@@ -36,7 +36,7 @@ pub fn push_value<A: Allocator + Copy>(
         Form::Sha1 | Form::Sha256 | Form::Userhash => {
             has_length_of(form, value.len()) && push_digits(text, value)?
         }
-        Form::Priority => push_priority(text, value)?,
+        Form::Number => push_number(text, value)?,
         Form::TieBreaker => push_tie_breaker(text, value)?,
         Form::Flag => push_flag(text, value)?,
         Form::Channel => push_channel(text, value)?,
@@ -45,6 +45,8 @@ pub fn push_value<A: Allocator + Copy>(
         Form::EvenPort => push_even_port(text, value)?,
         Form::Transport => push_transport(text, value)?,
         Form::Token => push_token(text, value)?,
+        Form::ChangeRequest => push_change_request(text, value)?,
+        Form::ResponsePort => push_response_port(text, value)?,
         Form::Bytes => push_digits(text, value)?,
     };
     if !is_read {

@@ -1,50 +1,14 @@
-//! The script of `serve`, which has a call of a server in each line that is not empty.
+//! The lines of `serve`, of which each that is not empty is a call of a server.
 
 use crate::words::{address, algorithm, feature, moment, number};
 use hex::FromHexError;
 use std::alloc::{AllocError, Global};
 use std::time::Duration;
-use stun_cli::failure::Failure;
 use stun_proto::replay::ServerCall;
 
-/// The result of parsing a script.
-#[derive(Debug, Drop)]
-pub enum Script {
-    /// The calls of the lines.
-    Calls(Vec<ServerCall>),
-    /// The number of the first line that is not a call. The first line has the number 1, and empty
-    /// lines count.
-    WrongLine(usize),
-}
-
-/// Parses a script. A line ends with a line feed or with the end of the input, and empty lines are
-/// skipped.
-///
-/// # Errors
-///
-/// `Memory`: an allocation failed.
-pub fn read_script(alloc: Global, script: &[u8]) -> Result<Script, Failure> {
-    let mut calls = Vec::new(alloc);
-    let mut number: usize = 0;
-    for line in script.split(|byte| *byte == b'\n') {
-        number = number.saturating_add(1);
-        if line.is_empty() {
-            continue;
-        }
-        match read_line(alloc, line)? {
-            Some(call) => {
-                if calls.push(call).is_err() {
-                    return Err(Failure::Memory);
-                }
-            }
-            None => return Ok(Script::WrongLine(number)),
-        }
-    }
-    Ok(Script::Calls(calls))
-}
-
-/// The call of a line, whose words are parted by single spaces.
-fn read_line(alloc: Global, line: &[u8]) -> Result<Option<ServerCall>, AllocError> {
+/// Parses the call of a line, whose words are separated by single spaces. Returns `None` if the
+/// line is not a call.
+pub fn read_line(alloc: Global, line: &[u8]) -> Result<Option<ServerCall>, AllocError> {
     let Ok(text) = str::from_utf8(line) else {
         return Ok(None);
     };

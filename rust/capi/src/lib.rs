@@ -1,9 +1,12 @@
 //! STUN for programs in C, over the exported sources: what `include/stunp.h`,
 //! `include/stunp_state.h` and `include/stunp_endpoint.h` declare, and nothing else.
 //!
-//! `cargo build --release -p seatcrane-stun-c` makes `libstunp.a` and `libstunp.so`. What is unsafe
-//! stands in four files. In `border.rs` and `passed.rs` a slice comes as a pointer and a length. In
+//! `make lib` makes `libstunp.a` and `libstunp.so` of it. They need `core`, and of the system what
+//! `memory.rs` and `panic.rs` name, and `memcpy`, `memmove`, `memset` and `memcmp`. What is unsafe
+//! stands in five files. In `border.rs` and `passed.rs` a slice comes as a pointer and a length. In
 //! `handle.rs` a handle keeps a pointer. `memory.rs` asks the program for memory, or malloc.
+//! `panic.rs` ends the program.
+#![no_std]
 
 extern crate alloc;
 
@@ -16,6 +19,16 @@ mod handle;
 #[path = "../../src/kit/mod.rs"]
 mod kit;
 mod memory;
+// (a test has that of std)
+#[cfg(not(test))]
+mod panic;
 mod passed;
 
 pub use calls::border::*;
+
+/// Returns whether this library is the proved one. It is not: it was exported from the proved
+/// sources, and is tested.
+#[unsafe(no_mangle)]
+pub extern "C" fn stunp_is_proved() -> bool {
+    false
+}

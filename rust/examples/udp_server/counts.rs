@@ -1,10 +1,41 @@
-//! Counters of what datagrams came to.
+//! What a datagram came to, and counters of that.
 
-use seatcrane_stun::endpoint::{DropReason, Received};
+use seatcrane_stun::endpoint::{DropReason, Received, Refusal};
 use std::fmt;
 use std::sync::atomic::{AtomicU64, Ordering::Relaxed};
 
 const CODES: [u16; 4] = [400, 401, 420, 438];
+
+pub enum Outcome {
+    /// A success, or an error with this code, to send.
+    Answer(u16, Vec<u8>),
+    Dropped(DropReason),
+    /// No Binding request.
+    Other,
+}
+
+impl From<Received<'_>> for Outcome {
+    fn from(received: Received<'_>) -> Outcome {
+        match received {
+            Received::Answer(answer) => {
+                let code = answer.refusal().map_or(200, Refusal::code);
+                Outcome::Answer(code, answer.into_bytes())
+            }
+            Received::Dropped(why) => Outcome::Dropped(why),
+            _ => Outcome::Other,
+        }
+    }
+}
+
+impl fmt::Display for Outcome {
+    fn fmt(&self, f: &mut fmt::Formatter<'_>) -> fmt::Result {
+        match self {
+            Outcome::Answer(code, _) => write!(f, "{code}"),
+            Outcome::Dropped(why) => write!(f, "dropped: {why}"),
+            Outcome::Other => f.write_str("dropped: no Binding request"),
+        }
+    }
+}
 
 #[derive(Default)]
 pub struct Counts {
@@ -15,35 +46,16 @@ pub struct Counts {
 }
 
 impl Counts {
-    /// Counts what a datagram came to.
-    pub fn note(&self, received: &Received<'_>) {
-        let count = match received {
-            Received::Answer(answer) => match answer.refusal() {
-                None => Some(&self.answered),
-                Some(refusal) => {
-                    let index = CODES.iter().position(|code| *code == refusal.code());
-                    index.map(|index| &self.refused[index])
-                }
-            },
-            Received::Dropped(why) => Some(&self.dropped[why.index()]),
-            _ => Some(&self.others),
-        };
-        count.unwrap_or(&self.others).fetch_add(1, Relaxed);
-    }
-
-    /// Counts an answer of a server without credentials, which is a success or a 420.
-    pub fn open(&self, answer: Option<&Vec<u8>>) {
-        let count = match answer {
-            Some(bytes) if bytes[0] == 1 && bytes[1] == 1 => &self.answered,
-            Some(_) => &self.refused[2],
-            None => &self.others,
+    pub fn note(&self, outcome: &Outcome) {
+        let count = match outcome {
+            Outcome::Answer(code, _) => {
+                let refused = CODES.iter().position(|one| one == code);
+                refused.map_or(&self.answered, |index| &self.refused[index])
+            }
+            Outcome::Dropped(why) => &self.dropped[why.index()],
+            Outcome::Other => &self.others,
         };
         count.fetch_add(1, Relaxed);
-    }
-
-    /// Counts a message that is no Binding request.
-    pub fn other(&self) {
-        self.others.fetch_add(1, Relaxed);
     }
 }
 

@@ -1,5 +1,7 @@
 //! A server without credentials.
 
+use crate::counts::Outcome;
+use seatcrane_stun::endpoint::DropReason::{Malformed, NotStun, OutOfMemory, WrongFingerprint};
 use seatcrane_stun::extra::{
     Fingerprint, answer_unknown, check_fingerprint, finish_with_fingerprint,
 };
@@ -23,29 +25,41 @@ const KNOWN: [AttributeType; 11] = [
     AttributeType::XOR_MAPPED_ADDRESS,
 ];
 
-/// Returns the answer to a Binding request: the address that it came from, or a 420.
-pub fn answer(bytes: &[u8], from: SocketAddr) -> Option<Vec<u8>> {
-    let request = Message::from_bytes(bytes).ok()?;
-    let has_fingerprint = match check_fingerprint(&request) {
-        Fingerprint::Right => true,
-        Fingerprint::Absent => false,
-        Fingerprint::Wrong | Fingerprint::Misplaced => return None,
+/// Judges a message: a Binding request gets the address that it came from, or a 420.
+pub fn judge(bytes: &[u8], from: SocketAddr) -> Outcome {
+    let Ok(request) = Message::from_bytes(bytes) else {
+        let has_header = MessageHeader::from_bytes(bytes).is_ok();
+        return Outcome::Dropped(if has_header { Malformed } else { NotStun });
     };
-    if !request.has_class(MessageClass::Request) {
-        return None;
+    let fingerprint = check_fingerprint(&request);
+    if !matches!(fingerprint, Fingerprint::Right | Fingerprint::Absent) {
+        return Outcome::Dropped(WrongFingerprint);
     }
-    let refusal = answer_unknown(&request, &KNOWN, MessageWriteVec::new()).ok()?;
-    let page = match refusal {
-        Some(refusal) => refusal,
+    if !request.has_class(MessageClass::Request) {
+        return Outcome::Other;
+    }
+    match answer(&request, from, fingerprint == Fingerprint::Right) {
+        Ok((code, answer)) => Outcome::Answer(code, answer),
+        Err(_) => Outcome::Dropped(OutOfMemory),
+    }
+}
+
+fn answer(
+    request: &Message<'_>,
+    from: SocketAddr,
+    has_fingerprint: bool,
+) -> Result<(u16, Vec<u8>), StunWriteError> {
+    let (code, page) = match answer_unknown(request, &KNOWN, MessageWriteVec::new())? {
+        Some(refusal) => (420, refusal),
         None => {
             let from = SocketAddr::new(from.ip().to_canonical(), from.port());
-            let mut success = Message::builder_success(&request, MessageWriteVec::new());
-            success.add_xor_mapped_address(from).ok()?;
-            success
+            let mut success = Message::builder_success(request, MessageWriteVec::new());
+            success.add_xor_mapped_address(from)?;
+            (200, success)
         }
     };
     match has_fingerprint {
-        true => finish_with_fingerprint(page).ok(),
-        false => Some(page.finish()),
+        true => Ok((code, finish_with_fingerprint(page)?)),
+        false => Ok((code, page.finish())),
     }
 }

@@ -4,7 +4,7 @@ use seatcrane_stun::auth::StoredKeys;
 use seatcrane_stun::endpoint::{Server, UserError, Users};
 use seatcrane_stun::types::message::LongTermCredentials;
 use std::fs::File;
-use std::io::{self, BufRead, BufReader, Read};
+use std::io::{self, BufRead, Read};
 
 /// The longest line in bytes, its end included, and the longest name (RFC 8489, section 14.3).
 const LONGEST: usize = 2048;
@@ -26,8 +26,49 @@ pub fn table(
         Some("-") => read(users, "standard input", io::stdin().lock()),
         Some(path) => {
             let file = File::open(path).map_err(|error| format!("{path}: {error}"))?;
-            read(users, path, BufReader::new(file))
+            read(users, path, Buffered::new(file))
         }
+    }
+}
+
+/// A file with its buffer on the stack. A `BufReader` ends the program if there is no memory for
+/// its buffer.
+struct Buffered {
+    file: File,
+    bytes: [u8; 4096],
+    begin: usize,
+    end: usize,
+}
+
+impl Buffered {
+    fn new(file: File) -> Buffered {
+        Buffered {
+            file,
+            bytes: [0; 4096],
+            begin: 0,
+            end: 0,
+        }
+    }
+}
+
+impl Read for Buffered {
+    fn read(&mut self, out: &mut [u8]) -> io::Result<usize> {
+        let read = self.fill_buf()?.read(out)?;
+        self.consume(read);
+        Ok(read)
+    }
+}
+
+impl BufRead for Buffered {
+    fn fill_buf(&mut self) -> io::Result<&[u8]> {
+        if self.begin == self.end {
+            (self.begin, self.end) = (0, self.file.read(&mut self.bytes)?);
+        }
+        Ok(&self.bytes[self.begin..self.end])
+    }
+
+    fn consume(&mut self, count: usize) {
+        self.begin += count;
     }
 }
 

@@ -7,48 +7,34 @@ use super::client_settings::{ClientBuilder, Kind};
 use super::{Body, DropReason};
 use crate::Instant;
 use crate::agent::{StunAgent, StunAgentPollRet, StunError};
-use crate::copies::granted;
-use crate::credentials::LongTermCredentials;
-use crate::exported::stun_base::key::IntegrityKey;
+use crate::copies::{granted, text};
 use crate::exported::stun_client::challenge::Challenge;
+use crate::exported::stun_client::client::{Client as Core, Heard};
+use crate::exported::stun_client::credentials::{Credentials, LongTerm, ShortTerm};
 use crate::exported::stun_client::ids::id_of;
-use crate::exported::stun_client::standing::Standing;
+use crate::exported::stun_client::judged::{Distrust, Judged, Outcome};
 use crate::exported::stun_extra::attribute::{AlternateDomain, AlternateServer, Software};
-use crate::exported::stun_types::attribute::Username;
 use crate::exported::stun_types::message::{
-    IntegrityAlgorithm, MessageClass, Method, PreparedKey, StunWriteError,
+    IntegrityAlgorithm, IntegrityKey, MessageClass, Method, PreparedKey, StunWriteError,
 };
 use crate::exported::stun_types::prelude::MessageWrite;
-use crate::extra::{Fingerprint, check_fingerprint, finish_with_fingerprint, unknown_types};
-use crate::kit::alloc::{AllocError, Global};
-use crate::kit::prelude::TryClone;
+use crate::extra::finish_with_fingerprint;
+use crate::kit::alloc::Global;
 use crate::message::Message;
 use crate::stats::StunAgentStats;
 use crate::transaction::TransactionId;
 use crate::write::{MessageWriteExt, MessageWriteVec};
-use alloc::boxed::Box;
 use alloc::collections::{BTreeMap, VecDeque};
 use alloc::string::String;
 use alloc::vec::Vec;
 use core::fmt;
-use core::net::{IpAddr, SocketAddr};
+use core::mem;
+use core::net::SocketAddr;
 
-/// The address as it is compared: an IPv4 address in one spelling, without flow label and scope.
-pub(super) fn canonical(address: SocketAddr) -> SocketAddr {
-    let ip = match address.ip() {
-        IpAddr::V6(six) => six.to_canonical(),
-        IpAddr::V4(four) => IpAddr::V4(four),
-    };
-    SocketAddr::new(ip, address.port())
-}
-
-/// What a request is, and how it was sent last.
-struct Asked {
-    method: Method,
+/// What is stored of a request beside what the core has of it.
+struct Sent {
     body: Body,
     id: TransactionId,
-    signed_for: Option<Challenge<Global>>,
-    challenges: u32,
     drops: Drops,
 }
 
@@ -94,15 +80,12 @@ struct Asked {
 /// }
 /// ```
 pub struct Client {
-    server: SocketAddr,
     settings: ClientBuilder,
+    core: Core<Global>,
     agent: StunAgent,
     seed: PreparedKey<Global>,
     next_id: u64,
-    next_request: u64,
-    requests: BTreeMap<RequestId, Asked>,
-    ids: BTreeMap<TransactionId, RequestId>,
-    standing: Standing<Global>,
+    requests: BTreeMap<RequestId, Sent>,
     unsent: VecDeque<(TransactionId, Vec<u8>)>,
     ended: VecDeque<(RequestId, Result<Response, RequestError>)>,
     lent: Vec<u8>,
@@ -114,30 +97,17 @@ impl fmt::Debug for Client {
     }
 }
 
-/// What a response comes to.
-#[expect(clippy::large_enum_variant, reason = "it is passed on at once")]
-enum Judged {
-    /// It ends its request, signed so.
-    Answer(Option<IntegrityAlgorithm>),
-    /// The request is sent again for this challenge, or unsigned.
-    Anew(Option<Challenge<Global>>),
-}
-
 impl Client {
-    pub(super) fn new(settings: ClientBuilder, agent: StunAgent, seed: [u8; 32]) -> Client {
-        // A key of 32 bytes takes no memory.
-        let seed = granted(IntegrityKey::from_bytes(Global, &seed));
-        let seed = PreparedKey::new(seed, IntegrityAlgorithm::Sha1);
+    pub(super) fn new(mut settings: ClientBuilder, agent: StunAgent, seed: [u8; 32]) -> Client {
+        let credentials = credentials_of(&mut settings);
+        let (server, challenges) = (settings.server, settings.challenges);
         Client {
-            server: canonical(settings.server),
             settings,
+            core: Core::new(Global, server, credentials, challenges),
             agent,
-            seed,
+            seed: prepared(&seed, IntegrityAlgorithm::Sha1),
             next_id: 0,
-            next_request: 0,
             requests: BTreeMap::new(),
-            ids: BTreeMap::new(),
-            standing: Standing::new(),
             unsent: VecDeque::new(),
             ended: VecDeque::new(),
             lent: Vec::new(),
@@ -164,17 +134,18 @@ impl Client {
         body: Body,
         now: Instant,
     ) -> Result<RequestId, RequestError> {
-        let request = RequestId(self.next_request);
-        let asked = Asked {
-            method,
-            body,
-            id: TransactionId::from([0; 12]),
-            signed_for: copied(self.standing.current().as_ref())?,
-            challenges: 0,
-            drops: Drops::default(),
+        let (id, next_id) = self.new_id()?;
+        let bytes = self.written(method, &body, id, self.core.challenge().as_ref())?;
+        self.send(&bytes, now)?;
+        let Ok(number) = self.core.start(method, id.0) else {
+            self.withdraw(id);
+            return Err(RequestError::OutOfMemory);
         };
-        self.send(request, asked, now)?;
-        self.next_request += 1;
+        self.next_id = next_id;
+        let drops = Drops::default();
+        let request = RequestId(number);
+        self.requests.insert(request, Sent { body, id, drops });
+        self.unsent.push_back((id, bytes));
         Ok(request)
     }
 
@@ -182,29 +153,18 @@ impl Client {
     /// datagram to the next client on the socket. If it is [`Input::Consumed`], `poll` returns what
     /// comes of it.
     pub fn receive<'a>(&mut self, bytes: &'a [u8], from: SocketAddr, now: Instant) -> Input<'a> {
-        let Ok(message) = Message::from_bytes(bytes) else {
-            return Input::NotOurs;
-        };
-        if canonical(from) != self.server {
-            return Input::NotOurs;
-        }
-        if message.has_class(MessageClass::Indication) {
-            return Input::Indication(message);
-        }
-        let request = match self.ids.get(&message.transaction_id()) {
-            Some(request) if message.is_response() => *request,
-            _ => return Input::NotOurs,
-        };
-        let Some(asked) = self.requests.get(&request) else {
-            return Input::NotOurs;
-        };
-        if !message.has_method(asked.method) {
-            return Input::NotOurs;
-        }
-        match self.judge(asked, &message) {
-            Ok(Judged::Answer(by)) => self.answered(request, &message, by, now),
-            Ok(Judged::Anew(challenge)) => self.anew(request, challenge, &message, now),
-            Err(why) => self.dropped_for(request, why, &message),
+        match self.core.receive(bytes, from) {
+            Ok(Heard::NotOurs) => Input::NotOurs,
+            Ok(Heard::Indication(message)) => Input::Indication(Message(message)),
+            Ok(Heard::Response(message, number, judged)) => {
+                let (request, message) = (RequestId(number), Message(message));
+                match judged {
+                    Judged::Believed(by) => self.answered(request, &message, by, now),
+                    Judged::Anew(challenge) => self.anew(request, challenge, &message, now),
+                    Judged::Dropped(why) => self.dropped_for(request, reason_of(why), &message),
+                }
+            }
+            Err(_) => self.unread(bytes),
         }
     }
 
@@ -212,7 +172,7 @@ impl Client {
     /// call and when a wait is over.
     pub fn poll(&mut self, now: Instant) -> Output<'_> {
         while let Some((id, bytes)) = self.unsent.pop_front() {
-            if self.ids.contains_key(&id) {
+            if self.core.get(id.0).is_some() {
                 self.lent = bytes;
                 return Output::Transmit(&self.lent);
             }
@@ -240,13 +200,12 @@ impl Client {
     /// Ends a request with [`RequestError::Cancelled`], which `poll` then returns. Returns `false` if
     /// it has ended already.
     pub fn cancel(&mut self, request: RequestId) -> bool {
-        let Some(asked) = self.requests.get(&request) else {
+        let Some(sent) = self.requests.get(&request) else {
             return false;
         };
-        let id = asked.id;
-        if let Some(mut sent) = self.agent.mut_request_transaction(id) {
-            sent.cancel();
-        }
+        let id = sent.id;
+        self.withdraw(id);
+        self.core.cancel(id.0);
         self.end(request, Err(RequestError::Cancelled));
         true
     }
@@ -267,66 +226,21 @@ impl Client {
         self.agent.stats().expect("the agent was built with them")
     }
 
-    // ---- Judging
+    // ---- What comes of a response
 
-    /// What a response to an outstanding request says, or why it is dropped.
-    fn judge(&self, asked: &Asked, message: &Message<'_>) -> Result<Judged, DropReason> {
-        if check_fingerprint(message) == Fingerprint::Wrong {
-            return Err(DropReason::WrongFingerprint);
-        }
-        match &self.settings.credentials.0 {
-            Kind::None => Ok(Judged::Answer(None)),
-            Kind::Short(_, password, _) => {
-                let by = message.validate_integrity(&password.clone().into());
-                let by = by.map_err(|_| DropReason::NotVerified)?;
-                Ok(Judged::Answer(Some(by)))
+    /// Counts a challenge for which there was no memory.
+    fn unread(&mut self, bytes: &[u8]) -> Input<'static> {
+        let Ok(message) = Message::from_bytes(bytes) else {
+            return Input::NotOurs;
+        };
+        match self.core.get(message.transaction_id().0) {
+            Some(asked) => {
+                let request = RequestId(asked.number());
+                self.dropped_for(request, DropReason::OutOfMemory, &message)
             }
-            Kind::Long(user) => match code_of(message) {
-                Some(401 | 438) => self.judge_challenge(asked, user, message),
-                _ => self.judge_by_signature(asked, message, DropReason::NotVerified),
-            },
+            None => Input::NotOurs,
         }
     }
-
-    /// What a response says by its signature alone, or why else it is dropped.
-    fn judge_by_signature(
-        &self,
-        asked: &Asked,
-        message: &Message<'_>,
-        otherwise: DropReason,
-    ) -> Result<Judged, DropReason> {
-        match &asked.signed_for {
-            Some(challenge) => match challenge.verifies(&message.0) {
-                Some(by) => Ok(Judged::Answer(Some(by))),
-                None => Err(otherwise),
-            },
-            None if self.settings.accepts_unsigned => Ok(Judged::Answer(None)),
-            None => Err(otherwise),
-        }
-    }
-
-    /// What a 401 or a 438 says.
-    fn judge_challenge(
-        &self,
-        asked: &Asked,
-        user: &LongTermCredentials,
-        message: &Message<'_>,
-    ) -> Result<Judged, DropReason> {
-        let (preferences, before) = (self.settings.preferences, asked.signed_for.as_ref());
-        let read = Challenge::of(Global, preferences, &user.0, before, &message.0);
-        match read.map_err(|_| DropReason::OutOfMemory)? {
-            None => self.judge_by_signature(asked, message, DropReason::UnanswerableChallenge),
-            // The challenge that was answered, once more: the credentials are wrong, or it is
-            // forged. No request is signed for it again; an unsigned one tells.
-            Some(challenge) if challenge.is_same_as(&asked.signed_for) => Ok(Judged::Anew(None)),
-            Some(challenge) if self.standing.ignores(&challenge) => {
-                Err(DropReason::WeakerChallenge)
-            }
-            Some(challenge) => Ok(Judged::Anew(Some(challenge))),
-        }
-    }
-
-    // ---- What comes of it
 
     fn dropped_for(
         &mut self,
@@ -334,8 +248,8 @@ impl Client {
         why: DropReason,
         message: &Message<'_>,
     ) -> Input<'static> {
-        if let Some(asked) = self.requests.get_mut(&request) {
-            asked.drops.note(why, code_of(message));
+        if let Some(sent) = self.requests.get_mut(&request) {
+            sent.drops.note(why, code_of(message));
         }
         Input::Dropped(why)
     }
@@ -355,9 +269,7 @@ impl Client {
         bytes.extend_from_slice(message.as_bytes());
         self.forget_sent(message, now);
         let is_success = message.has_class(MessageClass::Success);
-        if let (true, Some(asked)) = (is_success, self.requests.get(&request)) {
-            self.standing.confirm(&asked.signed_for);
-        }
+        self.core.end(message.transaction_id().0, is_success);
         let result = self.result_of(message, Response { bytes, signed_by });
         self.end(request, result);
         Input::Consumed
@@ -375,14 +287,10 @@ impl Client {
         message: &Message<'_>,
         response: Response,
     ) -> Result<Response, RequestError> {
-        if let Some(kind) = unknown_types(message, &self.settings.understood).next() {
-            return Err(RequestError::NotUnderstood(kind));
-        }
-        if !message.has_class(MessageClass::Error) {
-            return Ok(response);
-        }
-        match message.error_code() {
-            Ok(300) => {
+        match Outcome::of(&message.0, &self.settings.understood) {
+            Outcome::Success => Ok(response),
+            Outcome::Refused(code) => Err(RequestError::Refused(ErrorResponse { response, code })),
+            Outcome::Redirected => {
                 let server = message.attribute::<AlternateServer>().ok();
                 let domain = message.attribute::<AlternateDomain>().ok();
                 Err(RequestError::Redirected(Redirect {
@@ -391,8 +299,8 @@ impl Client {
                     signed_by: response.signed_by,
                 }))
             }
-            Ok(code) => Err(RequestError::Refused(ErrorResponse { response, code })),
-            Err(_) => Err(RequestError::MalformedResponse),
+            Outcome::NotUnderstood(kind) => Err(RequestError::NotUnderstood(kind)),
+            Outcome::Malformed => Err(RequestError::MalformedResponse),
         }
     }
 
@@ -405,63 +313,35 @@ impl Client {
         message: &Message<'_>,
         now: Instant,
     ) -> Input<'static> {
-        let Some(mut asked) = self.requests.remove(&request) else {
-            return Input::NotOurs;
-        };
-        if asked.challenges >= self.settings.challenges {
-            self.requests.insert(request, asked);
-            self.forget_sent(message, now);
-            self.end(request, Err(RequestError::Unauthorized));
-            return Input::Consumed;
-        }
-        let id = asked.id;
-        let Ok(copy) = copied(challenge.as_ref()) else {
-            self.requests.insert(request, asked);
-            return self.dropped_for(request, DropReason::OutOfMemory, message);
-        };
-        let before = core::mem::replace(&mut asked.signed_for, copy);
-        match self.send(request, asked, now) {
-            Ok(()) => {
-                self.ids.remove(&id);
+        let id = message.transaction_id();
+        match self.send_again(request, id, challenge, now) {
+            Ok(()) => self.forget_sent(message, now),
+            Err(RequestError::Unauthorized) => {
                 self.forget_sent(message, now);
-                if let Some(asked) = self.requests.get_mut(&request) {
-                    asked.challenges += 1;
-                }
-                if let Some(challenge) = challenge {
-                    self.standing.answer(challenge);
-                }
-                Input::Consumed
+                self.core.cancel(id.0);
+                self.end(request, Err(RequestError::Unauthorized));
             }
             // The request stays as it was.
-            Err((why, mut asked)) => {
-                (asked.signed_for, asked.id) = (before, id);
-                self.requests.insert(request, *asked);
-                let why = match why {
-                    RequestError::TooLarge => DropReason::UnanswerableChallenge,
-                    _ => DropReason::OutOfMemory,
-                };
-                self.dropped_for(request, why, message)
+            Err(RequestError::TooLarge) => {
+                return self.dropped_for(request, DropReason::UnanswerableChallenge, message);
             }
+            Err(_) => return self.dropped_for(request, DropReason::OutOfMemory, message),
         }
+        Input::Consumed
     }
 
     /// Ends a request that was not answered in time. Its challenge may be forged, so the next
     /// request is signed for the one that was confirmed last, or not at all.
     fn timed_out(&mut self, id: TransactionId) {
-        let Some(request) = self.ids.get(&id).copied() else {
-            return;
-        };
-        let Some(asked) = self.requests.get(&request) else {
-            return;
-        };
-        let drops = asked.drops;
-        self.standing.step_back(&asked.signed_for);
-        self.end(request, Err(RequestError::TimedOut(drops)));
+        if let Some(number) = self.core.time_out(id.0) {
+            let request = RequestId(number);
+            let drops = self.dropped(request).unwrap_or_default();
+            self.end(request, Err(RequestError::TimedOut(drops)));
+        }
     }
 
     fn end(&mut self, request: RequestId, result: Result<Response, RequestError>) {
-        if let Some(asked) = self.requests.remove(&request) {
-            self.ids.remove(&asked.id);
+        if self.requests.remove(&request).is_some() {
             self.ended.push_back((request, result));
         }
     }
@@ -481,47 +361,68 @@ impl Client {
         }
     }
 
-    /// Writes a request under a new ID, and has it sent.
-    fn send(&mut self, request: RequestId, mut asked: Asked, now: Instant) -> Result<(), Failure> {
-        let sent = self.new_id().and_then(|(id, next)| {
-            asked.id = id;
-            let bytes = self.written(&asked)?;
-            self.agent
-                .send_request(&bytes, self.settings.server, now)
-                .map_err(|error| match error {
-                    StunError::OutOfMemory => RequestError::OutOfMemory,
-                    _ => RequestError::NoId,
-                })?;
-            self.next_id = next;
-            Ok((id, bytes))
-        });
-        match sent {
-            Ok((id, bytes)) => {
-                self.ids.insert(id, request);
-                self.requests.insert(request, asked);
-                self.unsent.push_back((id, bytes));
-                Ok(())
-            }
-            Err(why) => Err((why, Box::new(asked))),
+    /// Has the agent send a request.
+    fn send(&mut self, bytes: &[u8], now: Instant) -> Result<(), RequestError> {
+        let server = self.settings.server;
+        match self.agent.send_request(bytes, server, now) {
+            Ok(_) => Ok(()),
+            Err(StunError::OutOfMemory) => Err(RequestError::OutOfMemory),
+            Err(_) => Err(RequestError::NoId),
         }
     }
 
+    /// Has the agent send a request no more.
+    fn withdraw(&mut self, id: TransactionId) {
+        if let Some(mut sent) = self.agent.mut_request_transaction(id) {
+            sent.cancel();
+        }
+    }
+
+    /// Sends the request with this ID again under another one, signed for this challenge or unsigned.
+    fn send_again(
+        &mut self,
+        request: RequestId,
+        id: TransactionId,
+        challenge: Option<Challenge<Global>>,
+        now: Instant,
+    ) -> Result<(), RequestError> {
+        let (Some(asked), Some(sent)) = (self.core.get(id.0), self.requests.get(&request)) else {
+            return Err(RequestError::NoId);
+        };
+        if asked.challenges() >= self.settings.challenges {
+            return Err(RequestError::Unauthorized);
+        }
+        let (new_id, next_id) = self.new_id()?;
+        let bytes = self.written(asked.method(), &sent.body, new_id, challenge.as_ref())?;
+        self.send(&bytes, now)?;
+        if self.core.renew(id.0, new_id.0, challenge).is_err() {
+            self.withdraw(new_id);
+            return Err(RequestError::OutOfMemory);
+        }
+        self.next_id = next_id;
+        if let Some(sent) = self.requests.get_mut(&request) {
+            sent.id = new_id;
+        }
+        self.unsent.push_back((new_id, bytes));
+        Ok(())
+    }
+
     /// The bytes of a request.
-    fn written(&self, asked: &Asked) -> Result<Vec<u8>, RequestError> {
+    fn written(
+        &self,
+        method: Method,
+        body: &Body,
+        id: TransactionId,
+        signed_for: Option<&Challenge<Global>>,
+    ) -> Result<Vec<u8>, RequestError> {
         let write = || -> Result<Vec<u8>, StunWriteError> {
             let page = MessageWriteVec::new();
-            let mut page = Message::builder_request_with_id(asked.method, asked.id, page);
-            asked.body.write(&mut page)?;
+            let mut page = Message::builder_request_with_id(method, id, page);
+            body.write(&mut page)?;
             if let Some(software) = &self.settings.software {
                 page.add_attribute(&Software::new(software)?)?;
             }
-            if let Kind::Short(name, password, algorithm) = &self.settings.credentials.0 {
-                page.add_attribute(&Username::new(name)?)?;
-                page.add_message_integrity(&password.clone().into(), *algorithm)?;
-            }
-            if let Some(challenge) = &asked.signed_for {
-                page = challenge.sign(page)?;
-            }
+            let page = self.core.credentials().sign(signed_for, page)?;
             if self.settings.has_fingerprint {
                 finish_with_fingerprint(page)
             } else {
@@ -535,24 +436,35 @@ impl Client {
     }
 }
 
-/// Why a request was not sent, and the request.
-type Failure = (RequestError, Box<Asked>);
-
-impl From<Failure> for RequestError {
-    fn from((why, _): Failure) -> RequestError {
-        why
+/// Moves the credentials of the settings to the core.
+fn credentials_of(settings: &mut ClientBuilder) -> Credentials<Global> {
+    match mem::replace(&mut settings.credentials.0, Kind::None) {
+        Kind::None => Credentials::Unsigned,
+        Kind::Short(name, password, algorithm) => Credentials::ShortTerm(ShortTerm {
+            name: text(name),
+            password: prepared(password.password().as_bytes(), algorithm),
+            algorithm,
+        }),
+        Kind::Long(user) => Credentials::LongTerm(LongTerm {
+            user: user.0,
+            preferences: settings.preferences,
+            accepts_unsigned: settings.accepts_unsigned,
+        }),
     }
 }
 
-impl From<AllocError> for RequestError {
-    fn from(_: AllocError) -> RequestError {
-        RequestError::OutOfMemory
-    }
+/// Returns a key that is prepared for an algorithm. One of at most 32 bytes takes no memory.
+fn prepared(bytes: &[u8], algorithm: IntegrityAlgorithm) -> PreparedKey<Global> {
+    PreparedKey::new(granted(IntegrityKey::from_bytes(Global, bytes)), algorithm)
 }
 
-/// Copies a challenge, if there is one.
-fn copied(challenge: Option<&Challenge<Global>>) -> Result<Option<Challenge<Global>>, AllocError> {
-    challenge.map(TryClone::try_clone).transpose()
+fn reason_of(why: Distrust) -> DropReason {
+    match why {
+        Distrust::WrongFingerprint => DropReason::WrongFingerprint,
+        Distrust::NotVerified => DropReason::NotVerified,
+        Distrust::UnanswerableChallenge => DropReason::UnanswerableChallenge,
+        Distrust::WeakerChallenge => DropReason::WeakerChallenge,
+    }
 }
 
 fn code_of(message: &Message<'_>) -> Option<u16> {

@@ -275,8 +275,9 @@ impl ClientBuilder {
 }
 
 /// The types that must be understood (below 0x8000) and that this crate can read.
-const UNDERSTOOD: [AttributeType; 23] = [
+const UNDERSTOOD: [AttributeType; 28] = [
     AttributeType(0x0001),
+    AttributeType(0x0003),
     AttributeType(0x0006),
     AttributeType(0x0008),
     AttributeType(0x0009),
@@ -292,6 +293,7 @@ const UNDERSTOOD: [AttributeType; 23] = [
     AttributeType(0x0018),
     AttributeType(0x0019),
     AttributeType(0x001A),
+    AttributeType(0x001B),
     AttributeType(0x001C),
     AttributeType(0x001D),
     AttributeType(0x001E),
@@ -299,4 +301,7 @@ const UNDERSTOOD: [AttributeType; 23] = [
     AttributeType(0x0022),
     AttributeType(0x0024),
     AttributeType(0x0025),
+    AttributeType(0x0026),
+    AttributeType(0x0027),
+    AttributeType(0x002A),
 ];

@@ -1,44 +1,266 @@
 //! Ordered maps and sets whose growth can fail.
 //!
-//! The standard `BTreeMap` aborts the program if an allocation fails. So a map here is a list of
-//! short sorted rows, and the memory of each row is allocated before any entry moves. A map of one
-//! row is one block.
+//! The standard `BTreeMap` aborts the program if an allocation fails. So this is a B-tree of its
+//! own, which allocates the memory of a node before any entry moves.
 
-use super::alloc::{AllocError, AllocFailed, Allocator, Global, Room};
+use super::alloc::{AllocError, AllocFailed, Allocator, Global};
 use ::alloc::vec::Vec;
 use core::borrow::Borrow;
+use core::cmp::Ordering;
 use core::ops::{Bound, RangeBounds, RangeFrom};
-use core::{fmt, iter, mem};
+use core::{fmt, iter, mem, slice};
 
-/// The maximum number of entries of a row. Each row has the capacity for that many.
-const LONGEST: usize = 32;
+/// The maximum number of entries of a node. Each node has the capacity for that many.
+const MOST: usize = 32;
 
-type Row<K, V> = Vec<(K, V)>;
+/// The number of keys that a search of a node passes over at once.
+const STEP: usize = 4;
+
+/// The maximum number of nodes above a leaf. A node is split only if it is full, so 2^64 calls do
+/// not make a tree that is higher.
+const HIGHEST: usize = 32;
+
+/// A node of the tree: a leaf, or one with a child before, between and after its entries. All
+/// leaves have the same number of nodes above them.
+///
+/// Two neighbors that together fill at most half a node are merged when an entry of them is
+/// removed. A node can still be empty if its neighbors are full.
+struct Node<K, V> {
+    keys: Vec<K>,
+    values: Vec<V>,
+    children: Vec<Node<K, V>>,
+}
+
+impl<K: Ord, V> Node<K, V> {
+    /// Creates a leaf without memory.
+    const fn none() -> Self {
+        Node {
+            keys: Vec::new(),
+            values: Vec::new(),
+            children: Vec::new(),
+        }
+    }
+
+    /// Allocates the memory of an empty node.
+    fn new<A: Allocator>(is_leaf: bool, alloc: &A) -> Result<Self, AllocError> {
+        let mut node = Node::none();
+        alloc.allocate(Self::bytes(is_leaf), align_of::<(K, V)>())?;
+        let mut reserved = node.keys.try_reserve_exact(MOST);
+        reserved = reserved.and_then(|()| node.values.try_reserve_exact(MOST));
+        if !is_leaf {
+            reserved = reserved.and_then(|()| node.children.try_reserve_exact(MOST + 1));
+        }
+        if reserved.is_err() {
+            alloc.deallocate(Self::bytes(is_leaf), align_of::<(K, V)>());
+            return Err(AllocError);
+        }
+        Ok(node)
+    }
+
+    /// Returns the bytes that an allocator is asked for.
+    const fn bytes(is_leaf: bool) -> usize {
+        let children = if is_leaf { 0 } else { MOST + 1 };
+        MOST * (size_of::<K>() + size_of::<V>()) + children * size_of::<Self>()
+    }
+
+    /// Tells the allocator that the memory of this node and of all below it is no longer used.
+    fn leave<A: Allocator>(&self, alloc: &A) {
+        self.children.iter().for_each(|child| child.leave(alloc));
+        if self.keys.capacity() > 0 {
+            let is_leaf = self.children.capacity() == 0;
+            alloc.deallocate(Self::bytes(is_leaf), align_of::<(K, V)>());
+        }
+    }
+
+    fn len(&self) -> usize {
+        self.keys.len()
+    }
+
+    fn is_leaf(&self) -> bool {
+        self.children.is_empty()
+    }
+
+    /// Returns the index of a key, or else the index of the first entry behind it, which is also
+    /// that of the child where the key would be.
+    fn search<Q: Ord + ?Sized>(&self, key: &Q) -> Result<usize, usize>
+    where
+        K: Borrow<Q>,
+    {
+        // A processor reads ahead in these loops. In a binary search each step waits for the one
+        // before, which takes longer at so few keys.
+        let mut at = 0;
+        while self
+            .keys
+            .get(at + STEP - 1)
+            .is_some_and(|k| k.borrow() < key)
+        {
+            at += STEP;
+        }
+        for k in &self.keys[at..] {
+            match k.borrow().cmp(key) {
+                Ordering::Less => at += 1,
+                Ordering::Equal => return Ok(at),
+                Ordering::Greater => break,
+            }
+        }
+        Err(at)
+    }
+
+    /// Inserts an entry at an index. The node is not full.
+    fn put(&mut self, at: usize, (key, value): (K, V)) {
+        self.keys.insert(at, key);
+        self.values.insert(at, value);
+    }
+
+    /// Removes the entry at an index.
+    fn take(&mut self, at: usize) -> (K, V) {
+        (self.keys.remove(at), self.values.remove(at))
+    }
+
+    /// Splits a child that is full, so that `key` can be inserted in it. This node is not full. If
+    /// the allocation fails, no entry moves.
+    fn split<A: Allocator>(&mut self, at: usize, key: &K, alloc: &A) -> Result<(), AllocError> {
+        let is_last = at == self.len();
+        let child = &mut self.children[at];
+        let mut next = Node::new(child.is_leaf(), alloc)?;
+        // If the keys are inserted in ascending order, the nodes are left nearly full.
+        let is_ascending = is_last && child.keys.last().is_some_and(|last| last < key);
+        let middle = if is_ascending { MOST - 2 } else { MOST / 2 };
+        next.keys.extend(child.keys.drain(middle + 1..));
+        next.values.extend(child.values.drain(middle + 1..));
+        if !child.is_leaf() {
+            next.children.extend(child.children.drain(middle + 1..));
+        }
+        let between = child.take(middle);
+        self.put(at, between);
+        self.children.insert(at + 1, next);
+        Ok(())
+    }
+
+    /// Merges the children before and after an entry with that entry if together they fill at most
+    /// half a node, or if one of them is empty and the other has room for the entry.
+    fn merge<A: Allocator>(&mut self, at: usize, alloc: &A) {
+        let (before, after) = (self.children[at].len(), self.children[at + 1].len());
+        let most = if before.min(after) == 0 {
+            MOST
+        } else {
+            MOST / 2
+        };
+        if before + 1 + after > most {
+            return;
+        }
+        let (key, value) = self.take(at);
+        let mut next = self.children.remove(at + 1);
+        let child = &mut self.children[at];
+        child.keys.push(key);
+        child.values.push(value);
+        child.keys.append(&mut next.keys);
+        child.values.append(&mut next.values);
+        child.children.append(&mut next.children);
+        next.leave(alloc);
+    }
+
+    /// Merges a child with its neighbors if they are small.
+    fn tidy<A: Allocator>(&mut self, at: usize, alloc: &A) {
+        if at < self.len() {
+            self.merge(at, alloc);
+        }
+        if at > 0 {
+            self.merge(at - 1, alloc);
+        }
+    }
+
+    /// Removes the last entry of this node and those below it.
+    fn pop<A: Allocator>(&mut self, alloc: &A) -> Option<(K, V)> {
+        if let Some(last) = self.children.last_mut() {
+            if let Some(entry) = last.pop(alloc) {
+                self.tidy(self.len(), alloc);
+                return Some(entry);
+            }
+            if self.keys.is_empty() {
+                return None;
+            }
+            self.children.pop()?.leave(alloc);
+        }
+        self.keys.pop().zip(self.values.pop())
+    }
+
+    /// Removes the entry at an index of a node that is no leaf. The last entry before it takes its
+    /// place.
+    fn take_between<A: Allocator>(&mut self, at: usize, alloc: &A) -> (K, V) {
+        match self.children[at].pop(alloc) {
+            Some((key, value)) => (
+                mem::replace(&mut self.keys[at], key),
+                mem::replace(&mut self.values[at], value),
+            ),
+            None => {
+                self.children.remove(at).leave(alloc);
+                self.take(at)
+            }
+        }
+    }
+
+    fn remove<Q: Ord + ?Sized, A: Allocator>(&mut self, key: &Q, alloc: &A) -> Option<(K, V)>
+    where
+        K: Borrow<Q>,
+    {
+        let (at, entry) = match self.search(key) {
+            Ok(at) if self.is_leaf() => return Some(self.take(at)),
+            Ok(at) => (at, self.take_between(at, alloc)),
+            Err(at) => (at, self.children.get_mut(at)?.remove(key, alloc)?),
+        };
+        self.tidy(at, alloc);
+        Some(entry)
+    }
+
+    fn retain<A: Allocator>(&mut self, condition: &mut impl FnMut(&K, &mut V) -> bool, alloc: &A) {
+        if self.is_leaf() {
+            let mut kept = 0;
+            for at in 0..self.len() {
+                if condition(&self.keys[at], &mut self.values[at]) {
+                    if kept < at {
+                        self.keys.swap(kept, at);
+                        self.values.swap(kept, at);
+                    }
+                    kept += 1;
+                }
+            }
+            self.keys.truncate(kept);
+            self.values.truncate(kept);
+            return;
+        }
+        let mut is_kept = [true; MOST];
+        for (at, child) in self.children.iter_mut().enumerate() {
+            child.retain(condition, alloc);
+            if let Some(key) = self.keys.get(at) {
+                is_kept[at] = condition(key, &mut self.values[at]);
+            }
+        }
+        for at in (0..self.len()).rev() {
+            if !is_kept[at] {
+                self.take_between(at, alloc);
+            }
+            if at < self.len() {
+                self.merge(at, alloc);
+            }
+        }
+    }
+}
 
 /// Like the standard `BTreeMap`, but with an allocator that is asked before the map grows.
 pub struct BTreeMap<K: Ord, V, A: Allocator = Global> {
-    // The entries in order. Only the first row can be empty, and only if the map is. It has no
-    // memory until the first entry is inserted, and keeps its memory from then on.
-    first: Row<K, V>,
-    others: Vec<Row<K, V>>,
-    room: Room<Row<K, V>, A>,
+    // It has no memory until the first entry is inserted.
+    root: Node<K, V>,
+    alloc: A,
     len: usize,
-}
-
-/// The row of a key and the index in that row, where the key is or would be inserted.
-struct Place {
-    row: usize,
-    at: usize,
-    is_taken: bool,
 }
 
 impl<K: Ord, V, A: Allocator> BTreeMap<K, V, A> {
     /// Creates an empty map. This does not allocate.
     pub const fn new(alloc: A) -> Self {
         BTreeMap {
-            first: Vec::new(),
-            others: Vec::new(),
-            room: Room::none(alloc),
+            root: Node::none(),
+            alloc,
             len: 0,
         }
     }
@@ -53,56 +275,18 @@ impl<K: Ord, V, A: Allocator> BTreeMap<K, V, A> {
         self.len == 0
     }
 
-    fn row(&self, row: usize) -> &Row<K, V> {
-        match row.checked_sub(1) {
-            Some(other) => &self.others[other],
-            None => &self.first,
-        }
-    }
-
-    fn row_mut(&mut self, row: usize) -> &mut Row<K, V> {
-        match row.checked_sub(1) {
-            Some(other) => &mut self.others[other],
-            None => &mut self.first,
-        }
-    }
-
-    fn rows(&self) -> impl DoubleEndedIterator<Item = &Row<K, V>> {
-        iter::once(&self.first).chain(&self.others)
-    }
-
-    /// Finds the place of a key. That of a key which is greater than all others is at the end of
-    /// the last row.
-    fn place<Q: Ord + ?Sized>(&self, key: &Q) -> Place
-    where
-        K: Borrow<Q>,
-    {
-        let is_before = |row: &Row<K, V>| row.last().is_some_and(|(k, _)| k.borrow() < key);
-        let mut row = 0;
-        if is_before(&self.first) {
-            row = (1 + self.others.partition_point(is_before)).min(self.others.len());
-        }
-        match self.row(row).binary_search_by(|(k, _)| k.borrow().cmp(key)) {
-            Ok(at) => Place {
-                row,
-                at,
-                is_taken: true,
-            },
-            Err(at) => Place {
-                row,
-                at,
-                is_taken: false,
-            },
-        }
-    }
-
     /// Returns a reference to the value of a key.
     pub fn get<Q: Ord + ?Sized>(&self, key: &Q) -> Option<&V>
     where
         K: Borrow<Q>,
     {
-        let Place { row, at, is_taken } = self.place(key);
-        is_taken.then(|| &self.row(row)[at].1)
+        let mut node = &self.root;
+        loop {
+            match node.search(key) {
+                Ok(at) => return Some(&node.values[at]),
+                Err(at) => node = node.children.get(at)?,
+            }
+        }
     }
 
     /// Returns a mutable reference to the value of a key.
@@ -110,8 +294,13 @@ impl<K: Ord, V, A: Allocator> BTreeMap<K, V, A> {
     where
         K: Borrow<Q>,
     {
-        let Place { row, at, is_taken } = self.place(key);
-        is_taken.then(|| &mut self.row_mut(row)[at].1)
+        let mut node = &mut self.root;
+        loop {
+            match node.search(key) {
+                Ok(at) => return Some(&mut node.values[at]),
+                Err(at) => node = node.children.get_mut(at)?,
+            }
+        }
     }
 
     /// Returns `true` if the map has this key.
@@ -119,94 +308,50 @@ impl<K: Ord, V, A: Allocator> BTreeMap<K, V, A> {
     where
         K: Borrow<Q>,
     {
-        self.place(key).is_taken
+        self.get(key).is_some()
     }
 
     /// Inserts a value and returns the previous value of its key, which is not replaced itself. If
     /// an allocation fails, the error returns key and value.
     pub fn insert(&mut self, key: K, value: V) -> Result<Option<V>, AllocFailed<(K, V)>> {
-        let Place { row, at, is_taken } = self.place(&key);
-        if is_taken {
-            return Ok(Some(mem::replace(&mut self.row_mut(row)[at].1, value)));
-        }
-        let Ok((row, at)) = self.make_room(row, at) else {
-            return Err(AllocFailed {
-                value: (key, value),
-            });
-        };
-        self.row_mut(row).insert(at, (key, value));
-        self.len += 1;
-        Ok(None)
-    }
-
-    /// Makes room for an entry at a place, and returns where that place is afterward. If an
-    /// allocation fails, no entry moves.
-    fn make_room(&mut self, row: usize, at: usize) -> Result<(usize, usize), AllocError> {
-        if self.first.capacity() == 0 {
-            self.first = self.new_row()?;
-        }
-        if self.row(row).len() < LONGEST {
-            return Ok((row, at));
-        }
-        let others = self.others.len();
-        if others == self.room.places() {
-            let places = self.room.grown(others + 1);
-            let reserve = || self.others.try_reserve_exact(places - others);
-            self.room.change(places, reserve)?;
-        }
-        let mut next = self.new_row()?;
-        // If the keys are inserted in ascending order, the last row is left full.
-        let is_last = row == others && at == LONGEST;
-        let middle = if is_last { LONGEST } else { LONGEST / 2 };
-        next.extend(self.row_mut(row).drain(middle..));
-        self.others.insert(row, next);
-        Ok(if is_last || at > middle {
-            (row + 1, at - middle)
-        } else {
-            (row, at)
-        })
-    }
-
-    const ROW_BYTES: usize = LONGEST * size_of::<(K, V)>();
-
-    fn new_row(&self) -> Result<Row<K, V>, AllocError> {
-        let mut row = Vec::new();
-        let alloc = &self.room.alloc;
-        alloc.allocate(Self::ROW_BYTES, align_of::<(K, V)>())?;
-        if row.try_reserve_exact(LONGEST).is_err() {
-            self.leave_rows(1);
-            return Err(AllocError);
-        }
-        Ok(row)
-    }
-
-    fn leave_rows(&self, count: usize) {
-        for _ in 0..count {
-            let alloc = &self.room.alloc;
-            alloc.deallocate(Self::ROW_BYTES, align_of::<(K, V)>());
-        }
-    }
-
-    /// Merges the next row into this one if both together have at most half a row of entries. If
-    /// this row is empty, it is removed, or gets the entries of the next row.
-    fn tidy(&mut self, row: usize) {
-        let next = self.others.get(row).map_or(LONGEST, Vec::len);
-        if self.row(row).len() + next <= LONGEST / 2 || self.row(row).is_empty() && next < LONGEST {
-            let mut next = self.others.remove(row);
-            self.row_mut(row).append(&mut next);
-        } else if self.row(row).is_empty() {
-            match row.checked_sub(1) {
-                Some(other) => drop(self.others.remove(other)),
-                None if self.others.is_empty() => return,
-                None => self.first = self.others.remove(0),
+        match self.place(&key) {
+            Ok((node, Ok(at))) => Ok(Some(mem::replace(&mut node.values[at], value))),
+            Ok((node, Err(at))) => {
+                node.put(at, (key, value));
+                self.len += 1;
+                Ok(None)
             }
-        } else {
-            return;
+            // A value can be replaced without memory.
+            Err(AllocError) => match self.get_mut(&key) {
+                Some(before) => Ok(Some(mem::replace(before, value))),
+                None => Err(AllocFailed {
+                    value: (key, value),
+                }),
+            },
         }
-        self.leave_rows(1);
-        if self.others.is_empty() {
-            self.others = Vec::new();
-            self.room.leave();
+    }
+
+    /// Finds the node and the index of a key, or those where it can be inserted. The nodes on the
+    /// way that are full are split, so that there is room at each.
+    fn place(&mut self, key: &K) -> Result<(&mut Node<K, V>, Result<usize, usize>), AllocError> {
+        if self.root.keys.capacity() == 0 {
+            self.root = Node::new(true, &self.alloc)?;
+        } else if self.root.len() == MOST {
+            let root = Node::new(false, &self.alloc)?;
+            let child = mem::replace(&mut self.root, root);
+            self.root.children.push(child);
+        }
+        let mut node = &mut self.root;
+        loop {
+            let place = node.search(key);
+            let (Err(at), false) = (place, node.is_leaf()) else {
+                return Ok((node, place));
+            };
+            if node.children[at].len() == MOST {
+                node.split(at, key, &self.alloc)?;
+            } else {
+                node = &mut node.children[at];
+            }
         }
     }
 
@@ -215,14 +360,20 @@ impl<K: Ord, V, A: Allocator> BTreeMap<K, V, A> {
     where
         K: Borrow<Q>,
     {
-        let Place { row, at, is_taken } = self.place(key);
-        if !is_taken {
-            return None;
-        }
-        let entry = self.row_mut(row).remove(at);
+        let entry = self.root.remove(key, &self.alloc)?;
         self.len -= 1;
-        self.tidy(row);
+        self.lower();
         Some(entry)
+    }
+
+    /// Removes nodes at the root that have a single child.
+    fn lower(&mut self) {
+        while self.root.len() == 0 {
+            let Some(child) = self.root.children.pop() else {
+                return;
+            };
+            mem::replace(&mut self.root, child).leave(&self.alloc);
+        }
     }
 
     /// Removes a key and returns its value. This does not allocate.
@@ -236,48 +387,129 @@ impl<K: Ord, V, A: Allocator> BTreeMap<K, V, A> {
     /// Retains only the entries for which `condition` returns `true`. It is called in the order of
     /// the keys. This does not allocate.
     pub fn retain(&mut self, mut condition: impl FnMut(&K, &mut V) -> bool) {
-        for row in iter::once(&mut self.first).chain(&mut self.others) {
-            row.retain_mut(|(key, value)| condition(key, value));
-        }
-        self.len = self.rows().map(Vec::len).sum();
-        for row in (0..=self.others.len()).rev() {
-            self.tidy(row);
-        }
+        let mut len = 0;
+        let mut counted = |key: &K, value: &mut V| {
+            let is_kept = condition(key, value);
+            len += usize::from(is_kept);
+            is_kept
+        };
+        self.root.retain(&mut counted, &self.alloc);
+        self.len = len;
+        self.lower();
     }
 
     /// Returns an iterator over the entries, in the order of their keys.
     pub fn iter(&self) -> impl Iterator<Item = (&K, &V)> {
-        self.rows().flatten().map(|(key, value)| (key, value))
+        let mut entries = Entries::new(&self.root);
+        entries.descend(&self.root);
+        entries
     }
 
     /// Returns an iterator over the entries whose keys are in a range, in the order of their keys.
     pub fn range(&self, range: impl RangeBounds<K>) -> impl Iterator<Item = (&K, &V)> {
-        let (key, is_past) = match range.start_bound() {
-            Bound::Included(key) => (Some(key), false),
-            Bound::Excluded(key) => (Some(key), true),
-            Bound::Unbounded => (None, false),
-        };
-        let (row, at) = key.map_or((0, 0), |key| {
-            let place = self.place(key);
-            (place.row, place.at + usize::from(is_past && place.is_taken))
-        });
-        let others = self.others.get(row..).unwrap_or(&[]);
-        let entries = self.row(row)[at..].iter().chain(others.iter().flatten());
-        entries
-            .map(|(key, value)| (key, value))
-            .take_while(move |(key, _)| range.contains(key))
+        let mut entries = Entries::new(&self.root);
+        match range.start_bound() {
+            Bound::Included(key) => entries.seek(key, false),
+            Bound::Excluded(key) => entries.seek(key, true),
+            Bound::Unbounded => entries.descend(&self.root),
+        }
+        entries.take_while(move |(key, _)| range.contains(key))
     }
 }
 
 impl<K: Ord, V, A: Allocator> Drop for BTreeMap<K, V, A> {
     fn drop(&mut self) {
-        self.leave_rows(self.others.len() + usize::from(self.first.capacity() > 0));
+        self.root.leave(&self.alloc);
     }
 }
 
 impl<K: Ord + fmt::Debug, V: fmt::Debug, A: Allocator> fmt::Debug for BTreeMap<K, V, A> {
     fn fmt(&self, f: &mut fmt::Formatter<'_>) -> fmt::Result {
         f.debug_map().entries(self.iter()).finish()
+    }
+}
+
+/// The entries of a tree from one on, in the order of their keys.
+struct Entries<'a, K, V> {
+    root: &'a Node<K, V>,
+    // The entries of a node that come before those of the nodes above it.
+    node: iter::Zip<slice::Iter<'a, K>, slice::Iter<'a, V>>,
+    // The way to that node: the index of the child in each node above it.
+    way: [u8; HIGHEST],
+    above: usize,
+}
+
+impl<'a, K: Ord, V> Entries<'a, K, V> {
+    /// Creates an iterator that has no entries yet.
+    fn new(root: &'a Node<K, V>) -> Self {
+        Entries {
+            root,
+            node: [].iter().zip(&[]),
+            way: [0; HIGHEST],
+            above: 0,
+        }
+    }
+
+    /// Goes down to a child.
+    fn enter(&mut self, node: &'a Node<K, V>, at: usize) -> &'a Node<K, V> {
+        self.way[self.above] = at as u8;
+        self.above += 1;
+        &node.children[at]
+    }
+
+    /// Goes from a node down to the first leaf below it.
+    fn descend(&mut self, mut node: &'a Node<K, V>) {
+        while !node.is_leaf() {
+            node = self.enter(node, 0);
+        }
+        self.node = node.keys.iter().zip(&node.values);
+    }
+
+    /// Goes to a key, or past it, or else to the first key behind it.
+    fn seek(&mut self, key: &K, is_past: bool) {
+        let mut node = self.root;
+        loop {
+            let place = node.search(key);
+            let at = place.map_or_else(|at| at, |at| at + usize::from(is_past));
+            if node.is_leaf() {
+                self.node = node.keys[at..].iter().zip(&node.values[at..]);
+                return;
+            }
+            node = self.enter(node, at);
+            if place.is_ok() {
+                // The key of this place comes after all of the child.
+                match is_past {
+                    true => self.descend(node),
+                    false => self.node = [].iter().zip(&[]),
+                }
+                return;
+            }
+        }
+    }
+
+    /// Goes up to the next entry of a node above and down to the leaf behind it.
+    fn climb(&mut self) -> Option<(&'a K, &'a V)> {
+        let (mut node, mut next) = (self.root, None);
+        for (above, at) in self.way[..self.above].iter().enumerate() {
+            let at = usize::from(*at);
+            if at < node.len() {
+                next = Some((node, above, at));
+            }
+            node = &node.children[at];
+        }
+        let (node, above, at) = next?;
+        self.above = above;
+        let child = self.enter(node, at + 1);
+        self.descend(child);
+        Some((&node.keys[at], &node.values[at]))
+    }
+}
+
+impl<'a, K: Ord, V> Iterator for Entries<'a, K, V> {
+    type Item = (&'a K, &'a V);
+
+    fn next(&mut self) -> Option<Self::Item> {
+        self.node.next().or_else(|| self.climb())
     }
 }
 

@@ -136,7 +136,7 @@ fn a_map_is_as_the_standard_one() {
     }
 }
 
-/// Rows that are nearly empty are put together, so that a map which shrinks gives back memory.
+/// Nodes that are nearly empty are merged, so that a map which shrinks gives back memory.
 #[test]
 fn a_map_that_shrinks_gives_back_memory() {
     let heap = Sparse::new(0);
@@ -158,9 +158,9 @@ fn a_map_that_shrinks_gives_back_memory() {
     );
 }
 
-/// A row may lose all entries while the next one is full. Then the keys behind it are still found.
+/// A node may lose all entries while the next one is full. Then the keys behind it are still found.
 #[test]
-fn a_map_stands_without_a_row() {
+fn a_map_stands_with_an_empty_node() {
     let mut map = BTreeMap::new(Global);
     for key in 0..200 {
         map.insert(key, key).unwrap();
@@ -170,6 +170,65 @@ fn a_map_stands_without_a_row() {
         assert_eq!(map.remove(&key), Some(key));
     }
     assert!((0..200).all(|key| map.contains_key(&key) != gone.contains(&key)));
+}
+
+/// Entries are inserted and removed in runs, so that nodes are split at their ends, and whole
+/// nodes at each height become empty.
+#[test]
+fn a_map_of_runs_is_as_the_standard_one() {
+    play(600, |heap, dice, turns| {
+        let mut ours = BTreeMap::new(heap);
+        let mut other = collections::BTreeMap::new();
+        for turn in 0..turns {
+            let first = dice.roll(30_000);
+            let longest = if dice.roll(4) == 0 { 9_000 } else { 300 };
+            let run = first..first + dice.roll(longest);
+            match dice.roll(6) {
+                0..=2 => {
+                    let mut insert = |key| match ours.insert(key, turn) {
+                        Ok(before) => assert_eq!(before, other.insert(key, turn)),
+                        Err(AllocFailed { value }) => assert_eq!(value, (key, turn)),
+                    };
+                    match dice.roll(2) {
+                        0 => run.clone().for_each(&mut insert),
+                        _ => run.clone().rev().for_each(&mut insert),
+                    }
+                }
+                3 => run
+                    .clone()
+                    .for_each(|key| assert_eq!(ours.remove(&key), other.remove(&key))),
+                4 => run
+                    .clone()
+                    .rev()
+                    .for_each(|key| assert_eq!(ours.remove(&key), other.remove(&key))),
+                _ => {
+                    let mut seen = vec![];
+                    ours.retain(|key, _| {
+                        seen.push(*key);
+                        !run.contains(key)
+                    });
+                    assert!(seen.iter().eq(other.keys()));
+                    other.retain(|key, _| !run.contains(key));
+                }
+            }
+            assert_eq!(ours.len(), other.len());
+            for start in [run.start, run.end, dice.roll(40_000)] {
+                let from = (Bound::Included(start), Bound::Unbounded);
+                assert!(ours.range(from).take(100).eq(other.range(from).take(100)));
+                let past = (Bound::Excluded(start), Bound::Excluded(start + 2_000));
+                assert!(ours.range(past).eq(other.range(past)));
+            }
+            if turn % 20 == 0 {
+                assert!(ours.iter().eq(other.iter()));
+            }
+        }
+        assert!(ours.iter().eq(other.iter()));
+        while let Some(key) = other.keys().next_back().copied() {
+            assert_eq!(ours.remove_entry(&key), other.remove_entry(&key));
+        }
+        assert!(ours.is_empty() && ours.iter().next().is_none());
+        assert!(heap.bytes() <= 32 * 16, "the memory of one node is left");
+    });
 }
 
 #[test]

@@ -104,12 +104,21 @@ def transport(value, _):
     return {6: "TCP 6", 17: "UDP 17"}[value[0]]
 
 
+def change_request(value, _):
+    return {0: "no change", 2: "another port", 4: "another address",
+            6: "another address and another port"}[value[3]]
+
+
+def response_port(value, _):
+    return f"port {int.from_bytes(value[:2], 'big')}"
+
+
 def digits(value, _):
     return value.hex() or "empty"
 
 
 ATTRIBUTES = {
-    0x0001: ("MAPPED-ADDRESS", address), 0x0003: ("CHANGE-REQUEST", digits),
+    0x0001: ("MAPPED-ADDRESS", address), 0x0003: ("CHANGE-REQUEST", change_request),
     0x0006: ("USERNAME", text), 0x0008: ("MESSAGE-INTEGRITY", digits),
     0x0009: ("ERROR-CODE", error), 0x000C: ("CHANNEL-NUMBER", channel),
     0x000D: ("LIFETIME", lifetime), 0x0012: ("XOR-PEER-ADDRESS", xor_address),
@@ -118,9 +127,11 @@ ATTRIBUTES = {
     0x0018: ("EVEN-PORT", even_port), 0x0019: ("REQUESTED-TRANSPORT", transport),
     0x001A: ("DONT-FRAGMENT", flag), 0x0020: ("XOR-MAPPED-ADDRESS", xor_address),
     0x0022: ("RESERVATION-TOKEN", digits), 0x0024: ("PRIORITY", number),
-    0x0025: ("USE-CANDIDATE", flag), 0x8022: ("SOFTWARE", text), 0x8028: ("FINGERPRINT", digits),
+    0x0025: ("USE-CANDIDATE", flag), 0x0026: ("PADDING", digits),
+    0x0027: ("RESPONSE-PORT", response_port), 0x002A: ("CONNECTION-ID", number), 0x8022: ("SOFTWARE", text), 0x8028: ("FINGERPRINT", digits),
     0x8029: ("ICE-CONTROLLED", digits), 0x802A: ("ICE-CONTROLLING", digits),
     0x802B: ("RESPONSE-ORIGIN", address), 0x802C: ("OTHER-ADDRESS", address),
+    0x802E: ("THIRD-PARTY-AUTHORIZATION", text), 0x8030: ("MOBILITY-TICKET", digits),
 }
 
 

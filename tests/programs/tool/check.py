@@ -1,7 +1,7 @@
 #!/usr/bin/env python3
 """Runs the built program on the transcripts of this folder: every command, script line, word,
 refusal and exit status. Input and output are closed or fail. Each allocation is refused in turn,
-and so each with all after it.
+and so each with all after it. It also talks to `serve`, line by line.
 
     tests/programs/tool/check.py [--exported] [PROGRAM ..]
 
@@ -17,6 +17,7 @@ counts the runs.
 
 import glob
 import os
+import select
 import subprocess
 import sys
 
@@ -33,11 +34,13 @@ SAMPLE = ("00010058 2112a442 b7e7a701 bc34d686 fa87dfae 80220010 5354554e 207465
           "bfd8cb56 781ef2b5 b2d3f249 c1b571a2\n"
           "    80280004 e57a3bcf")
 
+USERS = [f"user user{number} password{number}\n" for number in range(6_000)]
+
 # A small task, done in the least address space, and a large one with what it prints.
 LARGE = [
     (["check", "VOkJxbRl1RmTxUk/WvJxBt"], SAMPLE, SAMPLE + " " * 4_000_000,
      "valid MESSAGE-INTEGRITY\n"),
-    (["serve", "realm"], "expiry 30\n", "expiry 30\n" * 20_000, "ok\n" * 20_000),
+    (["serve", "realm"], USERS[0], "".join(USERS), "ok\n" * len(USERS)),
 ]
 
 
@@ -70,6 +73,29 @@ def refuses_space(program):
             raise play.Wrong(f"{words}: in each space that was tried it had memory, or in none")
 
 
+def converses(program):
+    """Each line of `serve` is answered before the next one is written."""
+    program.count += 1
+    talk = [("user user pass", "ok"), ("", None), ("expiry 29", "too short"),
+            ("remove-user user", "ok"), ("user", "wrong line 5")]
+    with subprocess.Popen([program.path, "serve", "realm"], stdin=subprocess.PIPE,
+                          stdout=subprocess.PIPE) as running:
+        for line, answer in talk:
+            running.stdin.write(line.encode() + b"\n")
+            running.stdin.flush()
+            if answer is None:
+                continue
+            if not select.select([running.stdout], [], [], 20)[0]:
+                running.kill()
+                raise play.Wrong(f"serve: no answer to {line!r}")
+            told = os.read(running.stdout.fileno(), 100)
+            if told != answer.encode() + b"\n":
+                raise play.Wrong(f"serve: {told!r} to {line!r}")
+        running.stdin.close()
+        if running.wait(20) != 1:
+            raise play.Wrong(f"serve: status {running.returncode}")
+
+
 def built():
     """The program, proved and built by `rt run`."""
     ran = subprocess.run(["rt", "run", "--", "negotiate", "sha1", "auto", "sha1", "auto"],
@@ -87,11 +113,12 @@ def main(words):
     for path in words[is_exported:] or [built()]:
         program = play.Program(path, REFUSED, is_exported)
         wrong += play.play(program, sorted(glob.glob(os.path.join(HERE, "*.txt"))))
-        try:
-            refuses_space(program)
-        except play.Wrong as failure:
-            print(failure, file=sys.stderr)
-            wrong += 1
+        for case in (refuses_space, converses):
+            try:
+                case(program)
+            except play.Wrong as failure:
+                print(failure, file=sys.stderr)
+                wrong += 1
         count += program.count
     print(f"tool: {wrong} runs came otherwise" if wrong
           else f"tool: passed, {count} runs of the built program")

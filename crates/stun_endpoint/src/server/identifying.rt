@@ -25,9 +25,9 @@ ghost use Rattle.stun_types.specs.Message.{refusal};
 
 use crate::lookup::{Identified, Lookup};
 use crate::received::{DropReason, Received};
+use crate::responder::no_message;
 use crate::server::Server;
 use crate::server::judges::Judges;
-use crate::server::receiving::no_message;
 use crate::unix_time::UnixTime;
 use std::alloc::{AllocError, Allocator};
 use std::net::SocketAddr;
@@ -56,12 +56,13 @@ impl<A: Allocator + Copy> Server<A> {
     /// - `Lookup` is a request that carries a nonce which is accepted for its source at this time,
     ///   is signed, and names a user. Look that user up, and pass both to `resume`.
     ///
-    /// So a forged source address or an invented nonce never causes a look-up, because the nonces of
-    /// an address are only sent to that address.
+    /// So an attacker who invents a nonce, or who forges a source address and has not seen a nonce of
+    /// that address, causes no look-up: the nonces of an address are only sent to that address.
     ///
     /// Fails if an allocation fails. Nothing is lost then, because the client sends again.
     ///
-    /// Contracts: laws `identify_needs_no_user` and `lookups_have_accepted_nonces`.
+    /// Contracts: laws `identify_needs_no_user`, `lookups_have_accepted_nonces` and
+    /// `resume_is_receive_with_all_users`.
     pub fn identify<'a>(
         &'a self,
         bytes: &'a [u8],

@@ -1,66 +1,46 @@
 //! What a datagram comes to (RFC 8489, sections 6.3 and 9.2.4).
 
-ghost use Rattle.std.specs.Net.Socket.{socket_ip, socket_port};
-ghost use Rattle.std.specs.Option.{option_copied, option_map};
-ghost use Rattle.std.specs.Prelude.{◌≡◌, ◌≤◌, ◌∷◌, ◌&&◌, IfOk, OnOk, true, length, map};
+ghost use Rattle.std.specs.Option.{option_copied};
+ghost use Rattle.std.specs.Prelude.{◌≡◌, ◌≤◌, ◌∷◌, IfOk, OnOk, true, length, map};
 ghost use Rattle.std.specs.Prelude.{if◌then◌else◌};
-ghost use Rattle.std.specs.String.{string_bytes};
 ghost use Rattle.stun_auth.specs.AddedAttribute as added;
 ghost use Rattle.stun_auth.specs.Algorithms.{algorithms_of};
 ghost use Rattle.stun_auth.specs.Reading.{reading_of};
 ghost use Rattle.stun_base.specs.MessageType.{class_in};
-ghost use Rattle.stun_endpoint.specs.Answers.{binding_page, challenge_page, error_page, is_fingerprinted};
-ghost use Rattle.stun_endpoint.specs.Answers.{mapped_address, offered, with_attributes, with_end};
-ghost use Rattle.stun_endpoint.specs.Answers.{signed_end, xored_canonical};
+ghost use Rattle.stun_endpoint.specs.Answers.{challenge_page, is_fingerprinted, offered};
+ghost use Rattle.stun_endpoint.specs.Answers.{with_attributes};
 ghost use Rattle.stun_endpoint.specs.Judged.{judged, realm_of_table, realm_of_user};
 ghost use Rattle.stun_endpoint.specs.Nonces.{epoch_of};
 ghost use Rattle.stun_endpoint.specs.Outcomes.{outcome_of};
-ghost use Rattle.stun_endpoint.specs.Received.{answer_to_refused, bad_answer, binding_answer};
-ghost use Rattle.stun_endpoint.specs.Received.{by_class, by_verdict, is_binding, refused_with};
-ghost use Rattle.stun_endpoint.specs.Received.{reply_to, stale_answer, unauthenticated_answer};
-ghost use Rattle.stun_endpoint.specs.Received.{unknown_answer};
-ghost use Rattle.stun_endpoint.specs.Received.{dropped, indicated, is_empty, no_message};
 ghost use Rattle.stun_endpoint.specs.Realm.{algorithms_for};
-ghost use Rattle.stun_endpoint.specs.Received.{outcome_of_accepted, received_by};
+ghost use Rattle.stun_endpoint.specs.Received.{answer_to_refused, by_class, by_verdict};
+ghost use Rattle.stun_endpoint.specs.Received.{challenge_answer, dropped, indicated, is_empty};
+ghost use Rattle.stun_endpoint.specs.Received.{outcome_of_accepted, received_by, refused_with};
+ghost use Rattle.stun_endpoint.specs.Received.{responding_of, signature_for};
+ghost use Rattle.stun_endpoint.specs.Refusals.{code_of, phrase_of};
+ghost use Rattle.stun_endpoint.specs.Responding.{own_answer, refusal_by, reply_by};
 ghost use Rattle.stun_endpoint.specs.code.Judgements.{by_judgement};
 ghost use Rattle.stun_endpoint.specs.code.Judges.{realm_of};
-ghost use Rattle.stun_extra.specs.Unknown.{refusing_answer, unknown_types};
-ghost use Rattle.stun_types.specs.Integrity.{deciding_algorithm};
+ghost use Rattle.stun_extra.specs.Unknown.{unknown_types};
 ghost use Rattle.stun_types.specs.PasswordAlgorithms.{password_algorithm_of};
-ghost use Rattle.stun_types.specs.Writing.{IsOpen, empty_answer, with_attribute};
 
 use crate::received::{Answer, DropReason, Received, Refusal, Request};
-use crate::reply::{Reply, Signature, finish_response};
+use crate::reply::{Reply, Signature};
+use crate::responder::{error_page, no_message};
 use crate::server::Server;
 use crate::server::judges::Judges;
-use crate::understood::are_understood;
 use crate::unix_time::UnixTime;
 use crate::users::Users;
 use std::alloc::{AllocError, Allocator};
 use std::net::SocketAddr;
 use stun_auth::auth::{Accepted, LongTermServerUser, VerdictRefusal, told_refusal};
-use stun_base::header::MessageHeader;
 use stun_base::prepared_key::PreparedKey;
 use stun_extra::fingerprint::{Fingerprint, check_fingerprint};
-use stun_extra::unknown::answer_unknown;
-use stun_types::attribute::{
-    ErrorCode, Nonce, PasswordAlgorithmValue, PasswordAlgorithms, Realm, XorMappedAddress,
-};
+use stun_types::attribute::{Nonce, PasswordAlgorithmValue, PasswordAlgorithms, Realm};
 use stun_types::message::{
-    BINDING, Message, MessageClass, MessageWriteVec, StunWriteError, TransactionId,
-    deciding_algorithm,
+    Message, MessageClass, MessageWriteVec, StunWriteError, deciding_algorithm,
 };
 use stun_types::prelude::*;
-
-/// Why bytes that are no message are dropped.
-pub(super) fn no_message(bytes: &[u8]) -> DropReason
-    ensures { result ≡ no_message bytes.now }
-{
-    match MessageHeader::from_bytes(bytes) {
-        Ok(_) => DropReason::Malformed,
-        Err(_) => DropReason::NotStun,
-    }
-}
 
 impl<A: Allocator + Copy> Server<A> {
     /// Judges a datagram, and writes the response if it gets one at once.
@@ -162,18 +142,11 @@ impl<A: Allocator + Copy> Server<A> {
             ≡ (if is_empty (unknown_types self.now.known message.entry)
             then indicated message.entry else dropped DropReason.UnknownAttribute) }
     {
-        if self.understands(&message) {
+        if self.responder.understands(&message) {
             Received::Indication(message)
         } else {
             Received::Dropped(DropReason::UnknownAttribute)
         }
-    }
-
-    /// Whether the attributes of a message are understood, as far as they must be.
-    fn understands(&self, message: &Message<'_>) -> bool
-        ensures { result ≡ is_empty (unknown_types self.now.known message.now) }
-    {
-        are_understood(self.known.as_slice(), message)
     }
 
     /// What a request comes to.
@@ -235,143 +208,47 @@ impl<A: Allocator + Copy> Server<A> {
             ≡ outcome_of_accepted self.now accepted.entry.key from message.entry
             accepted.entry.client) }
     {
-        if !self.understands(&message) {
-            let answer = self.unknown_answer(&message, from, accepted.key(), has_fingerprint)?;
-            return Ok(Received::Answer(answer));
+        let signature = signature_for(&message, accepted.key())?;
+        match self.own_answer(&message, from, &signature, has_fingerprint)? {
+            Some(answer) => Ok(Received::Answer(answer)),
+            None => {
+                let reply = self.reply(&message, from, signature, has_fingerprint)?;
+                let request = Request::new(message, accepted.name(), accepted.algorithm(), reply);
+                Ok(Received::Request(request))
+            }
         }
-        if self.answers(&message) {
-            let answer = self.binding_answer(&message, from, accepted.key(), has_fingerprint)?;
-            return Ok(Received::Answer(answer));
-        }
-        let reply = self.reply_to(&message, from, accepted.key(), has_fingerprint)?;
-        Ok(Received::Request(Request::new(message, accepted.name(), accepted.algorithm(), reply)))
     }
 
-    /// Whether the server gives the answer to a request.
-    fn answers(&self, message: &Message<'_>) -> bool
-        ensures { result ≡ self.now.answers_binding && is_binding message.now }
+    /// Writes the response to an accepted request, if the server is to give it.
+    fn own_answer(
+        &self,
+        request: &Message<'_>,
+        from: SocketAddr,
+        signature: &Option<Signature<A>>,
+        has_fingerprint: bool,
+    ) -> Result<Option<Answer<A>>, AllocError>
+        requires { has_fingerprint ≡ is_fingerprinted request.now }
+        ensures { IfOk result (λ answer. answer
+            ≡ own_answer (responding_of self.now) signature.now from request.now) }
     {
-        self.answers_binding && message.method() == BINDING
+        self.responder
+            .own_answer(request, from, signature, has_fingerprint)
     }
 
     /// The means to respond to an accepted request.
-    fn reply_to(
+    fn reply(
         &self,
         request: &Message<'_>,
         from: SocketAddr,
-        key: &PreparedKey<A>,
+        signature: Option<Signature<A>>,
         has_fingerprint: bool,
     ) -> Result<Reply<A>, AllocError>
         requires { has_fingerprint ≡ is_fingerprinted request.now }
-        ensures { IfOk result (λ reply. reply ≡ reply_to self.now key.now from request.now) }
+        ensures { IfOk result (λ reply. reply
+            ≡ reply_by (responding_of self.now) signature from request.now) }
     {
-        let signature = signature_for(request, key)?;
-        let software = self.cloned_software()?;
-        Ok(Reply::new(
-            self.alloc,
-            request,
-            from,
-            software,
-            signature,
-            has_fingerprint,
-        ))
-    }
-
-    /// A copy of the text of SOFTWARE.
-    fn cloned_software(&self) -> Result<Option<String<A>>, AllocError>
-        ensures { IfOk result (λ copy. option_map string_bytes copy ≡ self.now.software) }
-    {
-        match &self.software {
-            Some(text) => Ok(Some(text.clone()?)),
-            None => Ok(None),
-        }
-    }
-
-    /// Writes the 420 to an accepted request.
-    #[tactic(auto, unfolding(crate::specs::Received::unknown_answer))]
-    fn unknown_answer(
-        &self,
-        request: &Message<'_>,
-        from: SocketAddr,
-        key: &PreparedKey<A>,
-        has_fingerprint: bool,
-    ) -> Result<Answer<A>, AllocError>
-        requires { has_fingerprint ≡ is_fingerprinted request.now }
-        ensures { IfOk result (λ answer. answer
-            ≡ unknown_answer self.now key.now from request.now) }
-    {
-        let page = self.unknown_page(request)?;
-        let bytes = self.end_signed(page, request, key, has_fingerprint)?;
-        Ok(Answer::new(from, Some(Refusal::UnknownAttribute), bytes))
-    }
-
-    /// Begins the 420 to a request.
-    fn unknown_page(&self, request: &Message<'_>) -> Result<MessageWriteVec<A>, AllocError>
-        ensures bytes { IfOk result (λ page. page.bytes
-            ≡ refusing_answer self.now.known request.now) }
-        ensures header { IfOk result (λ page. 20 ≤ length page.bytes) }
-    {
-        let writer = MessageWriteVec::new(self.alloc);
-        match answer_unknown(request, self.known.as_slice(), writer) {
-            Ok(Some(page)) => Ok(page),
-            _ => Err(AllocError),
-        }
-    }
-
-    /// Writes the success response to an accepted Binding request.
-    #[tactic(auto, unfolding(crate::specs::Received::binding_answer))]
-    fn binding_answer(
-        &self,
-        request: &Message<'_>,
-        from: SocketAddr,
-        key: &PreparedKey<A>,
-        has_fingerprint: bool,
-    ) -> Result<Answer<A>, AllocError>
-        requires { has_fingerprint ≡ is_fingerprinted request.now }
-        ensures { IfOk result (λ answer. answer
-            ≡ binding_answer self.now key.now from request.now) }
-    {
-        let page = mapped_page(self.alloc, request, from)?;
-        let bytes = self.end_signed(page, request, key, has_fingerprint)?;
-        Ok(Answer::new(from, None, bytes))
-    }
-
-    /// Ends the response to an accepted request.
-    fn end_signed(
-        &self,
-        page: MessageWriteVec<A>,
-        request: &Message<'_>,
-        key: &PreparedKey<A>,
-        has_fingerprint: bool,
-    ) -> Result<Vec<u8, A>, AllocError>
-        requires header { 20 ≤ length page.bytes }
-        requires fingerprint { has_fingerprint ≡ is_fingerprinted request.now }
-        ensures { IfOk result (λ response. response.items
-            ≡ with_end (signed_end self.now key.now request.now) page.bytes) }
-    {
-        let signature = signature_for(request, key)?;
-        self.end(page, &signature, has_fingerprint)
-    }
-
-    /// Ends a response.
-    fn end(
-        &self,
-        page: MessageWriteVec<A>,
-        signature: &Option<Signature<A>>,
-        has_fingerprint: bool,
-    ) -> Result<Vec<u8, A>, AllocError>
-        requires { 20 ≤ length page.bytes }
-        ensures { IfOk result (λ response. response.items ≡ with_end (record {
-          software = self.now.software;
-          signature = signature.now;
-          has_fingerprint = has_fingerprint;
-        }) page.bytes) }
-    {
-        match finish_response(page, &self.software, signature, has_fingerprint) {
-            Ok(response) => Ok(response),
-            // The settings leave room in each response, so that an allocation failed.
-            Err(_) => Err(AllocError),
-        }
+        self.responder
+            .reply(request, from, signature, has_fingerprint)
     }
 
     /// What a refused request comes to.
@@ -406,52 +283,21 @@ impl<A: Allocator + Copy> Server<A> {
             ≡ answer_to_refused self.now nonce.now from request.now told) }
     {
         match told {
-            VerdictRefusal::Unauthorized => {
-                self.unauthenticated_answer(request, from, nonce, has_fingerprint)
+            VerdictRefusal::Unauthorized => self.challenge_answer(
+                request,
+                from,
+                Refusal::Unauthenticated,
+                nonce,
+                has_fingerprint,
+            ),
+            VerdictRefusal::StaleNonce => {
+                self.challenge_answer(request, from, Refusal::StaleNonce, nonce, has_fingerprint)
             }
-            VerdictRefusal::StaleNonce => self.stale_answer(request, from, nonce, has_fingerprint),
             VerdictRefusal::BadRequest => self.bad_answer(request, from, has_fingerprint),
         }
     }
 
-    /// Writes a 401.
-    #[tactic(auto, unfolding(crate::specs::Received::unauthenticated_answer))]
-    fn unauthenticated_answer(
-        &self,
-        request: &Message<'_>,
-        from: SocketAddr,
-        nonce: &str,
-        has_fingerprint: bool,
-    ) -> Result<Answer<A>, AllocError>
-        requires { has_fingerprint ≡ is_fingerprinted request.now }
-        ensures { IfOk result (λ answer. answer
-            ≡ unauthenticated_answer self.now nonce.now from request.now) }
-    {
-        let page = self.challenge(request, nonce, 401, "Unauthenticated")?;
-        let bytes = self.end(page, &None, has_fingerprint)?;
-        Ok(Answer::new(from, Some(Refusal::Unauthenticated), bytes))
-    }
-
-    /// Writes a 438.
-    #[tactic(auto, unfolding(crate::specs::Received::stale_answer))]
-    fn stale_answer(
-        &self,
-        request: &Message<'_>,
-        from: SocketAddr,
-        nonce: &str,
-        has_fingerprint: bool,
-    ) -> Result<Answer<A>, AllocError>
-        requires { has_fingerprint ≡ is_fingerprinted request.now }
-        ensures { IfOk result (λ answer. answer
-            ≡ stale_answer self.now nonce.now from request.now) }
-    {
-        let page = self.challenge(request, nonce, 438, "Stale Nonce")?;
-        let bytes = self.end(page, &None, has_fingerprint)?;
-        Ok(Answer::new(from, Some(Refusal::StaleNonce), bytes))
-    }
-
     /// Writes a 400.
-    #[tactic(auto, unfolding(crate::specs::Received::bad_answer))]
     fn bad_answer(
         &self,
         request: &Message<'_>,
@@ -459,11 +305,30 @@ impl<A: Allocator + Copy> Server<A> {
         has_fingerprint: bool,
     ) -> Result<Answer<A>, AllocError>
         requires { has_fingerprint ≡ is_fingerprinted request.now }
-        ensures { IfOk result (λ answer. answer ≡ bad_answer self.now from request.now) }
+        ensures { IfOk result (λ answer. answer
+            ≡ refusal_by (responding_of self.now) Refusal.BadRequest from request.now) }
     {
-        let page = error_page(self.alloc, request, 400, "Bad Request")?;
-        let bytes = self.end(page, &None, has_fingerprint)?;
-        Ok(Answer::new(from, Some(Refusal::BadRequest), bytes))
+        self.responder
+            .refusal(request, from, Refusal::BadRequest, has_fingerprint)
+    }
+
+    /// Writes a 401 or a 438.
+    #[tactic(auto, unfolding(crate::specs::Received::challenge_answer))]
+    fn challenge_answer(
+        &self,
+        request: &Message<'_>,
+        from: SocketAddr,
+        refusal: Refusal,
+        nonce: &str,
+        has_fingerprint: bool,
+    ) -> Result<Answer<A>, AllocError>
+        requires { has_fingerprint ≡ is_fingerprinted request.now }
+        ensures { IfOk result (λ answer. answer
+            ≡ challenge_answer self.now refusal nonce.now from request.now) }
+    {
+        let page = self.challenge(request, nonce, refusal)?;
+        let bytes = self.responder.end(page, &None, has_fingerprint)?;
+        Ok(Answer::new(from, Some(refusal), bytes))
     }
 
     /// Begins an error response that tells a client how to sign.
@@ -471,14 +336,13 @@ impl<A: Allocator + Copy> Server<A> {
         &self,
         request: &Message<'_>,
         nonce: &str,
-        code: u16,
-        reason: &str,
+        refusal: Refusal,
     ) -> Result<MessageWriteVec<A>, AllocError>
         ensures bytes { IfOk result (λ page. page.bytes
-            ≡ challenge_page self.now nonce.now request.now code reason.now) }
+            ≡ challenge_page self.now nonce.now request.now (code_of refusal) (phrase_of refusal)) }
         ensures header { IfOk result (λ page. 20 ≤ length page.bytes) }
     {
-        let mut page = error_page(self.alloc, request, code, reason)?;
+        let mut page = error_page(self.alloc, request, refusal.code(), refusal.phrase())?;
         match self.add_challenge(&mut page, nonce) {
             Ok(()) => Ok(page),
             // The settings leave room in each response, so that an allocation failed.
@@ -529,93 +393,16 @@ fn offered_values(hmac_sha1: bool) -> &'static [PasswordAlgorithmValue]
     }
 }
 
-/// What the response to an accepted request is signed by: the integrity attribute that the request
+/// What the responses to an accepted request are signed by: the integrity attribute that the request
 /// has, under the key of its user.
 fn signature_for<A: Allocator + Copy>(
     request: &Message<'_>,
     key: &PreparedKey<A>,
 ) -> Result<Option<Signature<A>>, AllocError>
-    ensures { IfOk result (λ signature. signature
-        ≡ option_map (λ a. record { algorithm = a; key = key.now })
-        (deciding_algorithm request.now)) }
+    ensures { IfOk result (λ signature. signature ≡ signature_for key.now request.now) }
 {
     match deciding_algorithm(request.as_bytes()) {
         Some(algorithm) => Ok(Some(Signature::new(algorithm, key.clone()?))),
         None => Ok(None),
     }
-}
-
-/// Begins an error response with ERROR-CODE alone.
-fn error_page<A: Allocator + Copy>(
-    alloc: A,
-    request: &Message<'_>,
-    code: u16,
-    reason: &str,
-) -> Result<MessageWriteVec<A>, AllocError>
-    ensures bytes { IfOk result (λ page. page.bytes
-        ≡ error_page request.now code reason.now) }
-    ensures open { IfOk result (λ page. IsOpen page.bytes) }
-{
-    match try_error_page(alloc, request, code, reason) {
-        Ok(page) => Ok(page),
-        Err(_) => Err(AllocError),
-    }
-}
-
-/// Begins an error response with ERROR-CODE alone.
-#[tactic(auto, unfolding(crate::specs::Answers::error_page))]
-fn try_error_page<A: Allocator + Copy>(
-    alloc: A,
-    request: &Message<'_>,
-    code: u16,
-    reason: &str,
-) -> Result<MessageWriteVec<A>, StunWriteError>
-    ensures bytes { IfOk result (λ page. page.bytes
-        ≡ error_page request.now code reason.now) }
-    ensures open { IfOk result (λ page. IsOpen page.bytes) }
-{
-    let error = ErrorCode::builder(code).reason(reason).build()?;
-    let mut page = Message::builder_error(request, MessageWriteVec::new(alloc))?;
-    page.add_attribute(&error)?;
-    Ok(page)
-}
-
-/// Begins a success response with the address that a request came from.
-#[tactic(auto, unfolding(crate::specs::Answers::binding_page))]
-fn mapped_page<A: Allocator + Copy>(
-    alloc: A,
-    request: &Message<'_>,
-    from: SocketAddr,
-) -> Result<MessageWriteVec<A>, AllocError>
-    ensures bytes { IfOk result (λ page. page.bytes ≡ binding_page from request.now) }
-    ensures header { IfOk result (λ page. 20 ≤ length page.bytes) }
-{
-    match try_mapped_page(alloc, request, from) {
-        Ok(page) => Ok(page),
-        Err(_) => Err(AllocError),
-    }
-}
-
-/// Begins a success response with the address that a request came from.
-fn try_mapped_page<A: Allocator + Copy>(
-    alloc: A,
-    request: &Message<'_>,
-    from: SocketAddr,
-) -> Result<MessageWriteVec<A>, StunWriteError>
-    ensures bytes { IfOk result (λ page. page.bytes
-        ≡ with_attribute (empty_answer MessageClass.Success request.now)
-        (mapped_address from request.now)) }
-    ensures header { IfOk result (λ page. 20 ≤ length page.bytes) }
-{
-    let mut page = Message::builder_success(request, MessageWriteVec::new(alloc))?;
-    page.add_attribute(&mapped_address(from, request.transaction_id()))?;
-    Ok(page)
-}
-
-/// XOR-MAPPED-ADDRESS of an address. An IPv4 address in either spelling is IPv4.
-fn mapped_address(from: SocketAddr, id: TransactionId) -> XorMappedAddress
-    ensures { result ≡ xored_canonical (socket_ip from) (socket_port from) id }
-{
-    let ip = from.ip().to_canonical();
-    XorMappedAddress::new(SocketAddr::new(ip, from.port()), id)
 }

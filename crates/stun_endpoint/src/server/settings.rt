@@ -3,12 +3,13 @@
 ghost use Rattle.std.specs.FinMap as map;
 ghost use Rattle.std.specs.Option.{option_map};
 ghost use Rattle.std.specs.Prelude.{◌≡◌, ◌<◌, ◌++◌, [], None, IfOk, IsOkUnless, MatchOption, Err};
-ghost use Rattle.std.specs.Prelude.{true, false, length, unwrap_or};
+ghost use Rattle.std.specs.Prelude.{true, false};
 ghost use Rattle.std.specs.String.{string_bytes};
 ghost use Rattle.stun_endpoint.specs.Built.{build_refusal};
 ghost use Rattle.stun_endpoint.specs.Realm.{algorithms_for, empty_realm, feature_for};
 ghost use Rattle.stun_endpoint.specs.Settings.{registered_of};
 
+use crate::responder::{Responder, text_length, with_stun_attributes};
 use crate::server::Server;
 use std::alloc::{AllocError, Allocator, Global};
 use stun_auth::auth::{Feature, LongTermServerAuth};
@@ -46,9 +47,10 @@ pub const STUN_ATTRIBUTES: [AttributeType; 11] = [
 pub struct LongTerm<A: Allocator = Global> {
     /// The realm, of at most 763 bytes (section 14.9).
     pub realm: String<A>,
-    /// 32 random bytes. Whoever has them can make nonces that are accepted. Servers that share them
-    /// accept each other's nonces, if their clocks differ by less than a nonce lifetime. A server
-    /// that starts again with them serves its old clients at once.
+    /// 32 random bytes. Whoever has them can make nonces that are accepted. Servers that share them,
+    /// and have the same algorithms, `user_hashes` and nonce lifetime, accept each other's nonces,
+    /// except that a server refuses a nonce of an epoch that has not begun on its own clock. A
+    /// server that starts again with them serves its old clients at once.
     pub secret: [u8; 32],
     /// A secret whose nonces are accepted too, but never sent. Set it to the secret before when you
     /// change the secret, and remove it two nonce lifetimes later.
@@ -139,16 +141,6 @@ impl<A: Allocator + Copy> LongTerm<A> {
     }
 }
 
-/// The length of a text, and 0 if there is none.
-fn text_length<A: Allocator>(text: &Option<String<A>>) -> usize
-    ensures { result ≡ length (unwrap_or (option_map string_bytes text.now) []) }
-{
-    match text {
-        Some(text) => text.len(),
-        None => 0,
-    }
-}
-
 /// A realm without users.
 pub(super) fn empty_realm<A: Allocator + Copy>(
     alloc: A,
@@ -176,17 +168,6 @@ pub(super) fn empty_realm<A: Allocator + Copy>(
         let _ = auth.set_anonymous_username(Feature::Disabled);
     }
     auth
-}
-
-/// Types of attributes, and after them STUN's own.
-fn with_stun_attributes<A: Allocator>(
-    understood: Vec<AttributeType, A>,
-) -> Result<Vec<AttributeType, A>, AllocError>
-    ensures { IfOk result (λ known. known.items ≡ understood.items ++ STUN_ATTRIBUTES) }
-{
-    let mut known = understood;
-    known.extend_from_slice(&STUN_ATTRIBUTES)?;
-    Ok(known)
 }
 
 /// A secret, prepared for HMAC-SHA1.
@@ -256,6 +237,7 @@ impl<A: Allocator + Copy> Server<A> {
         }) }
     {
         let known = with_stun_attributes(settings.understood)?;
+        let responder = Responder::of(alloc, known, settings.software, settings.answers_binding);
         let auth = empty_realm(
             alloc,
             settings.realm,
@@ -272,9 +254,7 @@ impl<A: Allocator + Copy> Server<A> {
             secret: prepared(alloc, &settings.secret),
             previous: prepared_if(alloc, &settings.previous_secret),
             lifetime: settings.nonce_lifetime,
-            known,
-            software: settings.software,
-            answers_binding: settings.answers_binding,
+            responder,
         })
     }
 }

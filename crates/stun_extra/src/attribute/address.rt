@@ -1,15 +1,16 @@
-//! Shared parts of the attributes whose value is an address that is not XORed (RFC 8489, section
-//! 14.1).
+//! Attributes whose value is an address that is not XORed (RFC 8489, section 14.1).
 ghost use Rattle.std.specs.Prelude.{◌≡◌, ◌≤◌, ◌+◌, ◌%◌, ◌++◌, ◌∷◌, length};
 ghost use Rattle.std.specs.Net.Socket.{IsPlainSocket, socket_ip, socket_port};
 ghost use Rattle.byteorder.specs.Endian.{big_bytes};
 ghost use Rattle.stun_types.specs.Attribute.{attribute_length};
 ghost use Rattle.stun_types.specs.Grammar.{spelled_attribute};
 ghost use Rattle.stun_types.specs.Reading.{attribute_answer};
-ghost use Rattle.stun_extra.specs.Address.{IsAddress, address_of, address_value, ip_of};
+ghost use Rattle.stun_extra.specs.Address.{IsAddress, address_of, address_of-written};
+ghost use Rattle.stun_extra.specs.Address.{address_value, ip_of};
 
 use crate::attribute::value::append_header;
 use byteorder::{BigEndian, ByteOrder};
+use std::marker::Model;
 use std::net::{IpAddr, Ipv4Addr, Ipv6Addr, SocketAddr};
 use stun_base::error::StunParseError;
 use stun_types::attribute::{AttributeType, RawAttribute};
@@ -29,14 +30,14 @@ const IPV6: u8 = 2;
 
 /// An address and a port.
 #[derive(Clone, Copy, Debug, PartialEq, Eq)]
-pub(super) struct Address {
+struct Address {
     ip: IpAddr,
     port: u16,
 }
 
 impl Address {
     /// Creates the address from a socket address, without its flow information and its scope.
-    pub(super) fn new(addr: SocketAddr) -> Address
+    fn new(addr: SocketAddr) -> Address
         ensures { result ≡ record { ip = socket_ip addr; port = socket_port addr } }
     {
         Address {
@@ -46,7 +47,7 @@ impl Address {
     }
 
     /// Returns the socket address, with 0 for flow information and scope.
-    pub(super) fn socket(&self) -> SocketAddr
+    fn socket(&self) -> SocketAddr
         ensures ip { socket_ip result ≡ self.now.ip }
         ensures port { IsPlainSocket result self.now.port }
     {
@@ -54,7 +55,7 @@ impl Address {
     }
 
     /// Returns the number of bytes of the value.
-    pub(super) fn length(&self) -> usize
+    fn length(&self) -> usize
         ensures value { result ≡ length (address_value self.now) }
         ensures whole { IsAddress self.now }
     {
@@ -66,12 +67,77 @@ impl Address {
     }
 }
 
+/// An attribute of type `KIND` whose value is an address and a port that are not XORed.
+///
+/// Contracts: they see the address and the port.
+#[derive(Clone, Copy, Debug, PartialEq, Eq)]
+pub struct PlainAddress<const KIND: u16> {
+    address: Address,
+}
+
+impl<const KIND: u16> Model for PlainAddress<KIND> {
+    ghost use Rattle.stun_extra.specs.declared.attribute.address.Address.{Address};
+
+    ghost Value = { Address };
+
+    ghost view = { λ attribute. attribute.address };
+
+    ghost inverse = { λ address. record { address = address } };
+}
+
+impl<const KIND: u16> PlainAddress<KIND> {
+    /// Creates the attribute from an address. The flow information and the scope of an IPv6 address
+    /// are left out.
+    pub fn new(addr: SocketAddr) -> Self
+        ensures { result ≡ record { ip = socket_ip addr; port = socket_port addr } }
+    {
+        PlainAddress {
+            address: Address::new(addr),
+        }
+    }
+
+    /// Returns the address. The flow information and the scope of an IPv6 address are 0.
+    pub fn addr(&self) -> SocketAddr
+        ensures ip { socket_ip result ≡ self.now.ip }
+        ensures port { IsPlainSocket result self.now.port }
+    {
+        self.address.socket()
+    }
+}
+
+impl<const KIND: u16> Attribute for PlainAddress<KIND> {
+    ghost kind = { λ _. KIND };
+
+    ghost value = { address_value };
+
+    ghost is_well_formed = { IsAddress };
+
+    fn get_type(&self) -> AttributeType {
+        AttributeType(KIND)
+    }
+
+    fn length(&self) -> usize {
+        self.address.length()
+    }
+
+    fn write_into<W: MessageWrite>(&self, writer: &mut W) {
+        append_address(writer, AttributeType(KIND), &self.address);
+    }
+}
+
+impl<'a, const KIND: u16> AttributeFromRaw<'a> for PlainAddress<KIND> {
+    ghost reading = { address_of KIND };
+
+    ghost reads_back = { address_of-written KIND };
+
+    fn from_raw(raw: RawAttribute<'a>) -> Result<Self, StunParseError> {
+        let address = read_address(&raw, AttributeType(KIND))?;
+        Ok(PlainAddress { address })
+    }
+}
+
 /// Appends the attribute with this type whose value is an address.
-pub(super) fn append_address<W: MessageWrite>(
-    writer: &mut W,
-    kind: AttributeType,
-    address: &Address,
-)
+fn append_address<W: MessageWrite>(writer: &mut W, kind: AttributeType, address: &Address)
     requires { attribute_length (length (address_value address.now)) ≤ W.reserved writer.old }
     ensures bytes { W.bytes writer.new ≡ W.bytes writer.old
         ++ spelled_attribute (record { kind = kind.0; value = address_value address.now }) }
@@ -113,10 +179,7 @@ fn append_octets<W: MessageWrite>(
 
 /// Parses the address in a raw attribute with this type. Fails with `InvalidAttributeData` if the
 /// attribute has another type, an unknown family, or not as many octets as the family has.
-pub(super) fn read_address(
-    raw: &RawAttribute<'_>,
-    kind: AttributeType,
-) -> Result<Address, StunParseError>
+fn read_address(raw: &RawAttribute<'_>, kind: AttributeType) -> Result<Address, StunParseError>
     ensures { result ≡ attribute_answer (address_of kind.0 raw.now) }
 {
     let value = raw.value();

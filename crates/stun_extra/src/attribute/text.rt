@@ -1,22 +1,119 @@
-//! Shared parts of the attributes whose value is a text (RFC 8489, sections 14.14 and 14.16).
-ghost use Rattle.std.specs.Prelude.{◌≡◌, ◌<◌, ◌↔◌, Some, None, IfOk, IfErr};
-ghost use Rattle.std.specs.Prelude.{OnErr, IsOkUnless, IsErrOf, length};
-ghost use Rattle.stun_types.specs.Text.{short_text, text_of};
+//! Attributes whose value is a text (RFC 8489, sections 14.14 and 14.16).
+ghost use Rattle.std.specs.Prelude.{◌≡◌, ◌≤◌, ◌<◌, ◌↔◌, Some, None, IfOk, IfErr};
+ghost use Rattle.std.specs.Prelude.{OnErr, IsOkUnless, IsErrOf, IsUtf8, length, ⊤};
+ghost use Rattle.std.specs.Cmp.{partial_equiv_from_equiv};
+ghost use Rattle.stun_base.specs.Credentials.{same_text, same_text_equivalence};
+ghost use Rattle.stun_types.specs.Text.{short_text, text_of, text_of-written};
 
+use std::alloc::AllocError;
+use std::marker::Model;
 use std::str;
 use stun_base::error::{StunParseError, StunWriteError};
 use stun_types::attribute::{AttributeType, RawAttribute};
+use stun_types::prelude::*;
 
-/// Returns the text. Fails with `TooLarge` if it has more bytes than the attribute may have.
-pub(super) fn within_limit(text: &str, most: usize) -> Result<&str, StunWriteError>
-    ensures ok { IfOk result (λ same. same.now ≡ text.now) }
-    ensures only_too_large { IsOkUnless result StunWriteError.TooLarge }
-    ensures too_large { IsErrOf result StunWriteError.TooLarge ↔ (most < length text.now) }
-{
-    if text.len() > most {
-        return Err(StunWriteError::TooLarge);
+/// An attribute of type `KIND` whose value is a text, in UTF-8 of at most `LIMIT` bytes.
+///
+/// Contracts: they see its bytes.
+#[derive(Debug, Drop)]
+pub struct Text<'a, const KIND: u16, const LIMIT: usize> {
+    text: &'a str,
+}
+
+impl<'a, const KIND: u16, const LIMIT: usize> Model for Text<'a, KIND, LIMIT> {
+    ghost use Rattle.std.specs.Prelude.{ℕ, List, ◌≤◌, length};
+
+    ghost Value = { List ℕ };
+
+    ghost view = { λ attribute. attribute.text.now };
+
+    ghost invariant = { λ attribute. length attribute.text.now ≤ LIMIT };
+}
+
+/// Copies the reference. This does not allocate and never fails.
+impl<'a, const KIND: u16, const LIMIT: usize> Clone for Text<'a, KIND, LIMIT> {
+    ghost is_clone = { λ it copy. copy ≡ it };
+
+    ghost is_infallible = { λ _. ⊤ };
+
+    fn clone(&self) -> Result<Self, AllocError> {
+        Ok(Text { text: self.text })
     }
-    Ok(text)
+}
+
+/// Attributes are equal if and only if their texts have the same bytes.
+impl<'a, const KIND: u16, const LIMIT: usize> PartialEq for Text<'a, KIND, LIMIT> {
+    ghost eq = { same_text };
+
+    ghost laws = { partial_equiv_from_equiv same_text_equivalence };
+
+    fn eq(&self, other: &Self) -> bool {
+        self.text == other.text
+    }
+}
+
+impl<'a, const KIND: u16, const LIMIT: usize> Eq for Text<'a, KIND, LIMIT> {
+    ghost laws = { same_text_equivalence };
+}
+
+impl<'a, const KIND: u16, const LIMIT: usize> Text<'a, KIND, LIMIT> {
+    /// Creates the attribute from a text. It does not allocate.
+    ///
+    /// # Errors
+    ///
+    /// - [`StunWriteError::TooLarge`]: the text has more than `LIMIT` bytes.
+    pub fn new(text: &'a str) -> Result<Self, StunWriteError>
+        ensures ok { IfOk result (λ attribute. attribute ≡ text.now) }
+        ensures only_too_large { IsOkUnless result StunWriteError.TooLarge }
+        ensures too_large { IsErrOf result StunWriteError.TooLarge ↔ (LIMIT < length text.now) }
+    {
+        if text.len() > LIMIT {
+            return Err(StunWriteError::TooLarge);
+        }
+        Ok(Text { text })
+    }
+
+    /// Returns the text.
+    pub fn text(&self) -> &'a str
+        ensures text { result.now ≡ self.now }
+        ensures within_limit { length result.now ≤ LIMIT }
+    {
+        self.text
+    }
+}
+
+impl<'a, const KIND: u16, const LIMIT: usize> Attribute for Text<'a, KIND, LIMIT> {
+    ghost kind = { λ _. KIND };
+
+    ghost value = { λ text. text };
+
+    ghost is_well_formed = { λ text. IsUtf8 text × (length text ≤ LIMIT) };
+
+    fn get_type(&self) -> AttributeType {
+        AttributeType(KIND)
+    }
+
+    fn length(&self) -> usize {
+        self.text.as_bytes().len()
+    }
+
+    fn write_into<W: MessageWrite>(&self, writer: &mut W) {
+        RawAttribute::new(AttributeType(KIND), self.text.as_bytes()).write_into(writer);
+    }
+}
+
+impl<'a, const KIND: u16, const LIMIT: usize> AttributeFromRaw<'a> for Text<'a, KIND, LIMIT> {
+    ghost reading = { text_of KIND LIMIT };
+
+    ghost reads_back = { text_of-written KIND LIMIT };
+
+    fn from_raw(raw: RawAttribute<'a>) -> Result<Self, StunParseError> {
+        if raw.get_type() != AttributeType(KIND) {
+            return Err(StunParseError::InvalidAttributeData);
+        }
+        let text = read_short_text(raw.value(), LIMIT)?;
+        Ok(Text { text })
+    }
 }
 
 /// Returns bytes as a text. Fails with `InvalidAttributeData` if they are too many or not UTF-8.
@@ -33,21 +130,4 @@ fn read_short_text(bytes: &[u8], most: usize) -> Result<&str, StunParseError>
         Ok(text) => Ok(text),
         Err(_) => Err(StunParseError::InvalidAttributeData),
     }
-}
-
-/// Parses the text in a raw attribute with this type. Fails with `InvalidAttributeData` if the
-/// attribute has another type, or if its value is too long or not UTF-8.
-pub(super) fn read_text<'a>(
-    raw: RawAttribute<'a>,
-    kind: AttributeType,
-    most: usize,
-) -> Result<&'a str, StunParseError>
-    ensures ok { IfOk result (λ text. text_of kind.0 most raw.entry ≡ Some text.now) }
-    ensures malformed { OnErr result (text_of kind.0 most raw.entry ≡ None) }
-    ensures error { IfErr result (λ error. error ≡ StunParseError.InvalidAttributeData) }
-{
-    if raw.get_type() != kind {
-        return Err(StunParseError::InvalidAttributeData);
-    }
-    read_short_text(raw.value(), most)
 }

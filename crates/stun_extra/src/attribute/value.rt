@@ -3,34 +3,11 @@ ghost use Rattle.std.specs.Prelude.{◌≡◌, ◌≤◌, ◌+◌, ◌++◌};
 ghost use Rattle.byteorder.specs.Endian.{big_bytes};
 ghost use Rattle.stun_types.specs.Limits.{max_length};
 ghost use Rattle.stun_types.specs.Reading.{attribute_answer};
-ghost use Rattle.stun_extra.specs.Values.{flag_of, number_of};
+ghost use Rattle.stun_extra.specs.Values.{flag_of};
 
-use byteorder::{BigEndian, ByteOrder};
 use stun_base::error::StunParseError;
 use stun_types::attribute::{AttributeType, RawAttribute};
 use stun_types::prelude::*;
-
-/// Parses the number of 32 bits in a raw attribute with this type. Fails with
-/// `InvalidAttributeData` if the attribute has another type or its value does not have 4 bytes.
-pub(super) fn read_u32(raw: &RawAttribute<'_>, kind: AttributeType) -> Result<u32, StunParseError>
-    ensures { result ≡ attribute_answer (number_of kind.0 4 raw.now) }
-{
-    if raw.get_type() != kind || raw.length() != 4 {
-        return Err(StunParseError::InvalidAttributeData);
-    }
-    Ok(BigEndian::read_u32(raw.value()))
-}
-
-/// Parses the number of 64 bits in a raw attribute with this type. Fails with
-/// `InvalidAttributeData` if the attribute has another type or its value does not have 8 bytes.
-pub(super) fn read_u64(raw: &RawAttribute<'_>, kind: AttributeType) -> Result<u64, StunParseError>
-    ensures { result ≡ attribute_answer (number_of kind.0 8 raw.now) }
-{
-    if raw.get_type() != kind || raw.length() != 8 {
-        return Err(StunParseError::InvalidAttributeData);
-    }
-    Ok(BigEndian::read_u64(raw.value()))
-}
 
 /// Parses a raw attribute with this type that has no value. Fails with `InvalidAttributeData` if
 /// the attribute has another type or its value is not empty.

@@ -1,0 +1,180 @@
+#!/usr/bin/env python3
+"""play.py [SUBJECT] [--level 0,1,..] [--left-out] [FILE ..]: plays the suite over a subject.
+
+SUBJECT is a file of Python (`subjects/model.py`), the command of a program in one word, or the name
+of a subject that is shipped here: `stunp` (this library through C, the default), `model`, `aioice`,
+`pion`, `libnice`, `coturn`. FILE is a file of `levels/`, or one in the grammar of transcripts.
+
+Each answer that came otherwise is printed. The last line has the counts: calls that were answered
+as written, otherwise where an RFC says MUST, otherwise where the suite asks for a choice of this
+library, and left out, because the subject does not have them. The status is 1 if an answer came
+otherwise. `--table` plays all subjects and writes RESULTS.md (table.py)."""
+
+import argparse
+import collections
+import os
+import struct
+import sys
+import time
+
+import index
+from calls import Stage
+from grammar import Words
+from shipped import start
+from subject import Asker, Left, Ours, Refused, Strange
+from transcripts import is_telling, name_of
+
+LEVELS = ("0-read", "1-write", "2-credentials", "3-transactions")
+HERE = os.path.dirname(os.path.abspath(__file__))
+# A line that came otherwise.
+Other = collections.namedtuple("Other", "file line raw came mark title")
+
+
+class Report:
+    """What a subject answered."""
+
+    def __init__(self):
+        self.right, self.others = 0, []
+        self.left, self.ours = collections.Counter(), collections.Counter()
+        self.by_mark = collections.Counter()
+
+    def add(self, other):
+        self.right += other.right
+        self.others += other.others
+        self.left.update(other.left)
+        self.ours.update(other.ours)
+        self.by_mark.update(other.by_mark)
+
+    def of(self, mark):
+        return [other for other in self.others if other.mark.startswith(mark)]
+
+    def counts(self):
+        return (f"{self.right} as written, {len(self.of('MUST'))} otherwise against a MUST, "
+                f"{len(self.of('CHOICE'))} otherwise by choice, {sum(self.left.values())} left out")
+
+
+class Player:
+    """Plays files over one subject."""
+
+    def __init__(self, subject):
+        self.asker = Asker(subject)
+
+    def play(self, part):
+        """Plays a file, or those of its paragraphs that an index names."""
+        report = Report()
+        for paragraph in part.file.paragraphs:
+            mark = part.mark_of(paragraph)
+            if mark is not None:
+                self.play_paragraph(part, paragraph, mark, report)
+        return report
+
+    def play_paragraph(self, part, paragraph, mark, report):
+        stage, cause = Stage(self.asker, part.file.meanings), None
+        for line in paragraph.lines:
+            try:
+                if cause is not None:
+                    raise cause
+                if line.words[0] == "like":
+                    self.repeat(stage, part.file.named(" ".join(line.words[1:])), part)
+                    continue
+                came = self.make(stage, line, part)
+            except Left as left:
+                counted = report.ours if isinstance(left, Ours) else report.left
+                counted[str(left)] += line.answer is not None
+                cause = cause or (None if is_telling(line.words) else left)
+                continue
+            if line.answer is None and came is None:
+                continue
+            if part.is_alike(stage, line, came):
+                report.right += 1
+                report.by_mark[mark.split()[0]] += 1
+            else:
+                report.others.append(Other(part.path, line.at, line.raw, came, mark,
+                                           paragraph.title))
+
+    def repeat(self, stage, paragraph, part):
+        """Plays the lines of another paragraph, whatever is answered."""
+        for line in paragraph.lines:
+            try:
+                self.make(stage, line, part)
+            except Left:
+                if not is_telling(line.words):
+                    raise
+
+    def make(self, stage, line, part):
+        if part.is_ours(line):
+            raise Ours(name_of(line.words))
+        try:
+            return stage.answer(line.words)
+        except Words:
+            return "?"
+        except Ours:
+            if part.has_ours:
+                raise
+            return "?"
+        except Refused:
+            return "refused"
+        except Strange as strange:
+            return str(strange)
+        except (ValueError, IndexError, struct.error) as error:
+            return f"an answer that cannot be read: {error}"
+
+
+def parts_of(levels, files):
+    """The files to play, with their marks."""
+    if files:
+        return [index.file(path) for path in files]
+    return [part for level in levels for part in index.level(os.path.join(HERE, "levels", level))]
+
+
+def play_all(word, levels=LEVELS, files=()):
+    """What the subject of a word answers, by file; or why it is not there."""
+    subject, why = start(word)
+    if subject is None:
+        return None, why
+    player, reports = Player(subject), {}
+    for part in parts_of(levels, files):
+        reports.setdefault(part.path, Report()).add(player.play(part))
+    subject.end()
+    return reports, None
+
+
+def show(word, reports, has_left):
+    whole = Report()
+    for report in reports.values():
+        whole.add(report)
+        for other in report.others:
+            print(f"{other.file}:{other.line}: {other.mark}\n  written: {other.raw[:300]}\n"
+                  f"  came:    {other.came}")
+    if has_left:
+        for call, count in whole.left.most_common():
+            print(f"left out: {call} ({count})")
+    return whole
+
+
+def main(words):
+    options = argparse.ArgumentParser(description=__doc__,
+                                      formatter_class=argparse.RawDescriptionHelpFormatter)
+    options.add_argument("subject", nargs="?", default="stunp")
+    options.add_argument("files", nargs="*")
+    options.add_argument("--level", default="0,1,2,3")
+    options.add_argument("--left-out", action="store_true")
+    options.add_argument("--table", action="store_true")
+    options = options.parse_args(words)
+    if options.table:
+        import table
+        return table.main([])
+    begun = time.monotonic()
+    levels = [LEVELS[int(number)] for number in options.level.split(",")]
+    reports, why = play_all(options.subject, levels, options.files)
+    if reports is None:
+        print(f"conformance: {options.subject} is left out: {why}")
+        return 0
+    whole = show(options.subject, reports, options.left_out)
+    print(f"conformance: {options.subject}, {len(reports)} files, {whole.counts()} "
+          f"({time.monotonic() - begun:.1f} s)")
+    return 1 if whole.others else 0
+
+
+if __name__ == "__main__":
+    sys.exit(main(sys.argv[1:]))

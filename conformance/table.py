@@ -1,0 +1,149 @@
+#!/usr/bin/env python3
+"""table.py: plays the suite over each subject that is shipped and installed, and writes RESULTS.md.
+
+differences.txt explains the differences. Those that it does not explain are printed. The last line
+counts. The status is 1 if a difference is not explained, or if this library answers otherwise."""
+
+import collections
+import os
+import subprocess
+import sys
+import time
+
+from play import LEVELS, Report, play_all
+from shipped import NAMES
+
+HERE = os.path.dirname(os.path.abspath(__file__))
+PACKAGES = {"aioice": "python3-aioice", "pion": "golang-github-pion-stun-dev",
+            "libnice": "libnice-dev", "coturn": "coturn", "libre": "libre-dev",
+            "turnserver": "coturn"}
+OWN = ("stunp", "model")
+COLUMNS = ("| Section | What it does | MUST | Choice | A line | What came |",
+           "|---|---|---|---|---|---|")
+HEAD = """\
+`conformance/table.py` writes this page; do not edit it. A cell has four counts: the calls that were
+answered as written, those answered otherwise where an RFC says MUST, those answered otherwise where
+the suite asks for a choice of this library, and those that were left out because the subject does
+not have the call or does not claim what is in the message. [README.md](README.md) says what a
+result means.""".split("\n")
+Reason = collections.namedtuple("Reason", "section words patterns")
+
+
+def read_reasons(path):
+    """The explanations of each subject, in their order."""
+    reasons = collections.defaultdict(list)
+    with open(path, encoding="utf-8") as file:
+        for line in file:
+            if line.startswith("  "):
+                name, _, part = line.strip().partition(":")
+                last = reasons[subject][-1]
+                reasons[subject][-1] = last._replace(
+                    patterns=(*last.patterns, (name, part.strip())))
+            elif line.strip() and not line.startswith("#"):
+                subject, section, words = (part.strip() for part in line.split("|"))
+                reasons[subject].append(Reason(section, words, ()))
+    return reasons
+
+
+def reason_of(other, reasons):
+    for reason in reasons:
+        for name, part in reason.patterns:
+            if os.path.basename(other.file) == name and part in other.raw:
+                return reason
+    return None
+
+
+def version_of(name):
+    if name not in PACKAGES:
+        return "this tree"
+    done = subprocess.run(["dpkg-query", "-W", "-f", "${Version}", PACKAGES[name]],
+                          capture_output=True, text=True)
+    return done.stdout if done.returncode == 0 else "version unknown"
+
+
+def by_level(reports):
+    """A report of each level: the files of the levels, and those that their indexes name."""
+    from index import level
+    whole = {}
+    for name in LEVELS:
+        whole[name] = Report()
+        for path in {part.path for part in level(os.path.join(HERE, "levels", name))}:
+            whole[name].add(reports[path])
+    return whole
+
+
+def cell(report):
+    if not report.right + len(report.others):
+        return "not claimed"
+    return (f"{report.right} / {len(report.of('MUST'))} / {len(report.of('CHOICE'))} / "
+            f"{sum(report.left.values())}")
+
+
+def unused(name, reports, reasons):
+    """Explanations of a subject that explain nothing any more."""
+    used = {reason_of(other, reasons[name]) for report in reports.values()
+            for other in report.others}
+    return [reason for reason in reasons[name] if reason not in used]
+
+
+def explained(name, reports, reasons):
+    """The rows of a subject's differences, and the differences that have no explanation."""
+    found, missing = {}, []
+    for report in reports.values():
+        for other in report.others:
+            reason = reason_of(other, reasons[name])
+            if reason is None:
+                missing.append(other)
+            else:
+                found.setdefault(reason[:2], []).append(other)
+    rows = [row(section, words, others) for (section, words), others in found.items()]
+    return rows, missing
+
+
+def row(section, words, others):
+    """A difference as a row: how many lines of each mark, and the first of them."""
+    marks = collections.Counter(other.mark.split()[0] for other in others)
+    raw, came = (text.replace("|", "\\|") for text in (others[0].raw, str(others[0].came)))
+    return (f"| {section} | It {words} | {marks['MUST']} | {marks['CHOICE']} | `{raw[:120]}` | "
+            f"`{came[:80]}` |")
+
+
+def page(results, reasons):
+    """RESULTS.md, and the differences that are not explained."""
+    lines = [f"# Results of {time.strftime('%Y-%m-%d')}", "", *HEAD, "",
+             "| Subject | Version | " + " | ".join(LEVELS) + " |", "|---|---|" + "---|" * 4]
+    unexplained = []
+    for name, (reports, why) in results.items():
+        if reports is None:
+            lines.append(f"| {name} | left out: {why} |" + " |" * 4)
+            continue
+        cells = [cell(report) for report in by_level(reports).values()]
+        lines.append(f"| {name} | {version_of(name)} | " + " | ".join(cells) + " |")
+    for name, (reports, _) in results.items():
+        told, missing = explained(name, reports, reasons) if reports else ([], [])
+        unexplained += [(name, other) for other in missing]
+        if told:
+            lines += ["", f"## {name}", "", *COLUMNS, *told]
+    return "\n".join(lines) + "\n", unexplained
+
+
+def main(words):
+    reasons = read_reasons(os.path.join(HERE, "differences.txt"))
+    results = {name: play_all(name) for name in NAMES}
+    text, unexplained = page(results, reasons)
+    for name, other in unexplained:
+        print(f"not explained: {name}: {other.file}:{other.line}\n  {other.raw}\n  {other.came}")
+    for name, (reports, _) in results.items():
+        for reason in unused(name, reports, reasons) if reports else []:
+            print(f"explains nothing: {name}: {reason.words}")
+    with open(os.path.join(HERE, "RESULTS.md"), "w", encoding="utf-8") as file:
+        file.write(text)
+    own = sum(len(report.others) for name in OWN for report in (results[name][0] or {}).values())
+    there = sum(reports is not None for reports, _ in results.values())
+    print(f"table: {there} of {len(results)} subjects, {len(unexplained)} differences not "
+          f"explained, {own} of this library and its model")
+    return 1 if unexplained or own else 0
+
+
+if __name__ == "__main__":
+    sys.exit(main(sys.argv[1:]))

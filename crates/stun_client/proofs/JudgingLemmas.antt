@@ -1,0 +1,155 @@
+-- What a response is judged to be: believed only if it may be, and sent again only for a challenge of
+-- its own.
+use Rattle.std.proofs.Common.{◌≡◌, Bool, true, false, ℕ, List, Option, Some, None, cond}
+use Rattle.std.proofs.Common.{◌∙◌, ap, refl, subst}
+use Rattle.std.specs.Option.{IfSome, option_map}
+use Rattle.stun_base.specs.Credentials.{NameAndPassword}
+use Rattle.stun_base.specs.declared.keys.algorithm.IntegrityAlgorithm.{IntegrityAlgorithm}
+use Rattle.stun_base.specs.declared.keys.algorithm.IntegrityAlgorithm.TheVariants.{Sha1, Sha256}
+use Rattle.stun_types.specs.Integrity.{verified_algorithm}
+use Rattle.stun_auth.specs.Client.{Challenge}
+use Rattle.stun_client.specs.Challenges.{Answered, is_one}
+use Rattle.stun_client.specs.Challenging.{is_challenge}
+use Rattle.stun_client.specs.Judging.{Identity, IsAnsweredAnew, IsBelievable, answered_in}
+use Rattle.stun_client.specs.Judging.{anew, believed, by_key, by_signature, by_sole_algorithm, dropped}
+use Rattle.stun_client.specs.Judging.{is_damaged, judged, judged_by, judged_by_long_term}
+use Rattle.stun_client.specs.Judging.{judged_read, long_term, short_term, unsigned}
+use Rattle.stun_client.specs.Standing.{StandingSeen, is_ignored}
+use Rattle.stun_client.specs.declared.judged.Distrust.{Distrust}
+use Rattle.stun_client.specs.declared.judged.Distrust.TheVariants.{NotVerified, WeakerChallenge}
+use Rattle.stun_client.specs.declared.judged.Distrust.TheVariants.{UnanswerableChallenge}
+use Rattle.stun_client.specs.declared.judged.Distrust.TheVariants.{WrongFingerprint}
+use Rattle.stun_client.specs.declared.preferences.Preferences.{Preferences}
+
+-- ---- reading a challenge
+
+abbrev with_preferences : Preferences → Challenge → Answered
+with_preferences p c = record { preferences = p; challenge = c }
+
+pub answered : (p : Preferences) (read : Option Answered) (is : Option Challenge)
+    → option_map (λ c. c.challenge) read ≡ is → IfSome read (λ c. c.preferences ≡ p)
+    → read ≡ option_map (λ c. record { preferences = p; challenge = c }) is
+answered p None is found ours = ap (option_map (with_preferences p)) found
+answered p (Some c) is found ours =
+    ap (λ q. Some (with_preferences q c.challenge)) ours
+    ∙ ap (option_map (with_preferences p)) found
+
+-- ---- belief
+
+by_key_believed : (v : Option IntegrityAlgorithm) (why : Distrust) (by : Option IntegrityAlgorithm)
+    → by_key v why ≡ believed by → (a : IntegrityAlgorithm) × ((by ≡ Some a) × (v ≡ Some a))
+by_key_believed None why by is = cc
+by_key_believed (Some a) why by is = (a, (cc, refl))
+
+unsigned_believed : (accepts : Bool) (why : Distrust) (by : Option IntegrityAlgorithm)
+    → cond accepts (believed None) (dropped why) ≡ believed by → (by ≡ None) × (accepts ≡ true)
+unsigned_believed true why by is = (cc, refl)
+unsigned_believed false why by is = cc
+
+signature_believed : (who : NameAndPassword) (p : Preferences) (accepts : Bool)
+    (before : Option Answered) (why : Distrust) (bytes : List ℕ) (by : Option IntegrityAlgorithm)
+    → by_signature accepts before why bytes ≡ believed by
+    → IsBelievable (long_term who p accepts) before bytes by
+signature_believed who p accepts None why bytes by is = unsigned_believed accepts why by is
+signature_believed who p accepts (Some c) why bytes by is =
+    by_key_believed (verified_algorithm bytes c.challenge.key) why by is
+
+challenge_not_believed : (one weak : Bool) (c : Answered) (by : Option IntegrityAlgorithm)
+    → cond one (anew None) (cond weak (dropped WeakerChallenge) (anew (Some c))) ≡ believed by → ⊥
+challenge_not_believed true weak c by is = cc
+challenge_not_believed false true c by is = cc
+challenge_not_believed false false c by is = cc
+
+long_term_believed : (who : NameAndPassword) (p : Preferences) (accepts : Bool)
+    (standing : StandingSeen) (before : Option Answered) (bytes : List ℕ)
+    (by : Option IntegrityAlgorithm)
+    → judged_by_long_term accepts p who standing before bytes ≡ believed by
+    → IsBelievable (long_term who p accepts) before bytes by
+long_term_believed who p accepts standing before bytes by =
+    cases (is_challenge bytes) (answered_in p who before bytes)
+  where
+    cases : (b : Bool) (read : Option Answered)
+        → cond b (judged_read accepts standing before bytes read)
+        (by_signature accepts before NotVerified bytes) ≡ believed by
+        → IsBelievable (long_term who p accepts) before bytes by
+    cases true None is =
+        signature_believed who p accepts before UnanswerableChallenge bytes by is
+    cases true (Some c) is =
+        absurd (challenge_not_believed (is_one (Some c) before) (is_ignored standing c) c by is)
+    cases false read is = signature_believed who p accepts before NotVerified bytes by is
+
+short_term_believed : (asked : IntegrityAlgorithm) (v by : Option IntegrityAlgorithm)
+    → by_sole_algorithm asked v ≡ believed by → (by ≡ Some asked) × (v ≡ Some asked)
+short_term_believed asked None by is = cc
+short_term_believed Sha1 (Some Sha1) by is = (cc, refl)
+short_term_believed Sha1 (Some Sha256) by is = cc
+short_term_believed Sha256 (Some Sha1) by is = cc
+short_term_believed Sha256 (Some Sha256) by is = (cc, refl)
+
+pub believable : (identity : Identity) (standing : StandingSeen) (before : Option Answered)
+    (bytes : List ℕ) (by : Option IntegrityAlgorithm)
+    → judged identity standing before bytes ≡ believed by → IsBelievable identity before bytes by
+believable identity standing before bytes by = cases (is_damaged bytes) identity
+  where
+    cases : (b : Bool) (i : Identity)
+        → cond b (dropped WrongFingerprint) (judged_by i standing before bytes) ≡ believed by
+        → IsBelievable i before bytes by
+    cases true i is = cc
+    cases false unsigned is = cc
+    cases false (short_term name password algorithm) is =
+        short_term_believed algorithm (verified_algorithm bytes password) by is
+    cases false (long_term who p accepts) is =
+        long_term_believed who p accepts standing before bytes by is
+
+-- ---- sending again
+
+signature_not_anew : (accepts : Bool) (before : Option Answered) (why : Distrust) (bytes : List ℕ)
+    (c : Answered) → by_signature accepts before why bytes ≡ anew (Some c) → ⊥
+signature_not_anew true None why bytes c is = cc
+signature_not_anew false None why bytes c is = cc
+signature_not_anew accepts (Some d) why bytes c is = by (verified_algorithm bytes d.challenge.key) is
+  where
+    by : (v : Option IntegrityAlgorithm) → by_key v why ≡ anew (Some c) → ⊥
+    by None is = cc
+    by (Some a) is = cc
+
+challenge_anew : (one weak : Bool) (d c : Answered)
+    → cond one (anew None) (cond weak (dropped WeakerChallenge) (anew (Some d))) ≡ anew (Some c)
+    → (one ≡ false) × (weak ≡ false) × (d ≡ c)
+challenge_anew true weak d c is = cc
+challenge_anew false true d c is = cc
+challenge_anew false false d c is = (refl, refl, cc)
+
+long_term_anew : (who : NameAndPassword) (p : Preferences) (accepts : Bool)
+    (standing : StandingSeen) (before : Option Answered) (bytes : List ℕ) (c : Answered)
+    → judged_by_long_term accepts p who standing before bytes ≡ anew (Some c)
+    → IsAnsweredAnew p who standing before bytes c
+long_term_anew who p accepts standing before bytes c =
+    cases (is_challenge bytes) (answered_in p who before bytes) refl
+  where
+    cases : (b : Bool) (read : Option Answered) → answered_in p who before bytes ≡ read
+        → cond b (judged_read accepts standing before bytes read)
+        (by_signature accepts before NotVerified bytes) ≡ anew (Some c)
+        → IsAnsweredAnew p who standing before bytes c
+    cases true None read is =
+        absurd (signature_not_anew accepts before UnanswerableChallenge bytes c is)
+    cases true (Some d) read is =
+        let was = challenge_anew (is_one (Some d) before) (is_ignored standing d) d c is in
+        record {
+          challenge = read ∙ ap (λ x. Some x) was.2;
+          new = subst (λ x. is_one (Some x) before ≡ false) was.2 was.0;
+          strong = subst (λ x. is_ignored standing x ≡ false) was.2 was.1;
+        }
+    cases false read found is = absurd (signature_not_anew accepts before NotVerified bytes c is)
+
+pub answered_anew : (who : NameAndPassword) (p : Preferences) (accepts : Bool)
+    (standing : StandingSeen) (before : Option Answered) (bytes : List ℕ) (c : Answered)
+    → judged (long_term who p accepts) standing before bytes ≡ anew (Some c)
+    → IsAnsweredAnew p who standing before bytes c
+answered_anew who p accepts standing before bytes c = cases (is_damaged bytes)
+  where
+    cases : (b : Bool) → cond b (dropped WrongFingerprint)
+        (judged_by_long_term accepts p who standing before bytes) ≡ anew (Some c)
+        → IsAnsweredAnew p who standing before bytes c
+    cases true is = cc
+    cases false is = long_term_anew who p accepts standing before bytes c is

@@ -1,0 +1,114 @@
+-- A client of one server, and what each call makes of it (RFC 8489, sections 6.3 and 9.2.5).
+use Rattle.std.specs.Prelude.{◌≡◌, ℕ, Bool, true, List, if◌then◌else◌, Option, Some, None}
+use Rattle.std.specs.Option.{is_some, option_map_or}
+use Rattle.std.specs.declared.net.socket_addr.SocketAddr.{SocketAddr}
+use Rattle.stun_base.specs.Header.{transaction_id_field}
+use Rattle.stun_base.specs.MessageType.{class_in}
+use Rattle.stun_base.specs.declared.keys.algorithm.IntegrityAlgorithm.{IntegrityAlgorithm}
+use Rattle.stun_base.specs.declared.wire.message_type.MessageClass.{MessageClass}
+use Rattle.stun_base.specs.declared.wire.message_type.MessageClass.TheVariants.{Request}
+use Rattle.stun_base.specs.declared.wire.message_type.MessageClass.TheVariants.{Indication}
+use Rattle.stun_base.specs.declared.wire.message_type.MessageClass.TheVariants.{Success, Error}
+use Rattle.stun_types.specs.Message.{refusal}
+use Rattle.stun_client.specs.Addresses.{is_same_address}
+use Rattle.stun_client.specs.Challenges.{Answered}
+use Rattle.stun_client.specs.Judging.{Identity, IsBelievable, Verdict, judged, verdict_of}
+use Rattle.stun_client.specs.Requests.{AskedSeen, RequestsSeen, after_end, after_renewal, after_start}
+use Rattle.stun_client.specs.Requests.{answered, at, is_answer}
+use Rattle.stun_client.specs.Standing.{StandingSeen, after_answer, after_success, after_timeout}
+use Rattle.stun_client.specs.declared.client.Heard.{Heard}
+use Rattle.stun_client.specs.declared.client.Heard.TheVariants.{NotOurs, Indication as OfServer}
+use Rattle.stun_client.specs.declared.client.Heard.TheVariants.{Response}
+
+-- the address of the server, how the client proves who it is, the challenge that new requests are
+-- signed for, and the outstanding requests
+pub record ClientSeen : Type 0 where
+  pub server : SocketAddr
+  pub identity : Identity
+  pub standing : StandingSeen
+  pub requests : RequestsSeen
+
+-- ---- what a datagram comes to
+
+-- it is for somebody else, an indication, or a response to the request with this number
+pub data Given : Type 0 where
+  not_ours : Given
+  indicated : List ℕ → Given
+  responded : List ℕ → ℕ → Verdict → Given
+
+-- what the result of `receive` says
+abbrev pub heard_of : {A : Type 0} → Heard A → Given
+heard_of NotOurs = not_ours
+heard_of (OfServer message) = indicated message
+heard_of (Response message number judged) = responded message number (verdict_of judged)
+
+-- a response must answer an outstanding request
+abbrev pub by_asked : ClientSeen → List ℕ → Option AskedSeen → Given
+by_asked c bytes None = not_ours
+by_asked c bytes (Some a) =
+    responded bytes a.number (judged c.identity c.standing a.signed_for bytes)
+
+abbrev pub by_class : ClientSeen → List ℕ → MessageClass → Given
+by_class c bytes Request = not_ours
+by_class c bytes Indication = indicated bytes
+by_class c bytes Success = by_asked c bytes (answered c.requests bytes)
+by_class c bytes Error = by_asked c bytes (answered c.requests bytes)
+
+-- what a datagram from an address comes to: it must be a message from the server
+abbrev pub heard : ClientSeen → SocketAddr → List ℕ → Given
+heard c from bytes =
+    if is_some (refusal bytes) then not_ours
+    else if is_same_address from c.server then by_class c bytes (class_in bytes)
+    else not_ours
+
+-- a datagram from an address ends the request with this number by its own, signed so: it is a
+-- message from the server, it is a response with the transaction ID and the method of the
+-- outstanding request, and it may be believed
+pub record IsAnswer (c : ClientSeen) (from : SocketAddr) (bytes : List ℕ) (number : ℕ)
+    (by : Option IntegrityAlgorithm) : Type 0 where
+  pub message : refusal bytes ≡ None
+  pub server : is_same_address from c.server ≡ true
+  pub request : AskedSeen
+  pub outstanding : at (transaction_id_field bytes) c.requests.asked ≡ Some request
+  pub named : request.number ≡ number
+  pub answers : is_answer request.method bytes ≡ true
+  pub believable : IsBelievable c.identity request.signed_for bytes by
+
+-- ---- what each call makes of a client
+
+abbrev pub after_starting : ClientSeen → ℕ → ℕ → ClientSeen
+after_starting c method id =
+    record c { requests = after_start c.requests method id c.standing.current }
+
+-- new requests are signed for a challenge that was answered
+abbrev pub answering : StandingSeen → Option Answered → StandingSeen
+answering standing None = standing
+answering standing (Some c) = after_answer standing c
+
+abbrev pub after_renewing : ClientSeen → ℕ → ℕ → Option Answered → ClientSeen
+after_renewing c id new_id challenge = record c {
+  requests = after_renewal c.requests id new_id challenge;
+  standing = answering c.standing challenge;
+}
+
+-- a success confirms the challenge of its request
+abbrev pub confirming : Bool → StandingSeen → Option Answered → StandingSeen
+confirming is_success standing challenge =
+    if is_success then after_success standing challenge else standing
+
+abbrev pub after_ending : ClientSeen → Bool → ℕ → ClientSeen
+after_ending c is_success id = record c {
+  requests = after_end c.requests id;
+  standing = option_map_or (λ a. confirming is_success c.standing a.signed_for)
+      (at id c.requests.asked) c.standing;
+}
+
+abbrev pub after_timing_out : ClientSeen → ℕ → ClientSeen
+after_timing_out c id = record c {
+  requests = after_end c.requests id;
+  standing = option_map_or (λ a. after_timeout c.standing a.signed_for) (at id c.requests.asked)
+      c.standing;
+}
+
+abbrev pub after_cancelling : ClientSeen → ℕ → ClientSeen
+after_cancelling c id = record c { requests = after_end c.requests id }

@@ -1,0 +1,150 @@
+-- What a response to an outstanding request comes to (RFC 8489, sections 9.1.4 and 9.2.5).
+use Rattle.std.specs.Prelude.{◌≡◌, ℕ, List, Bool, true, false, if◌then◌else◌, Option, Some, None}
+use Rattle.std.specs.Prelude.{string_bytes}
+use Rattle.std.specs.Option.{option_map}
+use Rattle.stun_base.specs.Credentials.{NameAndPassword}
+use Rattle.stun_base.specs.declared.keys.algorithm.IntegrityAlgorithm.{IntegrityAlgorithm}
+use Rattle.stun_types.specs.Integrity.{verified_algorithm}
+use Rattle.stun_auth.specs.Algorithms.{same_algorithm}
+use Rattle.stun_extra.specs.Fingerprint.{fingerprint_in}
+use Rattle.stun_extra.specs.declared.fingerprint.Fingerprint.{Fingerprint}
+use Rattle.stun_extra.specs.declared.fingerprint.Fingerprint.TheVariants.{Right, Wrong}
+use Rattle.stun_extra.specs.declared.fingerprint.Fingerprint.TheVariants.{Misplaced, Absent}
+use Rattle.stun_client.specs.Challenges.{Answered, challenge_of, is_one}
+use Rattle.stun_client.specs.Challenging.{is_challenge}
+use Rattle.stun_client.specs.Standing.{StandingSeen, is_ignored}
+use Rattle.stun_client.specs.declared.credentials.Credentials.{Credentials}
+use Rattle.stun_client.specs.declared.credentials.Credentials.TheVariants.{Unsigned, ShortTerm}
+use Rattle.stun_client.specs.declared.credentials.Credentials.TheVariants.{LongTerm}
+use Rattle.stun_client.specs.declared.judged.Distrust.{Distrust}
+use Rattle.stun_client.specs.declared.judged.Distrust.TheVariants.{NotVerified, WeakerChallenge}
+use Rattle.stun_client.specs.declared.judged.Distrust.TheVariants.{UnanswerableChallenge}
+use Rattle.stun_client.specs.declared.judged.Distrust.TheVariants.{WrongFingerprint}
+use Rattle.stun_client.specs.declared.judged.Judged.{Judged}
+use Rattle.stun_client.specs.declared.judged.Judged.TheVariants.{Believed, Anew, Dropped}
+use Rattle.stun_client.specs.declared.preferences.Preferences.{Preferences}
+
+-- how a client proves who it is: not at all; by name and password of a session, with the algorithm of
+-- its requests; or as a user of a realm, by these preferences, and whether unsigned responses to
+-- unsigned requests are believed
+pub data Identity : Type 0 where
+  unsigned : Identity
+  short_term : List ℕ → List ℕ → IntegrityAlgorithm → Identity
+  long_term : NameAndPassword → Preferences → Bool → Identity
+
+abbrev pub identity_of : {A : Type 0} → Credentials A → Identity
+identity_of Unsigned = unsigned
+identity_of (ShortTerm s) = short_term (string_bytes s.name) s.password s.algorithm
+identity_of (LongTerm l) = long_term l.user l.preferences l.accepts_unsigned
+
+-- it ends its request and is signed so, its request is sent again for a challenge or unsigned, or it
+-- is dropped
+pub data Verdict : Type 0 where
+  believed : Option IntegrityAlgorithm → Verdict
+  anew : Option Answered → Verdict
+  dropped : Distrust → Verdict
+
+-- what the result of `judge` says
+abbrev pub verdict_of : {A : Type 0} → Judged A → Verdict
+verdict_of (Believed by) = believed by
+verdict_of (Anew challenge) = anew challenge
+verdict_of (Dropped why) = dropped why
+
+-- ---- damage
+
+abbrev pub is_wrong : Fingerprint → Bool
+is_wrong Wrong = true
+is_wrong Right = false
+is_wrong Misplaced = false
+is_wrong Absent = false
+
+-- whether the FINGERPRINT of a message is wrong
+abbrev pub is_damaged : List ℕ → Bool
+is_damaged bytes = is_wrong (fingerprint_in bytes)
+
+-- ---- signatures
+
+-- a response is believed if its signature is valid
+abbrev pub by_key : Option IntegrityAlgorithm → Distrust → Verdict
+by_key None why = dropped why
+by_key (Some a) why = believed (Some a)
+
+-- with short-term credentials it must be by the algorithm of the request (section 9.1.4)
+abbrev pub by_sole_algorithm : IntegrityAlgorithm → Option IntegrityAlgorithm → Verdict
+by_sole_algorithm asked None = dropped NotVerified
+by_sole_algorithm asked (Some a) =
+    if same_algorithm asked a then believed (Some a) else dropped NotVerified
+
+-- with long-term credentials by the key that the request was signed with. The response to a request
+-- that was not signed is believed only if unsigned responses are accepted
+abbrev pub by_signature : Bool → Option Answered → Distrust → List ℕ → Verdict
+by_signature accepts_unsigned None why bytes =
+    if accepts_unsigned then believed None else dropped why
+by_signature accepts_unsigned (Some c) why bytes =
+    by_key (verified_algorithm bytes c.challenge.key) why
+
+-- ---- challenges (section 9.2.5)
+
+-- the challenge that a message is, with the preferences by which it is answered
+abbrev pub answered_in : Preferences → NameAndPassword → Option Answered → List ℕ → Option Answered
+answered_in p who before bytes =
+    option_map (λ c. record { preferences = p; challenge = c })
+    (challenge_of p who (option_map (λ (b : Answered). b.challenge) before) bytes)
+
+-- the challenge that the request was signed for already is not answered again: the request is sent
+-- unsigned. One that is weaker than what a success has confirmed is dropped
+abbrev pub judged_challenge : StandingSeen → Option Answered → Answered → Verdict
+judged_challenge standing before c =
+    if is_one (Some c) before then anew None
+    else if is_ignored standing c then dropped WeakerChallenge
+    else anew (Some c)
+
+-- a 401 or a 438 that is no challenge by the rule is judged by its signature, as other errors are
+abbrev pub judged_read : Bool → StandingSeen → Option Answered → List ℕ → Option Answered → Verdict
+judged_read accepts_unsigned standing before bytes None =
+    by_signature accepts_unsigned before UnanswerableChallenge bytes
+judged_read accepts_unsigned standing before bytes (Some c) = judged_challenge standing before c
+
+abbrev pub judged_by_long_term : Bool → Preferences → NameAndPassword → StandingSeen
+    → Option Answered → List ℕ → Verdict
+judged_by_long_term accepts_unsigned p who standing before bytes =
+    if is_challenge bytes
+    then judged_read accepts_unsigned standing before bytes (answered_in p who before bytes)
+    else by_signature accepts_unsigned before NotVerified bytes
+
+-- ---- all of it
+
+abbrev pub judged_by : Identity → StandingSeen → Option Answered → List ℕ → Verdict
+judged_by unsigned standing before bytes = believed None
+judged_by (short_term name password algorithm) standing before bytes =
+    by_sole_algorithm algorithm (verified_algorithm bytes password)
+judged_by (long_term who p accepts_unsigned) standing before bytes =
+    judged_by_long_term accepts_unsigned p who standing before bytes
+
+-- what a response comes to, whose request was signed for this challenge
+abbrev pub judged : Identity → StandingSeen → Option Answered → List ℕ → Verdict
+judged identity standing before bytes =
+    if is_damaged bytes then dropped WrongFingerprint
+    else judged_by identity standing before bytes
+
+-- ---- what follows
+
+-- a response may be believed, signed so. Without credentials each may. With short-term credentials
+-- it is signed with the password, by the algorithm of the request. With long-term credentials it is
+-- signed with the key of the request, or nobody signed the two of them and that is accepted
+abbrev pub IsBelievable : Identity → Option Answered → List ℕ → Option IntegrityAlgorithm → Type 0
+IsBelievable unsigned before bytes by = by ≡ None
+IsBelievable (short_term name password algorithm) before bytes by =
+    (by ≡ Some algorithm) × (verified_algorithm bytes password ≡ Some algorithm)
+IsBelievable (long_term who p accepts_unsigned) None bytes by =
+    (by ≡ None) × (accepts_unsigned ≡ true)
+IsBelievable (long_term who p accepts_unsigned) (Some c) bytes by =
+    (a : IntegrityAlgorithm) × ((by ≡ Some a) × (verified_algorithm bytes c.challenge.key ≡ Some a))
+
+-- a request is sent again for a challenge: the one of the response by the rule, which is not the one
+-- that the request was signed for, nor weaker than what a success has confirmed
+pub record IsAnsweredAnew (p : Preferences) (who : NameAndPassword) (standing : StandingSeen)
+    (before : Option Answered) (bytes : List ℕ) (c : Answered) : Type 0 where
+  pub challenge : answered_in p who before bytes ≡ Some c
+  pub new : is_one (Some c) before ≡ false
+  pub strong : is_ignored standing c ≡ false

@@ -1,0 +1,76 @@
+//! Signing a request by the credentials of a client (RFC 8489, sections 9.1.2 and 9.2.5).
+ghost use Rattle.std.specs.Option.{IfSome, option_copied};
+ghost use Rattle.std.specs.Prelude.{◌≡◌, ◌≤◌, IfOk, length};
+ghost use Rattle.stun_auth.specs.Additions.{UnlessMemory, WantsMemory, added_all, page_in};
+ghost use Rattle.stun_auth.specs.Additions.{written_page};
+ghost use Rattle.stun_auth.specs.Reading.{reading_of};
+ghost use Rattle.stun_auth.specs.Signed.{IsUnsigned};
+ghost use Rattle.stun_auth.specs.code.Additions.{IsOutcome};
+ghost use Rattle.stun_client.specs.Downgrade.{IsNowhereBidDown};
+ghost use Rattle.stun_client.specs.Judging.{identity_of};
+ghost use Rattle.stun_client.specs.Signing.{additions_of, challenge_for, short_term_additions};
+
+use crate::addition::{AddedAttribute, add, add_integrity};
+use crate::challenge::Challenge;
+use crate::credentials::{Credentials, ShortTerm};
+use std::alloc::Allocator;
+use stun_types::message::StunWriteError;
+use stun_types::prelude::*;
+
+impl<A: Allocator> ShortTerm<A> {
+    /// Adds USERNAME and the integrity attribute.
+    fn add_all<W: MessageWrite>(&self, writer: &mut W) -> Result<(), StunWriteError>
+        requires { 20 ≤ length (W.bytes writer.old) }
+        ensures { IsOutcome (short_term_additions self.now) (page_in W.bytes W.room writer.old)
+            (W.reserved writer.old) result (page_in W.bytes W.room writer.new) }
+    {
+        add(writer, AddedAttribute::Username(self.name.as_str()))?;
+        add_integrity(writer, &self.password, self.algorithm)
+    }
+
+    /// Returns the message with USERNAME and the integrity attribute.
+    fn signed<W: MessageWrite>(&self, writer: W) -> Result<W, StunWriteError>
+        requires { 20 ≤ length (W.bytes writer) }
+        ensures { UnlessMemory result (written_page W.bytes W.room result
+            ≡ added_all (short_term_additions self.now) (page_in W.bytes W.room writer))
+            (WantsMemory (short_term_additions self.now) (page_in W.bytes W.room writer)
+            (W.reserved writer)) }
+    {
+        let mut writer = writer;
+        self.add_all(&mut writer)?;
+        Ok(writer)
+    }
+}
+
+impl<A: Allocator> Credentials<A> {
+    /// Signs a request: with short-term credentials by USERNAME and the integrity attribute, and
+    /// with long-term credentials for this challenge (see `Challenge::sign`). Without credentials,
+    /// or without a challenge, it adds nothing.
+    ///
+    /// The writer must hold a request without FINGERPRINT. Fails with the errors of
+    /// `Challenge::sign`. An error drops the writer.
+    pub fn sign<W: MessageWrite>(
+        &self,
+        signed_for: Option<&Challenge<A>>,
+        request: W,
+    ) -> Result<W, StunWriteError>
+        requires { 20 ≤ length (W.bytes request) }
+        ensures signed { UnlessMemory result (written_page W.bytes W.room result
+            ≡ added_all (additions_of (identity_of self.now) (option_copied signed_for.entry))
+            (page_in W.bytes W.room request))
+            (WantsMemory (additions_of (identity_of self.now) (option_copied signed_for.entry))
+            (page_in W.bytes W.room request) (W.reserved request)) }
+        ensures not_bid_down { IfOk result (λ signed. IsUnsigned (W.bytes request)
+            → IfSome (challenge_for (identity_of self.now) (option_copied signed_for.entry))
+            (λ c. IsNowhereBidDown c.preferences (reading_of (W.bytes signed)))) }
+    {
+        match self {
+            Credentials::Unsigned => Ok(request),
+            Credentials::ShortTerm(short) => short.signed(request),
+            Credentials::LongTerm(_) => match signed_for {
+                Some(challenge) => challenge.sign(request),
+                None => Ok(request),
+            },
+        }
+    }
+}

@@ -1,0 +1,184 @@
+#!/usr/bin/env python3
+"""Writes the manual pages of the calls from the comments of the headers beside this file.
+
+    manual.py FOLDER     FOLDER/NAME.3 for each call, struct and enum, and for each header as a whole
+
+The headers are the only text. A comment begins with what a call does; from `Returns` on it is the
+result, and from `Errors` on the errors in the order of testing. A comment that no declaration
+follows is about the calls after it, up to the next title (`---- Title`): their pages repeat it.
+Lines that are indented by four are code.
+"""
+import re
+import sys
+from pathlib import Path
+
+HERE = Path(__file__).resolve().parent
+HEADERS = ("stunp.h", "stunp_state.h", "stunp_endpoint.h")
+PIECE = re.compile(r"^/\*(.*?)\*/\n|^((?:extern )?\w[^;{}]*?\b(\w+)\([^)]*\))(?:;| \{)"
+                   r"|^typedef (?:struct|enum)\b[^\n]*?(?:\n(?!\})[^\n]*)*?\n?\} (\w+);", re.M | re.S)
+NAME = re.compile(r"\b(?:stunp|rattle)_\w+")
+ORDER = "If several apply, the call returns the first of this list."
+
+
+def escaped(line):
+    line = line.replace("\\", "\\e").replace("-", "\\-")
+    return "\\&" + line if line[:1] in (".", "'") else line
+
+
+def paragraphs(text):
+    """The parts of a comment between empty lines, without the stars before its lines."""
+    lines = [re.sub(r"^ \* ?", "", line).rstrip() for line in text.strip(" *").split("\n")]
+    return re.split(r"\n{2,}", "\n".join(lines).strip("\n"))
+
+
+def kind_of(line, before):
+    """What a line is, after one of the kind `before`."""
+    if line.startswith("- ") or before == "item" and line.startswith("  "):
+        return "item"
+    if line.startswith("    ") and before != "names":
+        return "code"
+    return "names" if line.startswith("  ") else "prose"
+
+
+def named(lines):
+    """Lines that are indented by two: names with what they mean, which may go over lines."""
+    deep = min(len(line) - len(line.lstrip()) for line in lines)
+    for line in lines:
+        name, _, said = line.strip().partition("  ")
+        if line[deep] == " ":
+            yield escaped(line.strip())
+        else:
+            yield from [".TP", ".B " + escaped(name)] + [escaped(said.strip())] * (said != "")
+    yield ".PP"
+
+
+def paragraph(text):
+    """A paragraph: prose, code, names, and items."""
+    deep = re.match(r"( *)- |", text)[1] or ""
+    roff, lines = [], [line.removeprefix(deep) for line in text.split("\n")]
+    for kind, lines in blocks(lines):
+        if kind == "code":
+            roff += [".PP", ".in +4n", ".EX", *(escaped(line[4:]) for line in lines), ".EE", ".in"]
+        elif kind == "names":
+            roff += named(lines)
+        elif kind == "item":
+            for line in lines:
+                roff += [".IP \\(bu 2"] if line.startswith("- ") else []
+                roff.append(escaped(line[2:]))
+        else:
+            roff += [".PP", *map(escaped, lines)]
+    return roff
+
+
+def blocks(lines):
+    """The lines that follow each other and are of one kind."""
+    found, kind = [], ""
+    for line in lines:
+        before, kind = kind, kind_of(line, kind)
+        if kind != before:
+            found.append((kind, []))
+        found[-1][1].append(line)
+    return found
+
+
+def brief(text):
+    """The first sentence, as a line of NAME."""
+    first = re.split(r"(?<=[.:])\s(?=[A-Z]|$)|[.:]$|:\s", " ".join(text.split()))[0].rstrip(".:")
+    return escaped(first[0].lower() + first[1:])
+
+
+def written(folder, name, header, version, what, synopsis, sections):
+    """Writes a page of NAME, SYNOPSIS and sections, each with its lines."""
+    includes = f"#include <{header}>"
+    roff = [f".TH {name} 3 \"\" \"stunp {version}\" \"STUN (RFC 8489)\"", ".SH NAME",
+            f"{name} \\- {what}", ".SH SYNOPSIS", ".nf", escaped(includes)]
+    roff += [".PP", *map(escaped, synopsis)] if synopsis else []
+    roff += [".fi"]
+    for title, lines in sections:
+        roff += [f".SH {title.upper()}", *lines] if lines else []
+    (folder / f"{name}.3").write_text("\n".join(roff) + "\n", "utf-8")
+
+
+def parted(comment):
+    """The paragraphs of a comment on a call: what it does, its result, and its errors."""
+    parts = {"DESCRIPTION": [], "RETURN VALUE": [], "ERRORS": []}
+    to = "DESCRIPTION"
+    for number, text in enumerate(comment):
+        if to == "DESCRIPTION" and number and re.match(r"(Or )?[Rr]eturns\b", text):
+            to = "RETURN VALUE"
+        before, found, after = text.partition("Errors")
+        if found and re.match(r"[^.:]*:\n", after):
+            about, _, after = after.partition(":\n")
+            parts[to] += paragraph(before.strip()) if before.strip() else []
+            to = "ERRORS"
+            parts[to] += [".PP", escaped(f"Errors{about}:")] if about else []
+            parts[to] += paragraph(after)
+        else:
+            if to == "ERRORS" and not text.startswith(" "):
+                to = "RETURN VALUE" if text.startswith("Returns") else "DESCRIPTION"
+            parts[to] += paragraph(text)
+    if parts["ERRORS"]:
+        parts["ERRORS"] = [ORDER] + parts["ERRORS"]
+    return list(parts.items())
+
+
+def page(folder, header, version, declared, name, comment, shared, pages):
+    lines = re.sub(r"^STUNP_(?!INLINED)[A-Z_]+.*\n", "", declared, flags=re.M).strip()
+    first = re.match(r"(?:STUNP_INLINED |extern )?", lines)[0]
+    lines = lines.removeprefix(first).replace("\n" + " " * len(first), "\n").split("\n")
+    others = sorted({*NAME.findall("\n".join(comment))} & {*pages} - {name}) + [header[:-2]]
+    notes = [line for text in shared for line in paragraph(text)]
+    written(folder, name, header, version, brief(comment[0]), lines,
+            [*parted(comment), ("NOTES", notes),
+             ("SEE ALSO", [",\n".join(f".BR {other} (3)" for other in others)])])
+
+
+def overview(folder, header, version, comment):
+    """The page of a header, from its first comment: sections have two empty lines before them."""
+    text = re.sub(r"^ \* ?", "", comment.strip(" *"), flags=re.M)
+    first, *parts = re.split(r"\n{3,}", text)
+    title, _, rest = first.partition("\n")
+    sections = [("DESCRIPTION", [line for one in re.split(r"\n{2,}", rest.strip())
+                                 for line in paragraph(one)])]
+    for part in parts:
+        head, _, rest = part.strip("\n").partition("\n")
+        sections.append((head, [line for one in re.split(r"\n{2,}", rest.strip("\n"))
+                                for line in paragraph(one)]))
+    written(folder, header[:-2], header, version, escaped(title.split(": ", 1)[1]), [], sections)
+
+
+def documented(text):
+    """The declarations of a header that have a comment: text, name, comment, and the comments on
+    the calls of this section."""
+    comment, shared, is_titled = None, [], False
+    for found in list(PIECE.finditer(text))[1:]:
+        if found[1] is None:
+            name = found[3] or found[4]
+            if comment and NAME.fullmatch(name):
+                is_call = found[2] is not None
+                yield (found[2] + ";" if is_call else found[0], name, comment,
+                       shared if is_call else [])
+            comment = None
+            continue
+        comment, is_alone = paragraphs(found[1]), text[found.end()] == "\n"
+        if comment[0].startswith("---- "):
+            shared, is_titled, comment = comment[1:], True, None
+        elif is_alone:
+            shared, comment = shared + comment * is_titled, None
+
+
+def main():
+    if len(sys.argv) != 2:
+        sys.exit(__doc__)
+    folder, version = Path(sys.argv[1]), (HERE / "../VERSION").read_text().strip()
+    folder.mkdir(parents=True, exist_ok=True)
+    texts = {header: (HERE / header).read_text("utf-8") for header in HEADERS}
+    pages = {name for text in texts.values() for _, name, _, _ in documented(text)}
+    for header, text in texts.items():
+        overview(folder, header, version, PIECE.search(text)[1])
+        for declared, name, comment, shared in documented(text):
+            page(folder, header, version, declared, name, comment, shared, pages)
+
+
+if __name__ == "__main__":
+    main()

@@ -1,0 +1,49 @@
+#!/bin/sh
+# Makes the manual pages of the headers (include/manual.py) and reads each as `man -l` does, where
+# it is there: a warning is a failure, and so is a page that whatis could not list. Each call that the
+# headers declare has a page, which shows the declaration and names the errors in their order.
+set -eu
+cd "$(dirname "$0")/.."
+scratch=$(mktemp -d)
+trap 'rm -rf "$scratch"' EXIT
+python3 include/manual.py "$scratch"
+python3 - "$scratch" <<'CHECK'
+import re, sys
+from pathlib import Path
+count = errors = 0
+for header in ("stunp.h", "stunp_state.h", "stunp_endpoint.h"):
+    text = Path("include", header).read_text()
+    for comment, declared, name in re.findall(
+            r"^/\*((?:(?!\*/).)*)\*/\n"
+            r"((?:STUNP_[A-Z_]+\b[^\n]*\n)*?(?:\w[^;{}()]*?\b)(stunp_\w+)\([^)]*\))",
+            text, re.M | re.S):
+        page = Path(sys.argv[1], name + ".3").read_text()
+        count += 1
+        plain = page.replace("\\-", "-").replace("\\&", "").replace("\\e", "\\")
+        shown = re.sub(r"^(?:STUNP_(?!INLINED)[^\n]*\n)*(?:STUNP_INLINED |extern )?", "", declared)
+        if " ".join(shown.split()) + ";" not in " ".join(plain.split()):
+            sys.exit(f"manual: {name}.3 does not show its declaration")
+        listed = re.findall(r"^ \*   (STUNP_[A-Z_]+)", comment.partition("Errors")[2], re.M)
+        told = re.findall(r"^\.B (STUNP_[A-Z_]+)", plain.partition("\n.SH ERRORS")[2], re.M)
+        if listed != told[:len(listed)]:
+            sys.exit(f"manual: {name}.3 names the errors {told}, and the header {listed}")
+        errors += len(told)
+every = "".join(Path("include", header).read_text()
+                for header in ("stunp.h", "stunp_state.h", "stunp_endpoint.h"))
+inside = len(re.findall(r"(?m)^(?:\w[\w *]*\s[*]?)?stunp_\w+\([^;{}()]*\)(?:;| \{)", every))
+if inside != count:
+    sys.exit(f"manual: {inside} calls are declared, and {count} have a comment")
+print(f"manual: {count} calls with {errors} errors", end="")
+CHECK
+# (the scripts of a minimal Debian put a program there that reads nothing)
+if command -v man >/dev/null && man --version 2>/dev/null | grep -q '^man [0-9]'; then
+    for page in "$scratch"/*.3; do
+        LC_ALL=C.UTF-8 MANROFFSEQ='' MANWIDTH=80 man --warnings -E UTF-8 -l -Tutf8 -Z "$page" \
+            2>"$scratch/warned" >/dev/null || { cat "$scratch/warned" >&2; exit 1; }
+        [ ! -s "$scratch/warned" ] || { cat "$scratch/warned" >&2; exit 1; }
+        lexgrog "$page" >"$scratch/listed" || { cat "$scratch/listed" >&2; exit 1; }
+    done
+    echo ", $(ls "$scratch"/*.3 | wc -l) pages read by man"
+else
+    echo ', no man is here'
+fi

@@ -1,0 +1,107 @@
+#!/bin/sh
+# Runs tests of tests/c and the transcripts over the libraries that tools/rust_c.sh left in
+# target/c, looks at their symbols and sizes, reads the manual and installs all of it. With the word
+# `udp` it also runs programs on sockets.
+set -eu
+cd "$(dirname "$0")/.."
+out=$PWD/target/c
+
+fail() {
+    echo "rust_c: $*" >&2
+    exit 1
+}
+
+# The libraries have the calls that the headers declare, also those with a body there, and show no
+# other symbol.
+cat include/stunp.h include/stunp_state.h include/stunp_endpoint.h |
+    sed -n '/^template/d; s/^\([A-Za-z].*[ *]\)\{0,1\}\(stunp_[a-z0-9_]*\)(.*/\2/p' |
+    sort > "$out/declared"
+for seen in "-g $out/libstunp.a" "-D $out/libstunp.so"; do
+    nm --defined-only $seen 2>/dev/null | awk 'NF == 3 {print $3}' | sort > "$out/defined"
+    diff "$out/declared" "$out/defined" >&2
+done
+named=$(objdump -p "$out/libstunp.so" | sed -n 's/^ *SONAME *//p')
+cmp "$out/$named" "$out/libstunp.so"
+# They want few functions of a C library, and none of a thread or of a system.
+wanted=$(nm -u "$out/libstunp.a" | sed -n 's/^.* U //p' | sort | paste -sd' ')
+case "$wanted" in
+'abort bcmp free malloc memcmp memcpy memmove memset realloc strlen') ;;
+*) echo "rust_c: the archive wants other functions: $wanted" >&2 && [ "$(uname -m)" != x86_64 ] ;;
+esac
+! readelf -SW "$out/libstunp.so" | grep -E ' \.(tdata|tbss|init_array) ' >&2 ||
+    fail 'the shared library has thread-locals, or runs code when it is loaded'
+# To include a header is to link nothing.
+printf '#include "%s"\n' stunp.h stunp_state.h stunp_endpoint.h > "$out/included.c"
+${CC:-cc} -O0 -Iinclude -c "$out/included.c" -o "$out/included.o"
+[ -z "$(nm -u "$out/included.o")" ] || fail 'a program that includes the headers wants the library'
+
+# Calls with a body in the headers, for a program that reads no C.
+python3 - "$out/libstunp.so" <<'CALLS'
+import ctypes, sys
+library = ctypes.CDLL(sys.argv[1])
+library.stunp_strerror.restype = ctypes.c_char_p
+library.stunp_is_signed.restype = ctypes.c_bool
+assert library.stunp_strerror(ctypes.c_int64(-1)) == b"bytes are missing at the end"
+assert not library.stunp_is_signed(b"", ctypes.c_size_t(0), b"", ctypes.c_size_t(0))
+CALLS
+
+# size_of FILE: its bytes, without symbols.
+size_of() {
+    strip -o "$out/stripped" "$1"
+    wc -c < "$out/stripped"
+}
+${CC:-cc} -std=c99 -Os -Wall -Wextra -Wpedantic -Werror -Iinclude tests/c/three_calls.c \
+    "$out/libstunp.a" -Wl,--gc-sections -o "$out/three_calls"
+three=$(size_of "$out/three_calls") shared=$(size_of "$out/libstunp.so")
+[ "$three" -le 20000 ] || fail "a program of three calls has $three bytes"
+[ "$shared" -le 200000 ] || fail "the shared library has $shared bytes"
+echo "rust_c: a program of three calls has $three bytes, the shared library $shared"
+case $(uname -sm) in
+'Linux x86_64' | 'Linux aarch64')
+    ${CC:-cc} -std=c11 -O2 -ffreestanding -fno-builtin -nostdlib -static -fno-stack-protector \
+        -Wall -Wextra -Werror -Iinclude tests/c/freestanding.c "$out/libstunp.a" -o "$out/freestanding"
+    "$out/freestanding" || fail "the program without a C library ended with $?"
+    echo 'rust_c: a program without a C library passed' ;;
+esac
+
+# expect WANTED COMMAND..: the command prints this, with status 0.
+expect() {
+    wanted=$1
+    shift
+    printed=$("$@") || { echo "rust_c: $*: ended with $?, printed '$printed'" >&2; exit 1; }
+    [ "$printed" = "$wanted" ] ||
+        { echo "rust_c: $*: printed '$printed', not '$wanted'" >&2; exit 1; }
+}
+strict='-std=c99 -O1 -g -Wall -Wextra -Wpedantic -Werror -Iinclude -Iexamples/c -D_DEFAULT_SOURCE'
+libraries=''
+for name in arguments attributes extra sockaddr; do
+    ${CC:-cc} $strict tests/c/$name.c "$out/libstunp.a" $libraries -o "$out/$name"
+    ${CC:-cc} $strict tests/c/$name.c -L"$out" -lstunp "-Wl,-rpath,$out" -o "$out/$name-shared"
+    expect "$name: passed" "$out/$name"
+    expect "$name: passed" "$out/$name-shared"
+done
+expect "refused: passed" env STUN_C="$out/libstunp.a" STUN_STATE="$out/libstunp.a" \
+    LIBRARIES="$libraries" tests/refused.sh
+LIBRARIES="$libraries" tests/memory.sh "$out"
+# These look at the memory that is taken. `worked` has the examples of the headers.
+sed -n 's/^ \*     //p; /\*\/$/q' include/stunp.h > "$out/answer.h"
+sed -n 's/^ \*     //p; /\*\/$/q' include/stunp_state.h > "$out/ask.h"
+sed -n 's/^ \*     //p; /\*\/$/q' include/stunp_endpoint.h > "$out/serve.h"
+for name in agents endpoint handles hostile ice many users worked play; do
+    ${CC:-cc} $strict -I"$out" "tests/c/$name.c" examples/c/heap.c "$out/libstunp.a" $libraries \
+        -o "$out/$name"
+    [ $name = play ] || expect "$name: passed" "$out/$name"
+done
+python3 tests/play.py "$out/play" crates/transcripts/data/*.txt > "$out/played" ||
+    { cat "$out/played" >&2; exit 1; }
+tail -n 1 "$out/played"
+# The same installed, in the place of the three archives, and the manual.
+tests/manual.sh
+STUN_C="$out/libstunp.a" STUN_STATE="$out/libstunp.a" LIBRARIES="$libraries" tests/install.sh
+if [ "${1-}" = udp ]; then
+    built=target/export/target/debug/examples
+    (cd target/export && cargo build --quiet --examples)
+    STUN_C="$out/libstunp.a" STUN_STATE="$out/libstunp.a" LIBRARIES="$libraries" \
+        python3 tests/udp/check.py --server "$built/udp_server" --client "$built/udp_client"
+fi
+echo "rust_c: passed"

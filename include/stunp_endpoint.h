@@ -675,7 +675,7 @@ int64_t stunp_endpoint_server_identify_own(stunp_endpoint_server *server, const 
  *
  * Returns a stunp_kind, and fails as stunp_endpoint_server_receive does. */
 STUNP_USE_RESULT
-static inline int64_t
+STUNP_INLINED int64_t
 stunp_endpoint_server_identify(const stunp_endpoint_server *server, const uint8_t *bytes,
                                size_t length, const stunp_address *from, uint64_t unix_seconds,
                                uint8_t *out, size_t room, stunp_received *received) {
@@ -697,7 +697,7 @@ stunp_endpoint_server_identify(const stunp_endpoint_server *server, const uint8_
  *   STUNP_TEXT_TOO_LONG  the name has more than STUNP_NAME_MAX bytes
  * and then those of stunp_endpoint_server_receive. */
 STUNP_USE_RESULT
-static inline int64_t
+STUNP_INLINED int64_t
 stunp_endpoint_server_resume(const stunp_endpoint_server *server, const stunp_found_user *found,
                              const uint8_t *bytes, size_t length, const stunp_address *from,
                              uint64_t unix_seconds, uint8_t *out, size_t room,
@@ -795,7 +795,7 @@ int64_t stunp_ice_checker_new_with(stunp_ice_checker *checker, const void *name,
  * Returns 0. Errors:
  *   STUNP_BAD_ARGUMENT  `size` is wrong, or a text is null
  * and then those of stunp_ice_checker_new_with. */
-static inline int64_t stunp_ice_checker_new(stunp_ice_checker *checker,
+STUNP_INLINED int64_t stunp_ice_checker_new(stunp_ice_checker *checker,
                                             const stunp_ice_settings *settings) {
     if (settings->size != sizeof *settings || settings->name == NULL || settings->password == NULL
         || settings->peer_name == NULL || settings->peer_password == NULL)
@@ -815,7 +815,7 @@ void stunp_ice_checker_clear(stunp_ice_checker *checker);
 
 /* Frees an agent and makes its handle empty. Does nothing if the handle is empty or the pointer is
  * null. */
-static inline void stunp_ice_checker_free(stunp_ice_checker *checker) {
+STUNP_INLINED void stunp_ice_checker_free(stunp_ice_checker *checker) {
     if (checker != NULL) stunp_ice_checker_clear(checker);
 }
 
@@ -854,7 +854,7 @@ int64_t stunp_ice_checker_check_with(stunp_ice_checker *checker, const uint8_t i
  *   STUNP_OUT_OF_MEMORY     an allocation failed
  *   STUNP_BUFFER_TOO_SMALL  the check does not fit into `room` bytes */
 STUNP_USE_RESULT
-static inline int64_t stunp_ice_checker_check(stunp_ice_checker *checker, const uint8_t id[12],
+STUNP_INLINED int64_t stunp_ice_checker_check(stunp_ice_checker *checker, const uint8_t id[12],
                                               const stunp_address *to, uint32_t priority,
                                               bool nominate, uint8_t *out, size_t room,
                                               stunp_ice_check *check) {
@@ -902,7 +902,7 @@ int64_t stunp_ice_checker_receive_with(stunp_ice_checker *checker, const uint8_t
  *   STUNP_BUFFER_TOO_SMALL  the answer does not fit into `room` bytes. `received->length` is then its
  *                           length, and nothing else of `*received` changes */
 STUNP_USE_RESULT
-static inline int64_t stunp_ice_checker_receive(stunp_ice_checker *checker, const uint8_t *bytes,
+STUNP_INLINED int64_t stunp_ice_checker_receive(stunp_ice_checker *checker, const uint8_t *bytes,
                                                 size_t length, const stunp_address *from,
                                                 const stunp_ice_check *check, uint8_t *out,
                                                 size_t room, stunp_ice_received *received) {

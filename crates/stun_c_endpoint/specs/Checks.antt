@@ -1,6 +1,6 @@
 -- The checks of an agent of ICE as a caller in C gets them, and passes them again with an answer
 -- (RFC 8445, section 7.2).
-use Rattle.std.specs.Prelude.{◌≡◌, ◌⊎◌, ℕ, ℤ, pos, ◌++◌, List, [], Bool, true, false}
+use Rattle.std.specs.Prelude.{◌≡◌, ◌⊎◌, ℕ, ℤ, ◌++◌, List, [], Bool, true, false}
 use Rattle.std.specs.Prelude.{length, drop, nat_lt, Option, Some, None}
 use Rattle.std.specs.Prelude.{Result, Ok, Err}
 use Rattle.std.specs.Option.{option_map}

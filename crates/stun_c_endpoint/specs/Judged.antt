@@ -1,5 +1,5 @@
 -- What a datagram comes to at an agent of ICE, as a caller in C gets it.
-use Rattle.std.specs.Prelude.{◌≡◌, ◌⊎◌, ℕ, ℤ, pos, ◌++◌, List, Bool, false, ◌==◌, not, length}
+use Rattle.std.specs.Prelude.{◌≡◌, ◌⊎◌, ℕ, ℤ, pos, ◌++◌, List, Bool, false, ◌==◌, length}
 use Rattle.std.specs.Prelude.{drop, nat_lt, if◌then◌else◌, Option, Some, None, Result, Ok, Err}
 use Rattle.std.specs.Net.Socket.{IsPlainSocket, socket_ip}
 use Rattle.std.specs.declared.net.socket_addr.SocketAddr.{SocketAddr}

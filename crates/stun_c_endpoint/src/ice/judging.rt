@@ -3,7 +3,7 @@
 ghost use Rattle.std.specs.Prelude.{◌≡◌, IfOk, IfErr, None, Some, length};
 ghost use Rattle.stun_ice.specs.Received.{checked, responded};
 ghost use Rattle.stun_handles.specs.Numbers.{number_answer};
-ghost use Rattle.stun_c_endpoint.specs.Checks.{check_given, check_stored};
+ghost use Rattle.stun_c_endpoint.specs.Checks.{check_given};
 ghost use Rattle.stun_c_endpoint.specs.Judged.{LeavesSeen, SeesAs, TellsMapped, ice_blank};
 ghost use Rattle.stun_c_endpoint.specs.Judged.{missing_room, outcome_told, seen_at};
 ghost use Rattle.stun_c_endpoint.specs.Kept.{agent_of};

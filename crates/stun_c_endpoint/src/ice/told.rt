@@ -1,11 +1,10 @@
 //! What a caller gets of a check that was written and of a datagram that was judged: plain data.
 
-ghost use Rattle.std.specs.Prelude.{◌≡◌, Some};
-ghost use Rattle.stun_ice.specs.Agent.{SentCheck};
+ghost use Rattle.std.specs.Prelude.{◌≡◌};
 ghost use Rattle.stun_ice.specs.Received.{dropped};
 ghost use Rattle.stun_ice.specs.declared.received.Outcome.TheVariants as Ended;
-ghost use Rattle.stun_c_endpoint.specs.Checks.{check_stored, check_told};
-ghost use Rattle.stun_c_endpoint.specs.Judged.{IsMapped, failure_told, given_told, ice_blank};
+ghost use Rattle.stun_c_endpoint.specs.Checks.{check_told};
+ghost use Rattle.stun_c_endpoint.specs.Judged.{IsMapped, failure_told, ice_blank};
 ghost use Rattle.stun_c_endpoint.specs.Judged.{ice_drop_number, judged_told, outcome_told};
 
 use crate::ice::agent::is_controlling;

@@ -1,6 +1,6 @@
 //! What the call that writes a check does.
 
-ghost use Rattle.std.specs.Prelude.{◌≡◌, Some};
+ghost use Rattle.std.specs.Prelude.{Some};
 ghost use Rattle.stun_handles.specs.Numbers.{length_answer};
 ghost use Rattle.stun_c_endpoint.specs.Checks.{WritesCheck, check_asked};
 ghost use Rattle.stun_c_endpoint.specs.Kept.{agent_of};

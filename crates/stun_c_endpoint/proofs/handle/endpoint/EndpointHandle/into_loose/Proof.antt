@@ -5,7 +5,7 @@ use Rattle.stun_handles.proofs.Steps.{Val, ‵, raw, ◌⊛◌, ◌$◌, ◌∵�
 use Rattle.stun_handles.proofs.Steps.{use1, split, fsplit, fjoin, suffices, agg, sub, whole}
 use Rattle.stun_handles.proofs.Steps.{enter, of_opd, stop, fld, no_more, and_then, returns}
 use Rattle.stun_handles.proofs.Steps.{alloc_all, pass_all, free_all, look_at, get, get_in, sets}
-use Rattle.stun_handles.proofs.Steps.{env, yes, RattleType, owns, types_at, plain, nothing, alive}
+use Rattle.stun_handles.proofs.Steps.{yes, RattleType, owns, types_at, plain, nothing, alive}
 use Rattle.stun_handles.proofs.Steps.{Stays, stay_dropped, walk_of, Goes-dropped, Ptr-Good}
 use Rattle.stun_c_endpoint.specs.code.Handle.{kept_row as Kept}
 use Rattle.stun_handles.proofs.Words.{word, word_good, opened, closed}

@@ -91,7 +91,7 @@ static stunp_writer write_on_channel(const stunp_address *peer, const char *text
     (void)peer;
     memcpy(bytes, header, sizeof header);
     memcpy(bytes + CHANNEL_HEADER, text, length);
-    return (stunp_writer){bytes, MOST_BYTES, CHANNEL_HEADER + length, 0};
+    return stunp_write_on((int64_t)(CHANNEL_HEADER + length), bytes, MOST_BYTES);
 }
 
 static bool is_on_channel(const stunp_address *peer, const char *text, const struct datagram *got) {

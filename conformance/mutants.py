@@ -79,7 +79,8 @@ def main():
             tried += 1
             if not is_found({**model, name: changed}, parts):
                 missed += 1
-                other = next((new for old, new in zip(whole, changed.split("\n")) if old != new), "")
+                other = next((new for old, new in zip(whole, changed.split("\n"))
+                              if old != new), "")
                 print(f"{name}:{line}: {lines[line - 1].strip()}\n    {other.strip()}")
     print(f"mutants: {tried} tried, {tried - missed} found, {missed} missed")
     return 0

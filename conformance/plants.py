@@ -28,7 +28,7 @@ def read_model():
 
 
 class Planted(Module):
-    """The model with other text. Its modules take the place of the model's only while it is made."""
+    """The model with other text. Its modules replace those of the model only while it is made."""
 
     def __init__(self, sources):
         old = {name: sys.modules.get(name) for name in MODEL}

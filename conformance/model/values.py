@@ -1,5 +1,5 @@
-"""The values of attributes in the model: of STUN (RFC 8489, section 14), TURN (RFC 8656, section 18)
-and ICE (RFC 8445, section 16.1)."""
+"""The values of attributes in the model: those of STUN (RFC 8489, section 14), TURN (RFC 8656,
+section 18) and ICE (RFC 8445, section 16.1)."""
 
 import ipaddress
 import struct

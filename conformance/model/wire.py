@@ -1,7 +1,7 @@
 """Messages, digests and FINGERPRINT of the model, written from RFC 8489 (sections without an RFC).
 
-The model shares no code with any implementation. `plants.py` plants bugs in it, which the suite must
-find."""
+The model shares no code with any implementation. `plants.py` plants bugs in it, which the suite
+must find."""
 
 import hashlib
 import hmac

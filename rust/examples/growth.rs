@@ -232,7 +232,7 @@ fn memory(size: usize) {
     let mut agent = StunAgent::builder(TransportType::Udp, remote).build();
     for i in 0..size {
         let page = Message::builder_request_with_id(BINDING, id(i), MessageWriteVec::new());
-        agent.send_request(&page.finish(), remote, at(0)).unwrap();
+        agent.send_request(page.finish(), remote, at(0)).unwrap();
     }
     let sent = resident();
     let mut server = LongTermServerAuth::new("example.org".to_string());

@@ -384,7 +384,8 @@ pub eight_alone : (remainder : ℕ) (words bytes : List ℕ) → remainder < 2 ^
     → sum_alone words bytes ≡ fold after_byte remainder bytes
 eight_alone remainder words bytes fits same long small =
     let at : ℕ → ℕ = λ i. get_or bytes i 0 in
-    let items : bytes ≡ map at (range_with_len 0 8) = fill_by_all at bytes 8 0 long (λ k lt. refl) in
+    let items : bytes ≡ map at (range_with_len 0 8) =
+    fill_by_all at bytes 8 0 long (λ k lt. refl) in
     let below : (k n : ℕ) → AllByRecursion (λ byte. byte < 256) (map at (range_with_len k n)) =
     λ k n. all_small at k n small in
     let r2 : remainder / 256 / 256 % 256 ≡ remainder / 65536 % 256 = omega arith in
@@ -417,5 +418,6 @@ pub TABLES-entry : (n byte : ℕ) → n < 8 → byte < 256
 TABLES-entry n byte few below =
     ap (λ t. get_or (get_or t n []) byte 0) tables_are
     ∙ (ap (λ t. get_or t byte 0)
-    (get_or-map-range_with_len (λ n. map (alone n) (range_with_len 0 256)) 0 8 n n [] few (omega arith))
+    (get_or-map-range_with_len (λ n. map (alone n) (range_with_len 0 256))
+    0 8 n n [] few (omega arith))
     ∙ get_or-map-range_with_len (alone n) 0 256 byte byte 0 below (omega arith))

@@ -29,9 +29,9 @@ pub fn crc32(bytes: &[u8]) -> u32
 
 /// Returns the remainder after the bits of eight more bytes.
 ///
-/// The division is linear: the remainder after several bytes is the XOR of the remainders after each
-/// of them alone, followed by as many zero bytes as come after it. The four bytes of the remainder
-/// so far are part of the first four.
+/// The division is linear: the remainder after several bytes is the XOR of the remainders after
+/// each of them alone, followed by as many zero bytes as come after it. The four bytes of the
+/// remainder so far are part of the first four.
 fn after_eight(remainder: u32, bytes: &[u8; 8]) -> u32
     ensures { result ≡ fold after_byte remainder bytes.now }
 {

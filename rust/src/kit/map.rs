@@ -188,16 +188,14 @@ impl<K: Ord, V> Node<K, V> {
     /// Removes the entry at an index of a node that is no leaf. The last entry before it takes its
     /// place.
     fn take_between<A: Allocator>(&mut self, at: usize, alloc: &A) -> (K, V) {
-        match self.children[at].pop(alloc) {
-            Some((key, value)) => (
-                mem::replace(&mut self.keys[at], key),
-                mem::replace(&mut self.values[at], value),
-            ),
-            None => {
-                self.children.remove(at).leave(alloc);
-                self.take(at)
-            }
-        }
+        let Some((key, value)) = self.children[at].pop(alloc) else {
+            self.children.remove(at).leave(alloc);
+            return self.take(at);
+        };
+        (
+            mem::replace(&mut self.keys[at], key),
+            mem::replace(&mut self.values[at], value),
+        )
     }
 
     fn remove<Q: Ord + ?Sized, A: Allocator>(&mut self, key: &Q, alloc: &A) -> Option<(K, V)>
@@ -246,6 +244,9 @@ impl<K: Ord, V> Node<K, V> {
         }
     }
 }
+
+/// A node, and the index of a key in it, or else the index where the key can be inserted.
+type Place<'a, K, V> = (&'a mut Node<K, V>, Result<usize, usize>);
 
 /// Like the standard `BTreeMap`, but with an allocator that is asked before the map grows.
 pub struct BTreeMap<K: Ord, V, A: Allocator = Global> {
@@ -333,7 +334,7 @@ impl<K: Ord, V, A: Allocator> BTreeMap<K, V, A> {
 
     /// Finds the node and the index of a key, or those where it can be inserted. The nodes on the
     /// way that are full are split, so that there is room at each.
-    fn place(&mut self, key: &K) -> Result<(&mut Node<K, V>, Result<usize, usize>), AllocError> {
+    fn place(&mut self, key: &K) -> Result<Place<'_, K, V>, AllocError> {
         if self.root.keys.capacity() == 0 {
             self.root = Node::new(true, &self.alloc)?;
         } else if self.root.len() == MOST {
@@ -435,7 +436,7 @@ struct Entries<'a, K, V> {
     // The entries of a node that come before those of the nodes above it.
     node: iter::Zip<slice::Iter<'a, K>, slice::Iter<'a, V>>,
     // The way to that node: the index of the child in each node above it.
-    way: [u8; HIGHEST],
+    way: [usize; HIGHEST],
     above: usize,
 }
 
@@ -452,7 +453,7 @@ impl<'a, K: Ord, V> Entries<'a, K, V> {
 
     /// Goes down to a child.
     fn enter(&mut self, node: &'a Node<K, V>, at: usize) -> &'a Node<K, V> {
-        self.way[self.above] = at as u8;
+        self.way[self.above] = at;
         self.above += 1;
         &node.children[at]
     }
@@ -478,9 +479,10 @@ impl<'a, K: Ord, V> Entries<'a, K, V> {
             node = self.enter(node, at);
             if place.is_ok() {
                 // The key of this place comes after all of the child.
-                match is_past {
-                    true => self.descend(node),
-                    false => self.node = [].iter().zip(&[]),
+                if is_past {
+                    self.descend(node);
+                } else {
+                    self.node = [].iter().zip(&[]);
                 }
                 return;
             }
@@ -490,8 +492,7 @@ impl<'a, K: Ord, V> Entries<'a, K, V> {
     /// Goes up to the next entry of a node above and down to the leaf behind it.
     fn climb(&mut self) -> Option<(&'a K, &'a V)> {
         let (mut node, mut next) = (self.root, None);
-        for (above, at) in self.way[..self.above].iter().enumerate() {
-            let at = usize::from(*at);
+        for (above, &at) in self.way[..self.above].iter().enumerate() {
             if at < node.len() {
                 next = Some((node, above, at));
             }

@@ -8,48 +8,6 @@
 
 enum { MOST_AT_ONCE = 16 };
 
-/* ---- Messages */
-
-stunp_writer write_new(stunp_message_class message_class, uint32_t method, uint8_t *bytes,
-                       size_t room) {
-    uint8_t id[STUNP_ID_LENGTH];
-    fill_randomly(id, sizeof id);
-    return stunp_write(message_class, method, id, bytes, room);
-}
-
-bool is_message(const struct datagram *got, stunp_header *header) {
-    int64_t fingerprint = stunp_check_fingerprint(got->bytes, got->length);
-    return (fingerprint == STUNP_RIGHT_FINGERPRINT || fingerprint == STUNP_NO_FINGERPRINT)
-           && stunp_read_header(got->bytes, got->length, header) == 0;
-}
-
-bool has(const struct datagram *got, uint32_t type) {
-    size_t length;
-    return stunp_find(got->bytes, got->length, type, &length) > 0;
-}
-
-bool has_text(const struct datagram *got, uint32_t type, const char *text) {
-    size_t length;
-    int64_t at = stunp_find_text(got->bytes, got->length, type, &length);
-    return at > 0 && length == strlen(text) && memcmp(got->bytes + at, text, length) == 0;
-}
-
-bool get_number(const struct datagram *got, uint32_t type, int size, uint64_t *number) {
-    return stunp_find_number(got->bytes, got->length, type, number) == size;
-}
-
-bool get_address(const struct datagram *got, uint32_t type, stunp_address *address) {
-    stunp_address read = {{0}, 0, 0};
-    int64_t octets = stunp_find_xor_address(got->bytes, got->length, type, read.octets,
-                                            sizeof read.octets, &read.port);
-    if (octets < 0) return false;
-    read.length = octets == 4 ? 4 : 16;
-    *address = read;
-    return true;
-}
-
-/* ---- Sockets */
-
 bool find_remote(const char *host, const char *port, struct remote *remote) {
     struct addrinfo wanted = {.ai_socktype = SOCK_DGRAM, .ai_flags = AI_NUMERICHOST}, *found;
     int error = getaddrinfo(host, port, &wanted, &found);
@@ -91,20 +49,6 @@ int64_t ask(struct exchange *exchange, const stunp_writer *request, const struct
         kept = stunp_agent_send_request(&exchange->agent, request->bytes, request->length, &of->at,
                                         moment());
     return kept < 0 ? kept : tell(exchange, request, &of->peer);
-}
-
-bool is_answer(const struct exchange *exchange, const struct datagram *got,
-               const stunp_header *header) {
-    stunp_address asked;
-    bool is_response =
-        header->message_class == STUNP_SUCCESS || header->message_class == STUNP_ERROR;
-    return is_response
-           && stunp_agent_is_outstanding(&exchange->agent, header->id, STUNP_ID_LENGTH, &asked) == 1
-           && is_same(&asked, &got->from);
-}
-
-int64_t end_request(struct exchange *exchange, const struct datagram *got) {
-    return stunp_agent_handle(&exchange->agent, got->bytes, got->length, &got->from, moment());
 }
 
 /* The agent tells an address; the scope of a link-local one only its remote has. */

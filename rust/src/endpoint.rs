@@ -44,6 +44,7 @@ mod client_outcomes;
 mod client_settings;
 #[cfg(feature = "std")]
 mod clock;
+mod open;
 mod server;
 mod stream;
 
@@ -65,6 +66,10 @@ pub use client_settings::{
 #[cfg(feature = "std")]
 #[cfg_attr(docsrs, doc(cfg(feature = "std")))]
 pub use clock::Clock;
+pub use open::{
+    OpenReceived, OpenRequest, OpenServer, ResponseSettings, ShortTermIndication, ShortTermReceived,
+    ShortTermServer, ShortTermUsers,
+};
 pub use server::{
     Answer, Identified, LongTerm, Lookup, Received, Reply, ReplyWriter, Request, Server,
     ServerBuilder, User, UserError, Users,

@@ -3,6 +3,8 @@ pub mod AcceptedLemmas
 pub mod HandedLemmas
 pub mod AnswerLemmas
 pub mod OfferLemmas
+pub mod KeyLemmas
+pub mod SignerLemmas
 pub mod VerifyingLemmas
 pub mod PreviousLemmas
 pub mod UnderstoodLemmas

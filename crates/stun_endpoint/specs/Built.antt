@@ -16,3 +16,8 @@ build_refusal realm software lifetime sha1 sha256 =
     else if nat_lt lifetime 30 then Some NonceLifetime
     else if sha1 || sha256 then None
     else Some NoAlgorithm
+
+-- the same of a server without a realm
+abbrev pub software_refusal : Option (List ℕ) → Option BuildError
+software_refusal software =
+    if nat_lt TEXT_LIMIT (length (unwrap_or software [])) then Some SoftwareTooLong else None

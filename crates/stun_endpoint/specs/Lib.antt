@@ -12,8 +12,10 @@ pub mod Nonces
 pub mod Judged
 -- the responses, byte by byte
 pub mod Answers
--- the codes of error responses (section 14.8)
+-- the codes of error responses and their reason phrases (section 14.8)
 pub mod Refusals
+-- how a server responds, whatever its credentials are (section 6.3)
+pub mod Responding
 -- what a datagram comes to (sections 6.3 and 9.2.4)
 pub mod Received
 -- what the result of `receive` says
@@ -22,6 +24,14 @@ pub mod Outcomes
 pub mod Lookups
 -- what the result of `identify` says
 pub mod Identified
+-- what a datagram comes to at a server without credentials (section 6.3)
+pub mod Open
+-- what the result of `OpenServer::receive` says
+pub mod OpenOutcomes
+-- what a datagram comes to at a server with short-term credentials (section 9.1.3)
+pub mod ShortTerm
+-- what the result of `ShortTermServer::receive` says
+pub mod ShortTermOutcomes
 -- the same by the calls of a server that keeps records
 pub mod Runs
 -- what no clause of a public call cites

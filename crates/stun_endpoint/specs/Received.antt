@@ -1,14 +1,13 @@
 -- What a datagram comes to at a server (RFC 8489, sections 6.3 and 9.2.4). It is a function of the
 -- settings, the users, the source, the time and the datagram, and so of no earlier datagram.
-use Rattle.std.specs.Prelude.{ℕ, List, [], ◌∷◌, Bool, true, false, ◌==◌, ◌&&◌}
+use Rattle.std.specs.Prelude.{ℕ, List, ◌&&◌}
 use Rattle.std.specs.Prelude.{if◌then◌else◌, Option, Some, None}
 use Rattle.std.specs.Option.{is_some}
 use Rattle.std.specs.declared.net.socket_addr.SocketAddr.{SocketAddr}
 use Rattle.std.specs.declared.result.Result.{Result}
 use Rattle.std.specs.declared.result.Result.TheVariants.{Ok, Err}
-use Rattle.stun_base.specs.Header.{header_refusal, transaction_id_field, type_field}
+use Rattle.stun_base.specs.Header.{transaction_id_field, type_field}
 use Rattle.stun_base.specs.MessageType.{class_in, method_of}
-use Rattle.stun_base.specs.declared.wire.attribute_type.AttributeType.{AttributeType}
 use Rattle.stun_base.specs.declared.wire.message_type.MessageClass.{MessageClass}
 use Rattle.stun_base.specs.declared.wire.message_type.MessageClass.TheVariants.{Request}
 use Rattle.stun_base.specs.declared.wire.message_type.MessageClass.TheVariants.{Indication}
@@ -21,34 +20,17 @@ use Rattle.stun_auth.specs.declared.server.reason.VerdictRefusal.{VerdictRefusal
 use Rattle.stun_auth.specs.declared.server.reason.VerdictRefusal.TheVariants as verdict
 use Rattle.stun_extra.specs.Fingerprint.{fingerprint_in}
 use Rattle.stun_extra.specs.Unknown.{unknown_types}
-use Rattle.stun_extra.specs.declared.fingerprint.Fingerprint.{Fingerprint}
-use Rattle.stun_extra.specs.declared.fingerprint.Fingerprint.TheVariants.{Right, Wrong}
-use Rattle.stun_extra.specs.declared.fingerprint.Fingerprint.TheVariants.{Misplaced, Absent}
-use Rattle.stun_endpoint.specs.Answers.{Ending, bad_request, binding_success, signed_end}
+use Rattle.stun_endpoint.specs.Answers.{bad_request, binding_success, signed_end}
 use Rattle.stun_endpoint.specs.Answers.{stale_nonce, unauthenticated, unknown_attribute}
 use Rattle.stun_endpoint.specs.Judged.{Realm, judged, key_of_client}
 use Rattle.stun_endpoint.specs.Nonces.{current_nonce}
+pub use Rattle.stun_endpoint.specs.Responding.{Answer, Reply, is_binding, is_empty, is_wrong}
+pub use Rattle.stun_endpoint.specs.Responding.{no_message}
 use Rattle.stun_endpoint.specs.Settings.{Settings}
 use Rattle.stun_endpoint.specs.declared.received.DropReason.{DropReason}
-use Rattle.stun_endpoint.specs.declared.received.DropReason.TheVariants.{NotStun, Malformed}
 use Rattle.stun_endpoint.specs.declared.received.DropReason.TheVariants.{WrongFingerprint}
 use Rattle.stun_endpoint.specs.declared.received.DropReason.TheVariants.{UnknownAttribute}
-use Rattle.stun_endpoint.specs.declared.received.Refusal.{Refusal}
 use Rattle.stun_endpoint.specs.declared.received.Refusal.TheVariants as refused
-
--- a response to send: its bytes, where it goes, and how it refuses the request, if it does
-pub record Answer : Type 0 where
-  pub to : SocketAddr
-  pub refusal : Option Refusal
-  pub bytes : List ℕ
-
--- what is needed to respond to a request: its method, its id, where the response goes, and how each
--- response ends
-pub record Reply : Type 0 where
-  pub method : ℕ
-  pub id : ℕ
-  pub to : SocketAddr
-  pub ending : Ending
 
 -- an accepted request: the message, its user, and the algorithm that both sides agreed on
 pub record AcceptedRequest : Type 0 where
@@ -74,14 +56,6 @@ reply_to s key from bytes = record {
   to = from;
   ending = signed_end s key bytes;
 }
-
-abbrev pub is_empty : List AttributeType → Bool
-is_empty [] = true
-is_empty (kind ∷ kinds) = false
-
--- the method of a Binding request (section 3)
-abbrev pub is_binding : List ℕ → Bool
-is_binding bytes = method_of (type_field bytes) == 1
 
 -- the 420 to an accepted request
 unfoldable pub unknown_answer : Settings → List ℕ → SocketAddr → List ℕ → Answer
@@ -163,17 +137,6 @@ by_class s realm from now bytes Indication =
     if is_empty (unknown_types s.known bytes) then indicated bytes else dropped UnknownAttribute
 by_class s realm from now bytes Success = responded bytes
 by_class s realm from now bytes Error = responded bytes
-
--- whether a FINGERPRINT is there and is wrong
-abbrev pub is_wrong : Fingerprint → Bool
-is_wrong Wrong = true
-is_wrong Right = false
-is_wrong Misplaced = false
-is_wrong Absent = false
-
--- why a datagram that is no message is dropped: it has no header, or is not what its header says
-abbrev pub no_message : List ℕ → DropReason
-no_message bytes = if is_some (header_refusal bytes) then NotStun else Malformed
 
 -- what a datagram comes to
 abbrev pub received_by : Settings → Realm → SocketAddr → ℕ → List ℕ → Outcome

@@ -2,3 +2,4 @@
 pub mod Judges
 pub mod Waiting
 pub mod Judgements
+pub mod Keys

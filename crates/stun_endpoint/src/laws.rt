@@ -19,6 +19,7 @@ ghost use Rattle.stun_endpoint.specs.Received.{AcceptedRequest, Answer as TheAns
 ghost use Rattle.stun_endpoint.specs.Received.{answered, received_by, requested};
 ghost use Rattle.stun_endpoint.specs.Runs.{Arrival, after_run, run, users_at, verdict_on};
 ghost use Rattle.stun_endpoint.specs.Settings.{Settings};
+ghost use Rattle.stun_endpoint.specs.ShortTerm.{IsSignedBy, Keys, Signer, signer_of};
 ghost use Rattle.stun_endpoint.specs.declared.received.Refusal.TheVariants as refused;
 
 /// A client is accepted at a time if and only if it is accepted under one of the nonces of its
@@ -84,4 +85,12 @@ pub fn datagrams_are_a_run_of_calls()
         → received_by s (realm_of_user s (Some (users_at s d))) d.from d.now d.bytes
         ≡ requested request
         → verdict_on s d ≡ Some (Ok (Validated request.client.algorithm)) }
+{}
+
+/// A server with short-term credentials takes a message for a user's if and only if `IsSignedBy`
+/// holds: the first USERNAME before the signature is the name of the user, and the signature is the
+/// digest under the user's key. No earlier datagram is looked at.
+pub fn signers_are_known_exactly()
+    ensures { (users : Keys) (bytes : List ℕ) (signer : Signer)
+        → (signer_of users bytes ≡ Ok signer) ↔ IsSignedBy users bytes signer }
 {}

@@ -5,9 +5,12 @@
 pub mod laws;
 pub mod lookup;
 mod nonces;
+pub mod open;
 pub mod received;
 pub mod reply;
+pub mod responder;
 pub mod server;
+pub mod short_term;
 mod understood;
 pub mod unix_time;
 pub mod users;

@@ -4,7 +4,7 @@ ghost use Rattle.std.specs.Prelude.{◌≡◌, Some, codes};
 ghost use Rattle.std.specs.Fmt.{WritesOnOk, WritesStyledOnOk};
 ghost use Rattle.stun_base.specs.Header.{type_field};
 ghost use Rattle.stun_base.specs.MessageType.{method_of};
-ghost use Rattle.stun_endpoint.specs.Refusals.{code_of};
+ghost use Rattle.stun_endpoint.specs.Refusals.{code_of, phrase_of};
 
 use crate::reply::Reply;
 use std::alloc::{Allocator, Global};
@@ -70,6 +70,18 @@ impl Refusal {
             Refusal::Unauthenticated => 401,
             Refusal::UnknownAttribute => 420,
             Refusal::StaleNonce => 438,
+        }
+    }
+
+    /// Returns the reason phrase of the error response.
+    pub(crate) fn phrase(self) -> &'static str
+        ensures { result.now ≡ phrase_of self }
+    {
+        match self {
+            Refusal::BadRequest => "Bad Request",
+            Refusal::Unauthenticated => "Unauthenticated",
+            Refusal::UnknownAttribute => "Unknown Attribute",
+            Refusal::StaleNonce => "Stale Nonce",
         }
     }
 }

@@ -357,24 +357,11 @@ impl<'a> Lookup<'a> {
 /// What the core returns, as this module says it.
 fn of_core(received: Result<received::Received<'_, Global>, AllocError>) -> Received<'_> {
     match received {
-        Ok(received::Received::Answer(answer)) => Received::Answer(Answer {
-            to: answer.to(),
-            refusal: answer.refusal(),
-            bytes: answer.into_bytes().into_std(),
-        }),
-        Ok(received::Received::Request(request)) => {
-            let message = Message(copy(request.message()));
-            let (user, algorithm) = (request.user(), request.algorithm());
-            match shared(request.into_reply()) {
-                Some(reply) => Received::Request(Request {
-                    message,
-                    user,
-                    algorithm,
-                    reply: Reply(reply),
-                }),
-                None => Received::Dropped(DropReason::OutOfMemory),
-            }
-        }
+        Ok(received::Received::Answer(answer)) => Received::Answer(answer_of(answer)),
+        Ok(received::Received::Request(request)) => match request_of(request) {
+            Some(request) => Received::Request(request),
+            None => Received::Dropped(DropReason::OutOfMemory),
+        },
         Ok(received::Received::Indication(message)) => Received::Indication(Message(message)),
         Ok(received::Received::Response(message)) => Received::Response(Message(message)),
         Ok(received::Received::Dropped(why)) => Received::Dropped(why.into()),
@@ -382,11 +369,34 @@ fn of_core(received: Result<received::Received<'_, Global>, AllocError>) -> Rece
     }
 }
 
+/// A response of the core, as this module says it.
+pub(super) fn answer_of(answer: received::Answer<Global>) -> Answer {
+    Answer {
+        to: answer.to(),
+        refusal: answer.refusal(),
+        bytes: answer.into_bytes().into_std(),
+    }
+}
+
+/// An accepted request of the core, as this module says it, or `None` if there is no memory for its
+/// reply.
+pub(super) fn request_of(request: received::Request<'_, Global>) -> Option<Request<'_>> {
+    let message = Message(copy(request.message()));
+    let (user, algorithm) = (request.user(), request.algorithm());
+    let reply = Reply(shared(request.into_reply())?);
+    Some(Request {
+        message,
+        user,
+        algorithm,
+        reply,
+    })
+}
+
 /// Returns a value to share, or `None` if there is no memory for it.
 ///
 /// `Arc::new` ends the program then, and has no other form. So as much memory is taken and given
 /// back before. Another thread may get that memory in between, though.
-fn shared<T>(value: T) -> Option<Arc<T>> {
+pub(super) fn shared<T>(value: T) -> Option<Arc<T>> {
     let mut room: Vec<([usize; 2], T)> = Vec::new();
     room.try_reserve_exact(1).ok()?;
     drop(core::hint::black_box(room));
@@ -604,7 +614,7 @@ impl<'a> Request<'a> {
 /// }
 /// ```
 #[derive(Clone)]
-pub struct Reply(Arc<reply::Reply<Global>>);
+pub struct Reply(pub(super) Arc<reply::Reply<Global>>);
 
 impl fmt::Debug for Reply {
     fn fmt(&self, f: &mut fmt::Formatter<'_>) -> fmt::Result {

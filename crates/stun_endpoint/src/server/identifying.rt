@@ -25,9 +25,9 @@ ghost use Rattle.stun_types.specs.Message.{refusal};
 
 use crate::lookup::{Identified, Lookup};
 use crate::received::{DropReason, Received};
+use crate::responder::no_message;
 use crate::server::Server;
 use crate::server::judges::Judges;
-use crate::server::receiving::no_message;
 use crate::unix_time::UnixTime;
 use std::alloc::{AllocError, Allocator};
 use std::net::SocketAddr;

@@ -31,6 +31,7 @@ ghost use Rattle.stun_types.specs.Writing.{IsOpen, empty_answer, with_attribute}
 
 use crate::received::{Answer, DropReason, Received, Refusal, Request};
 use crate::reply::{Reply, Signature, finish_response};
+use crate::responder::{error_page, mapped_page, no_message};
 use crate::server::Server;
 use crate::server::judges::Judges;
 use crate::understood::are_understood;
@@ -51,16 +52,6 @@ use stun_types::message::{
     deciding_algorithm,
 };
 use stun_types::prelude::*;
-
-/// Why bytes that are no message are dropped.
-pub(super) fn no_message(bytes: &[u8]) -> DropReason
-    ensures { result ≡ no_message bytes.now }
-{
-    match MessageHeader::from_bytes(bytes) {
-        Ok(_) => DropReason::Malformed,
-        Err(_) => DropReason::NotStun,
-    }
-}
 
 impl<A: Allocator + Copy> Server<A> {
     /// Judges a datagram, and writes the response if it gets one at once.
@@ -543,79 +534,4 @@ fn signature_for<A: Allocator + Copy>(
         Some(algorithm) => Ok(Some(Signature::new(algorithm, key.clone()?))),
         None => Ok(None),
     }
-}
-
-/// Begins an error response with ERROR-CODE alone.
-fn error_page<A: Allocator + Copy>(
-    alloc: A,
-    request: &Message<'_>,
-    code: u16,
-    reason: &str,
-) -> Result<MessageWriteVec<A>, AllocError>
-    ensures bytes { IfOk result (λ page. page.bytes
-        ≡ error_page request.now code reason.now) }
-    ensures open { IfOk result (λ page. IsOpen page.bytes) }
-{
-    match try_error_page(alloc, request, code, reason) {
-        Ok(page) => Ok(page),
-        Err(_) => Err(AllocError),
-    }
-}
-
-/// Begins an error response with ERROR-CODE alone.
-#[tactic(auto, unfolding(crate::specs::Answers::error_page))]
-fn try_error_page<A: Allocator + Copy>(
-    alloc: A,
-    request: &Message<'_>,
-    code: u16,
-    reason: &str,
-) -> Result<MessageWriteVec<A>, StunWriteError>
-    ensures bytes { IfOk result (λ page. page.bytes
-        ≡ error_page request.now code reason.now) }
-    ensures open { IfOk result (λ page. IsOpen page.bytes) }
-{
-    let error = ErrorCode::builder(code).reason(reason).build()?;
-    let mut page = Message::builder_error(request, MessageWriteVec::new(alloc))?;
-    page.add_attribute(&error)?;
-    Ok(page)
-}
-
-/// Begins a success response with the address that a request came from.
-#[tactic(auto, unfolding(crate::specs::Answers::binding_page))]
-fn mapped_page<A: Allocator + Copy>(
-    alloc: A,
-    request: &Message<'_>,
-    from: SocketAddr,
-) -> Result<MessageWriteVec<A>, AllocError>
-    ensures bytes { IfOk result (λ page. page.bytes ≡ binding_page from request.now) }
-    ensures header { IfOk result (λ page. 20 ≤ length page.bytes) }
-{
-    match try_mapped_page(alloc, request, from) {
-        Ok(page) => Ok(page),
-        Err(_) => Err(AllocError),
-    }
-}
-
-/// Begins a success response with the address that a request came from.
-fn try_mapped_page<A: Allocator + Copy>(
-    alloc: A,
-    request: &Message<'_>,
-    from: SocketAddr,
-) -> Result<MessageWriteVec<A>, StunWriteError>
-    ensures bytes { IfOk result (λ page. page.bytes
-        ≡ with_attribute (empty_answer MessageClass.Success request.now)
-        (mapped_address from request.now)) }
-    ensures header { IfOk result (λ page. 20 ≤ length page.bytes) }
-{
-    let mut page = Message::builder_success(request, MessageWriteVec::new(alloc))?;
-    page.add_attribute(&mapped_address(from, request.transaction_id()))?;
-    Ok(page)
-}
-
-/// XOR-MAPPED-ADDRESS of an address. An IPv4 address in either spelling is IPv4.
-fn mapped_address(from: SocketAddr, id: TransactionId) -> XorMappedAddress
-    ensures { result ≡ xored_canonical (socket_ip from) (socket_port from) id }
-{
-    let ip = from.ip().to_canonical();
-    XorMappedAddress::new(SocketAddr::new(ip, from.port()), id)
 }

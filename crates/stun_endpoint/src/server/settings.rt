@@ -9,6 +9,7 @@ ghost use Rattle.stun_endpoint.specs.Built.{build_refusal};
 ghost use Rattle.stun_endpoint.specs.Realm.{algorithms_for, empty_realm, feature_for};
 ghost use Rattle.stun_endpoint.specs.Settings.{registered_of};
 
+use crate::responder::{text_length, with_stun_attributes};
 use crate::server::Server;
 use std::alloc::{AllocError, Allocator, Global};
 use stun_auth::auth::{Feature, LongTermServerAuth};
@@ -139,16 +140,6 @@ impl<A: Allocator + Copy> LongTerm<A> {
     }
 }
 
-/// The length of a text, and 0 if there is none.
-fn text_length<A: Allocator>(text: &Option<String<A>>) -> usize
-    ensures { result ≡ length (unwrap_or (option_map string_bytes text.now) []) }
-{
-    match text {
-        Some(text) => text.len(),
-        None => 0,
-    }
-}
-
 /// A realm without users.
 pub(super) fn empty_realm<A: Allocator + Copy>(
     alloc: A,
@@ -176,17 +167,6 @@ pub(super) fn empty_realm<A: Allocator + Copy>(
         let _ = auth.set_anonymous_username(Feature::Disabled);
     }
     auth
-}
-
-/// Types of attributes, and after them STUN's own.
-fn with_stun_attributes<A: Allocator>(
-    understood: Vec<AttributeType, A>,
-) -> Result<Vec<AttributeType, A>, AllocError>
-    ensures { IfOk result (λ known. known.items ≡ understood.items ++ STUN_ATTRIBUTES) }
-{
-    let mut known = understood;
-    known.extend_from_slice(&STUN_ATTRIBUTES)?;
-    Ok(known)
 }
 
 /// A secret, prepared for HMAC-SHA1.

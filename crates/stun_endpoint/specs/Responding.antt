@@ -1,0 +1,128 @@
+-- How a server responds, whatever its credentials are: why it drops a datagram, what it understands,
+-- and the responses that it writes by itself (RFC 8489, sections 6.3 and 14.8).
+use Rattle.std.specs.Prelude.{ℕ, List, [], ◌∷◌, Bool, true, false, ◌==◌, ◌&&◌}
+use Rattle.std.specs.Prelude.{if◌then◌else◌, Option, Some, None}
+use Rattle.std.specs.Option.{is_some}
+use Rattle.std.specs.declared.net.socket_addr.SocketAddr.{SocketAddr}
+use Rattle.stun_base.specs.Header.{header_refusal, transaction_id_field, type_field}
+use Rattle.stun_base.specs.MessageType.{method_of}
+use Rattle.stun_base.specs.declared.wire.attribute_type.AttributeType.{AttributeType}
+use Rattle.stun_types.specs.Message.{refusal}
+use Rattle.stun_extra.specs.Fingerprint.{fingerprint_in}
+use Rattle.stun_extra.specs.Unknown.{refusing_answer, unknown_types}
+use Rattle.stun_extra.specs.declared.fingerprint.Fingerprint.{Fingerprint}
+use Rattle.stun_extra.specs.declared.fingerprint.Fingerprint.TheVariants.{Right, Wrong}
+use Rattle.stun_extra.specs.declared.fingerprint.Fingerprint.TheVariants.{Misplaced, Absent}
+use Rattle.stun_endpoint.specs.Answers.{Ending, Signature, binding_page, error_page}
+use Rattle.stun_endpoint.specs.Answers.{is_fingerprinted, with_end}
+use Rattle.stun_endpoint.specs.Refusals.{code_of, phrase_of}
+use Rattle.stun_endpoint.specs.declared.received.DropReason.{DropReason}
+use Rattle.stun_endpoint.specs.declared.received.DropReason.TheVariants.{NotStun, Malformed}
+use Rattle.stun_endpoint.specs.declared.received.DropReason.TheVariants.{WrongFingerprint}
+use Rattle.stun_endpoint.specs.declared.received.Refusal.{Refusal}
+use Rattle.stun_endpoint.specs.declared.received.Refusal.TheVariants as refused
+
+-- a response to send: its bytes, where it goes, and how it refuses the request, if it does
+pub record Answer : Type 0 where
+  pub to : SocketAddr
+  pub refusal : Option Refusal
+  pub bytes : List ℕ
+
+-- what is needed to respond to a request: its method, its id, where the response goes, and how each
+-- response ends
+pub record Reply : Type 0 where
+  pub method : ℕ
+  pub id : ℕ
+  pub to : SocketAddr
+  pub ending : Ending
+
+-- ---- why a datagram is dropped, whatever its class is
+
+-- whether a FINGERPRINT is there and is wrong
+abbrev pub is_wrong : Fingerprint → Bool
+is_wrong Wrong = true
+is_wrong Right = false
+is_wrong Misplaced = false
+is_wrong Absent = false
+
+-- why a datagram that is no message is dropped: it has no header, or is not what its header says
+abbrev pub no_message : List ℕ → DropReason
+no_message bytes = if is_some (header_refusal bytes) then NotStun else Malformed
+
+-- why a datagram is dropped, if it is no message, or has a wrong FINGERPRINT (section 7.3)
+abbrev pub drop_reason : List ℕ → Option DropReason
+drop_reason bytes =
+    if is_some (refusal bytes) then Some (no_message bytes)
+    else if is_wrong (fingerprint_in bytes) then Some WrongFingerprint
+    else None
+
+-- ---- what a server understands, and what it adds to its responses
+
+pub record Responding : Type 0 where
+  -- the types of attributes that are understood
+  pub known : List AttributeType
+  -- the text of SOFTWARE
+  pub software : Option (List ℕ)
+  -- whether a Binding request gets its answer without the caller
+  pub answers_binding : Bool
+
+abbrev pub is_empty : List AttributeType → Bool
+is_empty [] = true
+is_empty (kind ∷ kinds) = false
+
+-- the method of a Binding request (section 3)
+abbrev pub is_binding : List ℕ → Bool
+is_binding bytes = method_of (type_field bytes) == 1
+
+-- the end of each response to a request, which is signed by this, or by nothing
+abbrev pub ending_by : Responding → Option Signature → List ℕ → Ending
+ending_by s by request = record {
+  software = s.software;
+  signature = by;
+  has_fingerprint = is_fingerprinted request;
+}
+
+-- the means to respond to a request
+abbrev pub reply_by : Responding → Option Signature → SocketAddr → List ℕ → Reply
+reply_by s by from request = record {
+  method = method_of (type_field request);
+  id = transaction_id_field request;
+  to = from;
+  ending = ending_by s by request;
+}
+
+-- ---- the responses that a server writes by itself
+
+-- the 420 to an accepted request, with the types that it must not have (section 6.3.1)
+unfoldable pub unknown_by : Responding → Option Signature → SocketAddr → List ℕ → Answer
+unknown_by s by from request = record {
+  to = from;
+  refusal = Some refused.UnknownAttribute;
+  bytes = with_end (ending_by s by request) (refusing_answer s.known request);
+}
+
+-- the success response to an accepted Binding request
+unfoldable pub binding_by : Responding → Option Signature → SocketAddr → List ℕ → Answer
+binding_by s by from request = record {
+  to = from;
+  refusal = None;
+  bytes = with_end (ending_by s by request) (binding_page from request);
+}
+
+-- the response to an accepted request, if the server is to give it. One that has attributes which
+-- are not understood gets a 420, and a Binding request its answer. All others are for the caller
+abbrev pub own_answer : Responding → Option Signature → SocketAddr → List ℕ → Option Answer
+own_answer s by from request =
+    if is_empty (unknown_types s.known request)
+    then if s.answers_binding && is_binding request then Some (binding_by s by from request)
+    else None
+    else Some (unknown_by s by from request)
+
+-- an error response that nobody's key signs, with ERROR-CODE alone
+unfoldable pub refusal_by : Responding → Refusal → SocketAddr → List ℕ → Answer
+refusal_by s refusal from request = record {
+  to = from;
+  refusal = Some refusal;
+  bytes = with_end (ending_by s None request)
+      (error_page request (code_of refusal) (phrase_of refusal));
+}

@@ -1,0 +1,245 @@
+//! A server without credentials (RFC 8489, section 6.3): whoever asks is answered, and nothing is
+//! signed.
+//!
+//! It is a type of its own, and not a mode of `Server`, because nothing of a realm is in it: its
+//! calls have no users, no time and no user of an accepted request. Both write their responses by
+//! the same `Responder`.
+
+ghost use Rattle.std.specs.Fmt.{WritesOnOk, WritesStyledOnOk};
+ghost use Rattle.std.specs.Option.{option_map};
+ghost use Rattle.std.specs.Prelude.{◌≡◌, ◌++◌, Err, IfOk, IsOkUnless, MatchOption, None, Some, codes};
+ghost use Rattle.std.specs.Prelude.{if◌then◌else◌};
+ghost use Rattle.std.specs.String.{string_bytes};
+ghost use Rattle.stun_base.specs.Header.{type_field};
+ghost use Rattle.stun_base.specs.MessageType.{class_in, method_of};
+ghost use Rattle.stun_endpoint.specs.Answers.{is_fingerprinted};
+ghost use Rattle.stun_endpoint.specs.Built.{software_refusal};
+ghost use Rattle.stun_endpoint.specs.Open.{by_class_openly, dropped, indicated, or_requested};
+ghost use Rattle.stun_endpoint.specs.Open.{received_openly};
+ghost use Rattle.stun_endpoint.specs.OpenOutcomes.{open_outcome_of};
+ghost use Rattle.stun_endpoint.specs.Responding.{is_empty, own_answer};
+ghost use Rattle.stun_extra.specs.Unknown.{unknown_types};
+
+use crate::received::{Answer, DropReason};
+use crate::reply::Reply;
+use crate::responder::{Responder, ResponseSettings, read};
+use crate::server::{BuildError, STUN_ATTRIBUTES};
+use std::alloc::{AllocError, Allocator, Global};
+use std::fmt;
+use std::marker::Model;
+use std::net::SocketAddr;
+use stun_types::message::{Message, MessageClass, Method};
+
+/// A STUN server without credentials: it answers everybody. It stores nothing about its clients, and
+/// no call changes it, so threads share it without a lock.
+///
+/// Contracts see what it understands and what it adds to its responses.
+#[derive(Drop)]
+pub struct OpenServer<A: Allocator = Global> {
+    responder: Responder<A>,
+}
+
+impl<A: Allocator> Model for OpenServer<A> {
+    ghost use Rattle.stun_endpoint.specs.Responding.{Responding};
+
+    ghost Value = { Responding };
+
+    ghost view = { λ server. server.responder };
+}
+
+impl<A: Allocator> fmt::Debug for OpenServer<A> {
+    ghost debug_output = { λ _. Some (codes "OpenServer { .. }") };
+
+    fn fmt<W: fmt::Write>(&self, f: &mut fmt::Formatter<W>) -> fmt::Result
+        ensures writes { WritesOnOk W.write_str_gives f.old result
+            (codes "OpenServer { .. }") f.new }
+
+        // It writes the same with every width, precision and other option.
+        ensures styled { WritesStyledOnOk W.write_str_gives f.old result
+            (codes "OpenServer { .. }") f.new }
+    {
+        f.write_str("OpenServer { .. }")
+    }
+}
+
+/// What a datagram comes to at a server without credentials.
+#[derive(Debug, Drop)]
+#[non_exhaustive]
+pub enum OpenReceived<'a, A: Allocator = Global> {
+    /// Send this response.
+    Answer(Answer<A>),
+    /// A request whose attributes are understood. Respond to it, now or later.
+    Request(OpenRequest<'a, A>),
+    /// An indication whose attributes are understood. Anybody may have sent it.
+    Indication(Message<'a>),
+    /// A response, for a client on the same socket.
+    Response(Message<'a>),
+    /// The datagram is dropped, for this reason.
+    Dropped(DropReason),
+}
+
+/// A request to a server without credentials. Anybody may have sent it.
+///
+/// Contracts see its message and its reply.
+#[derive(Debug, Drop)]
+pub struct OpenRequest<'a, A: Allocator = Global> {
+    message: Message<'a>,
+    reply: Reply<A>,
+}
+
+impl<'a, A: Allocator> Model for OpenRequest<'a, A> {
+    ghost use Rattle.stun_endpoint.specs.Open.{OpenRequest as OpenRequestSeen};
+
+    ghost Value = { OpenRequestSeen };
+
+    ghost view = { λ request. record { message = request.message; reply = request.reply } };
+}
+
+impl<'a, A: Allocator> OpenRequest<'a, A> {
+    /// A request with the means to respond.
+    fn new(message: Message<'a>, reply: Reply<A>) -> Self
+        ensures { result ≡ record { message = message.entry; reply = reply } }
+    {
+        OpenRequest { message, reply }
+    }
+
+    /// Returns the message.
+    pub fn message(&self) -> &Message<'a>
+        ensures { result.now ≡ self.now.message }
+    {
+        &self.message
+    }
+
+    /// Returns the method of the request.
+    pub fn method(&self) -> Method
+        ensures { result ≡ method_of (type_field self.now.message) }
+    {
+        self.message.method()
+    }
+
+    /// Returns the address that the request came from, as it was passed to `receive`.
+    pub fn from(&self) -> SocketAddr
+        ensures { result ≡ self.now.reply.to }
+    {
+        self.reply.to()
+    }
+
+    /// Returns the means to respond. Responses are not signed.
+    pub fn reply(&self) -> &Reply<A>
+        ensures { result.now ≡ self.now.reply }
+    {
+        &self.reply
+    }
+
+    /// Returns the means to respond, and drops the rest. Keep it if the response comes later.
+    pub fn into_reply(self) -> Reply<A>
+        ensures { result ≡ self.entry.reply }
+    {
+        self.reply
+    }
+}
+
+impl<A: Allocator> OpenServer<A> {
+    /// Builds a server. Of the reasons to fail, the first that holds is returned:
+    ///
+    /// - `SoftwareTooLong`: the text of SOFTWARE has more than 763 bytes.
+    /// - `OutOfMemory`: an allocation failed.
+    pub fn new(alloc: A, settings: ResponseSettings<A>) -> Result<OpenServer<A>, BuildError>
+        ensures refused { MatchOption (software_refusal (option_map string_bytes settings.software))
+            (IsOkUnless result BuildError.OutOfMemory) (λ refusal. result ≡ Err refusal) }
+        ensures built { IfOk result (λ server. server ≡ record {
+          known = settings.understood.items ++ STUN_ATTRIBUTES;
+          software = option_map string_bytes settings.software;
+          answers_binding = settings.answers_binding;
+        }) }
+    {
+        match Responder::new(alloc, settings) {
+            Ok(responder) => Ok(OpenServer { responder }),
+            Err(refusal) => Err(refusal),
+        }
+    }
+}
+
+impl<A: Allocator + Copy> OpenServer<A> {
+    /// Judges a datagram, and writes the response if it gets one at once.
+    ///
+    /// `from` is the address that it came from. An IPv4 address is the same in both spellings,
+    /// `a.b.c.d` and `::ffff:a.b.c.d`.
+    ///
+    /// - Bytes that are no message, or have a wrong FINGERPRINT, are dropped.
+    /// - A request gets a 420 if it has an attribute that is not understood, and the answer to
+    ///   Binding if the server is to give it. All others are for you. Signatures are not looked at.
+    /// - An indication with an attribute that is not understood is dropped. Others, and responses,
+    ///   are for you.
+    ///
+    /// Fails if an allocation fails. Nothing is lost then, because the client sends again.
+    pub fn receive<'a>(
+        &self,
+        bytes: &'a [u8],
+        from: SocketAddr,
+    ) -> Result<OpenReceived<'a, A>, AllocError>
+        ensures received { IfOk result (λ received. open_outcome_of received
+            ≡ received_openly self.now from bytes.now) }
+    {
+        match read(bytes) {
+            Ok((message, has_fingerprint)) => self.by_class(message, from, has_fingerprint),
+            Err(reason) => Ok(OpenReceived::Dropped(reason)),
+        }
+    }
+
+    /// What a message comes to.
+    fn by_class<'a>(
+        &self,
+        message: Message<'a>,
+        from: SocketAddr,
+        has_fingerprint: bool,
+    ) -> Result<OpenReceived<'a, A>, AllocError>
+        requires { has_fingerprint ≡ is_fingerprinted message }
+        ensures { IfOk result (λ received. open_outcome_of received
+            ≡ by_class_openly self.now from message.entry (class_in message.entry)) }
+    {
+        match message.class() {
+            MessageClass::Request => self.request(message, from, has_fingerprint),
+            MessageClass::Indication => Ok(self.indication(message)),
+            MessageClass::Success => Ok(OpenReceived::Response(message)),
+            MessageClass::Error => Ok(OpenReceived::Response(message)),
+        }
+    }
+
+    /// What a request comes to.
+    fn request<'a>(
+        &self,
+        message: Message<'a>,
+        from: SocketAddr,
+        has_fingerprint: bool,
+    ) -> Result<OpenReceived<'a, A>, AllocError>
+        requires { has_fingerprint ≡ is_fingerprinted message }
+        ensures { IfOk result (λ received. open_outcome_of received
+            ≡ or_requested self.now from message.entry
+            (own_answer self.now None from message.entry)) }
+    {
+        match self
+            .responder
+            .own_answer(&message, from, &None, has_fingerprint)?
+        {
+            Some(answer) => Ok(OpenReceived::Answer(answer)),
+            None => {
+                let reply = self.responder.reply(&message, from, None, has_fingerprint)?;
+                Ok(OpenReceived::Request(OpenRequest::new(message, reply)))
+            }
+        }
+    }
+
+    /// What an indication comes to.
+    fn indication<'a>(&self, message: Message<'a>) -> OpenReceived<'a, A>
+        ensures { open_outcome_of result
+            ≡ (if is_empty (unknown_types self.now.known message.entry)
+            then indicated message.entry else dropped DropReason.UnknownAttribute) }
+    {
+        if self.responder.understands(&message) {
+            OpenReceived::Indication(message)
+        } else {
+            OpenReceived::Dropped(DropReason::UnknownAttribute)
+        }
+    }
+}

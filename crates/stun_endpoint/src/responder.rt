@@ -1,0 +1,394 @@
+//! What a server does with a datagram whatever its credentials are: how it reads it, what it
+//! understands, and the responses that it writes by itself (RFC 8489, sections 6.3 and 14.8).
+
+ghost use Rattle.std.specs.Net.Socket.{socket_ip, socket_port};
+ghost use Rattle.std.specs.Option.{option_map};
+ghost use Rattle.std.specs.Prelude.{◌≡◌, ◌≤◌, ◌++◌, ◌&&◌, [], Err, IfErr, IfOk, IsOkUnless};
+ghost use Rattle.std.specs.Prelude.{MatchOption, None, Some, false, length};
+ghost use Rattle.std.specs.Prelude.{unwrap_or};
+ghost use Rattle.std.specs.String.{string_bytes};
+ghost use Rattle.stun_base.specs.declared.wire.message_type.MessageClass.TheVariants.{Success};
+ghost use Rattle.stun_endpoint.specs.Answers.{binding_page, error_page, is_fingerprinted};
+ghost use Rattle.stun_endpoint.specs.Answers.{mapped_address, with_end, xored_canonical};
+ghost use Rattle.stun_endpoint.specs.Built.{software_refusal};
+ghost use Rattle.stun_endpoint.specs.Responding.{binding_by, drop_reason, ending_by, is_binding};
+ghost use Rattle.stun_endpoint.specs.Responding.{is_empty, no_message, own_answer, refusal_by};
+ghost use Rattle.stun_endpoint.specs.Responding.{reply_by, unknown_by};
+ghost use Rattle.stun_extra.specs.Unknown.{refusing_answer, unknown_types};
+ghost use Rattle.stun_types.specs.Writing.{IsOpen, empty_answer, with_attribute};
+
+use crate::received::{Answer, DropReason, Refusal};
+use crate::reply::{Reply, Signature, finish_response};
+use crate::server::{BuildError, STUN_ATTRIBUTES};
+use crate::understood::are_understood;
+use std::alloc::{AllocError, Allocator, Global};
+use std::marker::Model;
+use std::net::SocketAddr;
+use stun_base::attribute_type::AttributeType;
+use stun_base::header::MessageHeader;
+use stun_extra::fingerprint::{Fingerprint, check_fingerprint};
+use stun_extra::unknown::answer_unknown;
+use stun_types::attribute::{ErrorCode, XorMappedAddress};
+use stun_types::limits::TEXT_LIMIT;
+use stun_types::message::{BINDING, Message, MessageWriteVec, StunWriteError, TransactionId};
+use stun_types::prelude::*;
+
+/// What a server without a realm understands, and what it adds to its responses. `new` sets no
+/// further attributes and no SOFTWARE, and leaves Binding requests to you.
+#[derive(Drop)]
+pub struct ResponseSettings<A: Allocator = Global> {
+    /// The types of attributes that you understand, beside those of STUN.
+    pub understood: Vec<AttributeType, A>,
+    /// The text of SOFTWARE in each response, of at most 763 bytes (RFC 8489, section 14.14).
+    pub software: Option<String<A>>,
+    /// Whether the server responds to each accepted Binding request by itself.
+    pub answers_binding: bool,
+}
+
+impl<A: Allocator> ResponseSettings<A> {
+    /// Returns settings without further attributes and without SOFTWARE, which leave Binding
+    /// requests to you.
+    pub fn new(alloc: A) -> ResponseSettings<A>
+        ensures understood { result.understood.items ≡ [] }
+        ensures software { result.software ≡ None }
+        ensures binding { result.answers_binding ≡ false }
+    {
+        ResponseSettings {
+            understood: Vec::new(alloc),
+            software: None,
+            answers_binding: false,
+        }
+    }
+}
+
+/// Reads a datagram. Returns the message and whether it has a right FINGERPRINT, or why the datagram
+/// is dropped.
+pub(crate) fn read(bytes: &[u8]) -> Result<(Message<'_>, bool), DropReason>
+    ensures read { IfOk result (λ read. (read.0 ≡ bytes.now)
+        × (read.1 ≡ is_fingerprinted bytes.now) × (drop_reason bytes.now ≡ None)) }
+    ensures dropped { IfErr result (λ reason. drop_reason bytes.now ≡ Some reason) }
+{
+    let Ok(message) = Message::from_bytes(bytes) else {
+        return Err(no_message(bytes));
+    };
+    match check_fingerprint(&message) {
+        Fingerprint::Wrong => Err(DropReason::WrongFingerprint),
+        Fingerprint::Right => Ok((message, true)),
+        Fingerprint::Misplaced => Ok((message, false)),
+        Fingerprint::Absent => Ok((message, false)),
+    }
+}
+
+/// Why bytes that are no message are dropped.
+pub(crate) fn no_message(bytes: &[u8]) -> DropReason
+    ensures { result ≡ no_message bytes.now }
+{
+    match MessageHeader::from_bytes(bytes) {
+        Ok(_) => DropReason::Malformed,
+        Err(_) => DropReason::NotStun,
+    }
+}
+
+/// What a server understands, and what it adds to its responses.
+#[derive(Drop)]
+pub(crate) struct Responder<A: Allocator> {
+    alloc: A,
+    known: Vec<AttributeType, A>,
+    software: Option<String<A>>,
+    answers_binding: bool,
+}
+
+impl<A: Allocator> Model for Responder<A> {
+    ghost use Rattle.std.specs.Option.{option_map};
+    ghost use Rattle.std.specs.String.{string_bytes};
+    ghost use Rattle.stun_endpoint.specs.Responding.{Responding};
+
+    ghost Value = { Responding };
+
+    ghost view = { λ responder. record {
+      known = responder.known.items;
+      software = option_map string_bytes responder.software;
+      answers_binding = responder.answers_binding;
+    } };
+}
+
+impl<A: Allocator> Responder<A> {
+    /// A responder with these settings, unless the text of SOFTWARE is too long.
+    pub(crate) fn new(alloc: A, settings: ResponseSettings<A>) -> Result<Responder<A>, BuildError>
+        ensures refused { MatchOption (software_refusal (option_map string_bytes settings.software))
+            (IsOkUnless result BuildError.OutOfMemory) (λ refusal. result ≡ Err refusal) }
+        ensures built { IfOk result (λ responder. responder ≡ record {
+          known = settings.understood.items ++ STUN_ATTRIBUTES;
+          software = option_map string_bytes settings.software;
+          answers_binding = settings.answers_binding;
+        }) }
+    {
+        if text_length(&settings.software) > TEXT_LIMIT {
+            return Err(BuildError::SoftwareTooLong);
+        }
+        match with_stun_attributes(settings.understood) {
+            Ok(known) => Ok(Responder {
+                alloc,
+                known,
+                software: settings.software,
+                answers_binding: settings.answers_binding,
+            }),
+            Err(_) => Err(BuildError::OutOfMemory),
+        }
+    }
+
+    /// Whether the attributes of a message are understood, as far as they must be.
+    pub(crate) fn understands(&self, message: &Message<'_>) -> bool
+        ensures { result ≡ is_empty (unknown_types self.now.known message.now) }
+    {
+        are_understood(self.known.as_slice(), message)
+    }
+
+    /// Whether the server gives the answer to a request.
+    fn answers(&self, message: &Message<'_>) -> bool
+        ensures { result ≡ (self.now.answers_binding && is_binding message.now) }
+    {
+        self.answers_binding && message.method() == BINDING
+    }
+}
+
+impl<A: Allocator + Copy> Responder<A> {
+    /// Writes the response to an accepted request, if the server is to give it: the 420 to one whose
+    /// attributes are not understood, or the answer to Binding.
+    pub(crate) fn own_answer(
+        &self,
+        request: &Message<'_>,
+        from: SocketAddr,
+        signature: &Option<Signature<A>>,
+        has_fingerprint: bool,
+    ) -> Result<Option<Answer<A>>, AllocError>
+        requires { has_fingerprint ≡ is_fingerprinted request.now }
+        ensures { IfOk result (λ answer. answer
+            ≡ own_answer self.now signature.now from request.now) }
+    {
+        if !self.understands(request) {
+            let answer = self.unknown_answer(request, from, signature, has_fingerprint)?;
+            return Ok(Some(answer));
+        }
+        if self.answers(request) {
+            let answer = self.binding_answer(request, from, signature, has_fingerprint)?;
+            return Ok(Some(answer));
+        }
+        Ok(None)
+    }
+
+    /// The means to respond to an accepted request.
+    pub(crate) fn reply(
+        &self,
+        request: &Message<'_>,
+        from: SocketAddr,
+        signature: Option<Signature<A>>,
+        has_fingerprint: bool,
+    ) -> Result<Reply<A>, AllocError>
+        requires { has_fingerprint ≡ is_fingerprinted request.now }
+        ensures { IfOk result (λ reply. reply ≡ reply_by self.now signature from request.now) }
+    {
+        let software = self.cloned_software()?;
+        Ok(Reply::new(
+            self.alloc,
+            request,
+            from,
+            software,
+            signature,
+            has_fingerprint,
+        ))
+    }
+
+    /// Writes an error response that nobody's key signs.
+    #[tactic(auto, unfolding(crate::specs::Responding::refusal_by))]
+    pub(crate) fn refusal(
+        &self,
+        request: &Message<'_>,
+        from: SocketAddr,
+        refusal: Refusal,
+        has_fingerprint: bool,
+    ) -> Result<Answer<A>, AllocError>
+        requires { has_fingerprint ≡ is_fingerprinted request.now }
+        ensures { IfOk result (λ answer. answer ≡ refusal_by self.now refusal from request.now) }
+    {
+        let page = error_page(self.alloc, request, refusal.code(), refusal.phrase())?;
+        let bytes = self.end(page, &None, has_fingerprint)?;
+        Ok(Answer::new(from, Some(refusal), bytes))
+    }
+
+    /// Ends a response.
+    pub(crate) fn end(
+        &self,
+        page: MessageWriteVec<A>,
+        signature: &Option<Signature<A>>,
+        has_fingerprint: bool,
+    ) -> Result<Vec<u8, A>, AllocError>
+        requires { 20 ≤ length page.bytes }
+        ensures { IfOk result (λ response. response.items ≡ with_end (record {
+          software = self.now.software;
+          signature = signature.now;
+          has_fingerprint = has_fingerprint;
+        }) page.bytes) }
+    {
+        match finish_response(page, &self.software, signature, has_fingerprint) {
+            Ok(response) => Ok(response),
+            // The settings leave room in each response, so that an allocation failed.
+            Err(_) => Err(AllocError),
+        }
+    }
+
+    /// A copy of the text of SOFTWARE.
+    fn cloned_software(&self) -> Result<Option<String<A>>, AllocError>
+        ensures { IfOk result (λ copy. option_map string_bytes copy ≡ self.now.software) }
+    {
+        match &self.software {
+            Some(text) => Ok(Some(text.clone()?)),
+            None => Ok(None),
+        }
+    }
+
+    /// Writes the 420 to an accepted request.
+    #[tactic(auto, unfolding(crate::specs::Responding::unknown_by))]
+    fn unknown_answer(
+        &self,
+        request: &Message<'_>,
+        from: SocketAddr,
+        signature: &Option<Signature<A>>,
+        has_fingerprint: bool,
+    ) -> Result<Answer<A>, AllocError>
+        requires { has_fingerprint ≡ is_fingerprinted request.now }
+        ensures { IfOk result (λ answer. answer
+            ≡ unknown_by self.now signature.now from request.now) }
+    {
+        let page = self.unknown_page(request)?;
+        let bytes = self.end(page, signature, has_fingerprint)?;
+        Ok(Answer::new(from, Some(Refusal::UnknownAttribute), bytes))
+    }
+
+    /// Begins the 420 to a request.
+    fn unknown_page(&self, request: &Message<'_>) -> Result<MessageWriteVec<A>, AllocError>
+        ensures bytes { IfOk result (λ page. page.bytes
+            ≡ refusing_answer self.now.known request.now) }
+        ensures header { IfOk result (λ page. 20 ≤ length page.bytes) }
+    {
+        let writer = MessageWriteVec::new(self.alloc);
+        match answer_unknown(request, self.known.as_slice(), writer) {
+            Ok(Some(page)) => Ok(page),
+            _ => Err(AllocError),
+        }
+    }
+
+    /// Writes the success response to an accepted Binding request.
+    #[tactic(auto, unfolding(crate::specs::Responding::binding_by))]
+    fn binding_answer(
+        &self,
+        request: &Message<'_>,
+        from: SocketAddr,
+        signature: &Option<Signature<A>>,
+        has_fingerprint: bool,
+    ) -> Result<Answer<A>, AllocError>
+        requires { has_fingerprint ≡ is_fingerprinted request.now }
+        ensures { IfOk result (λ answer. answer
+            ≡ binding_by self.now signature.now from request.now) }
+    {
+        let page = mapped_page(self.alloc, request, from)?;
+        let bytes = self.end(page, signature, has_fingerprint)?;
+        Ok(Answer::new(from, None, bytes))
+    }
+}
+
+/// The length of a text, and 0 if there is none.
+pub(crate) fn text_length<A: Allocator>(text: &Option<String<A>>) -> usize
+    ensures { result ≡ length (unwrap_or (option_map string_bytes text.now) []) }
+{
+    match text {
+        Some(text) => text.len(),
+        None => 0,
+    }
+}
+
+/// Types of attributes, and after them STUN's own.
+pub(crate) fn with_stun_attributes<A: Allocator>(
+    understood: Vec<AttributeType, A>,
+) -> Result<Vec<AttributeType, A>, AllocError>
+    ensures { IfOk result (λ known. known.items ≡ understood.items ++ STUN_ATTRIBUTES) }
+{
+    let mut known = understood;
+    known.extend_from_slice(&STUN_ATTRIBUTES)?;
+    Ok(known)
+}
+
+/// Begins an error response with ERROR-CODE alone.
+pub(crate) fn error_page<A: Allocator + Copy>(
+    alloc: A,
+    request: &Message<'_>,
+    code: u16,
+    reason: &str,
+) -> Result<MessageWriteVec<A>, AllocError>
+    ensures bytes { IfOk result (λ page. page.bytes
+        ≡ error_page request.now code reason.now) }
+    ensures open { IfOk result (λ page. IsOpen page.bytes) }
+{
+    match try_error_page(alloc, request, code, reason) {
+        Ok(page) => Ok(page),
+        Err(_) => Err(AllocError),
+    }
+}
+
+/// Begins an error response with ERROR-CODE alone.
+#[tactic(auto, unfolding(crate::specs::Answers::error_page))]
+fn try_error_page<A: Allocator + Copy>(
+    alloc: A,
+    request: &Message<'_>,
+    code: u16,
+    reason: &str,
+) -> Result<MessageWriteVec<A>, StunWriteError>
+    ensures bytes { IfOk result (λ page. page.bytes
+        ≡ error_page request.now code reason.now) }
+    ensures open { IfOk result (λ page. IsOpen page.bytes) }
+{
+    let error = ErrorCode::builder(code).reason(reason).build()?;
+    let mut page = Message::builder_error(request, MessageWriteVec::new(alloc))?;
+    page.add_attribute(&error)?;
+    Ok(page)
+}
+
+/// Begins a success response with the address that a request came from.
+#[tactic(auto, unfolding(crate::specs::Answers::binding_page))]
+pub(crate) fn mapped_page<A: Allocator + Copy>(
+    alloc: A,
+    request: &Message<'_>,
+    from: SocketAddr,
+) -> Result<MessageWriteVec<A>, AllocError>
+    ensures bytes { IfOk result (λ page. page.bytes ≡ binding_page from request.now) }
+    ensures header { IfOk result (λ page. 20 ≤ length page.bytes) }
+{
+    match try_mapped_page(alloc, request, from) {
+        Ok(page) => Ok(page),
+        Err(_) => Err(AllocError),
+    }
+}
+
+/// Begins a success response with the address that a request came from.
+fn try_mapped_page<A: Allocator + Copy>(
+    alloc: A,
+    request: &Message<'_>,
+    from: SocketAddr,
+) -> Result<MessageWriteVec<A>, StunWriteError>
+    ensures bytes { IfOk result (λ page. page.bytes
+        ≡ with_attribute (empty_answer Success request.now)
+        (mapped_address from request.now)) }
+    ensures header { IfOk result (λ page. 20 ≤ length page.bytes) }
+{
+    let mut page = Message::builder_success(request, MessageWriteVec::new(alloc))?;
+    page.add_attribute(&mapped_address(from, request.transaction_id()))?;
+    Ok(page)
+}
+
+/// XOR-MAPPED-ADDRESS of an address. An IPv4 address in either spelling is IPv4.
+fn mapped_address(from: SocketAddr, id: TransactionId) -> XorMappedAddress
+    ensures { result ≡ xored_canonical (socket_ip from) (socket_port from) id }
+{
+    let ip = from.ip().to_canonical();
+    XorMappedAddress::new(SocketAddr::new(ip, from.port()), id)
+}

@@ -1,0 +1,108 @@
+//! Who has signed a message with short-term credentials (RFC 8489, section 9.1.3).
+
+ghost use Rattle.std.specs.FinMap as map;
+ghost use Rattle.std.specs.Prelude.{◌≡◌, Err, IfErr, IfOk, Ok, Some};
+ghost use Rattle.stun_endpoint.specs.ShortTerm.{by_key, named_by, signature_of, signer_of};
+
+use crate::received::Refusal;
+use crate::reply::Signature;
+use crate::short_term::users::ShortTermUsers;
+use std::alloc::{AllocError, Allocator};
+use std::marker::Model;
+use stun_base::error::StunParseError;
+use stun_base::prepared_key::PreparedKey;
+use stun_types::attribute::Username;
+use stun_types::message::{IntegrityAlgorithm, Message};
+
+/// A user whose key signed a message, and by which algorithm.
+#[derive(Drop)]
+pub(super) struct Signer<'a, A: Allocator> {
+    name: &'a str,
+    algorithm: IntegrityAlgorithm,
+    key: &'a PreparedKey<A>,
+}
+
+impl<'a, A: Allocator> Model for Signer<'a, A> {
+    ghost use Rattle.stun_endpoint.specs.ShortTerm.{Signer as SignerSeen};
+
+    ghost Value = { SignerSeen };
+
+    ghost view = { λ signer. record {
+      client = record { name = signer.name.now; algorithm = signer.algorithm };
+      key = signer.key.now;
+    } };
+}
+
+impl<'a, A: Allocator> Signer<'a, A> {
+    /// The user's name.
+    pub(super) fn name(&self) -> &'a str
+        ensures { result.now ≡ self.now.client.name }
+    {
+        self.name
+    }
+
+    /// The algorithm of the signature.
+    pub(super) fn algorithm(&self) -> IntegrityAlgorithm
+        ensures { result ≡ self.now.client.algorithm }
+    {
+        self.algorithm
+    }
+}
+
+impl<'a, A: Allocator + Copy> Signer<'a, A> {
+    /// What a response is signed by: the same key and algorithm.
+    pub(super) fn signature(&self) -> Result<Option<Signature<A>>, AllocError>
+        ensures { IfOk result (λ signature. signature ≡ Some (signature_of self.now)) }
+    {
+        Ok(Some(Signature::new(self.algorithm, self.key.clone()?)))
+    }
+}
+
+/// Who has signed a message, or the first reason that holds against it.
+pub(super) fn signer_of<'a, A: Allocator + Copy>(
+    users: &'a ShortTermUsers<A>,
+    message: &Message<'a>,
+) -> Result<Signer<'a, A>, Refusal>
+    ensures { result ≡ signer_of users.now message.now }
+{
+    if message.deciding_attribute().is_none() {
+        return Err(Refusal::BadRequest);
+    }
+    match named_by(message) {
+        Ok(name) => signer_named(users, message, name),
+        Err(refusal) => Err(refusal),
+    }
+}
+
+/// The name in the first visible USERNAME, or how a message without a name is refused.
+fn named_by<'a>(message: &Message<'a>) -> Result<&'a str, Refusal>
+    ensures ok { IfOk result (λ name. named_by message.now ≡ Ok name.now) }
+    ensures err { IfErr result (λ refusal. named_by message.now ≡ Err refusal) }
+{
+    match message.attribute::<Username<'a>>() {
+        Ok(username) => Ok(username.username()),
+        Err(StunParseError::MissingAttribute(_)) => Err(Refusal::BadRequest),
+        Err(_) => Err(Refusal::Unauthenticated),
+    }
+}
+
+/// The user of a name, if the user's key has signed a message.
+fn signer_named<'a, A: Allocator + Copy>(
+    users: &'a ShortTermUsers<A>,
+    message: &Message<'a>,
+    name: &'a str,
+) -> Result<Signer<'a, A>, Refusal>
+    ensures { result ≡ by_key message.now name.entry.now (map.get users.now name.entry.now) }
+{
+    let Some(key) = users.key(name) else {
+        return Err(Refusal::Unauthenticated);
+    };
+    match message.validate_integrity_with_prepared_key(key) {
+        Ok(algorithm) => Ok(Signer {
+            name,
+            algorithm,
+            key,
+        }),
+        Err(_) => Err(Refusal::Unauthenticated),
+    }
+}

@@ -1,4 +1,4 @@
-//! A STUN server on UDP and TCP (RFC 8489), IPv4 and IPv6, over `endpoint::Server`. It answers
+//! A STUN server on UDP and TCP (RFC 8489), IPv4 and IPv6, over `endpoint`. It answers
 //! everybody with the address that the request came from or, if it has a realm, its users alone
 //! (section 9.2.4). `--help` lists its arguments. The first line of output is `port N`.
 //!
@@ -17,13 +17,11 @@
 
 #[path = "udp_server/counts.rs"]
 mod counts;
-#[path = "udp_server/open.rs"]
-mod open;
 #[path = "udp_server/users.rs"]
 mod users;
 
 use counts::{Counts, Outcome};
-use seatcrane_stun::endpoint::{LongTerm, Server, UnixTime, Users};
+use seatcrane_stun::endpoint::{LongTerm, OpenServer, ResponseSettings, Server, UnixTime, Users};
 use seatcrane_stun::extra::{Frame, next_frame};
 use seatcrane_stun::types::message::*;
 use std::error::Error;
@@ -79,9 +77,10 @@ struct Settings {
     is_verbose: bool,
 }
 
-/// What all threads share. A server without a realm is none of `endpoint::Server`.
+/// What all threads share. Without a realm, the open server answers.
 struct Service {
     of_realm: Option<(Server, RwLock<Users>)>,
+    open: OpenServer,
     counts: Counts,
     is_verbose: bool,
 }
@@ -103,6 +102,7 @@ impl Service {
         };
         Ok(Service {
             of_realm,
+            open: OpenServer::new(ResponseSettings::new().answer_binding())?,
             counts: Counts::default(),
             is_verbose: settings.is_verbose,
         })
@@ -114,7 +114,7 @@ impl Service {
         let is_ours = |header: MessageHeader| header.get_type().method() == BINDING;
         let outcome = match &self.of_realm {
             _ if !MessageHeader::from_bytes(bytes).map_or(true, is_ours) => Outcome::Other,
-            None => open::judge(bytes, from),
+            None => Outcome::from(self.open.receive(bytes, from)),
             Some((server, users)) => {
                 let users = users.read().unwrap_or_else(PoisonError::into_inner);
                 Outcome::from(server.receive(bytes, from, UnixTime::now(), &users))

@@ -1,6 +1,6 @@
 //! What a datagram came to, and counters of that.
 
-use seatcrane_stun::endpoint::{DropReason, Received, Refusal};
+use seatcrane_stun::endpoint::{Answer, DropReason, OpenReceived, Received, Refusal};
 use std::fmt;
 use std::sync::atomic::{AtomicU64, Ordering::Relaxed};
 
@@ -17,13 +17,27 @@ pub enum Outcome {
 impl From<Received<'_>> for Outcome {
     fn from(received: Received<'_>) -> Outcome {
         match received {
-            Received::Answer(answer) => {
-                let code = answer.refusal().map_or(200, Refusal::code);
-                Outcome::Answer(code, answer.into_bytes())
-            }
+            Received::Answer(answer) => Outcome::from(answer),
             Received::Dropped(why) => Outcome::Dropped(why),
             _ => Outcome::Other,
         }
+    }
+}
+
+impl From<OpenReceived<'_>> for Outcome {
+    fn from(received: OpenReceived<'_>) -> Outcome {
+        match received {
+            OpenReceived::Answer(answer) => Outcome::from(answer),
+            OpenReceived::Dropped(why) => Outcome::Dropped(why),
+            _ => Outcome::Other,
+        }
+    }
+}
+
+impl From<Answer> for Outcome {
+    fn from(answer: Answer) -> Outcome {
+        let code = answer.refusal().map_or(200, Refusal::code);
+        Outcome::Answer(code, answer.into_bytes())
     }
 }
 

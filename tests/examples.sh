@@ -125,6 +125,8 @@ if python3 -c "$loopback" >/dev/null 2>&1; then
     checked="$checked; $(tail -n 1 "$scratch/twice")"
     twice udp/ways.py "$@"
     checked="$checked; $(tail -n 1 "$scratch/twice")"
+    twice udp/nat.py
+    checked="$checked; $(tail -n 1 "$scratch/twice")"
     # ICE between two of the programs, and with libnice and aioice, TURN with coturn and pion where
     # they are installed.
     set --

@@ -86,8 +86,7 @@ def missing(command, path):
 
 def lay_request(folder):
     """request.bin, the request of RFC 5769, section 2.1."""
-    with open(os.path.join(TOP, "crates/stun_tool/stdin")) as opened:
-        digits = "".join(opened.read().split())
+    digits = "".join(text_of("crates/stun_tool/stdin").split())
     path = os.path.join(folder, "request.bin")
     with open(path, "wb") as opened:
         opened.write(bytes.fromhex(digits))
@@ -151,8 +150,8 @@ def in_clone(work):
 
 
 def first_minute(clone):
-    shown = block_after(readme(), "not proved yet:")
-    if not prints("valid MESSAGE-INTEGRITY\n", ["sh", "-ec", shown], cwd=clone):
+    shown = ["sh", "-ec", block_after(text_of("README.md"), "not proved yet:")]
+    if not prints("valid MESSAGE-INTEGRITY\n", shown, cwd=clone):
         return False
     print("transcripts: the command of README.md that needs no proof prints what README.md says")
     return True
@@ -163,10 +162,6 @@ def block_after(text, words):
     end = r"\s+".join(map(re.escape, words.split()))
     return re.sub(r"(?m)^    ", "",
                   re.search(end + r"\n\n((?:(?:    .*)?\n)+)", text).group(1)).strip() + "\n"
-
-
-def readme():
-    return text_of("README.md")
 
 
 def prints(wanted, command, **how):
@@ -182,8 +177,7 @@ def wrapped_in_c(scratch):
     for name in ("include", "examples", "tests", "crates"):
         os.symlink(os.path.join(TOP, name), os.path.join(scratch, name))
     shown = block_after(text_of("examples/README.md"), "and both archives:")
-    wanted = text_of("tests/cpp/check.txt")
-    return prints(wanted, ["sh", "-ec", shown + "./a.out"], cwd=scratch)
+    return prints(text_of("tests/cpp/check.txt"), ["sh", "-ec", shown + "./a.out"], cwd=scratch)
 
 
 def in_c(archives):
@@ -194,7 +188,7 @@ def in_c(archives):
     with tempfile.TemporaryDirectory() as scratch:
         source, program = os.path.join(scratch, "check.c"), os.path.join(scratch, "check")
         with open(source, "w") as opened:
-            opened.write(block_after(readme(), "behind handles."))
+            opened.write(block_after(text_of("README.md"), "behind handles."))
         compiler = [*(named or ["cc"]), "-Wall", "-Wextra", "-Werror",
                     "-I" + os.path.join(TOP, "include"), source]
         if not prints("", compiler + archives + ["-o", program]):
@@ -213,34 +207,23 @@ def in_c(archives):
 
 
 def in_rust(folder):
-    command = block_after(readme(), "section 2.1.").split("\n", 1)
+    command = block_after(text_of("README.md"), "section 2.1.").split("\n", 1)
     if command[0] != "make export" or not prints("valid MESSAGE-INTEGRITY\n",
                                                ["sh", "-ec", command[1]], cwd=TOP):
         return False
     source = os.path.join(folder, "examples", "readme.rs")
-    jobs = readme().split("## Everyday jobs")[1].split("\n## ")[0]
+    jobs = text_of("README.md").split("## Everyday jobs")[1].split("\n## ")[0]
     jobs = [job for job in re.findall(r"\n\n((?:    .*\n|\n(?=    ))+)", jobs) if "pub fn" in job]
     lines = ["mod job%d {\n%s}\n" % job for job in enumerate(jobs)]
     try:
         with open(source, "w") as opened:
-            opened.write("#![allow(dead_code)]\n%s%s" % ("".join(lines), SERVED))
+            opened.write("".join(lines) + text_of("tests/export/readme_main.rs"))
         if not prints("401\n", ["cargo", "run", "--quiet", "--example", "readme"], cwd=folder):
             return False
     finally:
         os.remove(source)
     print("transcripts: the command and the %d jobs in Rust of README.md do what it says" % len(jobs))
     return True
-
-
-# The server of the third job challenges the client of the first, which has no credentials.
-SERVED = """fn main() {
-    let socket = std::net::UdpSocket::bind("127.0.0.1:0").unwrap();
-    let server = socket.local_addr().unwrap();
-    std::thread::spawn(move || job2::serve(&socket, [7; 32]).unwrap());
-    let error = job0::my_address(server, [7; 32]).unwrap_err();
-    println!("{}", error.to_string().split(|c: char| !c.is_ascii_digit()).collect::<String>());
-}
-"""
 
 
 if __name__ == "__main__":

@@ -106,6 +106,19 @@ impl<K: Ord, V> Node<K, V> {
         Err(at)
     }
 
+    /// Returns `true` if the key is in this node or below, or if the leaf where it would be has room.
+    /// Then no node has to be split for it.
+    fn has_room(&self, key: &K) -> bool {
+        let mut node = self;
+        loop {
+            match node.search(key) {
+                Ok(_) => return true,
+                Err(_) if node.is_leaf() => return node.len() < MOST,
+                Err(at) => node = &node.children[at],
+            }
+        }
+    }
+
     /// Inserts an entry at an index. The node is not full.
     fn put(&mut self, at: usize, (key, value): (K, V)) {
         self.keys.insert(at, key);
@@ -322,22 +335,20 @@ impl<K: Ord, V, A: Allocator> BTreeMap<K, V, A> {
                 self.len += 1;
                 Ok(None)
             }
-            // A value can be replaced without memory.
-            Err(AllocError) => match self.get_mut(&key) {
-                Some(before) => Ok(Some(mem::replace(before, value))),
-                None => Err(AllocFailed {
-                    value: (key, value),
-                }),
-            },
+            Err(AllocError) => Err(AllocFailed {
+                value: (key, value),
+            }),
         }
     }
 
-    /// Finds the node and the index of a key, or those where it can be inserted. The nodes on the
-    /// way that are full are split, so that there is room at each.
+    /// Finds the node and the index of a key, or those where it can be inserted. If there is no room
+    /// for it, the nodes on the way that are full are split, so that there is room at each.
     fn place(&mut self, key: &K) -> Result<Place<'_, K, V>, AllocError> {
         if self.root.keys.capacity() == 0 {
             self.root = Node::new(true, &self.alloc)?;
-        } else if self.root.len() == MOST {
+        }
+        let mut has_room = self.root.len() == MOST && self.root.has_room(key);
+        if self.root.len() == MOST && !has_room {
             let root = Node::new(false, &self.alloc)?;
             let child = mem::replace(&mut self.root, root);
             self.root.children.push(child);
@@ -348,7 +359,9 @@ impl<K: Ord, V, A: Allocator> BTreeMap<K, V, A> {
             let (Err(at), false) = (place, node.is_leaf()) else {
                 return Ok((node, place));
             };
-            if node.children[at].len() == MOST {
+            let is_full = node.children[at].len() == MOST;
+            has_room = has_room || (is_full && node.children[at].has_room(key));
+            if is_full && !has_room {
                 node.split(at, key, &self.alloc)?;
             } else {
                 node = &mut node.children[at];

@@ -158,6 +158,21 @@ fn a_map_that_shrinks_gives_back_memory() {
     );
 }
 
+/// A value is replaced without memory, also in a tree whose nodes are full.
+#[test]
+fn a_key_that_is_there_takes_no_memory() {
+    let heap = Sparse::new(0);
+    let mut map = BTreeMap::new(&heap);
+    for key in 0..3_000 {
+        map.insert(key, key).unwrap();
+        let asked = heap.asked.get();
+        for again in [0, key / 3, key] {
+            assert!(map.insert(again, key).unwrap().is_some());
+        }
+        assert_eq!(heap.asked.get(), asked);
+    }
+}
+
 /// A node may lose all entries while the next one is full. Then the keys behind it are still found.
 #[test]
 fn a_map_stands_with_an_empty_node() {

@@ -1,5 +1,5 @@
-# The words of this repository. Those above `With the toolchain` need none (rt), and the sources of a
-# release have no others.
+# The targets of this repository. Those listed above `With the toolchain` do not need rt, and a
+# release of the sources has only those.
 .PHONY: help lib export rust test rust-c dist prove c check wrong bench install uninstall release verify-release
 
 help:
@@ -10,8 +10,8 @@ help:
 	@echo "make export   export the proved sources as plain Rust to target/export, and build them"
 	@echo "make rust     export the proved sources as plain Rust to target/export, and run its tests"
 	@echo "make test     the same: what is tested without rt"
-	@echo "make rust-c   after it, build its calls for C to target/c, and test them"
-	@echo "make dist     release/stunp-VERSION-source.tar.gz, with the crates of others"
+	@echo "make rust-c   after `make rust`: build libstunp.a and libstunp.so to target/c, and test them"
+	@echo "make dist     release/stunp-VERSION-source.tar.gz, with other crates, to build without network"
 	@echo "With the toolchain (rt):"
 	@echo "make c        prove and build the archives for C (minutes)"
 	@echo "make prove    prove everything, and run all tests (rt ci)"

@@ -68,7 +68,7 @@ def stunp():
         os.environ["STUNP_LIBRARY"] = linked(archives)
     library = os.environ.get("STUNP_LIBRARY", os.path.join(TOP, "target", "c", "libstunp.so"))
     if not os.path.exists(library):
-        raise Missing(f"{os.path.relpath(library, TOP)} is not built (`make rust rust-c`)")
+        raise Missing(f"{os.path.relpath(library, TOP)} is not built (`make lib`)")
     return Module(source("stunp.py"))
 
 

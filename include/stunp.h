@@ -17,7 +17,8 @@
  *
  * - The proved one is the archive crates/stun_c/out/libstun_c.a, which `rt lib` in crates/stun_c
  *   proves and builds. It holds ELF objects for Linux on x86-64-v2 processors, as do those of
- *   stunp_state.h and stunp_endpoint.h.
+ *   stunp_state.h and stunp_endpoint.h. `make install` adds stunp_is_proved to it, which the archive
+ *   in out/ does not have.
  * - The exported one is libstunp.so and libstunp.a in target/c, which `make lib` builds from the
  *   same sources with cargo and a C compiler, also for other processors. It has the calls of all
  *   three headers, is tested, and is not proved. Calls that have their body in a header, such as
@@ -33,8 +34,9 @@
  *
  * Before 1.0, releases are compatible if their first two numbers are equal, and from 1.0 on if their
  * first number is. The shared library has these numbers in its name for the loader
- * (libstunp.so.0.2), so a program never runs with a release that it was not compiled for. To have
- * the linker check the same for an archive, see stunp_release_0_2.
+ * (libstunp.so.0.2), so the loader never combines incompatible releases. Symbols have no versions, so
+ * a package must depend on the release that it was built with, or on a later one. To have the linker
+ * check the release of an archive, see stunp_release_0_2.
  *
  * The size of a struct that you own is the same in all compatible releases. A later release that
  * needs more room uses what is reserved for it, or adds a struct and calls that take it:
@@ -408,8 +410,9 @@ typedef struct {
 /* A transport address. `octets` starts with the 4 octets of an IPv4 address or the 16 of an IPv6
  * address, in network order, and `length` is 4 or 16. `port` is in the processor's order.
  *
- * The last 12 octets of an IPv4 address are ignored in an argument, and are 0 in a result. An IPv4
- * address and the same address mapped into IPv6 are two different addresses. The scope of an IPv6
+ * The last 12 octets of an IPv4 address are ignored in an argument, and are 0 in a result. The
+ * calls of stunp_state.h treat an IPv4 address and the same address mapped into IPv6 as two addresses,
+ * and those of stunp_endpoint.h treat them as one. The scope of an IPv6
  * address is not stored: a link-local address counts as the same on every interface, and you have
  * to give your socket the scope again.
  *

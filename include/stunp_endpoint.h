@@ -15,15 +15,15 @@
  * a check of the peer, or returns how a check of yours ended.
  *
  * No call performs I/O. You own the sockets, the clock, the threads and the random numbers.
- * Sections without an RFC are those of RFC 8489.
+ * Sections without an RFC are those of RFC 8489, and in what is about ICE those of RFC 8445.
  *
  *
  * A server
  *
  * `serve` answers a datagram, and returns the length of the answer in `out`, or 0 if there is
- * nothing to send. It is a whole server: clients are challenged (401), told a new nonce (438), told
- * what is malformed (400) or not understood (420), and each answer to an accepted request, a 420
- * too, is signed. An answer ends with FINGERPRINT if its request does.
+ * nothing to send. It is a whole server: it challenges clients (401), sends them a new nonce (438),
+ * and answers malformed requests (400) and unknown attributes (420) with errors. Each answer to an
+ * accepted request, a 420 too, is signed. An answer ends with FINGERPRINT if its request does.
  *
  *     #include "stunp_endpoint.h"
  *
@@ -48,7 +48,8 @@
  *         int64_t kind = stunp_endpoint_server_receive(server, users, bytes, length, from,
  *                                                      unix_seconds, out, room, &received);
  *         if (kind == STUNP_ANSWER) return received.length;
- *         if (kind != STUNP_IS_REQUEST) return 0; // dropped, or an error: see received.why
+ *         // Dropped: see received.why. If kind is negative, an error: see stunp_strerror(kind).
+ *         if (kind != STUNP_IS_REQUEST) return 0;
  *         // A request of a user, whose name is in received.name, and none that this server has an
  *         // answer for. A TURN server would look at received.method.
  *         stunp_writer answer = stunp_reply_error(&received.reply, 400, "Bad Request", out, room);
@@ -70,7 +71,8 @@
  * by less than a nonce lifetime, a client that comes from a machine whose clock is ahead may be
  * answered one more 438.
  *
- * A client whose nonce is not one of its address is told a new one by a 438, with which it goes on.
+ * If a nonce was not made for the client's current address, the server answers 438 with a new nonce,
+ * and the client continues with that.
  *
  *
  * Users in a database
@@ -119,9 +121,10 @@
  *     int64_t check_pair(stunp_ice_checker *agent, struct ice_pair *pair, const uint8_t *id,
  *                        bool nominate, uint8_t *out, size_t room) {
  *         const uint32_t priority = (110u << 24) + (65535u << 8) + 255; // section 5.1.2.1
- *         pair->is_checking = true, pair->is_to_be_checked = false;
- *         return stunp_ice_checker_check(agent, id, &pair->remote, priority, nominate, out, room,
- *                                        &pair->check);
+ *         int64_t length = stunp_ice_checker_check(agent, id, &pair->remote, priority, nominate, out,
+ *                                                  room, &pair->check);
+ *         if (length >= 0) pair->is_checking = true, pair->is_to_be_checked = false;
+ *         return length;
  *     }
  *
  *     // Reads a datagram that came on a pair. Returns the length of the answer in `out`, or 0.
@@ -136,8 +139,10 @@
  *             pair->is_to_be_checked = !pair->is_valid;
  *         } else if (kind == STUNP_IS_RESPONSE) {
  *             pair->is_checking = false, pair->is_valid = got.outcome == STUNP_ICE_VALID;
+ *             pair->is_nominated |= pair->is_valid && pair->check.nominates;
+ *             // Before the next check: stunp_ice_checker_set_tie_breaker with a new random number.
  *             pair->is_to_be_checked = got.outcome == STUNP_ICE_CONFLICT;
- *         } // else it is dropped, or an error: see got.why
+ *         } // else dropped: see got.why; or kind < 0, an error: see stunp_strerror(kind)
  *         return kind == STUNP_ANSWER ? got.length : 0;
  *     }
  *
@@ -169,6 +174,9 @@
  *   crates/stun_c_endpoint proves and builds out/libstun_c_endpoint.a, which `make install` installs
  *   as libstunp_endpoint.a. It does not need libstunp_state.a.
  * - Exported (`make lib`): libstunp.so or libstunp.a, which have the calls of the three headers.
+ *
+ * The pkg-config file stunp_endpoint and the CMake target stunp::stunp_endpoint name the libraries
+ * that are installed. If you also use stunp_state.h, name stunp_state too.
  *
  *
  * Handles, memory and errors are those of stunp_state.h, except that a handle may be const, and that
@@ -225,7 +233,7 @@ template <typename Sized> Sized stunp_of_size() {
 #define STUNP_INIT(type) {.size = sizeof(type)}
 #endif
 
-/* The settings of a server. What is 0 or null has its default.
+/* The settings of a server. A field that is 0 or null takes its default.
  *
  *   size                sizeof (stunp_endpoint_server_settings), set by STUNP_INIT
  *   realm               the realm, of at most 763 bytes. It has no default
@@ -342,8 +350,8 @@ typedef struct {
     bool has_fingerprint;
 } stunp_reply;
 
-/* What a datagram comes to. The fields whose kind is not named are 0 in every other kind; `reply` and
- * `name` then stay as they were.
+/* What a datagram comes to. A field is 0 unless its line names the kind; only `reply` and `name` then
+ * keep their old contents.
  *
  *   size         sizeof (stunp_received), set by STUNP_INIT once, before the loop
  *   kind         a stunp_kind
@@ -360,7 +368,7 @@ typedef struct {
  *                STUNP_USERHASH_LENGTH bytes
  *   reply        STUNP_IS_REQUEST: what answers it
  *
- * Serve the user `name`, and not whom USERNAME of the message names. */
+ * Serve the user in `name`. Never use USERNAME of the message, which may name another user. */
 typedef struct {
     size_t size;
     uint32_t kind;
@@ -431,8 +439,7 @@ typedef struct {
     bool nominates;
 } stunp_ice_check;
 
-/* What a datagram comes to at an agent of ICE. The fields whose kind is not named are 0 in every
- * other kind.
+/* What a datagram comes to at an agent of ICE. A field is 0 unless its line names the kind.
  *
  *   size            sizeof (stunp_ice_received), set by STUNP_INIT once, before the loop
  *   kind            a stunp_kind
@@ -602,10 +609,10 @@ int64_t stunp_endpoint_server_receive_own(stunp_endpoint_server *server,
                                           uint64_t unix_seconds, uint8_t *out, size_t room,
                                           stunp_received *received);
 
-/* Judges the datagram of `length` bytes that came from an address, and writes what it comes to to
+/* Judges the datagram of `length` bytes that arrived from the address `from`, and writes the result to
  * `*received`. If it gets an answer at once, that is written to the front of `out`.
  *
- *   - What is no message, or has a wrong FINGERPRINT, is dropped.
+ *   - A datagram is dropped if it is not a STUN message, or if its FINGERPRINT is wrong.
  *   - A request is answered 401 if it is not signed, or not by one of these users; 438 if its nonce
  *     is not accepted; 400 if it is malformed, or its algorithms are not those that were offered with
  *     the current nonce; and 420 if it has an attribute that must be understood and is not. A Binding
@@ -615,15 +622,15 @@ int64_t stunp_endpoint_server_receive_own(stunp_endpoint_server *server,
  *
  * `unix_seconds` is the time of the wall clock, in seconds since 1970: (uint64_t)time(NULL). With a
  * clock that starts at zero, the nonces of an earlier run of the program would be current again,
- * and with them requests that an attacker has recorded. An IPv4 address is the same in both
- * spellings, also as ::ffff:a.b.c.d.
+ * and with them requests that an attacker has recorded. An IPv4 address and the same address mapped
+ * into IPv6 (::ffff:a.b.c.d) count as one address.
  *
  * `received` may be null if the returned kind is all that you want.
  *
  * Returns a stunp_kind. Errors:
  *   STUNP_EMPTY_HANDLE      a handle is empty, or of another kind
- *   STUNP_BAD_ARGUMENT      `received->size` is wrong, `unix_seconds` is above 2 to the power of 40
- *                           (it must be in nanoseconds), or `from` is not an IPv4 or IPv6 address
+ *   STUNP_BAD_ARGUMENT      `received->size` is wrong, `unix_seconds` is above 2 to the power of 40, so
+ *                           you probably passed nanoseconds, or `from` is not an IPv4 or IPv6 address
  *   STUNP_OUT_OF_MEMORY     an allocation failed. Nothing is lost: the client sends again
  *   STUNP_BUFFER_TOO_SMALL  the answer does not fit into `room` bytes. `received->length` is then its
  *                           length, and nothing else of `*received` changes */
@@ -666,12 +673,13 @@ int64_t stunp_endpoint_server_identify_own(stunp_endpoint_server *server, const 
                                            uint64_t unix_seconds, uint8_t *out, size_t room,
                                            stunp_received *received);
 
-/* Judges the datagram of `length` bytes that came from an address, as far as that is possible without
- * its user. It comes to STUNP_LOOKUP if it is a signed request that names a user, and whose nonce this
+/* Judges the datagram of `length` bytes that arrived from the address `from`, as far as that is
+ * possible without its user. It comes to STUNP_LOOKUP if it is a signed request that names a user, and whose nonce this
  * server accepts for its address now: look `received->name` up, and call
- * stunp_endpoint_server_resume. To everything else it comes as at stunp_endpoint_server_receive with
- * any table of users. A client that sends its request again causes another look-up: merge those with
- * the same transaction ID, which is in the 12 bytes from `bytes + 8` on.
+ * stunp_endpoint_server_resume. Every other datagram gets the result that
+ * stunp_endpoint_server_receive would return, whatever the users are. A client that sends its request
+ * again causes another look-up: merge look-ups with the same source address and transaction ID, which
+ * is in the 12 bytes from `bytes + 8` on.
  *
  * Returns a stunp_kind, and fails as stunp_endpoint_server_receive does. */
 STUNP_USE_RESULT
@@ -753,8 +761,8 @@ STUNP_INLINED stunp_writer stunp_reply_error(const stunp_reply *reply, uint32_t 
 
 /* Ends the response of a writer: signs it, and adds FINGERPRINT if the request had one.
  *
- * Returns the length of the response; or the first error of a call with this writer, these two
- * (stunp_sign, stunp_add_fingerprint) among them. */
+ * Returns the length of the response, or the first error of any call with this writer, including those
+ * of stunp_sign and stunp_add_fingerprint. */
 STUNP_USE_RESULT
 STUNP_INLINED int64_t stunp_reply_finish(const stunp_reply *reply, stunp_writer *answer) {
     if (reply->integrity != 0)
@@ -840,8 +848,8 @@ int64_t stunp_ice_checker_check_with(stunp_ice_checker *checker, const uint8_t i
                                      const stunp_address *to, uint32_t priority, bool nominate,
                                      uint8_t *out, size_t room, stunp_ice_check *check);
 
-/* Writes a check to the front of `out`, and what its answer is judged by to `*check`. Send it to the
- * address `to`, and again until its answer arrives (section 7.2.4; stunp_agent of stunp_state.h, or a
+/* Writes a check to the front of `out`, and to `*check` what you need to judge its answer. Send it to
+ * the address `to`, and again until its answer arrives (section 7.2.4; stunp_agent of stunp_state.h, or a
  * timer of yours). STUNP_ICE_CHECK_MAX bytes are room enough.
  *
  * `id` must be random, and new: a check with the ID of another may end that one. `priority` is what a
@@ -873,12 +881,13 @@ int64_t stunp_ice_checker_receive_with(stunp_ice_checker *checker, const uint8_t
                                        bool has_check, const stunp_ice_check *check, uint8_t *out,
                                        size_t room, stunp_ice_received *received);
 
-/* Judges the datagram of `length` bytes that came from an address, and writes what it comes to to
- * `*received`. The answer to a check of the peer is written to the front of `out`. `check` is the
- * check of yours whose ID the datagram has, if it has one of those that you have stored, or null.
+/* Judges the datagram of `length` bytes that arrived from the address `from`, and writes the result to
+ * `*received`. The answer to a check of the peer is written to the front of `out`. `check` is your
+ * stored check whose `id` equals the transaction ID of the datagram (the 12 bytes from `bytes + 8` on,
+ * if it has 20), or null if none does.
  *
- *   - What is no message, or has no right FINGERPRINT, is dropped, and so is another method than
- *     Binding.
+ *   - A datagram is dropped if it is not a STUN message, has no right FINGERPRINT, or has another
+ *     method than Binding.
  *   - A check is accepted if its USERNAME has your name and that of the peer in this order, and it is
  *     signed with your password. It is answered 400 if it is not signed, or has no USERNAME or no
  *     PRIORITY; 401 if the name or the signature is wrong; and 420 if it has an attribute that must
@@ -890,8 +899,8 @@ int64_t stunp_ice_checker_receive_with(stunp_ice_checker *checker, const uint8_t
  *     in (section 7.2.5.1).
  *   - An indication with an attribute that must be understood and is not is dropped.
  *
- * An IPv4 address is the same in both spellings, also as ::ffff:a.b.c.d. `received` may be null if the
- * returned kind is all that you want.
+ * An IPv4 address and the same address mapped into IPv6 (::ffff:a.b.c.d) count as one address.
+ * `received` may be null if the returned kind is all that you want.
  *
  * Returns a stunp_kind: STUNP_DROPPED, _ANSWER, _IS_INDICATION or _IS_RESPONSE. Errors, which leave
  * the agent and its role as they were:

@@ -22,8 +22,9 @@ extern "C" {
 
 /* Returns the address of a socket address of `length` bytes. An IPv4 address that is mapped into
  * IPv6 (::ffff:a.b.c.d), as a socket of both families has it, is IPv4. Flow label and scope are left
- * out. If it is neither IPv4 nor IPv6, or shorter than such an address, the result has length 0,
- * which every call that takes an address refuses with STUNP_BAD_ARGUMENT. */
+ * out. If it is neither IPv4 nor IPv6, or shorter than such an address, the result has length 0.
+ * Test for it: most calls then fail with STUNP_BAD_ARGUMENT, but stunp_agent_new_with takes a `remote`
+ * of length 0 as the permission to send to any address. */
 static inline stunp_address stunp_address_of(const struct sockaddr *name, socklen_t length) {
     stunp_address address = {{0}, 0, 0};
     struct sockaddr_in four;

@@ -1,6 +1,6 @@
 """This library as a subject, through its headers for C: stunp.h, stunp_endpoint.h, stunp_state.h.
 
-`make rust rust-c` builds the shared library target/c/libstunp.so; STUNP_LIBRARY names another one.
+`make lib` builds the shared library target/c/libstunp.so; STUNP_LIBRARY names another one.
 What the headers do not have is left out."""
 
 import ctypes

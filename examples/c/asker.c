@@ -166,8 +166,11 @@ static enum verdict step(struct asker *asker, struct datagram *got) {
     uint8_t id[STUNP_ID_LENGTH];
     uint64_t now = moment(), until;
     send_again(asker, now);
-    if (now >= asker->give_up || stunp_agent_poll(&asker->agent, now, &until, id, sizeof id) != 0)
-        return no_answer(asker, "");
+    int64_t ended = 1;
+    if (now < asker->give_up)
+        ended = stunp_agent_poll(&asker->agent, now, &until, id, sizeof id);
+    if (ended < 0) return fails_with(asker, ended);
+    if (ended > 0) return no_answer(asker, "");
     if (until > asker->give_up) until = asker->give_up;
     enum arrival came = wait_for(asker->socket, until > now ? until - now : 0);
     if (came == ERROR_REPORT) {

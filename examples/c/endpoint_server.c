@@ -16,18 +16,19 @@
 static stunp_endpoint_server server;
 static stunp_endpoint_users users;
 
-/* What the server is: its realm, its secret and its user. */
-static bool set_up(const char *realm, const char *name, const char *password) {
+/* Creates the server and its user. Returns 0 or more, or the error. */
+static int64_t set_up(const char *realm, const char *name, const char *password) {
     static uint8_t secret[32];
     stunp_endpoint_server_settings settings = STUNP_INIT(stunp_endpoint_server_settings);
     fill_randomly(secret, sizeof secret);
     settings.realm = realm, settings.secret = secret, settings.answers_binding = true;
-    if (stunp_endpoint_server_new(&server, &settings) < 0) return false;
-    if (stunp_endpoint_users_new(&users, &server) < 0) return false;
-    return stunp_endpoint_users_add(&users, name, strlen(name), password, strlen(password)) >= 0;
+    int64_t made = stunp_endpoint_server_new(&server, &settings);
+    if (made >= 0) made = stunp_endpoint_users_new(&users, &server);
+    if (made < 0) return made;
+    return stunp_endpoint_users_add(&users, name, strlen(name), password, strlen(password));
 }
 
-/* What a datagram gets. */
+/* Judges a datagram, and sends its answer if it gets one. */
 static void answer(int socket, const struct datagram *got) {
     static uint8_t out[STUNP_ANSWER_MAX];
     static stunp_received received = STUNP_INIT(stunp_received);
@@ -35,6 +36,7 @@ static void answer(int socket, const struct datagram *got) {
                                                  &got->from, (uint64_t)time(NULL), out,
                                                  sizeof out, &received);
     int64_t length = kind == STUNP_ANSWER ? (int64_t)received.length : 0;
+    if (kind < 0) fprintf(stderr, "endpoint_server: %s\n", stunp_strerror(kind));
     if (kind == STUNP_IS_REQUEST) { /* of the user, and not Binding */
         stunp_writer error =
             stunp_reply_error(&received.reply, 400, "Bad Request", out, sizeof out);
@@ -54,8 +56,9 @@ int main(int count, char **words) {
         fprintf(stderr, "usage: endpoint_server PORT REALM NAME PASSWORD\n");
         return 2;
     }
-    if (!set_up(words[2], words[3], words[4])) {
-        fprintf(stderr, "endpoint_server: no server of this realm and user\n");
+    int64_t made = set_up(words[2], words[3], words[4]);
+    if (made < 0) {
+        fprintf(stderr, "endpoint_server: %s\n", stunp_strerror(made));
         return 1;
     }
     if (!open_server(NULL, 0, &port, false, &listener)) return 1;

@@ -142,9 +142,11 @@ impl Session {
         self.allocate()?;
         let exchanged = self.exchange();
         self.asker.extend(Duration::from_secs(1));
-        self.ask(TurnMethod::Refresh, Body::new().add(&Lifetime::new(0))?)?;
+        let ended = self.ask(TurnMethod::Refresh, Body::new().add(&Lifetime::new(0))?);
+        exchanged?;
+        ended?;
         println!("ended");
-        exchanged
+        Ok(())
     }
 }
 

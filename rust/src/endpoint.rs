@@ -77,7 +77,8 @@ pub use server::{
 };
 pub use stream::{FrameBuffer, NotStun};
 
-/// Types of attributes to pass to [`ServerBuilder::understands`].
+/// Types of attributes to pass to [`ServerBuilder::understands`], and to the other builders. Unlike
+/// those of [`crate::types`], these lists leave out the types of STUN itself.
 pub mod types {
     use super::AttributeType;
 
@@ -129,13 +130,14 @@ pub enum DropReason {
     WrongFingerprint,
     /// It is an indication with an attribute that must be understood and is not.
     UnknownAttribute,
-    /// It is a response that is not signed with the key of its request, where it must be.
+    /// It is a response without the valid signature that it must have.
     NotVerified,
     /// It is a 401 or a 438 that the client cannot answer: without realm or nonce, with no algorithm
-    /// that the client supports, without hashed names although the client must send one, or with a
-    /// list so long that the request would not fit in a message.
+    /// that the client supports, with a nonce that does not allow hashed names although the client
+    /// must send one, or with a list so long that the request would not fit in a message.
     UnanswerableChallenge,
-    /// It is a 401 or a 438 that asks for less than the server has confirmed before.
+    /// It is a 401 or a 438 with a weaker algorithm, or without hashed names, although a request
+    /// succeeded with the stronger one.
     WeakerChallenge,
     /// An allocation failed. Whoever sent the request sends it again.
     OutOfMemory,

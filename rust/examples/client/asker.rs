@@ -73,7 +73,9 @@ impl Asker {
         loop {
             match self.client.poll(self.clock.now()) {
                 Output::Transmit(bytes) => drop(self.socket.send(bytes)),
-                Output::Ended(_, result) => return result.map_err(|error| told(&error).into()),
+                Output::Ended(ended, result) if ended == request => {
+                    return result.map_err(|error| told(&error).into());
+                }
                 Output::Wait(until) => {
                     if self.is_late() {
                         return Err(self.no_answer(request).into());

@@ -108,7 +108,9 @@ impl Body {
     /// The first of these that applies:
     ///
     /// - [`BodyError::NotAllowed`]: the client writes this type itself, its value depends on the
-    ///   transaction ID, or it is ERROR-CODE, which no request has.
+    ///   transaction ID (for XOR-PEER-ADDRESS call
+    ///   [`add_xor_peer_address`](Self::add_xor_peer_address)), or it is ERROR-CODE, which no request
+    ///   has.
     /// - [`BodyError::TooLarge`]: the attributes would have more than [`BODY_LIMIT`] bytes.
     /// - [`BodyError::OutOfMemory`]: an allocation failed.
     ///

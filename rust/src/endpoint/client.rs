@@ -41,13 +41,17 @@ struct Sent {
 /// A client of one server on one transport, with any number of requests at the same time.
 ///
 /// It retransmits, answers challenges and verifies signatures. Each request ends exactly once, in
-/// [`Output::Ended`].
+/// [`Output::Ended`]. Take every `now` from one clock that never goes back, such as
+/// [`Clock`](super::Clock).
 ///
 /// The algorithm is chosen by the challenge that is answered. Earlier messages count in two cases: a
 /// signed 438 without a list is judged by the list of the challenge before, and a challenge that is
-/// weaker than one which a success confirmed is dropped. So with long-term credentials nobody who
-/// forges challenges can have a server, whose nonces and lists are of its present settings, accept
-/// a request of this client by less than the strongest algorithm of both.
+/// weaker than one which a success confirmed is dropped. So with long-term credentials, forged
+/// challenges cannot make a server accept a request of this client with a weaker algorithm than the
+/// strongest that both support, provided that the server's nonces and lists match its current
+/// settings, as those of [`Server`](super::Server) do.
+///
+/// If the client cannot allocate memory for one of its own lists, it aborts the program.
 ///
 /// # Examples
 ///
@@ -168,8 +172,8 @@ impl Client {
         }
     }
 
-    /// Returns the next thing to do. Call it until it returns [`Output::Wait`], after every other
-    /// call and when a wait is over.
+    /// Returns the next thing to do. Call it until it returns [`Output::Wait`]: after each `request`,
+    /// `receive` and `cancel`, and when the wait is over.
     pub fn poll(&mut self, now: Instant) -> Output<'_> {
         while let Some((id, bytes)) = self.unsent.pop_front() {
             if self.core.get(id.0).is_some() {

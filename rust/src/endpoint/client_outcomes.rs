@@ -10,11 +10,11 @@ use alloc::vec::Vec;
 use core::fmt;
 use core::net::SocketAddr;
 
-/// A request, under however many transaction IDs it is sent.
+/// Identifies a request, also after it is sent again under another transaction ID.
 #[derive(Clone, Copy, Debug, PartialEq, Eq, PartialOrd, Ord, Hash)]
 pub struct RequestId(pub(super) u64);
 
-/// A response that is to be believed.
+/// A response that the client accepted.
 #[derive(Clone, PartialEq, Eq)]
 pub struct Response {
     pub(super) bytes: Vec<u8>,
@@ -46,7 +46,7 @@ impl Response {
     }
 }
 
-/// An error response that is to be believed.
+/// An error response that the client accepted.
 #[derive(Clone, Debug, PartialEq, Eq)]
 pub struct ErrorResponse {
     pub(super) response: Response,
@@ -147,7 +147,7 @@ pub enum RequestError {
     Refused(ErrorResponse),
     /// The server names another one (300). Make another client, if you trust it.
     Redirected(Redirect),
-    /// No response that is to be believed came in time.
+    /// No acceptable response arrived in time.
     TimedOut(Drops),
     /// The request was challenged too often: the password is wrong, or somebody forges challenges.
     Unauthorized,
@@ -201,7 +201,7 @@ impl core::error::Error for RequestError {}
 pub enum Output<'c> {
     /// Send these bytes to the server.
     Transmit(&'c [u8]),
-    /// This request ended so.
+    /// This request ended, with this result.
     Ended(RequestId, Result<Response, RequestError>),
     /// Wait until a datagram arrives, or until this time; `None`: no request is outstanding.
     Wait(Option<Instant>),
@@ -213,10 +213,13 @@ pub enum Output<'c> {
 pub enum Input<'a> {
     /// A response to a request of this client. `poll` returns what comes of it.
     Consumed,
-    /// An indication from the server. Nothing protects it.
+    /// An indication from the server. Neither signature, FINGERPRINT nor unknown attributes are
+    /// checked: drop it if [`extra::has_unknown`](crate::extra::has_unknown) says so.
     Indication(Message<'a>),
-    /// It is for somebody else: offer it to the next client on the socket.
+    /// Not for this client: no STUN message (such as ChannelData or media), a message from another
+    /// address, a request, or a response to no outstanding request. Offer it to the next client on
+    /// the socket.
     NotOurs,
-    /// A response to a request of this client that is not to be believed.
+    /// A response to a request of this client that was dropped. The request goes on.
     Dropped(DropReason),
 }

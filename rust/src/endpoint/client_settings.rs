@@ -96,7 +96,8 @@ pub enum Transport {
     /// says, and up to seven times unless you call that.
     #[default]
     Datagram,
-    /// A stream: a request is sent once.
+    /// A stream: a request is sent once, and the client waits as long as for a datagram in total
+    /// (39.5 seconds, unless you set other timeouts).
     Stream,
 }
 
@@ -185,21 +186,27 @@ impl ClientBuilder {
         self
     }
 
-    /// Sets when requests are sent.
+    /// Sets the retransmission timeouts.
     pub fn retransmission(mut self, plan: Retransmission) -> ClientBuilder {
         self.plan = plan;
         self
     }
 
-    /// Sets how many challenges each request may get: 6, unless you call this. A restart of the
-    /// server, a new address and the end of a nonce take one each, and so do forged ones.
+    /// Sets for how many challenges a request is sent again: 6, unless you call this. The next one
+    /// ends it with [`RequestError::Unauthorized`](super::RequestError::Unauthorized). A restart of
+    /// the server, a new address and the end of a nonce take one each, and so do forged ones.
     pub fn challenges(mut self, most: u32) -> ClientBuilder {
         self.challenges = most;
         self
     }
 
-    /// Accepts responses that nobody signed, as long as the server has not asked for a signature.
-    /// With credentials they are dropped, unless you call this.
+    /// Accepts unsigned responses to requests that the client sent unsigned. Only long-term
+    /// credentials use this: without credentials unsigned responses are always accepted, and with
+    /// short-term ones never.
+    ///
+    /// A request is unsigned until it is challenged, and again after its challenge was repeated or a
+    /// challenged request timed out. So an attacker who can forge challenges can then also forge the
+    /// response.
     pub fn accept_unsigned(mut self) -> ClientBuilder {
         self.accepts_unsigned = true;
         self

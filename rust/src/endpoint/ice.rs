@@ -37,12 +37,14 @@
 //! # Ok::<(), Box<dyn std::error::Error>>(())
 //! ```
 //!
-//! In a program the checks are stored with their pairs, and a `StunAgent` sends them again until
-//! they end:
+//! In a program the checks are stored with their pairs, and a `StunAgent` says when to send them
+//! again until they end:
 //!
 //! ```ignore
 //! let check = checker.check(TransactionId::generate(), pair.remote, priority, nominate);
-//! agent.send_request(check.bytes(), check.to(), now)?;
+//! let sent = agent.send_request(check.bytes(), check.to(), now)?;
+//! socket.send_to(&sent.data, sent.to)?;
+//! pairs.store(check); // then send what `poll_transmit` returns, and call `poll`
 //! // .. later, a datagram arrives:
 //! match checker.receive(&bytes, from, pairs.check_of(&bytes)) {
 //!     Received::Check { answer, judged } => {
@@ -136,14 +138,14 @@ impl Checker {
     /// transaction ID the datagram has, if it has one of those that you have stored. An IPv4
     /// address is the same in both spellings, `a.b.c.d` and `::ffff:a.b.c.d`.
     ///
-    /// - Bytes that are no message, or have no right FINGERPRINT, are dropped, and so is another
-    ///   method than Binding.
+    /// - Bytes that are not a message, messages without a valid FINGERPRINT, and methods other than
+    ///   Binding are dropped.
     /// - A check is accepted if its USERNAME has the names of this agent and its peer in this
     ///   order, and it is signed with the password of this agent. It must have no attribute that
     ///   must be understood and is not, and it must have PRIORITY. If it says that the peer has the
-    ///   role of this agent, the one with the larger tie-breaker is to control, and this agent's
-    ///   counts as the larger if they are equal (RFC 8445, section 7.3.1.1). Either this agent
-    ///   switches its role, or the peer is told to.
+    ///   role of this agent, the agent with the larger tie-breaker becomes controlling, and this one
+    ///   if they are equal (RFC 8445, section 7.3.1.1): either this agent switches its role, or its
+    ///   answer is a 487.
     /// - A response is dropped if it does not answer `check`, or is not signed by the peer.
     ///   Otherwise it ends the check. After a 487 this agent has the other role than the one that
     ///   the check was sent in (section 7.2.5.1).
@@ -215,7 +217,7 @@ impl Check {
     }
 }
 
-/// What a datagram comes to.
+/// The result of [`Checker::receive`].
 #[derive(Debug)]
 #[non_exhaustive]
 pub enum Received<'a> {

@@ -114,7 +114,7 @@ impl OpenServer {
     /// `from` is the address that it came from. An IPv4 address is the same in both spellings,
     /// `a.b.c.d` and `::ffff:a.b.c.d`.
     ///
-    /// - Bytes that are no message, or have a wrong FINGERPRINT, are dropped.
+    /// - Bytes that are not a message, and messages with a wrong FINGERPRINT, are dropped.
     /// - A request gets a 420 if it has an attribute that is not understood, and the answer to
     ///   Binding if the server is to give it. All others are for you. Signatures are not looked at.
     /// - An indication with an attribute that is not understood is dropped. Other indications, and
@@ -247,7 +247,7 @@ impl ShortTermServer {
     /// `from` is the address that it came from. An IPv4 address is the same in both spellings,
     /// `a.b.c.d` and `::ffff:a.b.c.d`.
     ///
-    /// - Bytes that are no message, or have a wrong FINGERPRINT, are dropped.
+    /// - Bytes that are not a message, and messages with a wrong FINGERPRINT, are dropped.
     /// - A request gets a 400 if it has no MESSAGE-INTEGRITY and no MESSAGE-INTEGRITY-SHA256, or no
     ///   USERNAME before it; a 401 if USERNAME is not the name of one of `users`, or the signature
     ///   is not made with the user's password; a 420, which is signed, if it has an attribute that

@@ -204,14 +204,19 @@ impl Server {
     /// `from` is the address that it came from. An IPv4 address is the same in both spellings,
     /// `a.b.c.d` and `::ffff:a.b.c.d`.
     ///
-    /// - Bytes that are no message, or have a wrong FINGERPRINT, are dropped.
-    /// - A request is judged first, and its attributes are looked at then (RFC 8489, section
-    ///   6.3.1). The first of these that applies decides what it gets: a 401 if it is not signed; a
-    ///   400 if it has no REALM, NONCE or user name, or if its algorithms are not those that were
-    ///   offered with the current nonce; a 438 if its nonce is not accepted, or a 401 if that nonce
-    ///   has other security bits than the server's; a 401 if it is not signed by one of `users`; a
-    ///   420, which is signed, if it has an attribute that is not understood; and the answer to
-    ///   Binding, if the server is to give it. All others are for you.
+    /// - Bytes that are not a message, and messages with a wrong FINGERPRINT, are dropped.
+    /// - A request gets the answer of the first line that applies (RFC 8489, sections 6.3.1 and
+    ///   9.2.4):
+    ///   - 401: it is not signed.
+    ///   - 400: it has no REALM, NONCE or user name, or it has the current nonce and other algorithms
+    ///     than were offered with it.
+    ///   - 438: its nonce is not accepted; 401 if that nonce has other security bits than the
+    ///     server's.
+    ///   - 401: it is not signed by one of `users`.
+    ///   - 420, which is signed: it has an attribute that is not understood.
+    ///   - Success: it is a Binding request, and you called `answer_binding`.
+    ///
+    ///   Every other request is returned as [`Received::Request`].
     /// - An indication with an attribute that is not understood is dropped. Other indications, and
     ///   responses, are for you.
     pub fn receive<'a>(
@@ -587,7 +592,8 @@ impl<'a> Request<'a> {
 /// It contains a key, which `Debug` leaves out.
 ///
 /// The response has the method and the transaction ID of the request, is signed with the key of the
-/// user who sent it, errors included, and ends with FINGERPRINT if the request did. Respond to each
+/// user who sent it, errors included (a reply of an [`OpenServer`](super::OpenServer) is not signed),
+/// and ends with FINGERPRINT if the request did. Respond to each
 /// request at least once, because the client sends it again until then.
 ///
 /// # Examples

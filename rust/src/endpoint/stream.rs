@@ -6,6 +6,8 @@ use core::fmt;
 
 /// Cuts the bytes of a stream, such as a TCP connection, into messages (RFC 8489, section 6.2.2).
 ///
+/// For TURN use [`next_turn_frame`](crate::extra::next_turn_frame), because ChannelData is not STUN.
+///
 /// # Examples
 ///
 /// ```

@@ -159,7 +159,7 @@ class Writing:
         found = reading.difference(data, wanted, self.secret)
         if found is None and not self.is_padded_well(data):
             found = "padding that is not zeros"
-        return f"otherwise: {found}" if found else "equal"
+        return f"differs: {found}" if found else "equal"
 
     def is_padded_well(self, data):
         """RFC 8489 asks for zeros, RFC 5389 for any bytes."""
@@ -176,7 +176,7 @@ class Writing:
         return self.answered(came)
 
     def one_attribute(self, words):
-        """A request with one attribute, and its type. `ID=` may stand before it and behind it."""
+        """A request with one attribute, and its type. `ID=` may stand before it and after it."""
         words = sorted(grammar.read_words(words, self.meanings),
                        key=lambda word: not word.startswith("ID="))
         data = self.begun(self.message(["request", *words[:-1]]))
@@ -362,7 +362,7 @@ class Transactions:
         return self.done("agent-new", transport)
 
     def towards(self, words):
-        """An address, if one is written, and the message behind it."""
+        """An address, if one is written, and the message after it."""
         try:
             spelling.address(words[0])
         except Words:

@@ -1,14 +1,16 @@
 #!/usr/bin/env python3
 """plants.py [NAME ..]: plants each bug of plants.txt in the model and plays the suite over it.
 
-A bug is found if an answer differs. Each bug that is missed is printed. The last line counts. The
-status is 1 if a bug cannot be planted, or if more than MOST_MISSED are missed."""
+A bug is found if an answer differs, unless differences.txt explains it of the model. Each bug that
+is missed is printed. The last line counts. The status is 1 if a bug cannot be planted, or if more
+than MOST_MISSED are missed."""
 
 import os
 import sys
 import types
 
 from play import LEVELS, Player, parts_of
+from reasons import read_reasons, reason_of
 from subject import Module
 
 HERE = os.path.dirname(os.path.abspath(__file__))
@@ -55,12 +57,12 @@ def read_plants(path):
 
 
 def found_by(sources, parts):
-    """The first file and line whose answer comes otherwise, or None."""
-    player = Player(Planted(sources))
+    """The first file and line whose answer differs, but not as the model's own, or None."""
+    player, reasons = Player(Planted(sources)), read_reasons()["model"]
     for part in parts:
-        report = player.play(part)
-        if report.others:
-            return f"{report.others[0].file}:{report.others[0].line}"
+        for other in player.play(part).others:
+            if reason_of(other, reasons) is None:
+                return f"{other.file}:{other.line}"
     return None
 
 
@@ -68,7 +70,7 @@ def main(names):
     model = read_model()
     parts, tried, missed, wrong = parts_of(LEVELS, ()), 0, 0, 0
     if found_by(model, parts) is not None:
-        sys.exit("plants: the model itself is answered otherwise")
+        sys.exit("plants: the model itself differs, and differences.txt does not explain it")
     for name, old, new in read_plants(os.path.join(HERE, "plants.txt")):
         if names and name not in names:
             continue

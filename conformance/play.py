@@ -1,14 +1,17 @@
 #!/usr/bin/env python3
-"""play.py [SUBJECT] [--level 0,1,..] [--left-out] [FILE ..]: plays the suite over a subject.
+"""play.py [SUBJECT] [--level 0,1,..] [--left-out] [--explained] [FILE ..]: plays the suite over a
+subject.
 
 SUBJECT is a file of Python (`subjects/model.py`), the command of a program in one word, or the name
 of a subject that is shipped here: `stunp` (this library through C, the default), `model`, `aioice`,
-`pion`, `libnice`, `coturn`. FILE is a file of `levels/`, or one in the grammar of transcripts.
+`pion`, `libnice`, `coturn`, `libre`, `turnserver`. FILE is a file of `levels/`, or one in the
+grammar of transcripts.
 
-Each answer that came otherwise is printed. The last line has the counts: calls that were answered
-as written, otherwise where an RFC says MUST, otherwise where the suite asks for a choice of this
-library, and left out, because the subject does not have them. The status is 1 if an answer came
-otherwise. `--table` plays all subjects and writes RESULTS.md (table.py)."""
+Each answer that differs is printed. Those of a shipped subject that differences.txt explains are
+printed with `--explained` alone. The last line has the counts: calls that were answered as written,
+that differ from a MUST of an RFC, that differ from a choice of this library, and that were left out
+because the subject does not have them, and how many differences are explained. The status is 1 if a
+difference is not explained. `--table` plays all subjects and writes RESULTS.md (table.py)."""
 
 import argparse
 import collections
@@ -20,13 +23,14 @@ import time
 import index
 from calls import Stage
 from grammar import Words
+from reasons import read_reasons, reason_of
 from shipped import start
 from subject import Asker, Left, Ours, Refused, Strange
 from transcripts import is_telling, name_of
 
 LEVELS = ("0-read", "1-write", "2-credentials", "3-transactions")
 HERE = os.path.dirname(os.path.abspath(__file__))
-# A line that came otherwise.
+# A line whose answer differs.
 Other = collections.namedtuple("Other", "file line raw came mark title")
 
 
@@ -49,8 +53,9 @@ class Report:
         return [other for other in self.others if other.mark.startswith(mark)]
 
     def counts(self):
-        return (f"{self.right} as written, {len(self.of('MUST'))} otherwise against a MUST, "
-                f"{len(self.of('CHOICE'))} otherwise by choice, {sum(self.left.values())} left out")
+        return (f"{self.right} as written, {len(self.of('MUST'))} differ from a MUST, "
+                f"{len(self.of('CHOICE'))} differ from a choice, "
+                f"{sum(self.left.values())} left out")
 
 
 class Player:
@@ -139,17 +144,18 @@ def play_all(word, levels=LEVELS, files=()):
     return reports, None
 
 
-def show(word, reports, has_left):
+def summed(reports):
+    """One report of all files."""
     whole = Report()
     for report in reports.values():
         whole.add(report)
-        for other in report.others:
-            print(f"{other.file}:{other.line}: {other.mark}\n  written: {other.raw[:300]}\n"
-                  f"  came:    {other.came}")
-    if has_left:
-        for call, count in whole.left.most_common():
-            print(f"left out: {call} ({count})")
     return whole
+
+
+def show(others):
+    for other in others:
+        print(f"{other.file}:{other.line}: {other.mark}\n  written: {other.raw[:300]}\n"
+              f"  actual:  {other.came}")
 
 
 def main(words):
@@ -159,6 +165,7 @@ def main(words):
     options.add_argument("files", nargs="*")
     options.add_argument("--level", default="0,1,2,3")
     options.add_argument("--left-out", action="store_true")
+    options.add_argument("--explained", action="store_true")
     options.add_argument("--table", action="store_true")
     options = options.parse_args(words)
     if options.table:
@@ -170,10 +177,15 @@ def main(words):
     if reports is None:
         print(f"conformance: {options.subject} is left out: {why}")
         return 0
-    whole = show(options.subject, reports, options.left_out)
-    print(f"conformance: {options.subject}, {len(reports)} files, {whole.counts()} "
-          f"({time.monotonic() - begun:.1f} s)")
-    return 1 if whole.others else 0
+    whole, reasons = summed(reports), read_reasons()[options.subject]
+    missing = [other for other in whole.others if reason_of(other, reasons) is None]
+    show(whole.others if options.explained else missing)
+    if options.left_out:
+        for call, count in whole.left.most_common():
+            print(f"left out: {call} ({count})")
+    print(f"conformance: {options.subject}, {len(reports)} files, {whole.counts()}, "
+          f"{len(whole.others) - len(missing)} explained ({time.monotonic() - begun:.1f} s)")
+    return 1 if missing else 0
 
 
 if __name__ == "__main__":

@@ -113,7 +113,7 @@ def difference(came, wanted, word):
             return "attributes " + " ".join(f"0x{kind:04x}" for kind, _ in parts(came))
         present = [kind for kind, _ in parts(came)]
         if present != sorted(present, key=lambda kind: kind in (*INTEGRITY, stun.FINGERPRINT)):
-            return "an attribute behind MESSAGE-INTEGRITY"
+            return "an attribute after MESSAGE-INTEGRITY"
     if word is not None and verified(came, word) != verified(wanted, word):
         return f"integrity {verified(came, word)}"
     if fingerprint(came) != fingerprint(wanted):

@@ -2,7 +2,7 @@
 """table.py: plays the suite over each subject that is shipped and installed, and writes RESULTS.md.
 
 differences.txt explains the differences. Those that it does not explain are printed. The last line
-counts. The status is 1 if a difference is not explained, or if this library answers otherwise."""
+counts. The status is 1 if a difference is not explained."""
 
 import collections
 import os
@@ -10,47 +10,28 @@ import subprocess
 import sys
 import time
 
+from grammar import TOP
 from play import LEVELS, Report, play_all
+from reasons import read_reasons, reason_of
 from shipped import NAMES
 
 HERE = os.path.dirname(os.path.abspath(__file__))
 PACKAGES = {"aioice": "python3-aioice", "pion": "golang-github-pion-stun-dev",
             "libnice": "libnice-dev", "coturn": "coturn", "libre": "libre-dev",
             "turnserver": "coturn"}
-OWN = ("stunp", "model")
-COLUMNS = ("| Section | What it does | MUST | Choice | A line | What came |",
+COLUMNS = ("| Section | What it does | MUST | Choice | Example | Actual answer |",
            "|---|---|---|---|---|---|")
 HEAD = """\
 `conformance/table.py` writes this page; do not edit it. A cell has four counts: the calls that were
-answered as written, those answered otherwise where an RFC says MUST, those answered otherwise where
-the suite asks for a choice of this library, and those that were left out because the subject does
-not have the call or does not claim what is in the message. [README.md](README.md) says what a
-result means.""".split("\n")
-Reason = collections.namedtuple("Reason", "section words patterns")
+answered as written, those that differ from a MUST of an RFC, those that differ from a choice of
+this library, and those that were left out because the subject does not have the call or does not
+claim what is in the message. [README.md](README.md) says what a result means.
 
+No line asks for most of the departures that [docs/DIFFERENCES.md](../docs/DIFFERENCES.md) lists, so
+a 0 in the row `stunp` does not mean that this library has none.
 
-def read_reasons(path):
-    """The explanations of each subject, in their order."""
-    reasons = collections.defaultdict(list)
-    with open(path, encoding="utf-8") as file:
-        for line in file:
-            if line.startswith("  "):
-                name, _, part = line.strip().partition(":")
-                last = reasons[subject][-1]
-                reasons[subject][-1] = last._replace(
-                    patterns=(*last.patterns, (name, part.strip())))
-            elif line.strip() and not line.startswith("#"):
-                subject, section, words = (part.strip() for part in line.split("|"))
-                reasons[subject].append(Reason(section, words, ()))
-    return reasons
-
-
-def reason_of(other, reasons):
-    for reason in reasons:
-        for name, part in reason.patterns:
-            if os.path.basename(other.file) == name and part in other.raw:
-                return reason
-    return None
+In the tables below, each row says how many calls differ, and shows the first of them. A name such
+as `NotStun` is this library's error and stands for `refused`.""".split("\n")
 
 
 def version_of(name):
@@ -104,8 +85,14 @@ def row(section, words, others):
     """A difference as a row: how many lines of each mark, and the first of them."""
     marks = collections.Counter(other.mark.split()[0] for other in others)
     raw, came = (text.replace("|", "\\|") for text in (others[0].raw, str(others[0].came)))
-    return (f"| {section} | It {words} | {marks['MUST']} | {marks['CHOICE']} | `{raw[:120]}` | "
-            f"`{came[:80]}` |")
+    return (f"| {section} | It {words} | {marks['MUST']} | {marks['CHOICE']} | {place(others[0])} "
+            f"`{raw[:120]}` | `{came[:80]}` |")
+
+
+def place(other):
+    """The file and the line of a difference, as a link."""
+    path = os.path.relpath(os.path.join(TOP, other.file), HERE)
+    return f"[{os.path.basename(path)}:{other.line}]({path})"
 
 
 def page(results, reasons):
@@ -128,7 +115,7 @@ def page(results, reasons):
 
 
 def main(words):
-    reasons = read_reasons(os.path.join(HERE, "differences.txt"))
+    reasons = read_reasons()
     results = {name: play_all(name) for name in NAMES}
     text, unexplained = page(results, reasons)
     for name, other in unexplained:
@@ -138,11 +125,10 @@ def main(words):
             print(f"explains nothing: {name}: {reason.words}")
     with open(os.path.join(HERE, "RESULTS.md"), "w", encoding="utf-8") as file:
         file.write(text)
-    own = sum(len(report.others) for name in OWN for report in (results[name][0] or {}).values())
     there = sum(reports is not None for reports, _ in results.values())
     print(f"table: {there} of {len(results)} subjects, {len(unexplained)} differences not "
-          f"explained, {own} of this library and its model")
-    return 1 if unexplained or own else 0
+          f"explained")
+    return 1 if unexplained else 0
 
 
 if __name__ == "__main__":

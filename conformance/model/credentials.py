@@ -159,10 +159,16 @@ class Client:
         if message.klass not in ("success", "error") or self.nonce is None:
             raise Refused
         came = verified(message, self.key(self.algorithm))
-        if came == "none":
+        if came == "none" or self.is_stripped(message):
             raise Refused
         self.is_known = self.is_known or message.klass == "success"
         return came
+
+    def is_stripped(self, message):
+        """Whether the nonce says that a list of algorithms is there, and it is not."""
+        nonce = message.value(NONCE)
+        return (nonce is not None and bits_of(nonce) & 0x80
+                and message.value(PASSWORD_ALGORITHMS) is None)
 
     def given(self, message):
         """The realm and the nonce of a challenge, which are well-formed."""
@@ -187,6 +193,8 @@ class Client:
 
     def stale(self, message):
         realm, nonce = self.given(message)
+        if self.is_stripped(message):
+            raise Refused
         if self.nonce is not None:
             self.realm, self.nonce = realm, nonce
         return "resend"

@@ -1,6 +1,7 @@
 """Requests of the model and their timers (RFC 8489, section 6.2)."""
 
-from model.wire import Refused
+from model.credentials import KNOWN
+from model.wire import Refused, unknown_types
 
 
 class Request:
@@ -60,11 +61,13 @@ class Agent:
         return f"wait {max(now, min(one.due() for one in self.requests.values()))}"
 
     def takes(self, peer, message):
-        """Whether a message is for the application: requests, indications, awaited responses."""
+        """Whether a message is for the application: requests, indications, awaited responses. A
+        success with an unknown attribute ends its request, and is discarded (section 6.3.3)."""
         if message.klass in ("request", "indication"):
             return "yes"
         request = self.requests.get(message.id)
         if request is None or request.peer != peer:
             return "no"
         del self.requests[message.id]
-        return "yes"
+        is_unknown = message.klass == "success" and unknown_types(message, KNOWN)
+        return "no" if is_unknown else "yes"

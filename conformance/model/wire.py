@@ -76,7 +76,7 @@ def stated(data, length):
 
 
 def digest(data, place, hash_of, key):
-    """Sections 14.5 and 14.6: up to the attribute, with a length that ends behind it."""
+    """Sections 14.5 and 14.6: up to the attribute, with a length that ends after it."""
     size = hash_of().digest_size
     return hmac.new(key, stated(data[:place], place - 20 + 4 + size), hash_of).digest()
 

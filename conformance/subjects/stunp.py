@@ -22,10 +22,8 @@ TEXTS, XORED, PLAIN = (6, 0x14, 0x15, 0x8022, 0x8003), (0x20, 0x12, 0x16), (1, 0
 NUMBERS = {0x24: (4, 0), 0x0D: (4, 0), 0x8029: (8, 0), 0x802A: (8, 0), 0x0C: (4, 16), 0x19: (4, 24),
            0x18: (1, 7)}
 EVEN_PORT = 0x18
-# Values that the header has no call for, and the longest texts: the calls that read and write
-# texts leave their lengths to the caller. Both are left out.
+# Values that the headers have no call for: they are left out.
 WITHOUT_CALLS = (0x08, 0x1C, 0x1D, 0x8002, 0x1E, 0x17, 0x8000)
-LIMITS = {6: 513, 0x14: 763, 0x15: 763}
 ROOM, HOUR = 70000, 3600 * 10**9
 SECRET = ctypes.c_char_p(bytes(range(1, 33)))
 
@@ -171,8 +169,6 @@ class Reading:
         if kind in TEXTS:
             length = c_size_t()
             start = ask("read_text", message, place, byref(length))
-            if length.value > LIMITS.get(kind, length.value):
-                return "lacks"
             return message[start:start + length.value]
         if kind in XORED + PLAIN:
             name = "read_xor_address" if kind in XORED else "read_address"
@@ -262,19 +258,11 @@ class Writing:
             value = b"".join(struct.pack(">H", one) for one in types_of(value))
         else:
             value = plain(value)
-            if len(value) > LIMITS.get(kind, len(value)):
-                return "lacks"
         return changed("add", message, c_uint32(kind), value)
 
     @call
     def sign(self, message, name, key):
-        """The header signs a message once: both integrity attributes in one are left out."""
-        message, last = plain(message), -24
-        try:
-            return changed("sign", message, c_uint32(ALGORITHMS[name]), plain(key))
-        except Refused:
-            is_signed = message[last:last + 4] == b"\0\x08\0\x14"
-            return "lacks" if is_signed and name == "sha256" else "refused"
+        return changed("sign", plain(message), c_uint32(ALGORITHMS[name]), plain(key))
 
     @call
     def add_fingerprint(self, message):

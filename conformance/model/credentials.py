@@ -146,7 +146,8 @@ class Client:
             data = appended(data, PASSWORD_ALGORITHMS, self.offered)
             data = appended(data, PASSWORD_ALGORITHM,
                             struct.pack(">HH", NUMBERS[self.algorithm], 0))
-        return signed(data, self.algorithm, self.key(self.algorithm))
+        name = self.algorithm if self.offered is None else "sha256"
+        return signed(data, name, self.key(self.algorithm))
 
     def hears(self, message):
         code = message.value(ERROR_CODE)

@@ -4,7 +4,8 @@ import collections
 import os
 
 HERE = os.path.dirname(os.path.abspath(__file__))
-# An explanation, with the lines that it explains: pairs of a file and a part of the line.
+# An explanation, with the lines that it explains: a file, a part of the line, and the actual answer,
+# which may be empty for any.
 Reason = collections.namedtuple("Reason", "section words patterns")
 
 
@@ -14,10 +15,11 @@ def read_reasons(path=os.path.join(HERE, "differences.txt")):
     with open(path, encoding="utf-8") as file:
         for line in file:
             if line.startswith("  "):
-                name, _, part = line.strip().partition(":")
+                name, _, rest = line.strip().partition(":")
+                part, _, answer = rest.partition(" => ")
                 last = reasons[subject][-1]
                 reasons[subject][-1] = last._replace(
-                    patterns=(*last.patterns, (name, part.strip())))
+                    patterns=(*last.patterns, (name, part.strip(), answer)))
             elif line.strip() and not line.startswith("#"):
                 subject, section, words = (part.strip() for part in line.split("|"))
                 reasons[subject].append(Reason(section, words, ()))
@@ -27,7 +29,8 @@ def read_reasons(path=os.path.join(HERE, "differences.txt")):
 def reason_of(other, reasons):
     """The first explanation of a line that differs, or None."""
     for reason in reasons:
-        for name, part in reason.patterns:
-            if os.path.basename(other.file) == name and part in other.raw:
+        for name, part, answer in reason.patterns:
+            is_line = os.path.basename(other.file) == name and part in other.raw
+            if is_line and answer in ("", other.came):
                 return reason
     return None

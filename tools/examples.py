@@ -1,9 +1,8 @@
 #!/usr/bin/env python3
 """Prints the item pages of the exported crate that have no example. It refuses nothing.
 
-An item is a struct, an enum, a function, a trait, a constant or a type, without those of
-`replay::proved`. An example that a type inherits from `[u8]` does not count. Run at the top of the
-repository, after `make rust`.
+An item is of one of KINDS, without those of `replay::proved`. An example that a type inherits, as
+from `[u8]`, does not count. Run at the top of the repository, after `make rust`.
 """
 
 import os
@@ -12,7 +11,6 @@ import sys
 
 PAGES = "target/export/target/doc/seatcrane_stun"
 KINDS = ("struct", "enum", "fn", "trait", "constant", "type")
-# What follows on a page is inherited, or is the same for every type.
 INHERITED = re.compile(r'id="deref-methods|id="synthetic-implementations')
 
 

@@ -2,10 +2,9 @@
 # Exports the library as plain Rust to target/export, and tries what comes out: warnings, pages,
 # tests, transcripts. It needs cargo, the Rust of rust/Cargo.toml and Python 3.9. Cargo takes its
 # crates from vendor/ if that is there, as in the release of the sources, or else those of Debian if
-# they are installed (or can be, by root): then it needs no network. Without clippy its warnings are
-# left out. With --build it exports, builds and tests nothing; with --export it only exports, and
-# installs nothing. With --can it tells by its status whether all that it needs is there, with the
-# crates.
+# they are installed (or can be, by root): then it needs no network. --build exports, builds and tests
+# nothing; --export only exports, and installs nothing; --can tells by its status whether all that it
+# needs is there, with the crates.
 set -eu
 cd "$(dirname "$0")/.."
 out=target/export

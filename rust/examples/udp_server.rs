@@ -42,7 +42,8 @@ that realm alone. PORT 0 is any free one. The first line of output is `port N`.
                     `NAME 0xKEY [0xKEY]` with stored keys of 16 bytes (HMAC-SHA1) and 32 bytes
                     (HMAC-SHA256) in hexadecimal; `#` begins a comment. Read again when it changes
   --secret FILE     what nonces are made of: 32 bytes, or 64 hexadecimal digits. Servers with the
-                    same secret serve each other's clients. Random unless given
+                    same secret, REALM, users, --expiry and --sha256 serve each other's
+                    clients. Random unless given
   --sha256          offer HMAC-SHA256 beside HMAC-SHA1
   --expiry SECONDS  how long a nonce is sent, from 30; it is accepted for up to twice as long. 3600
                     unless given

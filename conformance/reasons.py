@@ -4,8 +4,8 @@ import collections
 import os
 
 HERE = os.path.dirname(os.path.abspath(__file__))
-# An explanation, with the lines that it explains: a file, a part of the line, and the actual answer,
-# which may be empty for any.
+# An explanation, with the lines that it explains: a file, a part of the line, and the actual
+# answer, or nothing for any answer.
 Reason = collections.namedtuple("Reason", "section words patterns")
 
 

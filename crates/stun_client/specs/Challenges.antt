@@ -8,7 +8,7 @@ use Rattle.stun_base.specs.declared.keys.algorithm.IntegrityAlgorithm.{Integrity
 use Rattle.stun_types.specs.Integrity.{verified_algorithm}
 use Rattle.stun_auth.specs.Client.{Challenge}
 use Rattle.stun_auth.specs.ClientStep.{STALE_NONCE, is_code, list_or_none, new_challenge}
-use Rattle.stun_auth.specs.Algorithms.{is_sha256, same_algorithm}
+use Rattle.stun_auth.specs.Algorithms.{is_sha256, same_algorithm, same_list}
 use Rattle.stun_auth.specs.Nonces.{asks_for_algorithms}
 use Rattle.stun_auth.specs.Signed.{plain_name}
 use Rattle.stun_client.specs.Challenging.{code_in, is_challenge, list_in, nonce_in, realm_in}
@@ -68,11 +68,12 @@ is_weaker c other =
     (is_sha256 other.algorithm && not (is_sha256 c.algorithm))
     || (is_none (plain_name other.naming) && not (is_none (plain_name c.naming)))
 
--- whether two challenges are the same. The nonce says whether the user is named by a hash
+-- whether two challenges are the same: in nonce, realm, list and algorithm. The nonce says whether
+-- the user is named by a hash
 abbrev pub is_same : Challenge → Challenge → Bool
 is_same c other =
     bytes_eq c.nonce other.nonce && bytes_eq c.realm other.realm
-    && same_algorithm c.algorithm other.algorithm
+    && same_list c.algorithms other.algorithms && same_algorithm c.algorithm other.algorithm
 
 -- whether one is the other
 abbrev pub is_one : Option Answered → Option Answered → Bool

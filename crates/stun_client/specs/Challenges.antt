@@ -1,6 +1,6 @@
 -- A challenge of one message, by the rule (RFC 8489, section 9.2.5). A 401 and a 438 are read alike,
 -- and nonce, list, algorithm, key and name are of that one message.
-use Rattle.std.specs.Prelude.{ℕ, List, [], Bool, false, ◌&&◌, ◌||◌, not, if◌then◌else◌, Option, Some, None}
+use Rattle.std.specs.Prelude.{◌≡◌, ℕ, List, [], Bool, true, false, ◌&&◌, ◌||◌, not, if◌then◌else◌, Option, Some, None}
 use Rattle.std.specs.Option.{is_none, is_some, option_map}
 use Rattle.std.specs.Str.{bytes_eq}
 use Rattle.stun_base.specs.Credentials.{NameAndPassword}
@@ -60,6 +60,13 @@ challenge_of p who before bytes =
     if is_challenge bytes
     then by_rule_if p who (realm_in bytes) (nonce_in bytes) (list_for before bytes)
     else None
+
+-- a challenge is of a message that asks for one: realm, nonce and list are those of the message
+pub record IsOfMessage (before : Option Challenge) (bytes : List ℕ) (c : Challenge) : Type 0 where
+  pub asks : is_challenge bytes ≡ true
+  pub realm : realm_in bytes ≡ Some c.realm
+  pub nonce : nonce_in bytes ≡ Some c.nonce
+  pub algorithms : c.algorithms ≡ list_kept c.nonce (list_for before bytes)
 
 -- whether a request for a challenge is protected by less than one for another: by HMAC-SHA1 in
 -- place of HMAC-SHA256, or by a user name in place of a hash

@@ -50,7 +50,7 @@ verdict_of (Believed by) = believed by
 verdict_of (Anew challenge) = anew challenge
 verdict_of (Dropped why) = dropped why
 
--- ---- damage
+-- ---- damage (section 14.7)
 
 abbrev pub is_wrong : Fingerprint → Bool
 is_wrong Wrong = true

@@ -62,6 +62,14 @@ fn stripped(bytes: &[u8]) -> Vec<u8> {
     page.finish()
 }
 
+/// The bytes that `poll` returns to send.
+fn sent(client: &mut Client, now: Instant) -> Vec<u8> {
+    match client.poll(now) {
+        Output::Transmit(bytes) => bytes.to_vec(),
+        other => panic!("{other:?}"),
+    }
+}
+
 /// Lets time pass until all requests of a client have ended, none of which is answered. Returns the
 /// time then.
 fn run_out(client: &mut Client, mut now: Instant) -> Instant {
@@ -190,4 +198,51 @@ fn nobody_is_locked_out_by_what_was_forged() {
         slowest = slowest.max(failed);
     }
     println!("{attacks} attacks: at most {slowest} requests failed after them");
+}
+
+/// A forged challenge with the server's realm and nonce, but with a part of its list, is another
+/// challenge than the server's: a success under the server's does not confirm the forged one.
+#[test]
+fn a_forged_list_is_not_confirmed_by_a_success_under_the_true_one() {
+    let service = Service::new(1, &BOTH);
+    let mut client = client(1, "wonderland", &BOTH);
+    let (from, now) = (at("10.0.0.1:1000"), ms(0));
+    let first = binding(&mut client, now);
+    let first_bytes = sent(&mut client, now);
+    let second = binding(&mut client, now);
+    let second_bytes = sent(&mut client, now);
+
+    // The attacker reads the server's answer to the first request, and sends another one in its place.
+    let answer = service.answer(&first_bytes, from, now);
+    let true_answer = Message::from_bytes(answer.bytes()).unwrap();
+    let request = Message::from_bytes(&first_bytes).unwrap();
+    let mut page = Message::builder_error(&request, MessageWriteVec::new());
+    page.add_error_code(401, "").unwrap();
+    page.add_attribute(&true_answer.attribute::<Realm>().unwrap())
+        .unwrap();
+    page.add_attribute(&true_answer.attribute::<Nonce>().unwrap())
+        .unwrap();
+    let list = [0, 2, 0, 0];
+    page.add_attribute(&RawAttribute::new(AttributeType::PASSWORD_ALGORITHMS, &list))
+        .unwrap();
+    client.receive(&page.finish(), at(SERVER), now);
+    let _lost = sent(&mut client, now);
+
+    // The second request gets the true challenge, and succeeds.
+    let answer = service.answer(&second_bytes, from, now);
+    client.receive(answer.bytes(), at(SERVER), now);
+    let (codes, ended) = exchange(&mut client, &service, from, now);
+    assert_eq!((codes, ended.len(), ended[0].0), (vec![200], 1, second));
+
+    // The next request is signed for the true challenge, before and after the first one times out.
+    let ask = |client: &mut Client, now| {
+        binding(client, now);
+        let (codes, ended) = exchange(client, &service, from, now);
+        assert_eq!((codes, signed_by(&ended)), (vec![200], Some(SHA256)));
+    };
+    ask(&mut client, now);
+    assert!(client.dropped(first).is_some(), "the first one is outstanding");
+    let now = run_out(&mut client, now);
+    assert!(client.dropped(first).is_none());
+    ask(&mut client, now);
 }

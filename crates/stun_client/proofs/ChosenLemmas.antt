@@ -2,20 +2,24 @@
 -- server's own list is chosen from.
 use Rattle.std.proofs.Common.{◌≡◌, Bool, true, false, ℕ, List, [], Option, Some, None, refl}
 use Rattle.std.proofs.Common.{◌∙◌, ap, subst, sym}
-use Rattle.std.specs.Prelude.{cond, find}
+use Rattle.std.specs.Prelude.{cond, find, not, ◌&&◌}
 use Rattle.std.specs.Option.{option_map}
 use Rattle.stun_base.specs.Credentials.{NameAndPassword}
 use Rattle.stun_base.specs.declared.keys.algorithm.IntegrityAlgorithm.{IntegrityAlgorithm}
 use Rattle.stun_base.specs.declared.keys.algorithm.IntegrityAlgorithm.TheVariants.{Sha1, Sha256}
 use Rattle.stun_auth.specs.Algorithms.{algorithms_of, contains}
 use Rattle.stun_auth.specs.Client.{Challenge}
-use Rattle.stun_auth.specs.ClientStep.{naming_of, new_challenge}
-use Rattle.stun_auth.specs.Nonces.{asks_for_algorithms}
+use Rattle.stun_auth.specs.ClientStep.{is_required, naming_of, new_challenge}
+use Rattle.stun_auth.specs.Feature.{is_possible}
+use Rattle.stun_auth.specs.Nonces.{asks_for_algorithms, asks_for_userhash}
 use Rattle.stun_auth.specs.Signed.{plain_name}
 use Rattle.stun_auth.specs.declared.algorithm_set.AlgorithmSet.{AlgorithmSet}
 use Rattle.stun_auth.specs.declared.algorithm_set.AlgorithmSet.TheVariants.{OnlySha1}
 use Rattle.stun_auth.specs.declared.algorithm_set.AlgorithmSet.TheVariants.{OnlySha256, Both}
-use Rattle.stun_client.specs.Challenges.{by_rule, by_rule_if, challenge_of, list_for, list_kept}
+use Rattle.stun_auth.specs.declared.feature.Feature.{Feature}
+use Rattle.stun_auth.specs.declared.feature.Feature.TheVariants.{Auto, Required, Disabled}
+use Rattle.stun_client.specs.Challenges.{IsOfMessage, by_rule, by_rule_if, challenge_of}
+use Rattle.stun_client.specs.Challenges.{list_for, list_kept}
 use Rattle.stun_client.specs.Challenging.{is_challenge, nonce_in, realm_in}
 use Rattle.stun_client.specs.Downgrade.{IsStrongestOfBoth}
 use Rattle.stun_client.specs.Preferences.{supports}
@@ -84,66 +88,93 @@ chosen_of_rule p who c h = record {
   by_rule = h.algorithm;
   hashed = λ hashes. ap plain_name h.naming
       ∙ ap (λ b. plain_name (naming_of b who.username c.realm)) hashes;
+  required = h.required;
 }
 
-module _ (p : Preferences) (who : NameAndPassword) (c : Challenge) where
-  made : (realm nonce : List ℕ) (list : List IntegrityAlgorithm) (o : Option IntegrityAlgorithm)
-      → chosen p nonce list ≡ o
+-- a name that must be hashed is, if the nonce allows it
+must_hash : (f : Feature) (asks : Bool) (username realm : List ℕ)
+    → (is_required f && not asks) ≡ false → is_required f ≡ true
+    → plain_name (naming_of (asks && is_possible f) username realm) ≡ None
+must_hash Required true username realm has must = refl
+must_hash Required false username realm has must = cc
+must_hash Auto asks username realm has must = cc
+must_hash Disabled asks username realm has must = cc
+
+-- what the rule makes is by the rule
+new_by_rule : (p : Preferences) (who : NameAndPassword) (realm nonce : List ℕ)
+    (list : List IntegrityAlgorithm) (a : IntegrityAlgorithm)
+    → lacks_userhash p nonce ≡ false → chosen p nonce list ≡ Some a
+    → IsByRule p who
+    (new_challenge p.anonymous_username who realm nonce (Some (list_kept nonce list)) a)
+new_by_rule p who realm nonce list a has is = record {
+  algorithm = chosen-kept p nonce list ∙ is;
+  naming = refl;
+  key = refl;
+  required = must_hash p.anonymous_username (asks_for_userhash nonce) who.username realm has;
+}
+
+module _ (p : Preferences) (who : NameAndPassword) (before : Option Challenge) (bytes : List ℕ)
+    (c : Challenge) (asks : is_challenge bytes ≡ true) where
+  made : (realm nonce : List ℕ) → realm_in bytes ≡ Some realm → nonce_in bytes ≡ Some nonce
+      → lacks_userhash p nonce ≡ false
+      → (o : Option IntegrityAlgorithm) → chosen p nonce (list_for before bytes) ≡ o
       → option_map (new_challenge p.anonymous_username who realm nonce
-      (Some (list_kept nonce list))) o ≡ Some c
-      → IsByRule p who c
-  made realm nonce list None is h = cc
-  made realm nonce list (Some a) is h =
+      (Some (list_kept nonce (list_for before bytes)))) o ≡ Some c
+      → IsByRule p who c × IsOfMessage before bytes c
+  made realm nonce realm_is nonce_is has None is h = cc
+  made realm nonce realm_is nonce_is has (Some a) is h =
+      let list = list_for before bytes in
       let same : new_challenge p.anonymous_username who realm nonce (Some (list_kept nonce list)) a
       ≡ c = cc in
-      subst (IsByRule p who) same
-      (record {
-        algorithm = chosen-kept p nonce list ∙ is;
-        naming = refl;
-        key = refl;
-      })
+      subst (λ (d : Challenge). IsByRule p who d × IsOfMessage before bytes d) same (
+        new_by_rule p who realm nonce list a has is,
+        record { asks = asks; realm = realm_is; nonce = nonce_is; algorithms = refl },
+      )
 
-  unless : (lacks : Bool) (realm nonce : List ℕ) (list : List IntegrityAlgorithm)
+  unless : (realm nonce : List ℕ) → realm_in bytes ≡ Some realm → nonce_in bytes ≡ Some nonce
+      → (lacks : Bool) → lacks_userhash p nonce ≡ lacks
       → cond lacks None (option_map (new_challenge p.anonymous_username who realm nonce
-      (Some (list_kept nonce list))) (chosen p nonce list)) ≡ Some c
-      → IsByRule p who c
-  unless true realm nonce list h = cc
-  unless false realm nonce list h = made realm nonce list (chosen p nonce list) refl h
-
-  of_parts : (realm nonce : Option (List ℕ)) (list : List IntegrityAlgorithm)
-      → by_rule_if p who realm nonce list ≡ Some c → IsByRule p who c
-  of_parts None _ list h = cc
-  of_parts (Some realm) None list h = cc
-  of_parts (Some realm) (Some nonce) list h = unless (lacks_userhash p nonce) realm nonce list h
-
-  if_challenge : (b : Bool) (before : Option Challenge) (bytes : List ℕ)
-      → cond b (by_rule_if p who (realm_in bytes) (nonce_in bytes) (list_for before bytes)) None
+      (Some (list_kept nonce (list_for before bytes)))) (chosen p nonce (list_for before bytes)))
       ≡ Some c
-      → IsByRule p who c
-  if_challenge true before bytes h =
-      of_parts (realm_in bytes) (nonce_in bytes) (list_for before bytes) h
-  if_challenge false before bytes h = cc
+      → IsByRule p who c × IsOfMessage before bytes c
+  unless realm nonce realm_is nonce_is true has h = cc
+  unless realm nonce realm_is nonce_is false has h =
+      made realm nonce realm_is nonce_is has (chosen p nonce (list_for before bytes)) refl h
 
-  -- each challenge of a message is by the rule
-  pub made_by_rule : (before : Option Challenge) (bytes : List ℕ)
-      → challenge_of p who before bytes ≡ Some c → IsByRule p who c
-  made_by_rule before bytes h = if_challenge (is_challenge bytes) before bytes h
+  of_parts : (realm : Option (List ℕ)) → realm_in bytes ≡ realm
+      → (nonce : Option (List ℕ)) → nonce_in bytes ≡ nonce
+      → by_rule_if p who realm nonce (list_for before bytes) ≡ Some c
+      → IsByRule p who c × IsOfMessage before bytes c
+  of_parts None realm_is nonce nonce_is h = cc
+  of_parts (Some realm) realm_is None nonce_is h = cc
+  of_parts (Some realm) realm_is (Some nonce) nonce_is h =
+      unless realm nonce realm_is nonce_is (lacks_userhash p nonce) refl h
+
+-- each challenge of a message is by the rule, and of the message
+pub made_by_rule : (p : Preferences) (who : NameAndPassword) (before : Option Challenge)
+    (bytes : List ℕ) (c : Challenge) → challenge_of p who before bytes ≡ Some c
+    → IsByRule p who c × IsOfMessage before bytes c
+made_by_rule p who before bytes c = cases (is_challenge bytes) refl
+  where
+    cases : (b : Bool) → is_challenge bytes ≡ b
+        → cond b (by_rule_if p who (realm_in bytes) (nonce_in bytes) (list_for before bytes)) None
+        ≡ Some c
+        → IsByRule p who c × IsOfMessage before bytes c
+    cases true asks h =
+        of_parts p who before bytes c asks (realm_in bytes) refl (nonce_in bytes) refl h
+    cases false asks h = cc
 
 -- and a chosen one is
 pub chosen_new : (p : Preferences) (who : NameAndPassword) (realm nonce : List ℕ)
     (list : List IntegrityAlgorithm) (a : IntegrityAlgorithm) (c : Challenge)
-    → chosen p nonce list ≡ Some a
+    → lacks_userhash p nonce ≡ false → chosen p nonce list ≡ Some a
     → c ≡ new_challenge p.anonymous_username who realm nonce (Some (list_kept nonce list)) a
     → IsChosen p c
-chosen_new p who realm nonce list a c is same =
+chosen_new p who realm nonce list a c has is same =
     subst (IsChosen p) (sym same)
     (chosen_of_rule p who
     (new_challenge p.anonymous_username who realm nonce (Some (list_kept nonce list)) a)
-    (record {
-      algorithm = chosen-kept p nonce list ∙ is;
-      naming = refl;
-      key = refl;
-    }))
+    (new_by_rule p who realm nonce list a has is))
 
 -- a message with a realm and a nonce is the challenge that the rule makes of them
 pub challenge_is : (p : Preferences) (who : NameAndPassword) (before : Option Challenge)

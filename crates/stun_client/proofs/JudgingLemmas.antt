@@ -2,7 +2,8 @@
 -- its own.
 use Rattle.std.proofs.Common.{◌≡◌, Bool, true, false, ℕ, List, Option, Some, None, cond}
 use Rattle.std.proofs.Common.{◌∙◌, ap, refl, subst}
-use Rattle.std.specs.Option.{IfSome, option_map}
+use Rattle.std.specs.Prelude.{◌&&◌, not}
+use Rattle.std.specs.Option.{IfSome, is_some, option_map}
 use Rattle.stun_base.specs.Credentials.{NameAndPassword}
 use Rattle.stun_base.specs.declared.keys.algorithm.IntegrityAlgorithm.{IntegrityAlgorithm}
 use Rattle.stun_base.specs.declared.keys.algorithm.IntegrityAlgorithm.TheVariants.{Sha1, Sha256}
@@ -33,6 +34,19 @@ answered p None is found ours = ap (option_map (with_preferences p)) found
 answered p (Some c) is found ours =
     ap (λ q. Some (with_preferences q c.challenge)) ours
     ∙ ap (option_map (with_preferences p)) found
+
+-- without a challenge nothing is read
+pub not_answered : (p : Preferences) (is : Option Challenge)
+    → option_map (with_preferences p) is ≡ None → is ≡ None
+not_answered p None none = refl
+not_answered p (Some c) none = cc
+
+-- judging needs no memory for what is not damaged, only if it is no challenge
+pub not_needed : (damaged : Bool) (read : Option Answered) → damaged ≡ false
+    → (not damaged && is_some read) ≡ false → read ≡ None
+not_needed true read whole unneeded = cc
+not_needed false None whole unneeded = refl
+not_needed false (Some c) whole unneeded = cc
 
 -- ---- belief
 

@@ -1,4 +1,4 @@
--- Addresses, whose two spellings of IPv4 are one.
+-- Addresses, whose two spellings of IPv4 are one (RFC 4291, section 2.5.5.2).
 use Rattle.std.specs.Prelude.{ℕ, List, [], ◌∷◌, ◌++◌, Bool, ◌&&◌, ◌==◌}
 use Rattle.std.specs.Net.Addr.{ipv4_octets, ipv6_octets}
 use Rattle.std.specs.Net.Socket.{socket_ip, socket_port}

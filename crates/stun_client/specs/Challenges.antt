@@ -1,6 +1,6 @@
 -- A challenge of one message, by the rule (RFC 8489, section 9.2.5). A 401 and a 438 are read alike,
 -- and nonce, list, algorithm, key and name are of that one message.
-use Rattle.std.specs.Prelude.{ℕ, List, [], Bool, false, ◌&&◌, ◌||◌, not, if◌then◌else◌, Option, Some, None}
+use Rattle.std.specs.Prelude.{◌≡◌, ℕ, List, [], Bool, true, false, ◌&&◌, ◌||◌, not, if◌then◌else◌, Option, Some, None}
 use Rattle.std.specs.Option.{is_none, is_some, option_map}
 use Rattle.std.specs.Str.{bytes_eq}
 use Rattle.stun_base.specs.Credentials.{NameAndPassword}
@@ -8,7 +8,7 @@ use Rattle.stun_base.specs.declared.keys.algorithm.IntegrityAlgorithm.{Integrity
 use Rattle.stun_types.specs.Integrity.{verified_algorithm}
 use Rattle.stun_auth.specs.Client.{Challenge}
 use Rattle.stun_auth.specs.ClientStep.{STALE_NONCE, is_code, list_or_none, new_challenge}
-use Rattle.stun_auth.specs.Algorithms.{is_sha256, same_algorithm}
+use Rattle.stun_auth.specs.Algorithms.{is_sha256, same_algorithm, same_list}
 use Rattle.stun_auth.specs.Nonces.{asks_for_algorithms}
 use Rattle.stun_auth.specs.Signed.{plain_name}
 use Rattle.stun_client.specs.Challenging.{code_in, is_challenge, list_in, nonce_in, realm_in}
@@ -61,6 +61,13 @@ challenge_of p who before bytes =
     then by_rule_if p who (realm_in bytes) (nonce_in bytes) (list_for before bytes)
     else None
 
+-- a challenge is of a message that asks for one: realm, nonce and list are those of the message
+pub record IsOfMessage (before : Option Challenge) (bytes : List ℕ) (c : Challenge) : Type 0 where
+  pub asks : is_challenge bytes ≡ true
+  pub realm : realm_in bytes ≡ Some c.realm
+  pub nonce : nonce_in bytes ≡ Some c.nonce
+  pub algorithms : c.algorithms ≡ list_kept c.nonce (list_for before bytes)
+
 -- whether a request for a challenge is protected by less than one for another: by HMAC-SHA1 in
 -- place of HMAC-SHA256, or by a user name in place of a hash
 abbrev pub is_weaker : Challenge → Challenge → Bool
@@ -68,11 +75,12 @@ is_weaker c other =
     (is_sha256 other.algorithm && not (is_sha256 c.algorithm))
     || (is_none (plain_name other.naming) && not (is_none (plain_name c.naming)))
 
--- whether two challenges are the same. The nonce says whether the user is named by a hash
+-- whether two challenges are the same: in nonce, realm, list and algorithm. The nonce says whether
+-- the user is named by a hash
 abbrev pub is_same : Challenge → Challenge → Bool
 is_same c other =
     bytes_eq c.nonce other.nonce && bytes_eq c.realm other.realm
-    && same_algorithm c.algorithm other.algorithm
+    && same_list c.algorithms other.algorithms && same_algorithm c.algorithm other.algorithm
 
 -- whether one is the other
 abbrev pub is_one : Option Answered → Option Answered → Bool

@@ -1,5 +1,5 @@
 -- A client of one server, and what each call makes of it (RFC 8489, sections 6.3 and 9.2.5).
-use Rattle.std.specs.Prelude.{◌≡◌, ℕ, Bool, true, List, if◌then◌else◌, Option, Some, None}
+use Rattle.std.specs.Prelude.{◌≡◌, ℕ, Bool, true, false, List, if◌then◌else◌, Option, Some, None}
 use Rattle.std.specs.Option.{is_some, option_map_or}
 use Rattle.std.specs.declared.net.socket_addr.SocketAddr.{SocketAddr}
 use Rattle.stun_base.specs.Header.{transaction_id_field}
@@ -12,7 +12,8 @@ use Rattle.stun_base.specs.declared.wire.message_type.MessageClass.TheVariants.{
 use Rattle.stun_types.specs.Message.{refusal}
 use Rattle.stun_client.specs.Addresses.{is_same_address}
 use Rattle.stun_client.specs.Challenges.{Answered}
-use Rattle.stun_client.specs.Judging.{Identity, IsBelievable, Verdict, judged, verdict_of}
+use Rattle.stun_client.specs.Judging.{Identity, IsBelievable, Verdict, judged, needs_memory}
+use Rattle.stun_client.specs.Judging.{verdict_of}
 use Rattle.stun_client.specs.Requests.{AskedSeen, RequestsSeen, after_end, after_renewal, after_start}
 use Rattle.stun_client.specs.Requests.{answered, at, is_answer}
 use Rattle.stun_client.specs.Standing.{StandingSeen, after_answer, after_success, after_timeout}
@@ -60,6 +61,11 @@ heard c from bytes =
     if is_some (refusal bytes) then not_ours
     else if is_same_address from c.server then by_class c bytes (class_in bytes)
     else not_ours
+
+-- whether judging a datagram as the response to a request needs memory
+abbrev pub needs_memory_for : EndpointClient → List ℕ → Option AskedSeen → Bool
+needs_memory_for c bytes None = false
+needs_memory_for c bytes (Some a) = needs_memory c.identity a.signed_for bytes
 
 -- a datagram from an address ends the request with this number by its own, signed so: it is a
 -- message from the server, it is a response with the transaction ID and the method of the

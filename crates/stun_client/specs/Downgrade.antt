@@ -1,4 +1,5 @@
--- No downgrade: what a long-term server accepts of a client that answers challenges by the rule.
+-- No downgrade: what a long-term server accepts of a client that answers challenges by the rule
+-- (RFC 8489, sections 9.2.5 and 16.1.3).
 use Rattle.std.specs.Prelude.{◌≡◌, ◌⊎◌, ℕ, List, true, Option, Some, None}
 use Rattle.stun_base.specs.declared.keys.algorithm.IntegrityAlgorithm.{IntegrityAlgorithm}
 use Rattle.stun_base.specs.declared.keys.algorithm.IntegrityAlgorithm.TheVariants.{Sha256}

@@ -1,4 +1,4 @@
--- The transaction IDs of a client.
+-- The transaction IDs of a client (RFC 8489, section 5).
 use Rattle.std.specs.Prelude.{ℕ, List}
 use Rattle.byteorder.specs.Endian.{big_bytes, big_number}
 use Rattle.sha1.specs.Sha1.{sha1}

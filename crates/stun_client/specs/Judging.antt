@@ -1,7 +1,7 @@
 -- What a response to an outstanding request comes to (RFC 8489, sections 9.1.4 and 9.2.5).
 use Rattle.std.specs.Prelude.{◌≡◌, ℕ, List, Bool, true, false, if◌then◌else◌, Option, Some, None}
-use Rattle.std.specs.Prelude.{string_bytes}
-use Rattle.std.specs.Option.{option_map}
+use Rattle.std.specs.Prelude.{◌&&◌, not, string_bytes}
+use Rattle.std.specs.Option.{is_some, option_map}
 use Rattle.stun_base.specs.Credentials.{NameAndPassword}
 use Rattle.stun_base.specs.declared.keys.algorithm.IntegrityAlgorithm.{IntegrityAlgorithm}
 use Rattle.stun_types.specs.Integrity.{verified_algorithm}
@@ -50,7 +50,7 @@ verdict_of (Believed by) = believed by
 verdict_of (Anew challenge) = anew challenge
 verdict_of (Dropped why) = dropped why
 
--- ---- damage
+-- ---- damage (section 14.7)
 
 abbrev pub is_wrong : Fingerprint → Bool
 is_wrong Wrong = true
@@ -111,6 +111,16 @@ judged_by_long_term accepts_unsigned p who standing before bytes =
     if is_challenge bytes
     then judged_read accepts_unsigned standing before bytes (answered_in p who before bytes)
     else by_signature accepts_unsigned before NotVerified bytes
+
+-- ---- memory
+
+-- whether judging a response needs memory: with long-term credentials, if it is a challenge that the
+-- rule does not ignore, and is not damaged
+abbrev pub needs_memory : Identity → Option Answered → List ℕ → Bool
+needs_memory unsigned before bytes = false
+needs_memory (short_term name password algorithm) before bytes = false
+needs_memory (long_term who p accepts_unsigned) before bytes =
+    not (is_damaged bytes) && is_some (answered_in p who before bytes)
 
 -- ---- all of it
 

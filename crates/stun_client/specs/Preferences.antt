@@ -1,4 +1,4 @@
--- What a client supports.
+-- What a client supports (RFC 8489, section 9.2.5).
 use Rattle.std.specs.Prelude.{Bool}
 use Rattle.stun_base.specs.declared.keys.algorithm.IntegrityAlgorithm.{IntegrityAlgorithm}
 use Rattle.stun_base.specs.declared.keys.algorithm.IntegrityAlgorithm.TheVariants.{Sha1, Sha256}

@@ -31,14 +31,16 @@ abbrev pub lacks_userhash : Preferences → List ℕ → Bool
 lacks_userhash p nonce = is_required p.anonymous_username && not (asks_for_userhash nonce)
 
 -- a challenge is by the rule: algorithm, name and key are those that the rule gives for its own
--- nonce, list and realm
+-- nonce, list and realm. If names must be hashed, the name is not there in clear
 pub record IsByRule (p : Preferences) (who : NameAndPassword) (c : Challenge) : Type 0 where
   pub algorithm : chosen p c.nonce c.algorithms ≡ Some c.algorithm
   pub naming : c.naming ≡ naming_of (is_hashed p c.nonce) who.username c.realm
   pub key : c.key ≡ long_term_key c.algorithm who.username c.realm who.password
+  pub required : is_required p.anonymous_username ≡ true → plain_name c.naming ≡ None
 
 -- what holds of each challenge that a client answers, whoever its user is: the algorithm is the
--- rule's, and where names are hashed the name is not there in clear
+-- rule's, and where names are hashed, or must be, the name is not there in clear
 pub record IsChosen (p : Preferences) (c : Challenge) : Type 0 where
   pub by_rule : chosen p c.nonce c.algorithms ≡ Some c.algorithm
   pub hashed : is_hashed p c.nonce ≡ true → plain_name c.naming ≡ None
+  pub required : is_required p.anonymous_username ≡ true → plain_name c.naming ≡ None

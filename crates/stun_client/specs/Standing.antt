@@ -1,4 +1,5 @@
--- Which challenge new requests are signed for, and which one a success has confirmed last.
+-- Which challenge new requests are signed for, and which one a success has confirmed last. This is
+-- the library's own rule: RFC 8489 does not say what a client does after a forged challenge.
 use Rattle.std.specs.Prelude.{Bool, true, false, if◌then◌else◌, Option, Some, None}
 use Rattle.std.specs.Option.{is_some}
 use Rattle.stun_client.specs.Challenges.{Answered, is_one, is_weaker}

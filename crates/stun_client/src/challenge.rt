@@ -1,11 +1,11 @@
 //! A server's challenge, and how a client answers it (RFC 8489, section 9.2.5).
-ghost use Rattle.std.specs.Prelude.{◌≡◌, ◌≤◌, IfOk, Ok, Some, length, map, codes};
+ghost use Rattle.std.specs.Prelude.{◌≡◌, ◌≤◌, IfOk, IsOk, None, Ok, Some, length, map, codes};
 ghost use Rattle.std.specs.Fmt.{WritesOnOk, WritesStyledOnOk};
 ghost use Rattle.std.specs.Option.{IfSome, is_none, option_copied, option_map};
 ghost use Rattle.stun_types.specs.Integrity.{verified_algorithm};
 ghost use Rattle.stun_types.specs.Limits.{TEXT_LIMIT};
 ghost use Rattle.stun_types.specs.PasswordAlgorithms.{integrity_of};
-ghost use Rattle.stun_auth.specs.Algorithms.{is_sha256, same_algorithm};
+ghost use Rattle.stun_auth.specs.Algorithms.{is_sha256, same_algorithm, same_list};
 ghost use Rattle.stun_auth.specs.ClientStep.{list_or_none, new_challenge};
 ghost use Rattle.stun_auth.specs.Signed.{plain_name};
 ghost use Rattle.stun_client.specs.Challenges.{Answered, by_rule, challenge_of, is_one, is_renewal};
@@ -96,7 +96,7 @@ impl<A: Allocator + Copy> Challenge<A> {
     /// of algorithms alone: if the message is signed with that challenge's key, its list stands in
     /// for the missing one.
     ///
-    /// Fails if an allocation fails.
+    /// Fails if an allocation fails. It allocates for a challenge that the rule does not ignore alone.
     #[tactic(auto, using(crate::proofs::ChosenLemmas::challenge_is))]
     pub fn of(
         alloc: A,
@@ -110,6 +110,9 @@ impl<A: Allocator + Copy> Challenge<A> {
             (option_map (λ (b : Answered). b.challenge) (option_copied before.entry)) message.now) }
         ensures preferences { IfOk result (λ read. IfSome read
             (λ c. c.preferences ≡ preferences)) }
+        ensures no_memory { challenge_of preferences credentials.now
+            (option_map (λ (b : Answered). b.challenge) (option_copied before.entry)) message.now
+            ≡ None → IsOk result }
     {
         if !is_challenge(message) {
             return Ok(None);
@@ -141,6 +144,8 @@ impl<A: Allocator + Copy> Challenge<A> {
             ≡ by_rule preferences credentials.now realm.now nonce.now (map integrity_of list.now)) }
         ensures preferences { IfOk result (λ made. IfSome made
             (λ c. c.preferences ≡ preferences)) }
+        ensures no_memory { by_rule preferences credentials.now realm.now nonce.now
+            (map integrity_of list.now) ≡ None → IsOk result }
     {
         if lacks_userhash(preferences, nonce) {
             return Ok(None);
@@ -306,7 +311,7 @@ impl<A: Allocator> Challenge<A> {
 }
 
 impl<A: Allocator + Copy> Challenge<A> {
-    /// Returns whether a challenge is this one: it has the same nonce, realm and algorithm.
+    /// Returns whether a challenge is this one: it has the same nonce, realm, list and algorithm.
     pub fn is_same_as(&self, other: &Option<Challenge<A>>) -> bool
         ensures { result ≡ is_one (Some self.now) other.now }
     {
@@ -322,7 +327,16 @@ impl<A: Allocator + Copy> Challenge<A> {
     {
         self.nonce() == other.nonce()
             && self.realm() == other.realm()
+            && self.has_same_list(other)
             && is_same_algorithm(self.algorithm(), other.algorithm())
+    }
+
+    /// Returns whether the server's lists of two challenges are the same.
+    fn has_same_list(&self, other: &Challenge<A>) -> bool
+        ensures { result
+            ≡ same_list self.now.challenge.algorithms other.now.challenge.algorithms }
+    {
+        self.list().equals(other.kept.algorithms.as_slice())
     }
 
     /// Returns whether a request for this challenge is protected by less than one for another: by

@@ -1,14 +1,15 @@
 //! A client of one server: what it has asked, and what a datagram comes to.
 ghost use Rattle.std.specs.Option.{IfSome, option_copied, option_map};
-ghost use Rattle.std.specs.Prelude.{◌≡◌, ◌≤◌, ℕ, false, IfOk, IsOk, OnErr, OnOk, Some};
+ghost use Rattle.std.specs.Prelude.{◌≡◌, ◌≤◌, ℕ, false, Err, IfOk, IsOk, IsOkUnless};
+ghost use Rattle.std.specs.Prelude.{MatchOption, OnErr, OnOk, Some};
 ghost use Rattle.stun_base.specs.MessageType.{class_in};
 ghost use Rattle.stun_client.specs.Addresses.{is_same_address};
-ghost use Rattle.stun_client.specs.Challenging.{is_challenge};
 ghost use Rattle.stun_client.specs.Clients.{after_cancelling, after_ending, after_renewing};
 ghost use Rattle.stun_client.specs.Clients.{after_starting, after_timing_out, by_asked, by_class};
-ghost use Rattle.stun_client.specs.Clients.{confirming, heard, heard_of};
-ghost use Rattle.stun_client.specs.Judging.{identity_of};
+ghost use Rattle.stun_client.specs.Clients.{confirming, heard, heard_of, needs_memory_for, not_ours};
+ghost use Rattle.stun_client.specs.Judging.{identity_of, needs_memory};
 ghost use Rattle.stun_client.specs.Requests.{IsOver, IsSole, answered, at, new_requests};
+ghost use Rattle.stun_client.specs.Requests.{renewal_refusal, start_refusal};
 ghost use Rattle.stun_client.specs.Standing.{new_standing};
 
 use crate::address::is_same_address;
@@ -93,10 +94,13 @@ impl<A: Allocator + Copy> Client<A> {
     /// is the same in both spellings, `a.b.c.d` and `::ffff:a.b.c.d`. A response is judged by the
     /// credentials (see `Credentials::judge`).
     ///
-    /// Fails if an allocation fails. It allocates for a challenge alone.
+    /// Fails if an allocation fails. It allocates alone for a response to an outstanding request,
+    /// with long-term credentials, that is a challenge which the rule does not ignore.
     pub fn receive<'a>(&self, bytes: &'a [u8], from: SocketAddr) -> Result<Heard<'a, A>, AllocError>
         ensures heard { IfOk result (λ given. heard_of given ≡ heard self.now from bytes.now) }
-        ensures no_memory { is_challenge bytes.now ≡ false → IsOk result }
+        ensures ours { heard self.now from bytes.now ≡ not_ours → IsOk result }
+        ensures no_memory { needs_memory_for self.now bytes.now
+            (answered self.now.requests bytes.now) ≡ false → IsOk result }
     {
         let Ok(message) = Message::from_bytes(bytes) else {
             return Ok(Heard::NotOurs);
@@ -112,7 +116,10 @@ impl<A: Allocator + Copy> Client<A> {
     fn by_class<'a>(&self, message: Message<'a>) -> Result<Heard<'a, A>, AllocError>
         ensures heard { IfOk result (λ given. heard_of given
             ≡ by_class self.now message.entry (class_in message.entry)) }
-        ensures no_memory { is_challenge message.entry ≡ false → IsOk result }
+        ensures ours { by_class self.now message.entry (class_in message.entry) ≡ not_ours
+            → IsOk result }
+        ensures no_memory { needs_memory_for self.now message.entry
+            (answered self.now.requests message.entry) ≡ false → IsOk result }
     {
         match message.class() {
             MessageClass::Request => Ok(Heard::NotOurs),
@@ -126,7 +133,10 @@ impl<A: Allocator + Copy> Client<A> {
     fn by_request<'a>(&self, response: Message<'a>) -> Result<Heard<'a, A>, AllocError>
         ensures heard { IfOk result (λ given. heard_of given
             ≡ by_asked self.now response.entry (answered self.now.requests response.entry)) }
-        ensures no_memory { is_challenge response.entry ≡ false → IsOk result }
+        ensures ours { by_asked self.now response.entry (answered self.now.requests response.entry)
+            ≡ not_ours → IsOk result }
+        ensures no_memory { needs_memory_for self.now response.entry
+            (answered self.now.requests response.entry) ≡ false → IsOk result }
     {
         match self.requests.answered(&response) {
             Some(asked) => self.by_asked(asked, response),
@@ -142,7 +152,8 @@ impl<A: Allocator + Copy> Client<A> {
     ) -> Result<Heard<'a, A>, AllocError>
         ensures heard { IfOk result (λ given. heard_of given
             ≡ by_asked self.now response.entry (Some asked.now)) }
-        ensures no_memory { is_challenge response.entry ≡ false → IsOk result }
+        ensures no_memory { needs_memory self.now.identity asked.now.signed_for response.entry
+            ≡ false → IsOk result }
     {
         let signed_for = asked.signed_for();
         let credentials = &self.credentials;
@@ -185,12 +196,17 @@ impl<A: Allocator + Copy> Client<A> {
     /// Fails with `IdTaken`, `NoNumber` or `OutOfMemory` (see `Requests::start`). Nothing has
     /// changed then.
     pub fn start(&mut self, method: Method, id: TransactionId) -> Result<u64, RequestRefusal>
+        ensures refused { MatchOption (start_refusal self.old.requests id)
+            (IsOkUnless result RequestRefusal.OutOfMemory) (λ refusal. result ≡ Err refusal) }
         ensures number { IfOk result (λ number. number ≡ self.old.requests.next) }
         ensures after { OnOk result (self.new ≡ after_starting self.old method id) }
         ensures same { OnErr result (self.new ≡ self.old) }
         ensures over { (number : ℕ) → IsOver number self.old.requests
             → IsOver number self.new.requests }
     {
+        if let Some(refusal) = self.requests.start_refusal(id) {
+            return Err(refusal);
+        }
         let Ok(signed_for) = copied(self.standing.current()) else {
             return Err(RequestRefusal::OutOfMemory);
         };
@@ -208,11 +224,16 @@ impl<A: Allocator + Copy> Client<A> {
         new_id: TransactionId,
         challenge: Option<Challenge<A>>,
     ) -> Result<(), RequestRefusal>
+        ensures refused { MatchOption (renewal_refusal self.old.requests id new_id)
+            (IsOkUnless result RequestRefusal.OutOfMemory) (λ refusal. result ≡ Err refusal) }
         ensures after { OnOk result (self.new ≡ after_renewing self.old id new_id challenge) }
         ensures same { OnErr result (self.new ≡ self.old) }
         ensures over { (number : ℕ) → IsOver number self.old.requests
             → IsOver number self.new.requests }
     {
+        if let Some(refusal) = self.requests.renewal_refusal(id, new_id) {
+            return Err(refusal);
+        }
         let Ok(signed_for) = copied(&challenge) else {
             return Err(RequestRefusal::OutOfMemory);
         };

@@ -1,11 +1,10 @@
 //! How a client proves who it is, and which responses it believes (RFC 8489, sections 9.1.4 and
 //! 9.2.5).
-ghost use Rattle.std.specs.Prelude.{◌≡◌, false, IfOk, IsOk, Some};
+ghost use Rattle.std.specs.Prelude.{◌≡◌, false, IfOk, IsOk, None, Some};
 ghost use Rattle.stun_types.specs.Integrity.{verified_algorithm};
-ghost use Rattle.stun_client.specs.Challenging.{is_challenge};
 ghost use Rattle.stun_client.specs.Judging.{answered_in, by_key, by_signature, by_sole_algorithm};
 ghost use Rattle.stun_client.specs.Judging.{identity_of, is_damaged, judged, judged_by_long_term};
-ghost use Rattle.stun_client.specs.Judging.{judged_challenge, verdict_of};
+ghost use Rattle.stun_client.specs.Judging.{judged_challenge, needs_memory, verdict_of};
 
 use crate::challenge::Challenge;
 use crate::challenge::reading::is_challenge;
@@ -71,12 +70,14 @@ impl<A: Allocator + Copy> Credentials<A> {
     ///   the algorithm of the request (RFC 8489, section 9.1.4).
     /// - With long-term credentials a 401 or a 438 is a challenge, which the request is sent again
     ///   for. The challenge that the request was signed for already sends it again unsigned, and one
-    ///   that is weaker than the challenge which a success has confirmed is dropped.
+    ///   that is weaker than the challenge which a success has confirmed is dropped. A challenge that
+    ///   the rule ignores is judged as any other response.
     /// - Any other response is believed if it is signed with the key that the request was signed
     ///   with (section 9.2.5). If the request was not signed, the response is dropped, unless
     ///   unsigned responses are accepted.
     ///
-    /// Fails if an allocation fails. It allocates for a challenge alone.
+    /// Fails if an allocation fails. It allocates alone with long-term credentials, for a challenge
+    /// that the rule does not ignore (see `Challenge`).
     pub fn judge(
         &self,
         alloc: A,
@@ -86,7 +87,8 @@ impl<A: Allocator + Copy> Credentials<A> {
     ) -> Result<Judged<A>, AllocError>
         ensures judged { IfOk result (λ verdict. verdict_of verdict
             ≡ judged (identity_of self.now) standing.now signed_for.now response.now) }
-        ensures no_memory { is_challenge response.now ≡ false → IsOk result }
+        ensures no_memory { needs_memory (identity_of self.now) signed_for.now response.now ≡ false
+            → IsOk result }
     {
         if is_damaged(response) {
             return Ok(Judged::Dropped(Distrust::WrongFingerprint));
@@ -143,7 +145,8 @@ impl<A: Allocator + Copy> LongTerm<A> {
         ensures judged { IfOk result (λ verdict. verdict_of verdict
             ≡ judged_by_long_term self.now.accepts_unsigned self.now.preferences self.now.user
             standing.now signed_for.now response.now) }
-        ensures no_memory { is_challenge response.now ≡ false → IsOk result }
+        ensures no_memory { answered_in self.now.preferences self.now.user signed_for.now
+            response.now ≡ None → IsOk result }
     {
         if !is_challenge(response) {
             return Ok(self.by_signature(signed_for, response, Distrust::NotVerified));
@@ -162,8 +165,10 @@ impl<A: Allocator + Copy> LongTerm<A> {
         signed_for: &Option<Challenge<A>>,
         message: &Message<'_>,
     ) -> Result<Option<Challenge<A>>, AllocError>
-        ensures { IfOk result (λ read. read
+        ensures read { IfOk result (λ read. read
             ≡ answered_in self.now.preferences self.now.user signed_for.now message.now) }
+        ensures no_memory { answered_in self.now.preferences self.now.user signed_for.now
+            message.now ≡ None → IsOk result }
     {
         let before = signed_for.as_ref();
         let read = Challenge::of(alloc, self.preferences, &self.user, before, message)?;

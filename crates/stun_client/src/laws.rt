@@ -10,7 +10,7 @@ ghost use Rattle.stun_auth.specs.Reading.{reading_of};
 ghost use Rattle.stun_auth.specs.Registered.{Registered};
 ghost use Rattle.stun_auth.specs.Signed.{ReadsAs, added_under};
 ghost use Rattle.stun_auth.specs.declared.feature.Feature.{Feature as TheFeature};
-ghost use Rattle.stun_client.specs.Challenges.{Answered, challenge_of};
+ghost use Rattle.stun_client.specs.Challenges.{Answered, IsOfMessage, challenge_of};
 ghost use Rattle.stun_client.specs.Clients.{EndpointClient, IsAnswer, heard, responded};
 ghost use Rattle.stun_client.specs.Downgrade.{IsNowhereBidDown, IsUpToDate};
 ghost use Rattle.stun_client.specs.Judging.{IsAnsweredAnew, IsBelievable, Identity, anew, believed};
@@ -19,11 +19,15 @@ ghost use Rattle.stun_client.specs.Rule.{IsByRule, IsChosen};
 ghost use Rattle.stun_client.specs.Standing.{StandingSeen};
 ghost use Rattle.stun_client.specs.declared.preferences.Preferences.{Preferences as ThePreferences};
 
-/// Each challenge of a message is by the rule, whatever challenge was there before.
+/// Each challenge of a message is by the rule, whatever challenge was there before, and has realm,
+/// nonce and list of the message.
 pub fn challenges_are_by_the_rule()
-    ensures { (p : ThePreferences) (who : NameAndPassword) (before : Option Challenge)
+    ensures by_rule { (p : ThePreferences) (who : NameAndPassword) (before : Option Challenge)
         (bytes : List ℕ) (c : Challenge) → challenge_of p who before bytes ≡ Some c
         → IsByRule p who c }
+    ensures of_message { (p : ThePreferences) (who : NameAndPassword) (before : Option Challenge)
+        (bytes : List ℕ) (c : Challenge) → challenge_of p who before bytes ≡ Some c
+        → IsOfMessage before bytes c }
 {}
 
 /// No downgrade. A message that reads as one signed for a challenge by the rule is not bid down:
@@ -46,8 +50,8 @@ pub fn nonces_of_a_server_are_up_to_date()
     stun_auth::laws::nonces_ask_for_what_is_supported();
 }
 
-/// Each response that is believed may be: without credentials, or signed as its request was.
-pub fn responses_are_believed_if_verified()
+/// A response is believed only if it may be: without credentials, or signed as its request was.
+pub fn believed_responses_are_believable()
     ensures { (identity : Identity) (standing : StandingSeen) (before : Option Answered)
         (bytes : List ℕ) (by : Option IntegrityAlgorithm)
         → judged identity standing before bytes ≡ believed by
@@ -65,7 +69,7 @@ pub fn requests_are_sent_again_for_new_challenges()
 
 /// A datagram ends a request only if it answers it: it came from the server, it has the transaction
 /// ID and the method of the outstanding request, and it may be believed.
-pub fn datagrams_end_the_requests_that_they_answer()
+pub fn datagrams_end_only_what_they_answer()
     ensures { (c : EndpointClient) (from : SocketAddr) (bytes : List ℕ) (number : ℕ)
         (by : Option IntegrityAlgorithm) → heard c from bytes ≡ responded bytes number (believed by)
         → IsAnswer c from bytes number by }

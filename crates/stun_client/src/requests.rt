@@ -182,7 +182,7 @@ impl<A: Allocator + Copy> Requests<A> {
     }
 
     /// Returns why no request is started under a transaction ID.
-    fn start_refusal(&self, id: TransactionId) -> Option<RequestRefusal>
+    pub(crate) fn start_refusal(&self, id: TransactionId) -> Option<RequestRefusal>
         ensures { result ≡ start_refusal self.now id }
     {
         if self.is_outstanding(id) {
@@ -255,6 +255,20 @@ impl<A: Allocator + Copy> Requests<A> {
                 self.replace(id, new_id, renewed)
             }
             Err(refusal) => Err(refusal),
+        }
+    }
+
+    /// Returns why a request gets no new transaction ID.
+    pub(crate) fn renewal_refusal(
+        &self,
+        id: TransactionId,
+        new_id: TransactionId,
+    ) -> Option<RequestRefusal>
+        ensures { result ≡ renewal_refusal self.now id new_id }
+    {
+        match self.renewal_of(id, new_id) {
+            Ok(_parts) => None,
+            Err(refusal) => Some(refusal),
         }
     }
 

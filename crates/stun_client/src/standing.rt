@@ -10,10 +10,11 @@ use std::mem;
 
 /// The challenge that new requests are signed for, and the last one that a success has confirmed.
 ///
-/// An attacker who forges a challenge can make requests time out, but no more than two of them: the
-/// first timeout takes the client back to the challenge that was confirmed last, and the second to
-/// none, from where it starts anew. After a success, a challenge that is weaker than the confirmed
-/// one is ignored.
+/// A forged challenge can make all requests time out that were signed for it. The first of these
+/// timeouts takes the client back to the challenge that was confirmed last. If a request that is
+/// signed for that one times out too, the client goes back to none, from where it starts anew. From a
+/// success until a request under the confirmed challenge times out, a challenge that is weaker than
+/// the confirmed one is ignored.
 ///
 /// Contracts: they see the two challenges.
 #[derive(Drop)]

@@ -1,10 +1,11 @@
 //! Signing what a client sends for a challenge (RFC 8489, section 9.2.5).
-ghost use Rattle.std.specs.Prelude.{◌≡◌, ◌≤◌, ◌+◌, length, true, false, IfOk};
+ghost use Rattle.std.specs.Prelude.{◌≡◌, ◌≤◌, ◌+◌, length, true, false, IfOk, None};
 ghost use Rattle.stun_base.specs.MessageType.{class_in};
 ghost use Rattle.stun_auth.specs.Additions.{UnlessMemory, WantsMemory};
 ghost use Rattle.stun_auth.specs.Additions.{added_all, growth, page_in, written_page};
 ghost use Rattle.stun_auth.specs.ClientSigning.{algorithm_choice, challenge_additions};
 ghost use Rattle.stun_auth.specs.ClientSigning.{identity, name_attribute};
+ghost use Rattle.stun_auth.specs.ClientStep.{is_required};
 ghost use Rattle.stun_auth.specs.Reading.{error_code, reading_of};
 ghost use Rattle.stun_auth.specs.Signed.{IsText, IsUnsigned, ReadsAs, added_under};
 ghost use Rattle.stun_auth.specs.code.Additions.{IsAdded, IsOutcome};
@@ -131,7 +132,8 @@ impl<A: Allocator> Challenge<A> {
     /// - `OutOfMemory`: an allocation failed.
     ///
     /// Contracts: `not_bid_down` says that a server which accepts the request accepts it by the
-    /// strongest algorithm that both sides support, whatever this client has read before.
+    /// strongest algorithm that both sides support, whatever this client has read before. `hashed`
+    /// says that a client which must hash its user name never sends it.
     pub fn sign<W: MessageWrite>(&self, writer: W) -> Result<W, StunWriteError>
         requires { 20 ≤ length (W.bytes writer) }
         ensures signed { UnlessMemory result (written_page W.bytes W.room result
@@ -146,6 +148,9 @@ impl<A: Allocator> Challenge<A> {
             (added_under true self.now.challenge) (reading_of (W.bytes signed))) }
         ensures not_bid_down { IfOk result (λ signed. IsUnsigned (W.bytes writer)
             → IsNowhereBidDown self.now.preferences (reading_of (W.bytes signed))) }
+        ensures hashed { IfOk result (λ signed. IsUnsigned (W.bytes writer)
+            → is_required self.now.preferences.anonymous_username ≡ true
+            → (reading_of (W.bytes signed)).username ≡ None) }
     {
         // Laws do nothing when they run: these are for the clauses `reads` and `not_bid_down`.
         stun_auth::laws::signed_messages_are_read();

@@ -1,6 +1,11 @@
--- Each challenge is made by the rule.
+-- Each challenge is made by the rule, of the parts of its message.
 use Rattle.stun_client.proofs.ChosenLemmas.{made_by_rule}
 use Rattle.stun_client.proofs.laws.challenges_are_by_the_rule.Goals as goal
 
-pub returns : goal.returns
-returns c = λ p who before bytes challenge is. made_by_rule p who challenge before bytes is
+pub returns-clause-by_rule : goal.returns-clause-by_rule
+returns-clause-by_rule c = λ p who before bytes challenge is.
+    (made_by_rule p who before bytes challenge is).0
+
+pub returns-clause-of_message : goal.returns-clause-of_message
+returns-clause-of_message c = λ p who before bytes challenge is.
+    (made_by_rule p who before bytes challenge is).1

@@ -1,9 +1,10 @@
 -- What was added is read back, and the challenge is by the rule.
-use Rattle.std.proofs.Common.{◌≡◌, ◌+◌, true, length, subst}
+use Rattle.std.proofs.Common.{◌≡◌, ◌+◌, ◌∙◌, None, true, length, subst}
 use Rattle.std.specs.Prelude.{IfOk}
 use Rattle.stun_base.specs.MessageType.{class_in}
 use Rattle.stun_auth.specs.Additions.{WantsMemory, growth, page_in}
 use Rattle.stun_auth.specs.ClientSigning.{challenge_additions}
+use Rattle.stun_auth.specs.ClientStep.{is_required}
 use Rattle.stun_auth.specs.Reading.{error_code, reading_of}
 use Rattle.stun_auth.specs.Signed.{IsUnsigned, ReadsAs, added_under}
 use Rattle.stun_auth.proofs.Growth.{grown_answer}
@@ -57,6 +58,28 @@ returns-clause-not_bid_down g c =
     (λ signed. IsNowhereBidDown c.self.inside.preferences (reading_of (bytes signed)))
     (λ signed reads. c.signed_requests_are_not_bid_down.ensures c.self.inside.preferences
     kept class error (bytes signed) c.self.invariant reads)
+    (reads_signed c.signed_messages_are_read.ensures bytes room kept c.args.writer c.signed.result
+    (WantsMemory (challenge_additions true kept) (page_in bytes room c.args.writer)
+    (g.W.MessageWrite.reserved c.args.writer))
+    c.keeps_texts.ensures c.signed.ensures))
+
+pub returns-clause-hashed : goal.returns-clause-hashed
+returns-clause-hashed g c =
+    let bytes = g.W.MessageWrite.bytes in
+    let room = g.W.MessageWrite.room in
+    let kept = challenge_seen c.self.inside.kept in
+    let class = class_in (bytes c.args.writer) in
+    let error = error_code (bytes c.args.writer) in
+    subst (λ (v : Answered). IfOk c.signed.result
+    (λ signed. IsUnsigned (bytes c.args.writer)
+    → is_required v.preferences.anonymous_username ≡ true
+    → (reading_of (bytes signed)).username ≡ None))
+    c.self.view_is
+    (then_read c.signed.result (IsUnsigned (bytes c.args.writer))
+    (λ signed. ReadsAs class error (added_under true kept) (reading_of (bytes signed)))
+    (λ signed. is_required c.self.inside.preferences.anonymous_username ≡ true
+    → (reading_of (bytes signed)).username ≡ None)
+    (λ signed reads. λ must. reads.username_is ∙ c.self.invariant.required must)
     (reads_signed c.signed_messages_are_read.ensures bytes room kept c.args.writer c.signed.result
     (WantsMemory (challenge_additions true kept) (page_in bytes room c.args.writer)
     (g.W.MessageWrite.reserved c.args.writer))

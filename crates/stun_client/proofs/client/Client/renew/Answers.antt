@@ -4,8 +4,8 @@ use Rattle.stun_client.specs.Clients.{EndpointClient}
 use Rattle.stun_client.specs.Requests.{IsOver}
 use Rattle.stun_client.proofs.client.Client.renew.Goals as goal
 
-pub returns-in-Some-clause-over : goal.returns-in-Some-clause-over
-returns-in-Some-clause-over g c = λ number over.
+pub returns-in-Some-challenge-clause-over : goal.returns-in-Some-challenge-clause-over
+returns-in-Some-challenge-clause-over g c = λ number over.
     c.renew.ensures.over number
     (subst (λ (s : EndpointClient). IsOver number s.requests) (sym c.self.view_is) over)
 

@@ -1,6 +1,6 @@
 -- What is believed may be.
 use Rattle.stun_client.proofs.JudgingLemmas.{believable}
-use Rattle.stun_client.proofs.laws.responses_are_believed_if_verified.Goals as goal
+use Rattle.stun_client.proofs.laws.believed_responses_are_believable.Goals as goal
 
 pub returns : goal.returns
 returns c = λ identity standing before bytes by is. believable identity standing before bytes by is

@@ -80,6 +80,13 @@ judgement_of a check from bytes =
     if is_some (refusal bytes) then Dropped (no_message bytes)
     else by_fingerprint a check from bytes (fingerprint_in bytes)
 
+-- whether a datagram is judged as a check of the peer: all others get no answer
+abbrev pub is_check : Judgement → Bool
+is_check (Check bytes verdict) = true
+is_check (Response outcome) = false
+is_check (Keepalive bytes) = false
+is_check (Dropped reason) = false
+
 -- ---- what the caller is given
 
 -- what the caller is given of a datagram: a check with its answer, the end of its own check, an

@@ -38,8 +38,8 @@ use Rattle.stun_endpoint.proofs.HandedLemmas.{not_indicated_answer}
 use Rattle.stun_endpoint.proofs.JudgementLemmas.{waiting_received}
 
 -- a datagram that is not dropped is a message without a wrong FINGERPRINT
-pub undropped : (b c : Bool) (why other : DropReason) → cond b (Some why) (cond c (Some other) None) ≡ None
-    → (b ≡ false) × (c ≡ false)
+pub undropped : (b c : Bool) (why other : DropReason)
+    → cond b (Some why) (cond c (Some other) None) ≡ None → (b ≡ false) × (c ≡ false)
 undropped true c why other h = cc
 undropped false true why other h = cc
 undropped false false why other h = (refl, refl)

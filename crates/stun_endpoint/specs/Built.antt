@@ -1,5 +1,5 @@
--- Why settings make no server. A realm and a text of SOFTWARE have fewer than 128 characters, which
--- are at most 763 bytes (RFC 8489, sections 14.9 and 14.14).
+-- Why settings make no server. A realm and a text of SOFTWARE have at most 763 bytes (RFC 8489,
+-- sections 14.9 and 14.14).
 use Rattle.std.specs.Prelude.{ℕ, List, [], Bool, ◌||◌, length, nat_lt, unwrap_or}
 use Rattle.std.specs.Prelude.{if◌then◌else◌, Option, Some, None}
 use Rattle.stun_types.specs.Limits.{TEXT_LIMIT}

@@ -31,8 +31,8 @@ refused_last true page = fingerprint_refusal page (room_after page)
 refused_last false page = None
 
 -- why a response cannot be ended, the first reason that holds
-abbrev pub ending_refusal : Ending → List ℕ → Option StunWriteError
-ending_refusal ending page =
+abbrev pub finish_refusal : Ending → List ℕ → Option StunWriteError
+finish_refusal ending page =
     let described = with_software ending.software page in
     option_or (refused_software ending.software page)
     (option_or (refused_signature ending.signature described)

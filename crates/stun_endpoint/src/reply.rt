@@ -14,7 +14,7 @@ ghost use Rattle.stun_types.specs.Writing.{IsOpen, RefusedBy, empty_message, wit
 ghost use Rattle.stun_endpoint.specs.Answers.{VerifiesBy, error_attribute, with_end};
 ghost use Rattle.stun_endpoint.specs.Answers.{Signature as SignatureSeen, with_signature};
 ghost use Rattle.stun_endpoint.specs.Answers.{with_software};
-ghost use Rattle.stun_endpoint.specs.Ended.{ending_refusal, refused_signature};
+ghost use Rattle.stun_endpoint.specs.Ended.{finish_refusal, refused_signature};
 ghost use Rattle.stun_endpoint.specs.Ended.{refused_software};
 
 use std::alloc::{AllocError, Allocator, Global};
@@ -254,9 +254,9 @@ impl<A: Allocator + Copy> Reply<A> {
             → VerifiesBy self.now.ending.signature response.items) }
 
         // The error is the first reason that holds, unless an allocation failed.
-        ensures ok { OnOk result (ending_refusal self.now.ending page.bytes ≡ None) }
+        ensures ok { OnOk result (finish_refusal self.now.ending page.bytes ≡ None) }
         ensures refused { IfErr result (λ why. (why ≡ StunWriteError.OutOfMemory)
-            ⊎ (ending_refusal self.now.ending page.bytes ≡ Some why)) }
+            ⊎ (finish_refusal self.now.ending page.bytes ≡ Some why)) }
     {
         finish_response(page, &self.software, &self.signature, self.has_fingerprint)
     }
@@ -279,13 +279,13 @@ pub(crate) fn finish_response<A: Allocator + Copy>(
         }) page.bytes) }
     ensures verifies { IfOk result (λ response. IsOpen page.bytes
         → VerifiesBy signature.now response.items) }
-    ensures ok { OnOk result (ending_refusal (record {
+    ensures ok { OnOk result (finish_refusal (record {
       software = option_map string_bytes software.now;
       signature = signature.now;
       has_fingerprint = has_fingerprint;
     }) page.bytes ≡ None) }
     ensures refused { IfErr result (λ why. (why ≡ StunWriteError.OutOfMemory)
-        ⊎ (ending_refusal (record {
+        ⊎ (finish_refusal (record {
           software = option_map string_bytes software.now;
           signature = signature.now;
           has_fingerprint = has_fingerprint;

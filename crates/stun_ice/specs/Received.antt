@@ -1,6 +1,6 @@
 -- What a datagram comes to (RFC 8445, sections 7.2.5, 7.3 and 11). It is a function of the agent, the
 -- check that may be answered, the source and the datagram.
-use Rattle.std.specs.Prelude.{◌≡◌, ℕ, List, Bool, true, false, if◌then◌else◌, Option, Some, None}
+use Rattle.std.specs.Prelude.{ℕ, List, Bool, true, false, if◌then◌else◌, Option, Some, None}
 use Rattle.std.specs.Option.{is_some}
 use Rattle.std.specs.declared.net.socket_addr.SocketAddr.{SocketAddr}
 use Rattle.stun_base.specs.Header.{header_refusal}

@@ -55,7 +55,7 @@ pub not_indicated : (b : Bool) (bytes : List ℕ) (why : DropReason) (q : Accept
 not_indicated true bytes why q A h = cc
 not_indicated false bytes why q A h = cc
 
-not_indicated_answer : (b : Bool) (bytes : List ℕ) (why : DropReason) (a : Answer) (A : Type 0)
+pub not_indicated_answer : (b : Bool) (bytes : List ℕ) (why : DropReason) (a : Answer) (A : Type 0)
     → cond b (indicated bytes) (dropped why) ≡ answered a → A
 not_indicated_answer true bytes why a A h = cc
 not_indicated_answer false bytes why a A h = cc
@@ -66,7 +66,7 @@ not_dropped true c why other rest q h = cc
 not_dropped false true why other rest q h = cc
 not_dropped false false why other rest q h = h
 
-not_dropped_answer : (b c : Bool) (why other : DropReason) (rest : Outcome) (a : Answer)
+pub not_dropped_answer : (b c : Bool) (why other : DropReason) (rest : Outcome) (a : Answer)
     → cond b (dropped why) (cond c (dropped other) rest) ≡ answered a → rest ≡ answered a
 not_dropped_answer true c why other rest a h = cc
 not_dropped_answer false true why other rest a h = cc
@@ -112,7 +112,7 @@ unknown_odd : (s : Responding) (by : Option Signature) (from : SocketAddr) (byte
 unfolding unknown_by
 unknown_odd s by from bytes = refl
 
-challenge_told : (s : Settings) (why : Refusal) (nonce : List ℕ) (from : SocketAddr)
+pub challenge_told : (s : Settings) (why : Refusal) (nonce : List ℕ) (from : SocketAddr)
     (bytes : List ℕ) → (challenge_answer s why nonce from bytes).refusal ≡ Some why
 unfolding challenge_answer
 challenge_told s why nonce from bytes = refl

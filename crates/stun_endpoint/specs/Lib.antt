@@ -12,6 +12,8 @@ pub mod Nonces
 pub mod Judged
 -- the responses, byte by byte
 pub mod Answers
+-- why a response cannot be ended
+pub mod Ended
 -- the codes of error responses and their reason phrases (section 14.8)
 pub mod Refusals
 -- how a server responds, whatever its credentials are (section 6.3)

@@ -2,10 +2,10 @@
 -- and the responses that it writes by itself (RFC 8489, sections 6.3 and 14.8).
 use Rattle.std.specs.Prelude.{ℕ, List, [], ◌∷◌, Bool, true, false, ◌==◌, ◌&&◌}
 use Rattle.std.specs.Prelude.{if◌then◌else◌, Option, Some, None}
-use Rattle.std.specs.Option.{is_some}
+use Rattle.std.specs.Option.{is_none, is_some}
 use Rattle.std.specs.declared.net.socket_addr.SocketAddr.{SocketAddr}
 use Rattle.stun_base.specs.Header.{header_refusal, transaction_id_field, type_field}
-use Rattle.stun_base.specs.MessageType.{method_of}
+use Rattle.stun_base.specs.MessageType.{class_in, is_request, method_of}
 use Rattle.stun_base.specs.declared.wire.attribute_type.AttributeType.{AttributeType}
 use Rattle.stun_types.specs.Message.{refusal}
 use Rattle.stun_extra.specs.Fingerprint.{fingerprint_in}
@@ -55,6 +55,10 @@ drop_reason bytes =
     if is_some (refusal bytes) then Some (no_message bytes)
     else if is_wrong (fingerprint_in bytes) then Some WrongFingerprint
     else None
+
+-- whether a datagram is a request that is not dropped: all others get no response
+abbrev pub is_undropped_request : List ℕ → Bool
+is_undropped_request bytes = is_none (drop_reason bytes) && is_request (class_in bytes)
 
 -- ---- what a server understands, and what it adds to its responses
 

@@ -1,48 +1,75 @@
 //! Laws over the definitions that the contracts of this crate cite. They do nothing when they run.
 ghost use Rattle.std.specs.FinMap as fin;
-ghost use Rattle.std.specs.Prelude.{◌≡◌, ◌↔◌, ◌⊎◌, ◌≤◌, ℕ, List, Ok, Option, Some, map, true};
+ghost use Rattle.std.specs.Prelude.{◌≡◌, ◌↔◌, ◌⊎◌, ◌≤◌, ℕ, List, None, Ok, Option, Some, map, true};
 ghost use Rattle.std.specs.Str.{bytes_eq};
 ghost use Rattle.std.specs.declared.net.socket_addr.SocketAddr.{SocketAddr};
 ghost use Rattle.stun_auth.specs.declared.server.reason.LongTermServerValidation.TheVariants.{Validated};
+ghost use Rattle.stun_auth.specs.declared.server.reason.VerdictRefusal.{VerdictRefusal};
 ghost use Rattle.stun_auth.specs.Reading.{Reading, reading_of};
 ghost use Rattle.stun_auth.specs.Handed.{just, user_of, with_users};
 ghost use Rattle.stun_auth.specs.Registered.{Registered, UserSecret, name_cmp};
 ghost use Rattle.stun_auth.specs.Seen.{ClientSeen};
 ghost use Rattle.stun_auth.specs.Server.{their_nonce};
 ghost use Rattle.stun_auth.specs.Validation.{is_malformed};
-ghost use Rattle.stun_endpoint.specs.Judged.{IsAcceptedAt, Realm, judged, realm_of_table};
-ghost use Rattle.stun_endpoint.specs.Judged.{realm_of_user};
+ghost use Rattle.stun_endpoint.specs.Judged.{IsAcceptedAt, Realm, judged, key_of_client};
+ghost use Rattle.stun_endpoint.specs.Judged.{realm_of_table, realm_of_user};
 ghost use Rattle.stun_endpoint.specs.Lookups.{LookupSeen, WaitsUnderItsNonce, done};
 ghost use Rattle.stun_endpoint.specs.Lookups.{identified_by, looked_up, users_with};
+ghost use Rattle.stun_base.specs.MessageType.{class_in};
 ghost use Rattle.stun_base.specs.Moments.{last_moment};
+ghost use Rattle.stun_base.specs.declared.wire.message_type.MessageClass.TheVariants as MessageClass;
 ghost use Rattle.stun_endpoint.specs.Nonces.{current_nonce};
 ghost use Rattle.stun_endpoint.specs.Realm.{table_of};
 ghost use Rattle.stun_endpoint.specs.Received.{AcceptedRequest, Answer as TheAnswer, Outcome};
-ghost use Rattle.stun_endpoint.specs.Received.{answered, received_by, requested};
+ghost use Rattle.stun_endpoint.specs.Received.{answered, outcome_of_accepted, received_by};
+ghost use Rattle.stun_endpoint.specs.Received.{refused_with, requested};
+ghost use Rattle.stun_endpoint.specs.Responding.{Responding, drop_reason, own_answer, refusal_by};
 ghost use Rattle.stun_endpoint.specs.Runs.{Arrival, after_run, run, users_at, verdict_on};
 ghost use Rattle.stun_endpoint.specs.Settings.{Settings};
-ghost use Rattle.stun_endpoint.specs.ShortTerm.{IsSignedBy, Keys, Signer, signer_of};
+ghost use Rattle.stun_endpoint.specs.ShortTerm as short_term;
+ghost use Rattle.stun_endpoint.specs.ShortTerm.{IsSignedBy, Keys, SignedIndication, Signer};
+ghost use Rattle.stun_endpoint.specs.ShortTerm.{or_handed, received_signed, signature_of};
+ghost use Rattle.stun_endpoint.specs.ShortTerm.{signer_of};
+ghost use Rattle.stun_endpoint.specs.declared.received.Refusal.{Refusal};
 ghost use Rattle.stun_endpoint.specs.declared.received.Refusal.TheVariants as refused;
 
 /// A client is accepted at a time if and only if it is accepted under one of the nonces of its
-/// address: that of the epoch or of the epoch before, of the secret or of the previous secret. No
-/// earlier datagram is looked at.
+/// address: that of the epoch or of the epoch before, of the secret or of the previous secret
+/// (`verdict`). No earlier datagram is looked at.
+///
+/// So a request that is not dropped comes to what an accepted one does if a client is accepted
+/// (`accepted`), and is refused otherwise (`refused`).
 pub fn requests_are_accepted_under_their_nonces()
-    ensures { (s : Settings) (realm : Realm) (from : SocketAddr) (now : ℕ) (r : Reading)
+    ensures verdict { (s : Settings) (realm : Realm) (from : SocketAddr) (now : ℕ) (r : Reading)
         (client : ClientSeen)
         → (judged s realm from now r ≡ Ok client) ↔ IsAcceptedAt s realm from now r client }
+    ensures accepted { (s : Settings) (realm : Realm) (from : SocketAddr) (now : ℕ) (bytes : List ℕ)
+        (client : ClientSeen) → drop_reason bytes ≡ None → class_in bytes ≡ MessageClass.Request
+        → IsAcceptedAt s realm from now (reading_of bytes) client
+        → received_by s realm from now bytes
+        ≡ outcome_of_accepted s (key_of_client realm client) from bytes client }
+    ensures refused { (s : Settings) (realm : Realm) (from : SocketAddr) (now : ℕ) (bytes : List ℕ)
+        → drop_reason bytes ≡ None → class_in bytes ≡ MessageClass.Request
+        → ((client : ClientSeen) → IsAcceptedAt s realm from now (reading_of bytes) client → ⊥)
+        → (why : VerdictRefusal) × (received_by s realm from now bytes
+        ≡ refused_with s (current_nonce s from now) from bytes why) }
 {}
 
-/// What `received_by` says of a datagram, in two sentences:
+/// What `received_by` says of a datagram, in three sentences:
 ///
 /// - A request that is handed out is of a client that is accepted under one of the nonces of its
 ///   address (`accepted`).
+/// - A success or a 420 goes only to a client that is accepted in this sense (`answered`).
 /// - A 400 goes only to a request that is malformed, or that has the nonce which is current for its
-///   address (`no_lockout`). So a client with an older nonce is told the current one.
+///   address (`no_lockout`).
 pub fn outcomes_are_of_accepted_clients()
     ensures accepted { (s : Settings) (realm : Realm) (from : SocketAddr) (now : ℕ) (bytes : List ℕ)
         (request : AcceptedRequest) → received_by s realm from now bytes ≡ requested request
         → IsAcceptedAt s realm from now (reading_of bytes) request.client }
+    ensures answered { (s : Settings) (realm : Realm) (from : SocketAddr) (now : ℕ) (bytes : List ℕ)
+        (answer : TheAnswer) → received_by s realm from now bytes ≡ answered answer
+        → (answer.refusal ≡ None) ⊎ (answer.refusal ≡ Some refused.UnknownAttribute)
+        → (client : ClientSeen) × IsAcceptedAt s realm from now (reading_of bytes) client }
     ensures no_lockout { (s : Settings) (realm : Realm) (from : SocketAddr) (now : ℕ)
         (bytes : List ℕ) (answer : TheAnswer)
         → received_by s realm from now bytes ≡ answered answer
@@ -106,8 +133,40 @@ pub fn datagrams_are_a_run_of_calls()
 
 /// A server with short-term credentials takes a message for a user's if and only if `IsSignedBy`
 /// holds: the first USERNAME before the signature is the name of the user, and the signature is the
-/// digest under the user's key. No earlier datagram is looked at.
+/// digest under the user's key (`signer`). No earlier datagram is looked at.
+///
+/// So a request that is not dropped comes to what a user's does if a user has signed it
+/// (`accepted`), and is refused otherwise (`refused`).
 pub fn signers_are_known_exactly()
-    ensures { (users : Keys) (bytes : List ℕ) (signer : Signer)
+    ensures signer { (users : Keys) (bytes : List ℕ) (signer : Signer)
         → (signer_of users bytes ≡ Ok signer) ↔ IsSignedBy users bytes signer }
+    ensures accepted { (s : Responding) (users : Keys) (from : SocketAddr) (bytes : List ℕ)
+        (signer : Signer) → drop_reason bytes ≡ None → class_in bytes ≡ MessageClass.Request
+        → IsSignedBy users bytes signer
+        → received_signed s users from bytes
+        ≡ or_handed s from bytes signer (own_answer s (Some (signature_of signer)) from bytes) }
+    ensures refused { (s : Responding) (users : Keys) (from : SocketAddr) (bytes : List ℕ)
+        → drop_reason bytes ≡ None → class_in bytes ≡ MessageClass.Request
+        → ((signer : Signer) → IsSignedBy users bytes signer → ⊥)
+        → (why : Refusal)
+        × (received_signed s users from bytes ≡ short_term.answered (refusal_by s why from bytes)) }
+{}
+
+/// What `received_signed` says of a datagram: a request or an indication that is handed out is of the
+/// user who has signed it (`requested`, `indicated`), and a success or a 420 goes only to a request
+/// that a user has signed (`answered`).
+pub fn outcomes_are_of_signers()
+    ensures requested { (s : Responding) (users : Keys) (from : SocketAddr) (bytes : List ℕ)
+        (request : AcceptedRequest)
+        → received_signed s users from bytes ≡ short_term.requested request
+        → (key : List ℕ) × IsSignedBy users bytes (record { client = request.client; key = key }) }
+    ensures indicated { (s : Responding) (users : Keys) (from : SocketAddr) (bytes : List ℕ)
+        (indication : SignedIndication)
+        → received_signed s users from bytes ≡ short_term.indicated indication
+        → (key : List ℕ)
+        × IsSignedBy users bytes (record { client = indication.client; key = key }) }
+    ensures answered { (s : Responding) (users : Keys) (from : SocketAddr) (bytes : List ℕ)
+        (answer : TheAnswer) → received_signed s users from bytes ≡ short_term.answered answer
+        → (answer.refusal ≡ None) ⊎ (answer.refusal ≡ Some refused.UnknownAttribute)
+        → (signer : Signer) × IsSignedBy users bytes signer }
 {}

@@ -7,17 +7,17 @@
 
 ghost use Rattle.std.specs.Fmt.{WritesOnOk, WritesStyledOnOk};
 ghost use Rattle.std.specs.Option.{option_map};
-ghost use Rattle.std.specs.Prelude.{◌≡◌, ◌++◌, Err, IfOk, IsOkUnless, MatchOption, None, Some, codes};
-ghost use Rattle.std.specs.Prelude.{if◌then◌else◌};
+ghost use Rattle.std.specs.Prelude.{◌≡◌, ◌++◌, Err, IfOk, IsOk, IsOkUnless, MatchOption, None, Some};
+ghost use Rattle.std.specs.Prelude.{codes, false, if◌then◌else◌};
 ghost use Rattle.std.specs.String.{string_bytes};
 ghost use Rattle.stun_base.specs.Header.{type_field};
-ghost use Rattle.stun_base.specs.MessageType.{class_in, method_of};
+ghost use Rattle.stun_base.specs.MessageType.{class_in, is_request, method_of};
 ghost use Rattle.stun_endpoint.specs.Answers.{is_fingerprinted};
 ghost use Rattle.stun_endpoint.specs.Built.{software_refusal};
 ghost use Rattle.stun_endpoint.specs.Open.{by_class_openly, dropped, indicated, or_requested};
 ghost use Rattle.stun_endpoint.specs.Open.{received_openly};
 ghost use Rattle.stun_endpoint.specs.OpenOutcomes.{open_outcome_of};
-ghost use Rattle.stun_endpoint.specs.Responding.{is_empty, own_answer};
+ghost use Rattle.stun_endpoint.specs.Responding.{is_empty, is_undropped_request, own_answer};
 ghost use Rattle.stun_extra.specs.Unknown.{unknown_types};
 
 use crate::received::{Answer, DropReason};
@@ -172,7 +172,8 @@ impl<A: Allocator + Copy> OpenServer<A> {
     /// - An indication with an attribute that is not understood is dropped. Others, and responses,
     ///   are for you.
     ///
-    /// Fails if an allocation fails. Nothing is lost then, because the client sends again.
+    /// Fails if an allocation fails. Nothing is lost then, because the client sends again. Memory is
+    /// allocated for requests alone.
     pub fn receive<'a>(
         &self,
         bytes: &'a [u8],
@@ -180,6 +181,7 @@ impl<A: Allocator + Copy> OpenServer<A> {
     ) -> Result<OpenReceived<'a, A>, AllocError>
         ensures received { IfOk result (λ received. open_outcome_of received
             ≡ received_openly self.now from bytes.now) }
+        ensures no_memory { is_undropped_request bytes.now ≡ false → IsOk result }
     {
         match read(bytes) {
             Ok((message, has_fingerprint)) => self.by_class(message, from, has_fingerprint),
@@ -195,8 +197,9 @@ impl<A: Allocator + Copy> OpenServer<A> {
         has_fingerprint: bool,
     ) -> Result<OpenReceived<'a, A>, AllocError>
         requires { has_fingerprint ≡ is_fingerprinted message }
-        ensures { IfOk result (λ received. open_outcome_of received
+        ensures received { IfOk result (λ received. open_outcome_of received
             ≡ by_class_openly self.now from message.entry (class_in message.entry)) }
+        ensures no_memory { is_request (class_in message.entry) ≡ false → IsOk result }
     {
         match message.class() {
             MessageClass::Request => self.request(message, from, has_fingerprint),

@@ -54,11 +54,13 @@ pub enum Refusal {
     /// credentials, the signature or the name is missing.
     BadRequest,
     /// 401: the request is not signed by one of the users. With long-term credentials, a request
-    /// that is not signed gets it too.
+    /// that is not signed gets it too, and one with a nonce whose security bits (RFC 8489, section
+    /// 9.2) are not the server's.
     Unauthenticated,
     /// 420: the request is accepted, but has an attribute that must be understood and is not.
     UnknownAttribute,
-    /// 438: the nonce is not one that is accepted. Only a server with long-term credentials has it.
+    /// 438: the nonce is not one that is accepted, and has the server's security bits. Only a server
+    /// with long-term credentials has it.
     StaleNonce,
 }
 

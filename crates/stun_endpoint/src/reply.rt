@@ -1,16 +1,21 @@
 //! How a request gets its response: when it is received, or later.
 
-ghost use Rattle.std.specs.Prelude.{◌≡◌, ◌≤◌, [], Some, IfOk, OnOk, length, codes};
+ghost use Rattle.std.specs.Prelude.{◌≡◌, ◌≤◌, ◌⊎◌, [], Err, Some, None, IfErr, IfOk};
+ghost use Rattle.std.specs.Prelude.{IsOkUnless, MatchOption, OnOk, length, codes};
 ghost use Rattle.std.specs.Fmt.{WritesOnOk, WritesStyledOnOk};
 ghost use Rattle.std.specs.Option.{option_map, option_map_or};
 ghost use Rattle.std.specs.String.{string_bytes};
 ghost use Rattle.stun_base.specs.Header.{transaction_id_field, type_field};
 ghost use Rattle.stun_base.specs.MessageType.{method_of};
+ghost use Rattle.stun_types.specs.ErrorCode.{error_refusal};
 ghost use Rattle.stun_types.specs.Message.{IsMessage};
-ghost use Rattle.stun_types.specs.Writing.{IsOpen, empty_message, with_attribute};
+ghost use Rattle.stun_types.specs.Walk.{walk};
+ghost use Rattle.stun_types.specs.Writing.{IsOpen, RefusedBy, empty_message, with_attribute};
 ghost use Rattle.stun_endpoint.specs.Answers.{VerifiesBy, error_attribute, with_end};
 ghost use Rattle.stun_endpoint.specs.Answers.{Signature as SignatureSeen, with_signature};
 ghost use Rattle.stun_endpoint.specs.Answers.{with_software};
+ghost use Rattle.stun_endpoint.specs.Ended.{finish_refusal, refused_signature};
+ghost use Rattle.stun_endpoint.specs.Ended.{refused_software};
 
 use std::alloc::{AllocError, Allocator, Global};
 use std::fmt;
@@ -207,6 +212,8 @@ impl<A: Allocator + Copy> Reply<A> {
     /// - `TooLarge`: the reason phrase has more than 763 bytes.
     /// - `OutOfMemory`: an allocation failed.
     pub fn error(&self, code: u16, reason: &str) -> Result<MessageWriteVec<A>, StunWriteError>
+        ensures refused { MatchOption (error_refusal (record { code = code; reason = reason.now }))
+            (IsOkUnless result StunWriteError.OutOfMemory) (λ why. result ≡ Err why) }
         ensures bytes { IfOk result (λ page. page.bytes
             ≡ with_attribute (empty_message MessageClass.Error self.now.method self.now.id)
             (error_attribute code reason.now)) }
@@ -223,6 +230,7 @@ impl<A: Allocator + Copy> Reply<A> {
         ensures bytes { IfOk result (λ page. page.bytes
             ≡ empty_message class self.now.method self.now.id) }
         ensures open { IfOk result (λ page. IsOpen page.bytes) }
+        ensures empty { IfOk result (λ page. walk page.bytes ≡ []) }
     {
         let kind = MessageType::from_class_method(class, self.method);
         match Message::builder(kind, self.id, MessageWriteVec::new(self.alloc)) {
@@ -236,14 +244,19 @@ impl<A: Allocator + Copy> Reply<A> {
     /// you may have added attributes.
     ///
     /// Fails with the error of the first attribute that cannot be added: `AttributeExists` if you
-    /// added SOFTWARE, `MessageIntegrityExists` if you signed the response, `TooLarge` or
-    /// `OutOfMemory`.
+    /// added SOFTWARE or FINGERPRINT, `MessageIntegrityExists` if you signed the response, `TooLarge`
+    /// if it would be longer than a message can be, or `OutOfMemory`.
     pub fn finish(&self, page: MessageWriteVec<A>) -> Result<Vec<u8, A>, StunWriteError>
         requires { 20 ≤ length page.bytes }
         ensures bytes { IfOk result (λ response. response.items
             ≡ with_end self.now.ending page.bytes) }
         ensures verifies { IfOk result (λ response. IsOpen page.bytes
             → VerifiesBy self.now.ending.signature response.items) }
+
+        // The error is the first reason that holds, unless an allocation failed.
+        ensures ok { OnOk result (finish_refusal self.now.ending page.bytes ≡ None) }
+        ensures refused { IfErr result (λ why. (why ≡ StunWriteError.OutOfMemory)
+            ⊎ (finish_refusal self.now.ending page.bytes ≡ Some why)) }
     {
         finish_response(page, &self.software, &self.signature, self.has_fingerprint)
     }
@@ -266,6 +279,17 @@ pub(crate) fn finish_response<A: Allocator + Copy>(
         }) page.bytes) }
     ensures verifies { IfOk result (λ response. IsOpen page.bytes
         → VerifiesBy signature.now response.items) }
+    ensures ok { OnOk result (finish_refusal (record {
+      software = option_map string_bytes software.now;
+      signature = signature.now;
+      has_fingerprint = has_fingerprint;
+    }) page.bytes ≡ None) }
+    ensures refused { IfErr result (λ why. (why ≡ StunWriteError.OutOfMemory)
+        ⊎ (finish_refusal (record {
+          software = option_map string_bytes software.now;
+          signature = signature.now;
+          has_fingerprint = has_fingerprint;
+        }) page.bytes ≡ Some why)) }
 {
     let mut page = page;
     add_software(&mut page, software)?;
@@ -286,6 +310,8 @@ fn add_software<A: Allocator + Copy>(
     requires { 20 ≤ length page.old.bytes }
     ensures bytes { OnOk result (page.new.bytes
         ≡ with_software (option_map string_bytes software.now) page.old.bytes) }
+    ensures refused { RefusedBy (refused_software (option_map string_bytes software.now)
+        page.old.bytes) result }
     ensures header { OnOk result (20 ≤ length page.new.bytes) }
     ensures open { OnOk result (IsOpen page.old.bytes → IsOpen page.new.bytes) }
 {
@@ -302,6 +328,7 @@ fn add_signature<A: Allocator + Copy>(
 ) -> Result<(), StunWriteError>
     requires { 20 ≤ length page.old.bytes }
     ensures bytes { OnOk result (page.new.bytes ≡ with_signature signature.now page.old.bytes) }
+    ensures refused { RefusedBy (refused_signature signature.now page.old.bytes) result }
     ensures header { OnOk result (20 ≤ length page.new.bytes) }
     ensures message { OnOk result (IsOpen page.old.bytes → IsMessage page.new.bytes) }
     ensures verifies { OnOk result (IsOpen page.old.bytes

@@ -7,12 +7,13 @@
 
 ghost use Rattle.std.specs.Fmt.{WritesOnOk, WritesStyledOnOk};
 ghost use Rattle.std.specs.Option.{option_map};
-ghost use Rattle.std.specs.Prelude.{◌≡◌, ◌++◌, Err, IfOk, IsOkUnless, MatchOption, Some, codes};
+ghost use Rattle.std.specs.Prelude.{◌≡◌, ◌++◌, Err, IfOk, IsOk, IsOkUnless, MatchOption, Some};
+ghost use Rattle.std.specs.Prelude.{codes, false};
 ghost use Rattle.std.specs.String.{string_bytes};
-ghost use Rattle.stun_base.specs.MessageType.{class_in};
+ghost use Rattle.stun_base.specs.MessageType.{class_in, is_request};
 ghost use Rattle.stun_endpoint.specs.Answers.{is_fingerprinted};
 ghost use Rattle.stun_endpoint.specs.Built.{software_refusal};
-ghost use Rattle.stun_endpoint.specs.Responding.{own_answer};
+ghost use Rattle.stun_endpoint.specs.Responding.{is_undropped_request, own_answer};
 ghost use Rattle.stun_endpoint.specs.ShortTerm.{by_class_signed, by_signer, indicated_by, or_handed};
 ghost use Rattle.stun_endpoint.specs.ShortTerm.{received_signed, signature_of, signer_of};
 ghost use Rattle.stun_endpoint.specs.ShortTermOutcomes.{short_term_outcome_of};
@@ -166,7 +167,8 @@ impl<A: Allocator + Copy> ShortTermServer<A> {
     /// - An indication is dropped if a request like it would get a 400 or a 401 (`NotSigned`), or if
     ///   it has an attribute that is not understood. Others, and responses, are for you.
     ///
-    /// Fails if an allocation fails. Nothing is lost then, because the client sends again.
+    /// Fails if an allocation fails. Nothing is lost then, because the client sends again. Memory is
+    /// allocated for requests alone.
     pub fn receive<'a>(
         &self,
         bytes: &'a [u8],
@@ -175,6 +177,7 @@ impl<A: Allocator + Copy> ShortTermServer<A> {
     ) -> Result<ShortTermReceived<'a, A>, AllocError>
         ensures received { IfOk result (λ received. short_term_outcome_of received
             ≡ received_signed self.now users.now from bytes.now) }
+        ensures no_memory { is_undropped_request bytes.now ≡ false → IsOk result }
     {
         match read(bytes) {
             Ok((message, has_fingerprint)) => {
@@ -193,8 +196,9 @@ impl<A: Allocator + Copy> ShortTermServer<A> {
         has_fingerprint: bool,
     ) -> Result<ShortTermReceived<'a, A>, AllocError>
         requires { has_fingerprint ≡ is_fingerprinted message }
-        ensures { IfOk result (λ received. short_term_outcome_of received
+        ensures received { IfOk result (λ received. short_term_outcome_of received
             ≡ by_class_signed self.now users.now from message.entry (class_in message.entry)) }
+        ensures no_memory { is_request (class_in message.entry) ≡ false → IsOk result }
     {
         match message.class() {
             MessageClass::Request => self.request(message, from, users, has_fingerprint),

@@ -5,8 +5,8 @@ use Rattle.std.specs.Prelude.{if◌then◌else◌, nat_le, nat_lt}
 use Rattle.std.specs.List.{AllByRecursion}
 use Rattle.std.proofs.lemmas.Bool.{le-leb, lt-ltb, cases_lt}
 use Rattle.std.proofs.lemmas.Bool.Decides.{leb_tells}
-use Rattle.stun_ice.specs.Conflicts.{Side, Sides, Said, Told, Event, Happening}
-use Rattle.stun_ice.specs.Conflicts.{after_all, after_check, after_event, after_one, after_told}
+use Rattle.stun_ice.specs.Conflicts.{Sides, Said, Told, Event, Happening}
+use Rattle.stun_ice.specs.Conflicts.{after_all, after_check, after_event, after_told}
 use Rattle.stun_ice.specs.Conflicts.{answered, at, beginning, rival_of, settled_role, swapped}
 use Rattle.stun_ice.specs.Conflicts.{sends, arrives, hears, of_left, of_right, AreSettled}
 use Rattle.stun_ice.specs.Received.{role_after_outcome}

@@ -1,5 +1,5 @@
 -- An agent, and the checks that it sends (RFC 8445, sections 5.3 and 7.2).
-use Rattle.std.specs.Prelude.{ℕ, List, [], ◌∷◌, Bool, true, false, ◌||◌, ◌&&◌, ◌==◌, not}
+use Rattle.std.specs.Prelude.{ℕ, List, [], Bool, true, false, ◌||◌, ◌&&◌, ◌==◌, not}
 use Rattle.std.specs.Prelude.{length, nat_le, if◌then◌else◌, Option, Some, None}
 use Rattle.std.specs.List.{list_any}
 use Rattle.std.specs.declared.net.socket_addr.SocketAddr.{SocketAddr}

@@ -1,5 +1,5 @@
 -- What a check of the peer comes to (RFC 8489, sections 6.3.1 and 9.1.3; RFC 8445, section 7.3).
-use Rattle.std.specs.Prelude.{◌≡◌, ℕ, List, [], Bool, true, false, not}
+use Rattle.std.specs.Prelude.{◌≡◌, ℕ, List, [], Bool, false, not}
 use Rattle.std.specs.Prelude.{if◌then◌else◌, Option, Some, None}
 use Rattle.std.specs.Option.{is_none}
 use Rattle.std.specs.Str.{bytes_eq}

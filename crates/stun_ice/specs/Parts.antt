@@ -1,6 +1,6 @@
 -- What a check says (RFC 8445, section 7.1), and its answer. Of attributes of one type the first
 -- visible one counts, and a malformed one counts as absent.
-use Rattle.std.specs.Prelude.{ℕ, List, [], ◌∷◌, Bool, true, false, ◌==◌, Option, Some, None}
+use Rattle.std.specs.Prelude.{ℕ, List, [], ◌∷◌, Bool, true, false, ◌==◌, Option}
 use Rattle.std.specs.Option.{is_some, option_and_then, option_map}
 use Rattle.stun_base.specs.Attributes.{ERROR_CODE, USERNAME, XOR_MAPPED_ADDRESS}
 use Rattle.stun_base.specs.Header.{type_field}

@@ -1,6 +1,6 @@
 -- What a datagram comes to (RFC 8445, sections 7.2.5, 7.3 and 11). It is a function of the agent, the
 -- check that may be answered, the source and the datagram.
-use Rattle.std.specs.Prelude.{◌≡◌, ℕ, List, Bool, true, false, if◌then◌else◌, Option, Some, None}
+use Rattle.std.specs.Prelude.{ℕ, List, Bool, true, false, if◌then◌else◌, Option, Some, None}
 use Rattle.std.specs.Option.{is_some}
 use Rattle.std.specs.declared.net.socket_addr.SocketAddr.{SocketAddr}
 use Rattle.stun_base.specs.Header.{header_refusal}
@@ -79,6 +79,13 @@ abbrev pub judgement_of : Agent → Option SentCheck → SocketAddr → List ℕ
 judgement_of a check from bytes =
     if is_some (refusal bytes) then Dropped (no_message bytes)
     else by_fingerprint a check from bytes (fingerprint_in bytes)
+
+-- whether a datagram is judged as a check of the peer: all others get no answer
+abbrev pub is_check : Judgement → Bool
+is_check (Check bytes verdict) = true
+is_check (Response outcome) = false
+is_check (Keepalive bytes) = false
+is_check (Dropped reason) = false
 
 -- ---- what the caller is given
 

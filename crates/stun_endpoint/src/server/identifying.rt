@@ -1,13 +1,13 @@
 //! The two steps of a server whose users are looked up elsewhere (RFC 8489, section 9.2.4).
 
 ghost use Rattle.std.specs.Option.{is_some, option_copied, option_map};
-ghost use Rattle.std.specs.Prelude.{◌≡◌, ◌&&◌, [], IfOk, Some, false, not};
+ghost use Rattle.std.specs.Prelude.{◌≡◌, ◌&&◌, [], IfOk, IsOk, Some, false, not};
 ghost use Rattle.std.specs.Str.{bytes_eq};
 ghost use Rattle.stun_auth.specs.Handed.{named_seen};
 ghost use Rattle.stun_auth.specs.Judged.{client_judged};
 ghost use Rattle.stun_auth.specs.Reading.{reading_of};
 ghost use Rattle.stun_auth.specs.Server.{their_nonce, verdict};
-ghost use Rattle.stun_base.specs.MessageType.{class_in};
+ghost use Rattle.stun_base.specs.MessageType.{class_in, is_request};
 ghost use Rattle.stun_endpoint.specs.Answers.{is_fingerprinted};
 ghost use Rattle.stun_endpoint.specs.Identified.{identification_of};
 ghost use Rattle.stun_endpoint.specs.Judged.{realm_of_user};
@@ -17,6 +17,7 @@ ghost use Rattle.stun_endpoint.specs.Lookups.{waiting_by_class, waits_for};
 ghost use Rattle.stun_endpoint.specs.Nonces.{epoch_of, nonce_in};
 ghost use Rattle.stun_endpoint.specs.Outcomes.{outcome_of};
 ghost use Rattle.stun_endpoint.specs.Received.{is_wrong, received_by};
+ghost use Rattle.stun_endpoint.specs.Responding.{is_undropped_request};
 ghost use Rattle.stun_endpoint.specs.Settings.{registered_of};
 ghost use Rattle.stun_endpoint.specs.code.Judges.{realm_of};
 ghost use Rattle.stun_endpoint.specs.code.Waiting.{IsWaiting, is_stale};
@@ -59,7 +60,8 @@ impl<A: Allocator + Copy> Server<A> {
     /// So an attacker who invents a nonce, or who forges a source address and has not seen a nonce of
     /// that address, causes no look-up: the nonces of an address are only sent to that address.
     ///
-    /// Fails if an allocation fails. Nothing is lost then, because the client sends again.
+    /// Fails if an allocation fails. Nothing is lost then, because the client sends again. Memory is
+    /// allocated for requests alone.
     ///
     /// Contracts: laws `identify_needs_no_user`, `lookups_have_accepted_nonces` and
     /// `resume_is_receive_with_all_users`.
@@ -69,8 +71,9 @@ impl<A: Allocator + Copy> Server<A> {
         from: SocketAddr,
         now: UnixTime,
     ) -> Result<Identified<'a, A>, AllocError>
-        ensures { IfOk result (λ identified. identification_of identified
+        ensures identified { IfOk result (λ identified. identification_of identified
             ≡ identified_by self.now from now bytes.now) }
+        ensures no_memory { is_undropped_request bytes.now ≡ false → IsOk result }
     {
         let Ok(message) = Message::from_bytes(bytes) else {
             return Ok(Identified::Done(Received::Dropped(no_message(bytes))));
@@ -119,9 +122,10 @@ impl<A: Allocator + Copy> Server<A> {
         requires read { is_some (refusal message) ≡ false }
         requires right { is_wrong (fingerprint_in message) ≡ false }
         requires fingerprint { has_fingerprint ≡ is_fingerprinted message }
-        ensures { IfOk result (λ identified. identification_of identified
+        ensures identified { IfOk result (λ identified. identification_of identified
             ≡ identified_as self.now from now message.entry
             (waiting_by_class self.now from now message.entry (class_in message.entry))) }
+        ensures no_memory { is_request (class_in message.entry) ≡ false → IsOk result }
     {
         match message.class() {
             MessageClass::Request => self.identified_request(message, from, now, has_fingerprint),

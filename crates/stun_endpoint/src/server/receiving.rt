@@ -1,12 +1,12 @@
 //! What a datagram comes to (RFC 8489, sections 6.3 and 9.2.4).
 
 ghost use Rattle.std.specs.Option.{option_copied};
-ghost use Rattle.std.specs.Prelude.{◌≡◌, ◌≤◌, ◌∷◌, IfOk, OnOk, true, length, map};
-ghost use Rattle.std.specs.Prelude.{if◌then◌else◌};
+ghost use Rattle.std.specs.Prelude.{◌≡◌, ◌≤◌, ◌∷◌, IfOk, IsOk, OnOk, false, true};
+ghost use Rattle.std.specs.Prelude.{length, map, if◌then◌else◌};
 ghost use Rattle.stun_auth.specs.AddedAttribute as added;
 ghost use Rattle.stun_auth.specs.Algorithms.{algorithms_of};
 ghost use Rattle.stun_auth.specs.Reading.{reading_of};
-ghost use Rattle.stun_base.specs.MessageType.{class_in};
+ghost use Rattle.stun_base.specs.MessageType.{class_in, is_request};
 ghost use Rattle.stun_endpoint.specs.Answers.{challenge_page, is_fingerprinted, offered};
 ghost use Rattle.stun_endpoint.specs.Answers.{with_attributes};
 ghost use Rattle.stun_endpoint.specs.Judged.{judged, realm_of_table, realm_of_user};
@@ -18,7 +18,8 @@ ghost use Rattle.stun_endpoint.specs.Received.{challenge_answer, dropped, indica
 ghost use Rattle.stun_endpoint.specs.Received.{outcome_of_accepted, received_by, refused_with};
 ghost use Rattle.stun_endpoint.specs.Received.{responding_of, signature_for};
 ghost use Rattle.stun_endpoint.specs.Refusals.{code_of, phrase_of};
-ghost use Rattle.stun_endpoint.specs.Responding.{own_answer, refusal_by, reply_by};
+ghost use Rattle.stun_endpoint.specs.Responding.{is_undropped_request, own_answer, refusal_by};
+ghost use Rattle.stun_endpoint.specs.Responding.{reply_by};
 ghost use Rattle.stun_endpoint.specs.code.Judgements.{by_judgement};
 ghost use Rattle.stun_endpoint.specs.code.Judges.{realm_of};
 ghost use Rattle.stun_extra.specs.Unknown.{unknown_types};
@@ -50,14 +51,15 @@ impl<A: Allocator + Copy> Server<A> {
     ///
     /// - Bytes that are no message, or have a wrong FINGERPRINT, are dropped.
     /// - A request is judged first, and its attributes are looked at then. It gets a 401 if it is not
-    ///   signed, or not by one of these users; a 438 if its nonce is not accepted; a 400 if it is
-    ///   malformed, or its algorithms are not those that were offered with the current nonce; a 420,
-    ///   which is signed, if it has an attribute that is not understood; and the answer to Binding if
-    ///   the server is to give it. All others are for you.
+    ///   signed, or not by one of these users; a 438 if its nonce is not accepted, or a 401 if that
+    ///   has other security bits; a 400 if it is malformed, or its algorithms are not those that were
+    ///   offered with the current nonce; a 420, which is signed, if it has an attribute that is not
+    ///   understood; and the answer to Binding if the server is to give it. All others are for you.
     /// - An indication with an attribute that is not understood is dropped. Others, and responses,
     ///   are for you.
     ///
-    /// Fails if an allocation fails. Nothing is lost then, because the client sends again.
+    /// Fails if an allocation fails. Nothing is lost then, because the client sends again. Memory is
+    /// allocated for requests alone.
     pub fn receive<'a>(
         &self,
         bytes: &'a [u8],
@@ -67,6 +69,7 @@ impl<A: Allocator + Copy> Server<A> {
     ) -> Result<Received<'a, A>, AllocError>
         ensures received { IfOk result (λ received. outcome_of received
             ≡ received_by self.now (realm_of_table users.now) from now bytes.now) }
+        ensures no_memory { is_undropped_request bytes.now ≡ false → IsOk result }
     {
         self.received(bytes, from, now, &Judges::Table(&users.auth))
     }
@@ -75,7 +78,8 @@ impl<A: Allocator + Copy> Server<A> {
     /// no such user. The result is that of `receive` with a table of all users, if the user is the
     /// one whom the request names.
     ///
-    /// Fails if an allocation fails. Nothing is lost then, because the client sends again.
+    /// Fails if an allocation fails. Nothing is lost then, because the client sends again. Memory is
+    /// allocated for requests alone.
     pub fn receive_for<'a>(
         &'a self,
         bytes: &'a [u8],
@@ -86,6 +90,7 @@ impl<A: Allocator + Copy> Server<A> {
         ensures received { IfOk result (λ received. outcome_of received
             ≡ received_by self.now (realm_of_user self.now (option_copied user.entry)) from now
             bytes.now) }
+        ensures no_memory { is_undropped_request bytes.now ≡ false → IsOk result }
     {
         match user {
             Some(user) => self.received(bytes, from, now, &Judges::User(&self.auth, user)),
@@ -101,8 +106,9 @@ impl<A: Allocator + Copy> Server<A> {
         now: UnixTime,
         judges: &Judges<'a, A>,
     ) -> Result<Received<'a, A>, AllocError>
-        ensures { IfOk result (λ received. outcome_of received
+        ensures received { IfOk result (λ received. outcome_of received
             ≡ received_by self.now (realm_of judges.now) from now bytes.now) }
+        ensures no_memory { is_undropped_request bytes.now ≡ false → IsOk result }
     {
         let Ok(message) = Message::from_bytes(bytes) else {
             return Ok(Received::Dropped(no_message(bytes)));
@@ -127,6 +133,7 @@ impl<A: Allocator + Copy> Server<A> {
         requires { has_fingerprint ≡ is_fingerprinted message }
         ensures received { IfOk result (λ received. outcome_of received
             ≡ by_class self.now (realm_of judges.now) from now message.entry (class_in message.entry)) }
+        ensures no_memory { is_request (class_in message.entry) ≡ false → IsOk result }
     {
         match message.class() {
             MessageClass::Request => self.request(message, from, now, judges, has_fingerprint),

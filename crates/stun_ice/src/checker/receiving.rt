@@ -1,11 +1,11 @@
 //! What a datagram comes to (RFC 8445, sections 7.2.5, 7.3 and 11).
 
 ghost use Rattle.std.specs.Option.{option_copied};
-ghost use Rattle.std.specs.Prelude.{◌≡◌, ◌↔◌, IfOk, OnErr, OnOk};
+ghost use Rattle.std.specs.Prelude.{◌≡◌, ◌↔◌, IfOk, IsOk, OnErr, OnOk, false};
 ghost use Rattle.stun_base.specs.MessageType.{class_in};
 ghost use Rattle.stun_ice.specs.Checks.{verdict_of};
 ghost use Rattle.stun_ice.specs.Received.{by_class, by_fingerprint, by_response, given, given_of};
-ghost use Rattle.stun_ice.specs.Received.{judgement_of, no_message, of_indication};
+ghost use Rattle.stun_ice.specs.Received.{is_check, judgement_of, no_message, of_indication};
 ghost use Rattle.stun_ice.specs.Received.{role_after_outcome, role_left};
 ghost use Rattle.stun_ice.specs.Told.{IsAcceptedCheck, IsValidAnswer, TellsAccepted, TellsValid};
 
@@ -153,6 +153,7 @@ impl<A: Allocator + Copy> Checker<A> {
     /// - An indication with an attribute that must be understood and is not is dropped.
     ///
     /// Fails if an allocation fails. The role is then unchanged, and the peer sends its check again.
+    /// Memory is allocated for the answer to a check alone.
     pub fn receive<'a>(
         &mut self,
         bytes: &'a [u8],
@@ -168,6 +169,8 @@ impl<A: Allocator + Copy> Checker<A> {
             ↔ IsAcceptedCheck self.old bytes.now) }
         ensures valid { IfOk result (λ received. TellsValid (given_of received)
             ↔ IsValidAnswer self.old (option_copied check.entry) from bytes.now) }
+        ensures no_memory { is_check (judgement_of self.old (option_copied check.entry) from
+            bytes.now) ≡ false → IsOk result }
         ensures role { OnOk result (self.new ≡ record self.old {
           role = role_left self.old.role
               (judgement_of self.old (option_copied check.entry) from bytes.now);
@@ -187,6 +190,8 @@ impl<A: Allocator + Copy> Checker<A> {
         ensures received { IfOk result (λ received. given_of received
             ≡ given self.old from (judgement_of self.old (option_copied check.entry) from
             bytes.now)) }
+        ensures no_memory { is_check (judgement_of self.old (option_copied check.entry) from
+            bytes.now) ≡ false → IsOk result }
         ensures role { OnOk result (self.new ≡ record self.old {
           role = role_left self.old.role
               (judgement_of self.old (option_copied check.entry) from bytes.now);

@@ -1,6 +1,7 @@
 -- Which challenge new requests are signed for, and which one a success has confirmed last. This is
 -- the library's own rule: RFC 8489 does not say what a client does after a forged challenge.
-use Rattle.std.specs.Prelude.{Bool, true, false, if◌then◌else◌, Option, Some, None}
+use Rattle.std.specs.Prelude.{◌≡◌, List, [], ◌∷◌, Bool, true, false, ◌&&◌, if◌then◌else◌}
+use Rattle.std.specs.Prelude.{Option, Some, None, ⊤}
 use Rattle.std.specs.Option.{is_some}
 use Rattle.stun_client.specs.Challenges.{Answered, is_one, is_weaker}
 
@@ -51,3 +52,31 @@ abbrev pub after_answer : StandingSeen → Answered → StandingSeen
 after_answer s c =
     if is_one (Some c) s.current then s
     else record { current = Some c; is_validated = false; validated = confirmed s }
+
+-- ---- what follows
+
+-- a challenge is answered, or a request under a challenge succeeds or times out
+pub data Event : Type 0 where
+  answers : Answered → Event
+  succeeds : Option Answered → Event
+  times_out : Option Answered → Event
+
+abbrev pub after_event : StandingSeen → Event → StandingSeen
+after_event s (answers c) = after_answer s c
+after_event s (succeeds c) = after_success s c
+after_event s (times_out c) = after_timeout s c
+
+abbrev pub after_events : StandingSeen → List Event → StandingSeen
+after_events s [] = s
+after_events s (e ∷ es) = after_events (after_event s e) es
+
+-- no ignored challenge is answered, and no request under a confirmed challenge times out
+abbrev pub IsUsual : StandingSeen → Event → Type 0
+IsUsual s (answers c) = is_ignored s c ≡ false
+IsUsual s (succeeds c) = ⊤
+IsUsual s (times_out c) = (s.is_validated && is_standing s c) ≡ false
+
+-- the same of each event after those before it
+abbrev pub AreUsual : StandingSeen → List Event → Type 0
+AreUsual s [] = ⊤
+AreUsual s (e ∷ es) = IsUsual s e × AreUsual (after_event s e) es

@@ -1,5 +1,5 @@
--- A challenge that is weaker than the confirmed one is weaker than the next confirmed one too, because
--- no weaker challenge is answered in between.
+-- A challenge that is weaker than the confirmed one is weaker than the next confirmed one too,
+-- because no weaker challenge is answered in between.
 use Rattle.std.proofs.Common.{◌≡◌, ◌⊎◌, inl, inr, Bool, true, false, List, [], ◌∷◌}
 use Rattle.std.proofs.Common.{Option, Some, None, cond, refl, ◌∙◌, ap, sym}
 use Rattle.std.specs.Prelude.{◌&&◌, ◌||◌, not}
@@ -8,8 +8,8 @@ use Rattle.stun_auth.specs.Algorithms.{is_sha256}
 use Rattle.stun_auth.specs.Client.{Challenge}
 use Rattle.stun_auth.specs.Signed.{plain_name}
 use Rattle.stun_client.specs.Challenges.{Answered, is_one, is_weaker}
-use Rattle.stun_client.specs.Standing.{AreUsual, Event, IsUsual, StandingSeen, after_answer}
-use Rattle.stun_client.specs.Standing.{after_event, after_events, after_success, after_timeout}
+use Rattle.stun_client.specs.Standing.{AreUsualEvents, StandingEvent, IsUsualEvent, StandingSeen, after_answer}
+use Rattle.stun_client.specs.Standing.{standing_after, standing_after_all, after_success, after_timeout}
 use Rattle.stun_client.specs.Standing.{answers, confirmed, is_ignored, is_standing, is_weaker_than}
 use Rattle.stun_client.specs.Standing.{succeeds, times_out}
 
@@ -114,10 +114,10 @@ module _ (c : Answered) (s : StandingSeen) (h : Holds c s) where
     where
       by : (v b : Bool) → s.is_validated ≡ v → (v && b) ≡ false
           → Holds c (cond b (record {
-        current = s.validated;
-        is_validated = is_some s.validated;
-        validated = None;
-      }) s)
+            current = s.validated;
+            is_validated = is_some s.validated;
+            validated = None;
+          }) s)
       by v false is usual = h
       by true true is usual = cc
       by false true is usual = record {
@@ -126,21 +126,21 @@ module _ (c : Answered) (s : StandingSeen) (h : Holds c s) where
         strong = ap (is_weak s.validated) (back s.validated) ∙ not_weaker_than_itself s.validated;
       }
 
-  after_one : (e : Event) → IsUsual s e → Holds c (after_event s e)
+  after_one : (e : StandingEvent) → IsUsualEvent s e → Holds c (standing_after s e)
   after_one (answers d) usual = answered d usual
   after_one (succeeds d) usual = succeeded d
   after_one (times_out d) usual = timed_out d usual
 
 -- ---- all events
 
-after_all : (c : Answered) (s : StandingSeen) (events : List Event) → Holds c s → AreUsual s events
-    → Holds c (after_events s events)
+after_all : (c : Answered) (s : StandingSeen) (events : List StandingEvent) → Holds c s → AreUsualEvents s events
+    → Holds c (standing_after_all s events)
 after_all c s [] h usual = h
-after_all c s (e ∷ es) h usual = after_all c (after_event s e) es (after_one c s h e usual.0) usual.1
+after_all c s (e ∷ es) h usual = after_all c (standing_after s e) es (after_one c s h e usual.0) usual.1
 
-pub stays_ignored : (s : StandingSeen) (events : List Event) (c : Answered)
-    → s.is_validated ≡ true → is_ignored s c ≡ true → AreUsual s events
-    → is_ignored (after_events s events) c ≡ true
+pub stays_ignored : (s : StandingSeen) (events : List StandingEvent) (c : Answered)
+    → s.is_validated ≡ true → is_ignored s c ≡ true → AreUsualEvents s events
+    → is_ignored (standing_after_all s events) c ≡ true
 stays_ignored s events c validated ignored usual = (after_all c s events first usual).ignored
   where
     first : Holds c s

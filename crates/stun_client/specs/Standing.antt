@@ -56,27 +56,27 @@ after_answer s c =
 -- ---- what follows
 
 -- a challenge is answered, or a request under a challenge succeeds or times out
-pub data Event : Type 0 where
-  answers : Answered → Event
-  succeeds : Option Answered → Event
-  times_out : Option Answered → Event
+pub data StandingEvent : Type 0 where
+  answers : Answered → StandingEvent
+  succeeds : Option Answered → StandingEvent
+  times_out : Option Answered → StandingEvent
 
-abbrev pub after_event : StandingSeen → Event → StandingSeen
-after_event s (answers c) = after_answer s c
-after_event s (succeeds c) = after_success s c
-after_event s (times_out c) = after_timeout s c
+abbrev pub standing_after : StandingSeen → StandingEvent → StandingSeen
+standing_after s (answers c) = after_answer s c
+standing_after s (succeeds c) = after_success s c
+standing_after s (times_out c) = after_timeout s c
 
-abbrev pub after_events : StandingSeen → List Event → StandingSeen
-after_events s [] = s
-after_events s (e ∷ es) = after_events (after_event s e) es
+abbrev pub standing_after_all : StandingSeen → List StandingEvent → StandingSeen
+standing_after_all s [] = s
+standing_after_all s (e ∷ es) = standing_after_all (standing_after s e) es
 
 -- no ignored challenge is answered, and no request under a confirmed challenge times out
-abbrev pub IsUsual : StandingSeen → Event → Type 0
-IsUsual s (answers c) = is_ignored s c ≡ false
-IsUsual s (succeeds c) = ⊤
-IsUsual s (times_out c) = (s.is_validated && is_standing s c) ≡ false
+abbrev pub IsUsualEvent : StandingSeen → StandingEvent → Type 0
+IsUsualEvent s (answers c) = is_ignored s c ≡ false
+IsUsualEvent s (succeeds c) = ⊤
+IsUsualEvent s (times_out c) = (s.is_validated && is_standing s c) ≡ false
 
 -- the same of each event after those before it
-abbrev pub AreUsual : StandingSeen → List Event → Type 0
-AreUsual s [] = ⊤
-AreUsual s (e ∷ es) = IsUsual s e × AreUsual (after_event s e) es
+abbrev pub AreUsualEvents : StandingSeen → List StandingEvent → Type 0
+AreUsualEvents s [] = ⊤
+AreUsualEvents s (e ∷ es) = IsUsualEvent s e × AreUsualEvents (standing_after s e) es

@@ -212,7 +212,7 @@ fn a_forged_list_is_not_confirmed_by_a_success_under_the_true_one() {
     let second = binding(&mut client, now);
     let second_bytes = sent(&mut client, now);
 
-    // The attacker reads the server's answer to the first request, and sends another one in its place.
+    // The attacker reads the server's answer to the first request, and sends another in its place.
     let answer = service.answer(&first_bytes, from, now);
     let true_answer = Message::from_bytes(answer.bytes()).unwrap();
     let request = Message::from_bytes(&first_bytes).unwrap();

@@ -9,7 +9,7 @@ use Rattle.stun_base.specs.declared.keys.algorithm.IntegrityAlgorithm.{Integrity
 use Rattle.stun_base.specs.declared.keys.algorithm.IntegrityAlgorithm.TheVariants.{Sha1, Sha256}
 use Rattle.stun_types.specs.Integrity.{verified_algorithm}
 use Rattle.stun_auth.specs.Client.{Challenge}
-use Rattle.stun_client.specs.Challenges.{Answered, is_one}
+use Rattle.stun_client.specs.Challenges.{Answered, challenge_of, is_one}
 use Rattle.stun_client.specs.Challenging.{is_challenge}
 use Rattle.stun_client.specs.Judging.{Identity, IsAnsweredAnew, IsBelievable, answered_in}
 use Rattle.stun_client.specs.Judging.{anew, believed, by_key, by_signature, by_sole_algorithm, dropped}
@@ -134,6 +134,12 @@ challenge_anew true weak d c is = cc
 challenge_anew false true d c is = cc
 challenge_anew false false d c is = (refl, refl, cc)
 
+-- a challenge that is read is of the preferences that it is read by
+own_preferences : (p : Preferences) (is : Option Challenge) (c : Answered)
+    → option_map (with_preferences p) is ≡ Some c → c.preferences ≡ p
+own_preferences p None c read = cc
+own_preferences p (Some d) c read = cc
+
 long_term_anew : (who : NameAndPassword) (p : Preferences) (accepts : Bool)
     (standing : StandingSeen) (before : Option Answered) (bytes : List ℕ) (c : Answered)
     → judged_by_long_term accepts p who standing before bytes ≡ anew (Some c)
@@ -151,6 +157,9 @@ long_term_anew who p accepts standing before bytes c =
         let was = challenge_anew (is_one (Some d) before) (is_ignored standing d) d c is in
         record {
           challenge = read ∙ ap (λ x. Some x) was.2;
+          own = own_preferences p (challenge_of p who
+              (option_map (λ (b : Answered). b.challenge) before) bytes) c
+              (read ∙ ap (λ x. Some x) was.2);
           new = subst (λ x. is_one (Some x) before ≡ false) was.2 was.0;
           strong = subst (λ x. is_ignored standing x ≡ false) was.2 was.1;
         }

@@ -5,3 +5,4 @@ pub mod ClientLemmas
 pub mod JudgingLemmas
 pub mod RequestLemmas
 pub mod SigningLemmas
+pub mod StandingLemmas

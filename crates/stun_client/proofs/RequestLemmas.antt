@@ -11,8 +11,8 @@ use Rattle.std.specs.Prelude.{Err, Ok, OnOk, Result}
 use Rattle.std.specs.Result.{is_err}
 use Rattle.std.specs.declared.cmp.Ordering.{Ordering}
 use Rattle.std.specs.declared.cmp.Ordering.TheVariants.{Less, Equal, Greater}
-use Rattle.stun_client.specs.Requests.{AllAsked, AskedSeen, IsOver, IsSole, at}
-use Rattle.stun_client.specs.code.Requests.{AreNumbered, IsWith, IsWithout, parts_renewed}
+use Rattle.stun_client.specs.Requests.{AllAsked, AskedSeen, IsMoved, IsOver, IsSole, IsWith, IsWithout, at}
+use Rattle.stun_client.specs.code.Requests.{AreNumbered, parts_renewed}
 
 -- ---- keys
 
@@ -146,6 +146,11 @@ renewed_at : (id new_id : ℕ) (v : AskedSeen) (m l n : AllAsked) → IsWith new
 renewed_at id new_id v m l n with without k a here =
     let was = left_at id l n without k a here in
     (was.0, put_at new_id v m l with k a was.1)
+
+pub moved_at : (id new_id : ℕ) (v : AskedSeen) (m l n : AllAsked) → IsWith new_id v m l
+    → IsWithout id l n → IsMoved id new_id v m n
+moved_at id new_id v m l n with without k =
+    without k ∙ ap (cond (is_at (nat_cmp id) k) None) (with k)
 
 -- a request that is renewed has the number that it had
 its_number : (v : AskedSeen) (found : Option AskedSeen)

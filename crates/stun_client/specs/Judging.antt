@@ -151,10 +151,12 @@ IsBelievable (long_term who p accepts_unsigned) None bytes by =
 IsBelievable (long_term who p accepts_unsigned) (Some c) bytes by =
     (a : IntegrityAlgorithm) × ((by ≡ Some a) × (verified_algorithm bytes c.challenge.key ≡ Some a))
 
--- a request is sent again for a challenge: the one of the response by the rule, which is not the one
--- that the request was signed for, nor weaker than what a success has confirmed
+-- a request is sent again for a challenge: the one of the response by the rule and by the client's own
+-- preferences, which is not the one that the request was signed for, nor weaker than what a success
+-- has confirmed
 pub record IsAnsweredAnew (p : Preferences) (who : NameAndPassword) (standing : StandingSeen)
     (before : Option Answered) (bytes : List ℕ) (c : Answered) : Type 0 where
   pub challenge : answered_in p who before bytes ≡ Some c
+  pub own : c.preferences ≡ p
   pub new : is_one (Some c) before ≡ false
   pub strong : is_ignored standing c ≡ false

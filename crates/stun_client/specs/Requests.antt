@@ -39,6 +39,21 @@ pub record RequestsSeen : Type 0 where
 abbrev pub at : ℕ → AllAsked → Option AskedSeen
 at id all = lookup (is_at (nat_cmp id)) all
 
+-- n is m with a request at an ID, and the others as they were
+abbrev pub IsWith : ℕ → AskedSeen → AllAsked → AllAsked → Type 0
+IsWith id v m n = (q : ℕ) → at q n ≡ (if is_at (nat_cmp id) q then Some v else at q m)
+
+-- n is m without the request at an ID, and the others as they were
+abbrev pub IsWithout : ℕ → AllAsked → AllAsked → Type 0
+IsWithout id m n = (q : ℕ) → at q n ≡ (if is_at (nat_cmp id) q then None else at q m)
+
+-- n is m with a request at a new ID in place of the one at an ID, and the others as they were
+abbrev pub IsMoved : ℕ → ℕ → AskedSeen → AllAsked → AllAsked → Type 0
+IsMoved id new_id v m n = (q : ℕ) → at q n
+    ≡ (if is_at (nat_cmp id) q then None
+    else if is_at (nat_cmp new_id) q then Some v
+    else at q m)
+
 -- no request with another transaction ID has this number
 abbrev pub IsSole : ℕ → ℕ → AllAsked → Type 0
 IsSole number id all = (other : ℕ) (a : AskedSeen) → at other all ≡ Some a → a.number ≡ number
@@ -84,11 +99,14 @@ start_refusal s id =
     if is_some (at id s.asked) then Some IdTaken
     else if s.next == LAST_NUMBER then Some NoNumber else None
 
+abbrev pub asked_first : RequestsSeen → ℕ → Option Answered → AskedSeen
+asked_first s method signed_for =
+    record { number = s.next; method = method; signed_for = signed_for; challenges = 0 }
+
 abbrev pub after_start : RequestsSeen → ℕ → ℕ → Option Answered → RequestsSeen
 after_start s method id signed_for = record s {
   next = s.next + 1;
-  asked = insert_entry nat_cmp s.asked id
-      (record { number = s.next; method = method; signed_for = signed_for; challenges = 0 });
+  asked = insert_entry nat_cmp s.asked id (asked_first s method signed_for);
 }
 
 -- ---- sending again for a challenge

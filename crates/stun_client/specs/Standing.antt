@@ -1,6 +1,7 @@
 -- Which challenge new requests are signed for, and which one a success has confirmed last. This is
 -- the library's own rule: RFC 8489 does not say what a client does after a forged challenge.
-use Rattle.std.specs.Prelude.{Bool, true, false, if◌then◌else◌, Option, Some, None}
+use Rattle.std.specs.Prelude.{◌≡◌, List, [], ◌∷◌, Bool, true, false, ◌&&◌, if◌then◌else◌}
+use Rattle.std.specs.Prelude.{Option, Some, None, ⊤}
 use Rattle.std.specs.Option.{is_some}
 use Rattle.stun_client.specs.Challenges.{Answered, is_one, is_weaker}
 
@@ -51,3 +52,31 @@ abbrev pub after_answer : StandingSeen → Answered → StandingSeen
 after_answer s c =
     if is_one (Some c) s.current then s
     else record { current = Some c; is_validated = false; validated = confirmed s }
+
+-- ---- what follows
+
+-- a challenge is answered, or a request under a challenge succeeds or times out
+pub data StandingEvent : Type 0 where
+  answers : Answered → StandingEvent
+  succeeds : Option Answered → StandingEvent
+  times_out : Option Answered → StandingEvent
+
+abbrev pub standing_after : StandingSeen → StandingEvent → StandingSeen
+standing_after s (answers c) = after_answer s c
+standing_after s (succeeds c) = after_success s c
+standing_after s (times_out c) = after_timeout s c
+
+abbrev pub standing_after_all : StandingSeen → List StandingEvent → StandingSeen
+standing_after_all s [] = s
+standing_after_all s (e ∷ es) = standing_after_all (standing_after s e) es
+
+-- no ignored challenge is answered, and no request under a confirmed challenge times out
+abbrev pub IsUsualEvent : StandingSeen → StandingEvent → Type 0
+IsUsualEvent s (answers c) = is_ignored s c ≡ false
+IsUsualEvent s (succeeds c) = ⊤
+IsUsualEvent s (times_out c) = (s.is_validated && is_standing s c) ≡ false
+
+-- the same of each event after those before it
+abbrev pub AreUsualEvents : StandingSeen → List StandingEvent → Type 0
+AreUsualEvents s [] = ⊤
+AreUsualEvents s (e ∷ es) = IsUsualEvent s e × AreUsualEvents (standing_after s e) es

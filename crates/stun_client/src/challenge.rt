@@ -96,7 +96,7 @@ impl<A: Allocator + Copy> Challenge<A> {
     /// of algorithms alone: if the message is signed with that challenge's key, its list stands in
     /// for the missing one.
     ///
-    /// Fails if an allocation fails. It allocates for a challenge that the rule does not ignore alone.
+    /// Fails if an allocation fails. It allocates only for a challenge that the rule does not ignore.
     #[tactic(auto, using(crate::proofs::ChosenLemmas::challenge_is))]
     pub fn of(
         alloc: A,

@@ -94,8 +94,8 @@ impl<A: Allocator + Copy> Client<A> {
     /// is the same in both spellings, `a.b.c.d` and `::ffff:a.b.c.d`. A response is judged by the
     /// credentials (see `Credentials::judge`).
     ///
-    /// Fails if an allocation fails. It allocates alone for a response to an outstanding request,
-    /// with long-term credentials, that is a challenge which the rule does not ignore.
+    /// Fails if an allocation fails. It allocates only with long-term credentials, for a response to
+    /// an outstanding request that is a challenge which the rule does not ignore.
     pub fn receive<'a>(&self, bytes: &'a [u8], from: SocketAddr) -> Result<Heard<'a, A>, AllocError>
         ensures heard { IfOk result (λ given. heard_of given ≡ heard self.now from bytes.now) }
         ensures ours { heard self.now from bytes.now ≡ not_ours → IsOk result }

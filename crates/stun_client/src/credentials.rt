@@ -76,8 +76,8 @@ impl<A: Allocator + Copy> Credentials<A> {
     ///   with (section 9.2.5). If the request was not signed, the response is dropped, unless
     ///   unsigned responses are accepted.
     ///
-    /// Fails if an allocation fails. It allocates alone with long-term credentials, for a challenge
-    /// that the rule does not ignore (see `Challenge`).
+    /// Fails if an allocation fails. It allocates only with long-term credentials, for a challenge
+    /// that is not damaged and that the rule does not ignore (see `Challenge`).
     pub fn judge(
         &self,
         alloc: A,

@@ -16,7 +16,8 @@ ghost use Rattle.stun_client.specs.Downgrade.{IsNowhereBidDown, IsUpToDate};
 ghost use Rattle.stun_client.specs.Judging.{IsAnsweredAnew, IsBelievable, Identity, anew, believed};
 ghost use Rattle.stun_client.specs.Judging.{judged, long_term};
 ghost use Rattle.stun_client.specs.Rule.{IsByRule, IsChosen};
-ghost use Rattle.stun_client.specs.Standing.{StandingSeen};
+ghost use Rattle.stun_client.specs.Standing.{AreUsualEvents, StandingEvent, StandingSeen};
+ghost use Rattle.stun_client.specs.Standing.{is_ignored, standing_after_all};
 ghost use Rattle.stun_client.specs.declared.preferences.Preferences.{Preferences as ThePreferences};
 
 /// Each challenge of a message is by the rule, whatever challenge was there before, and has realm,
@@ -65,6 +66,14 @@ pub fn requests_are_sent_again_for_new_challenges()
         (standing : StandingSeen) (before : Option Answered) (bytes : List ℕ) (c : Answered)
         → judged (long_term who p accepts_unsigned) standing before bytes ≡ anew (Some c)
         → IsAnsweredAnew p who standing before bytes c }
+{}
+
+/// From a success until a request under the confirmed challenge times out, a challenge that is
+/// weaker than the confirmed one stays ignored, whatever else is answered, succeeds or times out.
+pub fn weaker_challenges_stay_ignored()
+    ensures { (s : StandingSeen) (events : List StandingEvent) (c : Answered) → s.is_validated ≡ true
+        → is_ignored s c ≡ true → AreUsualEvents s events
+        → is_ignored (standing_after_all s events) c ≡ true }
 {}
 
 /// A datagram ends a request only if it answers it: it came from the server, it has the transaction

@@ -8,9 +8,9 @@ ghost use Rattle.std.specs.Prelude.{Err, None, Some, IfSome, length};
 ghost use Rattle.stun_client.specs.Requests.{IsOver, after_end, after_renewal};
 ghost use Rattle.stun_client.specs.Requests.{after_replacing, after_start, answered, at, is_answer};
 ghost use Rattle.stun_client.specs.Requests.{new_requests, renewal_refusal};
-ghost use Rattle.stun_client.specs.Requests.{IsSole, renewal_refusal_of};
-ghost use Rattle.stun_client.specs.Requests.{start_refusal};
-ghost use Rattle.stun_client.specs.code.Requests.{IsWith, IsWithout, parts_renewed};
+ghost use Rattle.stun_client.specs.Requests.{IsMoved, IsSole, IsWith, IsWithout, asked_first};
+ghost use Rattle.stun_client.specs.Requests.{renewal_refusal_of, renewed, start_refusal};
+ghost use Rattle.stun_client.specs.code.Requests.{parts_renewed};
 
 use crate::challenge::Challenge;
 use std::alloc::{AllocError, Allocator, Global};
@@ -173,6 +173,8 @@ impl<A: Allocator + Copy> Requests<A> {
         ensures number { IfOk result (λ number. number ≡ self.old.next) }
         ensures after { OnOk result (self.new ≡ after_start self.old method id signed_for) }
         ensures same { OnErr result (self.new ≡ self.old) }
+        ensures with { OnOk result (IsWith id (asked_first self.old method signed_for)
+            self.old.asked self.new.asked) }
         ensures over { (number : ℕ) → IsOver number self.old → IsOver number self.new }
     {
         match self.start_refusal(id) {
@@ -206,6 +208,8 @@ impl<A: Allocator + Copy> Requests<A> {
         ensures number { IfOk result (λ number. number ≡ self.old.next) }
         ensures after { OnOk result (self.new ≡ after_start self.old method id signed_for) }
         ensures same { OnErr result (self.new ≡ self.old) }
+        ensures with { OnOk result (IsWith id (asked_first self.old method signed_for)
+            self.old.asked self.new.asked) }
         ensures over { (number : ℕ) → IsOver number self.old → IsOver number self.new }
     {
         let number = self.next;
@@ -242,6 +246,8 @@ impl<A: Allocator + Copy> Requests<A> {
             (IsOkUnless result RequestRefusal.OutOfMemory) (λ refusal. result ≡ Err refusal) }
         ensures after { OnOk result (self.new ≡ after_renewal self.old id new_id signed_for) }
         ensures same { OnErr result (self.new ≡ self.old) }
+        ensures moved { OnOk result (IfSome (at id self.old.asked)
+            (λ a. IsMoved id new_id (renewed a signed_for) self.old.asked self.new.asked)) }
         ensures over { (number : ℕ) → IsOver number self.old → IsOver number self.new }
     {
         match self.renewal_of(id, new_id) {
@@ -331,6 +337,8 @@ impl<A: Allocator + Copy> Requests<A> {
         ensures refused { IsOkUnless result RequestRefusal.OutOfMemory }
         ensures after { OnOk result (self.new ≡ after_replacing self.old id new_id renewed) }
         ensures same { OnErr result (self.new ≡ self.old) }
+        ensures moved { OnOk result
+            (IsMoved id new_id renewed self.old.asked self.new.asked) }
         ensures over { (number : ℕ) → IsOver number self.old → IsOver number self.new }
     {
         if put(&mut self.asked, new_id, renewed).is_err() {
@@ -345,6 +353,7 @@ impl<A: Allocator + Copy> Requests<A> {
     pub fn end(&mut self, id: TransactionId) -> Option<Asked<A>>
         ensures ended { result ≡ at id self.old.asked }
         ensures after { self.new ≡ after_end self.old id }
+        ensures without { IsWithout id self.old.asked self.new.asked }
         ensures over { (number : ℕ) → IsOver number self.old → IsOver number self.new }
         ensures once { IfSome result (λ asked. IsOver asked.number self.new) }
     {

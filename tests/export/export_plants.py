@@ -68,18 +68,19 @@ PLANTS = [
     ("what the process refuses stays granted", KIT + "alloc.rs",
      "            self.alloc.deallocate(after, align_of::<T>());\n            return",
      "            return"),
-    ("a map that loses the entries of a refused split", KIT + "map.rs",
-     "        let mut next = self.new_row()?;\n        // If the keys",
-     "        let Ok(mut next) = self.new_row() else {\n"
-     "            self.row_mut(row).pop();\n            self.len -= 1;\n"
-     "            return Err(AllocError);\n        };\n        // If the keys"),
-    ("a map that puts an entry before its place in a new row", KIT + "map.rs",
-     "(row + 1, at - middle)", "(row + 1, at - middle - usize::from(!is_last))"),
-    ("a map whose rows stay when they are empty", KIT + "map.rs",
-     "                Some(other) => drop(self.others.remove(other)),",
-     "                Some(_) => return,"),
+    ("a map that loses an entry of a refused split", KIT + "map.rs",
+     "        let mut next = Node::new(child.is_leaf(), alloc)?;",
+     "        let Ok(mut next) = Node::new(child.is_leaf(), alloc) else {\n"
+     "            child.take(0);\n            return Err(AllocError);\n        };"),
+    ("a map that puts the value of a last key before its place", KIT + "map.rs",
+     "        self.values.insert(at, value);",
+     "        self.values.insert(at.saturating_sub(usize::from(at + 1 == self.keys.len())), value);"),
+    ("a map whose nodes stay when they are empty", KIT + "map.rs",
+     "        if before + 1 + after > most {", "        if before + 1 + after > 0 * most {"),
     ("a range that begins one entry later", KIT + "map.rs",
-     "self.row(row)[at..]", "self.row(row)[(at + 1).min(self.row(row).len())..]"),
+     "self.node = node.keys[at..].iter().zip(&node.values[at..]);",
+     "let at = (at + 1).min(node.len());\n"
+     "                self.node = node.keys[at..].iter().zip(&node.values[at..]);"),
     ("a vector that drops what it refuses", KIT + "vec.rs",
      "        self.reserve(items.len())?;", "        if self.reserve(items.len()).is_err() {\n"
      "            self.items.clear();\n            return Err(AllocError);\n        }"),

@@ -143,9 +143,11 @@ impl Session {
         let exchanged = self.exchange();
         self.asker.extend(Duration::from_secs(1));
         let ended = self.ask(TurnMethod::Refresh, Body::new().add(&Lifetime::new(0))?);
+        if ended.is_ok() {
+            println!("ended");
+        }
         exchanged?;
         ended?;
-        println!("ended");
         Ok(())
     }
 }

@@ -28,7 +28,7 @@ rust=$(rustc --print sysroot 2>/dev/null) || rust=''
 laid() {
     mkdir -p "$1/home"
     cp "$release" "$1/release.tar.gz"
-    cp "$top/tests/released.sh" "$top/tests/c/installed.c" "$1"
+    cp "$top/tests/released.sh" "$top/tests/c/installed.c" "$top/tests/export/readme_main.rs" "$1"
     python3 "$top/tools/transcripts.py" --write "$1/pages"
     if [ -n "$2" ]; then
         (cd "$top/target/export" &&

@@ -1,7 +1,7 @@
 #!/bin/sh
 # Tries the release of the current folder, installed into PREFIX. release.sh lays the folder out and
 # starts this on a clean root: `released.sh PREFIX`. Beside release.tar.gz there are installed.c,
-# pages/ (commands of the pages with what they print) and vendor/ (crates for cargo).
+# readme_main.rs, pages/ (commands of the pages with what they print) and vendor/ (crates for cargo).
 set -eu
 prefix=$1
 here=$PWD
@@ -116,19 +116,16 @@ if command -v cargo >/dev/null && [ -d vendor ]; then
     mkdir .cargo
     printf '%s\n' '[source.crates-io]' 'replace-with = "here"' '[source.here]' \
         "directory = \"$PWD/vendor\"" '[net]' 'offline = true' >.cargo/config.toml
-    # A program with the lines of README.md.
+    # A program with the jobs of README.md, each in a module of its own.
     mkdir -p user/src
     printf '%s\n' '[package]' 'name = "user"' 'version = "0.0.0"' 'edition = "2024"' \
         '[dependencies]' "seatcrane-stun = \"=$version\"" >user/Cargo.toml
-    sed -n '/^    use seatcrane_stun::/,/^    }$/s/^    //p' "$folder/README.md" >user/src/main.rs
-    cat >>user/src/main.rs <<'MAIN'
-
-fn main() {
-    let bytes = std::fs::read("pages/request.bin").unwrap();
-    println!("{}", is_signed(&bytes, "VOkJxbRl1RmTxUk/WvJxBt"));
-}
-MAIN
-    prints true cargo run --quiet --manifest-path user/Cargo.toml
+    awk 'BEGIN { n = 0 }
+        /^    use seatcrane_stun::/ && !inside { print "mod job" n++ " {"; inside = 1 }
+        inside { sub(/^    /, ""); print }
+        inside && /^}$/ { print "}"; inside = 0 }' "$folder/README.md" >user/src/main.rs
+    cat readme_main.rs >>user/src/main.rs
+    prints 401 cargo run --quiet --manifest-path user/Cargo.toml
     # All transcripts, by the source.
     quiet cargo run --quiet --manifest-path "$folder/crate/seatcrane-stun/Cargo.toml" \
         --package seatcrane-checks --bin transcripts "$folder"/transcripts/*.txt

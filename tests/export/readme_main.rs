@@ -1,5 +1,5 @@
-// What tools/transcripts.py puts behind the jobs of README.md, each of which is a module: the server of
-// the third job challenges the client of the first, which has no credentials.
+// What tools/transcripts.py and tests/released.sh add after the jobs of README.md, each of which is a
+// module: the server of the third job challenges the client of the first, which has no credentials.
 fn main() {
     let socket = std::net::UdpSocket::bind("127.0.0.1:0").unwrap();
     let server = socket.local_addr().unwrap();

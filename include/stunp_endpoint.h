@@ -82,7 +82,8 @@
  * STUNP_LOOKUP for a request that waits for one. The second, stunp_endpoint_server_resume, judges it
  * by the user that you found, or by nobody. It judges all of it again, so pass it the same bytes,
  * address and time. Only requests with a nonce that this server sent to their address wait for a
- * user: a forged source address or an invented nonce never causes a look-up. A slow look-up does not
+ * user: an invented nonce never causes a look-up, and a forged source address only if its sender has
+ * seen a nonce of that address. A slow look-up does not
  * make a nonce stale, because the request is judged as of the time at which it arrived.
  *
  *     // `find` looks a user up by name, or by the hash of the name (stunp_userhash), and sets the

@@ -54,7 +54,8 @@ fi
 if [ "${1:-}" = --build ]; then
     cd "$out"
     cargo build --quiet --package seatcrane-stun --package seatcrane-checks
-    echo "The crate is in $out, and stun_tool in $out/target/debug."
+    cargo build --quiet --package seatcrane-stun --example udp_client --example udp_server
+    echo "The crate is in $out, stun_tool in $out/target/debug, and udp_client in examples there."
     exit 0
 fi
 python3 tests/export/same_tokens.py "$out"

@@ -1,0 +1,94 @@
+#!/bin/sh
+# Runs what README.md shows of the first minute on a minimal Debian, which has cargo, a C compiler,
+# make, Python and git, and nothing of this machine: `make export`, the sample request, the public
+# address from a server beside it, `make lib` and the program in C.
+#
+#     tests/bare.sh [SUITE ..]     trixie, unless a word names another release of Debian
+#
+# Each Debian is made by debootstrap and kept in ~/.cache/stunp-bare-SUITE. It is left out where there
+# is no debootstrap, root or network to make it. In bookworm, Rust is Debian's rustc-web.
+set -eu
+top=$(cd "$(dirname "$0")/.." && pwd)
+cache=${XDG_CACHE_HOME:-$HOME/.cache}
+scratch=$(mktemp -d)
+trap 'rm -rf "$scratch"' EXIT
+PATH=$PATH:/usr/sbin:/sbin
+
+# based SUITE ROOT: whether the Debian is there; it is made where it can be.
+based() {
+    [ ! -e "$2/made" ] || return 0
+    command -v debootstrap >/dev/null && [ "$(id -u)" = 0 ] || return 1
+    rust=cargo,rustc
+    [ "$1" != bookworm ] || rust=cargo-web,rustc-web
+    rm -rf "$2"
+    mkdir -p "$2"
+    { timeout 600 debootstrap --variant=minbase --include=ca-certificates "$1" "$2" &&
+        echo "deb http://deb.debian.org/debian-security $1-security main" \
+            >>"$2/etc/apt/sources.list" &&
+        cp /etc/resolv.conf "$2/etc/resolv.conf" &&
+        timeout 60 chroot "$2" apt-get update -qq &&
+        timeout 600 chroot "$2" apt-get install -qq -y --no-install-recommends \
+            git make gcc libc6-dev python3 "${rust%,*}" "${rust#*,}" &&
+        touch "$2/made"; } >"$2.log" 2>&1
+}
+
+# shown LINE: README.md has this line as a command.
+shown() {
+    grep -qF "    $1" "$top/README.md" || {
+        echo "bare: README.md does not show '$1'" >&2
+        exit 1
+    }
+}
+
+# What runs in the root, in the folder of the repository. `expect WANTED COMMAND..` compares.
+inside() {
+    cat <<'INSIDE'
+set -eu
+cd /stun_proto
+expect() {
+    wanted=$1
+    shift
+    printed=$("$@")
+    [ "$printed" = "$wanted" ] || { echo "bare: $* printed '$printed', not '$wanted'" >&2; exit 1; }
+}
+begun=$(date +%s)
+make export >/tmp/export 2>&1 || { cat /tmp/export >&2; exit 1; }
+expect 'valid MESSAGE-INTEGRITY' target/export/target/debug/stun_tool check \
+    'VOkJxbRl1RmTxUk/WvJxBt' <crates/stun_tool/stdin
+echo "bare: make export and the sample request: $(($(date +%s) - begun)) s"
+target/export/target/debug/examples/udp_server 34780 >/dev/null 2>&1 &
+server=$!
+trap 'kill $server' EXIT
+sleep 1
+address=$(target/export/target/debug/examples/udp_client 127.0.0.1 34780)
+echo "$address" | grep -qE '^127\.0\.0\.1:[0-9]+$' || { echo "bare: my address: $address" >&2; exit 1; }
+make lib >/tmp/lib 2>&1 || { cat /tmp/lib >&2; exit 1; }
+sed -n '/^    #include <stdio.h>/,/^    }/s/^    //p' README.md >/tmp/check.c
+cc -Iinclude /tmp/check.c target/c/libstunp.a -o /tmp/check
+python3 -c 'import sys; sys.stdout.buffer.write(bytes.fromhex(sys.stdin.read()))' \
+    <crates/stun_tool/stdin >/tmp/sample
+expect 'valid' /tmp/check </tmp/sample
+INSIDE
+}
+
+shown 'make export'
+shown "target/export/target/debug/stun_tool check 'VOkJxbRl1RmTxUk/WvJxBt'"
+shown 'target/export/target/debug/examples/udp_client HOST 3478'
+for suite in "${@:-trixie}"; do
+    root=$cache/stunp-bare-$suite
+    if ! based "$suite" "$root"; then
+        echo "bare: a minimal Debian ($suite): left out, no debootstrap, root or network"
+        continue
+    fi
+    rm -rf "$root/stun_proto"
+    mkdir "$root/stun_proto"
+    git -C "$top" archive HEAD | tar -x -C "$root/stun_proto"
+    inside >"$root/stun_proto.sh"
+    cp /etc/resolv.conf "$root/etc/resolv.conf"
+    # Cargo and its linker ask /proc where they are. `make export` installs crates of Debian.
+    env -i PATH=/usr/local/bin:/usr/bin:/bin:/usr/sbin:/sbin HOME=/root LC_ALL=C.UTF-8 ROOT="$root" \
+        unshare -m sh -c \
+            'mount -t proc proc "$ROOT/proc" && exec chroot "$ROOT" sh /stun_proto.sh' || exit 1
+    rm -rf "$root/stun_proto" "$root/stun_proto.sh"
+    echo "bare: a minimal Debian ($suite): the first minute of README.md is as it says"
+done

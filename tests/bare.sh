@@ -17,7 +17,9 @@ PATH=$PATH:/usr/sbin:/sbin
 # based SUITE ROOT: whether the Debian is there; it is made where it can be.
 based() {
     [ ! -e "$2/made" ] || return 0
-    command -v debootstrap >/dev/null && [ "$(id -u)" = 0 ] || return 1
+    [ "$(id -u)" = 0 ] || return 1
+    command -v debootstrap >/dev/null ||
+        timeout 120 apt-get install -qq -y debootstrap >/dev/null 2>&1 || return 1
     rust=cargo,rustc
     [ "$1" != bookworm ] || rust=cargo-web,rustc-web
     rm -rf "$2"
@@ -80,11 +82,15 @@ for suite in "${@:-trixie}"; do
         echo "bare: a minimal Debian ($suite): left out, no debootstrap, root or network"
         continue
     fi
+    cp /etc/resolv.conf "$root/etc/resolv.conf"
+    if ! timeout 60 chroot "$root" apt-get update -qq >/dev/null 2>&1; then
+        echo "bare: a minimal Debian ($suite): left out, no network for the crates of Debian"
+        continue
+    fi
     rm -rf "$root/stun_proto"
     mkdir "$root/stun_proto"
     git -C "$top" archive HEAD | tar -x -C "$root/stun_proto"
     inside >"$root/stun_proto.sh"
-    cp /etc/resolv.conf "$root/etc/resolv.conf"
     # Cargo and its linker ask /proc where they are. `make export` installs crates of Debian.
     env -i PATH=/usr/local/bin:/usr/bin:/bin:/usr/sbin:/sbin HOME=/root LC_ALL=C.UTF-8 ROOT="$root" \
         unshare -m sh -c \

@@ -2,11 +2,10 @@
 //! the client.
 
 ghost use Rattle.std.specs.Prelude.{◌≡◌, ◌↔◌, IfOk, IfSome, IsTrue, false, Option, None, Some};
-ghost use Rattle.std.specs.Prelude.{OnOk, OnErr};
+ghost use Rattle.std.specs.Prelude.{OnOk, OnErr, if◌then◌else◌};
 ghost use Rattle.std.specs.Option.{option_map, option_map_or, option_copied};
 ghost use Rattle.std.specs.FinMap as map;
 ghost use Rattle.std.specs.String.{string_bytes};
-ghost use Rattle.stun_base.specs.Address.{same_address};
 ghost use Rattle.stun_auth.specs.Forgetting.{is_forgotten, places_kept};
 ghost use Rattle.stun_auth.specs.ForgettingSteps.{is_looked_at, next_address_from};
 ghost use Rattle.stun_auth.specs.ForgettingSteps.{places_kept_where, start_of};
@@ -209,7 +208,7 @@ impl<A: Allocator + Copy> Places<A> {
         let mut start = start_at(from);
         for _looked in 0..most {
             let first = self.first_from(start, now)?;
-            self.forget_if(first.address, first.has_expired, now);
+            self.forget_if(first.address, first.has_expired);
             start = Bound::Excluded(first.address);
         }
         let next = self.first_from(start, now)?;
@@ -231,10 +230,8 @@ impl<A: Allocator + Copy> Places<A> {
     }
 
     /// Forgets the place of an address if it has expired, which the caller has looked up.
-    fn forget_if(&mut self, address: SocketAddr, has_expired: bool, now: Instant)
-        ensures { has_expired
-            ≡ option_map_or (is_forgotten now) (map.get self.old address) false
-            → self.new ≡ places_kept_where (same_address address) now self.old }
+    fn forget_if(&mut self, address: SocketAddr, has_expired: bool)
+        ensures { self.new ≡ (if has_expired then map.remove self.old address else self.old) }
     {
         if has_expired {
             self.forget(address);

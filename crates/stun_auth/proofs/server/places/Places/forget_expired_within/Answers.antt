@@ -2,6 +2,7 @@
 use Rattle.std.proofs.Common.{◌≡◌, Option, Some, None, rules, sym, ◌∙◌, subst}
 use Rattle.std.specs.declared.net.socket_addr.SocketAddr.{SocketAddr}
 use Rattle.stun_auth.specs.ForgettingSteps.{is_looked_at, places_kept_where, start_of}
+use Rattle.stun_auth.proofs.KeptPlaces.{kept_if}
 use Rattle.stun_auth.proofs.SteppingLemmas.{begun_left, begun_next, begun_within}
 use Rattle.stun_auth.proofs.SteppingLemmas.{left_last, left_more, next_last}
 use Rattle.stun_auth.proofs.SteppingLemmas.{next_more, next_none, still_within}
@@ -19,7 +20,9 @@ loop-looked-preserved g c = record {
   left = left_more (start_of c.args.from) c.loop-looked.start c.args.now c.args.self.now
       c.loop-looked.self _ c.in_ok-first.first.address c.loop-looked.invariant.left
       c.loop-looked.invariant.within c.in_ok-first.ensures.first
-      (c.forget_if.ensures c.in_ok-first.ensures.expired);
+      (c.forget_if.ensures
+      ∙ kept_if c.in_ok-first.first.address c.args.now c.loop-looked.self
+      c.in_ok-first.first.has_expired c.in_ok-first.ensures.expired);
   within =
       still_within (start_of c.args.from) c.loop-looked.start c.in_ok-first.first.address
       c.in_ok-first.ensures.first.1 c.loop-looked.invariant.within;

@@ -120,6 +120,12 @@ kept_if_current a now places current = fin.same_map address_total address_exact 
     (kept_there a q now places false current)
     ∙ sym (get-kept_where (same_address a) now places q))
 
+pub kept_if : (a : SocketAddr) (now : ℕ) (places : PlacesSeen) (b : Bool)
+    → b ≡ option_map_or (is_forgotten now) (fin.get places a) false
+    → cond b (fin.remove places a) places ≡ places_kept_where (same_address a) now places
+kept_if a now places true is = kept_if_expired a now places (sym is)
+kept_if a now places false is = kept_if_current a now places (sym is)
+
 -- where nothing is chosen all stay, and where all are chosen it is forgetting at once
 pub places_kept_where-none : (now : ℕ) (places : PlacesSeen)
     → places_kept_where (λ a. false) now places ≡ places

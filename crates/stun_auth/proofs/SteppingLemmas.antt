@@ -153,6 +153,13 @@ module _ {A : Type 0} (m : BTreeMap SocketAddr (Place A)) (start : Bound SocketA
             (sym (seen_there (tree.get address_cmp m q)) ∙ ap is_some (seen_at q) ∙ present),
       )
 
+  -- and its place is the one that the range has
+  pub first_seen : (e : SocketAddr × Place A) (t : List (SocketAddr × Place A)) → r ≡ e ∷ t
+      → fin.get (places_seen m.entries) e.0 ≡ Some (place_seen e.1)
+  first_seen e t is =
+      let first = subst (IsRangeOf address_cmp start Unbounded m) is in_order in
+      sym (seen_at e.0) ∙ ap (option_map place_seen) first.1.1
+
 -- ---- a step, an address after another
 
 -- the addresses that were looked at, from one start on and not from another on

@@ -1,6 +1,6 @@
 //! The server side of long-term authentication (RFC 8489, section 9.2.4).
 //!
-//! For each datagram that is a request, a server does the following (docs/SERVER.md gives the
+//! For each datagram that is a request, a server does the following (docs/PARTS.md gives the
 //! reasons):
 //!
 //! 1. It calls `validate_incoming_message` with the source address, the current time and a source
@@ -376,7 +376,7 @@ impl<A: Allocator + Copy> LongTermServerAuth<A> {
     /// does (law `steps_forget_what_has_expired`). A record that is made between them is visited if
     /// its address comes after `next`, and otherwise in the next round.
     ///
-    /// It does not allocate. Each record costs two or three look-ups.
+    /// It does not allocate. Each record costs one look-up, and one more if it is removed.
     pub fn forget_expired_within(
         &mut self,
         now: Instant,

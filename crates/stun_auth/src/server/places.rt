@@ -1,11 +1,11 @@
 //! What a server keeps for each address: the nonce and when it expires, the offered algorithms, and
 //! the client.
 
-ghost use Rattle.std.specs.Prelude.{◌≡◌, ◌↔◌, IfOk, IsTrue, false, Option, None, Some, OnOk, OnErr};
+ghost use Rattle.std.specs.Prelude.{◌≡◌, ◌↔◌, IfOk, IfSome, IsTrue, false, Option, None, Some};
+ghost use Rattle.std.specs.Prelude.{OnOk, OnErr, if◌then◌else◌};
 ghost use Rattle.std.specs.Option.{option_map, option_map_or, option_copied};
 ghost use Rattle.std.specs.FinMap as map;
 ghost use Rattle.std.specs.String.{string_bytes};
-ghost use Rattle.stun_base.specs.Address.{same_address};
 ghost use Rattle.stun_auth.specs.Forgetting.{is_forgotten, places_kept};
 ghost use Rattle.stun_auth.specs.ForgettingSteps.{is_looked_at, next_address_from};
 ghost use Rattle.stun_auth.specs.ForgettingSteps.{places_kept_where, start_of};
@@ -113,6 +113,13 @@ impl<A: Allocator> Place<A> {
     }
 }
 
+/// The first address of a range that has a place, and whether that place may be forgotten.
+#[derive(Clone, Copy)]
+struct FirstPlace {
+    address: SocketAddr,
+    has_expired: bool,
+}
+
 /// The places of all addresses, each under its address.
 #[derive(Drop)]
 pub(crate) struct Places<A: Allocator> {
@@ -200,37 +207,34 @@ impl<A: Allocator + Copy> Places<A> {
     {
         let mut start = start_at(from);
         for _looked in 0..most {
-            let address = self.first_from(start)?;
-            self.forget_if_expired(address, now);
-            start = Bound::Excluded(address);
+            let first = self.first_from(start, now)?;
+            self.forget_if(first.address, first.has_expired);
+            start = Bound::Excluded(first.address);
         }
-        self.first_from(start)
+        let next = self.first_from(start, now)?;
+        Some(next.address)
     }
 
-    /// The first address that has a place, from a start on.
-    fn first_from(&self, start: Bound<SocketAddr>) -> Option<SocketAddr>
-        ensures { IsFirstFrom self.now start result }
+    /// The first address that has a place, from a start on, and whether that place may be
+    /// forgotten.
+    fn first_from(&self, start: Bound<SocketAddr>, now: Instant) -> Option<FirstPlace>
+        ensures first { IsFirstFrom self.now start (option_map (λ f. f.address) result) }
+        ensures expired { IfSome result (λ f. f.has_expired
+            ≡ option_map_or (is_forgotten now) (map.get self.now f.address) false) }
     {
-        let (address, _) = self.by_address.range((start, Bound::Unbounded)).next()?;
-        Some(*address)
+        let (address, place) = self.by_address.range((start, Bound::Unbounded)).next()?;
+        Some(FirstPlace {
+            address: *address,
+            has_expired: place.is_forgotten(now),
+        })
     }
 
-    /// Forgets the place of an address if it has no client and its nonce expired before a moment.
-    fn forget_if_expired(&mut self, address: SocketAddr, now: Instant)
-        ensures { self.new ≡ places_kept_where (same_address address) now self.old }
+    /// Forgets the place of an address if it has expired, which the caller has looked up.
+    fn forget_if(&mut self, address: SocketAddr, has_expired: bool)
+        ensures { self.new ≡ (if has_expired then map.remove self.old address else self.old) }
     {
-        if self.has_expired(address, now) {
+        if has_expired {
             self.forget(address);
-        }
-    }
-
-    /// Whether an address has a place without a client, whose nonce expired before a moment.
-    fn has_expired(&self, address: SocketAddr, now: Instant) -> bool
-        ensures { result ≡ option_map_or (is_forgotten now) (map.get self.now address) false }
-    {
-        match self.get(address) {
-            Some(place) => place.is_forgotten(now),
-            None => false,
         }
     }
 

@@ -1,6 +1,6 @@
 //! The users of a realm, each with a key for each supported algorithm.
 
-ghost use Rattle.std.specs.Prelude.{◌≡◌, Option, None, Some, OnOk};
+ghost use Rattle.std.specs.Prelude.{◌≡◌, ◌↔◌, Option, None, Some, IsTrue, OnOk};
 ghost use Rattle.std.specs.Prelude.{OnErr, IfOk, IfErr, IfNone, IfSome};
 ghost use Rattle.std.specs.FinMap as map;
 ghost use Rattle.std.specs.Ordering.{nat_cmp};
@@ -184,6 +184,14 @@ impl<A: Allocator + Copy> Registry<A> {
         ensures { result ≡ self.now.algorithms }
     {
         self.supported
+    }
+
+    /// Whether another registry has the same realm and supports the same algorithms.
+    pub(crate) fn has_realm_of(&self, other: &Self) -> bool
+        ensures { IsTrue result ↔ ((self.now.realm ≡ other.now.realm)
+            × (self.now.algorithms ≡ other.now.algorithms)) }
+    {
+        self.supported == other.supported && self.realm.as_str() == other.realm.as_str()
     }
 
     /// The key of a registered user for a supported algorithm.

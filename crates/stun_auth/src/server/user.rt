@@ -1,8 +1,9 @@
 //! A user who is passed along with a message, for a server that looks up its users elsewhere.
 
-ghost use Rattle.std.specs.Prelude.{Some, codes};
+ghost use Rattle.std.specs.Prelude.{◌≡◌, ◌↔◌, IsTrue, Some, codes};
 ghost use Rattle.std.specs.Fmt.{WritesOnOk, WritesStyledOnOk};
 
+use crate::server::LongTermServerAuth;
 use crate::server::registry::Registry;
 use std::alloc::{Allocator, Global};
 use std::fmt;
@@ -29,6 +30,22 @@ impl<A: Allocator> Model for LongTermServerUser<A> {
     ghost coded = { coded_registered };
 
     ghost view = { λ user. user.registry };
+}
+
+impl<A: Allocator + Copy> LongTermServerUser<A> {
+    /// Returns whether this user can be passed to a server: whether the user was prepared for that
+    /// server's realm, and for the algorithms that the server supports now.
+    ///
+    /// If so, the user is the one that `prepare_user` of that server returns for the same name and
+    /// secret, so you can keep a prepared user and pass it with every message. If not, prepare the
+    /// user again: the server would otherwise judge and sign for the realm and the algorithms that
+    /// the user was prepared for. The call does not allocate.
+    pub fn belongs_to(&self, server: &LongTermServerAuth<A>) -> bool
+        ensures { IsTrue result ↔ ((self.now.realm ≡ server.now.registered.realm)
+            × (self.now.algorithms ≡ server.now.registered.algorithms)) }
+    {
+        self.registry.has_realm_of(&server.registry)
+    }
 }
 
 impl<A: Allocator> fmt::Debug for LongTermServerUser<A> {

@@ -1342,4 +1342,15 @@ pub struct LongTermServerUser {
     proved: proved::LongTermServerUser,
 }
 
+impl LongTermServerUser {
+    /// Returns whether this user was prepared for the realm of `server`, and for the algorithms that
+    /// it supports now.
+    ///
+    /// If so, you can pass the user to the server. If not, prepare the user again, because the
+    /// server would judge and sign for the realm and the algorithms that the user was prepared for.
+    pub fn belongs_to(&self, server: &LongTermServerAuth) -> bool {
+        self.proved.belongs_to(&server.proved)
+    }
+}
+
 debug!(LongTermServerUser);

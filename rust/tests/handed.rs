@@ -147,6 +147,18 @@ fn a_users_key_is_asked_of_without_a_verdict() {
 }
 
 #[test]
+fn a_prepared_user_belongs_to_its_realm_and_algorithms() {
+    let mut server = LongTermServerAuth::new("example.org".to_string());
+    let user = server.prepare_user_with_keys("user".to_string(), KEYS);
+    assert!(user.belongs_to(&server));
+    assert!(!user.belongs_to(&LongTermServerAuth::new("example.net".to_string())));
+    server.add_supported_integrity(Sha256);
+    assert!(!user.belongs_to(&server));
+    let user = server.prepare_user_with_keys("user".to_string(), KEYS);
+    assert!(user.belongs_to(&server));
+}
+
+#[test]
 fn no_key_is_shown() {
     assert_eq!(format!("{KEYS:#?}"), "StoredKeys { .. }");
     let server = Conversation::with_both("pass").server;

@@ -1,42 +1,35 @@
 -- What the walk over a message's attributes returns, which goes on from a cursor.
-use Rattle.std.specs.Prelude.{ℕ, ℤ, Bool, List, [], ◌∷◌, length, max, nat_lt}
+use Rattle.std.specs.Prelude.{ℕ, ℤ, List, length, nat_lt}
 use Rattle.std.specs.Prelude.{◌==◌, ◌||◌, if◌then◌else◌, Option, Some, None}
-use Rattle.stun_base.specs.Attributes.{MESSAGE_INTEGRITY, MESSAGE_INTEGRITY_SHA256, FINGERPRINT}
 use Rattle.stun_base.specs.Header.{HEADER_LENGTH}
 use Rattle.stun_types.specs.Message.{refusal}
-use Rattle.stun_types.specs.Visible.{visible}
+use Rattle.stun_types.specs.Visible.{visible, visible_after}
 use Rattle.stun_types.specs.Walk.{Member, walk_from}
+use Rattle.stun_types.specs.declared.message.visibility.Visibility.{Visibility}
+use Rattle.stun_types.specs.declared.message.visibility.Visibility.TheVariants.{Everything, Nothing}
+use Rattle.stun_types.specs.declared.message.visibility.Visibility.TheVariants.{AfterIntegrity}
+use Rattle.stun_types.specs.declared.message.visibility.Visibility.TheVariants.{
+  AfterIntegritySha256,
+}
 use Rattle.stun_numbers.specs.declared.refusal.Refusal.{Refusal}
 use Rattle.stun_numbers.specs.declared.refusal.Refusal.TheVariants.{BadArgument}
 use Rattle.stun_numbers.specs.Refusals.{refusal_number, message_refusal}
 use Rattle.stun_c.specs.declared.walk.Cursor.{Cursor}
 use Rattle.stun_c.specs.Reading.{place_number}
 
--- how much an attribute hides of what comes after it, by its type: the more, the fewer types are
--- still visible (RFC 8489, sections 14.5 to 14.7)
-abbrev pub rank : ℕ → ℕ
-rank kind =
-    if kind == MESSAGE_INTEGRITY then 1
-    else if kind == MESSAGE_INTEGRITY_SHA256 then 2
-    else if kind == FINGERPRINT then 3 else 0
-
--- whether an attribute of a type is visible after those that hide so much
-abbrev pub is_shown : ℕ → ℕ → Bool
-is_shown hidden kind = (hidden == 0) || nat_lt hidden (rank kind)
-
--- of attributes, one after the other, those that are visible after others that hide so much
-unfoldable pub visible_after : ℕ → List Member → List Member
-visible_after hidden [] = []
-visible_after hidden (m ∷ members) =
-    if is_shown hidden m.1.kind then m ∷ visible_after (max hidden (rank m.1.kind)) members
-    else visible_after (max hidden (rank m.1.kind)) members
+-- what is visible ahead of a cursor, by its number
+abbrev pub visibility_from : ℕ → Visibility
+visibility_from hidden =
+    if hidden == 0 then Everything
+    else if hidden == 1 then AfterIntegrity
+    else if hidden == 2 then AfterIntegritySha256 else Nothing
 
 -- what is ahead of a cursor: at 0 all visible attributes, and at another place those from there
 -- that are visible
 abbrev pub ahead : Cursor → List ℕ → List Member
 ahead cursor bytes =
     if cursor.place == 0 then visible bytes
-    else visible_after cursor.hidden (walk_from cursor.place bytes)
+    else visible_after (visibility_from cursor.hidden) (walk_from cursor.place bytes)
 
 -- why nothing is read at a cursor, if nothing is: at 0 the bytes are no message, and another place
 -- is not after their header or past their end

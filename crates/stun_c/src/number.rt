@@ -7,11 +7,11 @@ ghost use Rattle.stun_c.specs.Answers.{written_number};
 ghost use Rattle.stun_c.specs.Reading.{sized_at, sized_after};
 ghost use Rattle.stun_c.specs.Writing.{added_sized, has_size, is_size};
 
-use crate::walk::attribute_at;
 use crate::writing::add_numbered;
 use byteorder::{BigEndian, ByteOrder};
 use stun_base::header::HEADER_LENGTH;
 use stun_numbers::refusal::Refusal;
+use stun_types::attribute::RawAttribute;
 
 /// Whether numbers are written in so many bytes.
 fn is_size(size: usize) -> bool
@@ -74,7 +74,7 @@ fn sized_at(message: &[u8], place: usize) -> Result<&[u8], Refusal>
     if place < HEADER_LENGTH {
         return Err(Refusal::BadArgument);
     }
-    let Some(attribute) = attribute_at(message, place) else {
+    let Some(attribute) = RawAttribute::at(message, place) else {
         return Err(Refusal::BadArgument);
     };
     let value = attribute.value();

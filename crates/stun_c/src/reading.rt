@@ -20,7 +20,6 @@ ghost use Rattle.stun_c.specs.Reading.{shown_octets, find_answer, finding_refusa
 use crate::address::{IPV4, IPV6, PORT_KEY, xor_key, xor_with};
 use crate::buffer::write;
 use crate::header::class_number;
-use crate::walk::attribute_at;
 use byteorder::{BigEndian, ByteOrder};
 use stun_base::attribute_type::AttributeType;
 use stun_base::error::StunParseError;
@@ -284,7 +283,7 @@ fn hidden_at(message: &[u8], place: usize) -> Result<(u16, &[u8]), Refusal>
     if place < HEADER_LENGTH {
         return Err(Refusal::BadArgument);
     }
-    let Some(attribute) = attribute_at(message, place) else {
+    let Some(attribute) = RawAttribute::at(message, place) else {
         return Err(Refusal::BadArgument);
     };
     let attribute = RawAttribute::new(AttributeType::XOR_MAPPED_ADDRESS, attribute.value());

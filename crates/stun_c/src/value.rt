@@ -5,7 +5,6 @@ ghost use Rattle.stun_c.specs.Extra.{held_after, held_number, numbers_after, typ
 ghost use Rattle.stun_c.specs.Reading.{text_answer, text_at, text_length_after, value_at};
 
 use crate::unknown::put;
-use crate::walk::attribute_at;
 use stun_base::header::HEADER_LENGTH;
 use stun_extra::unknown::{UNKNOWN_ATTRIBUTES, UnknownAttributes};
 use stun_numbers::refusal::Refusal;
@@ -23,7 +22,7 @@ fn value_at(message: &[u8], place: usize) -> Result<&[u8], Refusal>
     if place < HEADER_LENGTH {
         return Err(Refusal::BadArgument);
     }
-    match attribute_at(message, place) {
+    match RawAttribute::at(message, place) {
         Some(attribute) => Ok(attribute.value()),
         None => Err(Refusal::BadArgument),
     }

@@ -1,19 +1,16 @@
 //! A walk over the visible attributes of a message, which reads each of its attributes once.
 
-ghost use Rattle.std.specs.Prelude.{◌≡◌, ◌≤◌, length, drop, max, true, false, slice_get};
-ghost use Rattle.std.specs.Prelude.{IfOk, IfErr, OnOk, IfSome, IfNone, OnSome, Some, None};
-ghost use Rattle.stun_types.specs.Attribute.{first_attribute, has_attribute};
+ghost use Rattle.std.specs.Prelude.{◌≡◌, ◌≤◌, length, drop, slice_get};
+ghost use Rattle.std.specs.Prelude.{IfOk, IfErr, OnOk, IfSome, IfNone, Some, None};
+ghost use Rattle.stun_types.specs.Visible.{visible_after};
 ghost use Rattle.stun_types.specs.Walk.{walk_from};
 ghost use Rattle.stun_c.specs.Reading.{number_after};
-ghost use Rattle.stun_c.specs.Walking.{ahead, cursor_refusal, is_shown, rank, visible_after};
-ghost use Rattle.stun_c.specs.Walking.{walk_answer};
+ghost use Rattle.stun_c.specs.Walking.{ahead, cursor_refusal, visibility_from, walk_answer};
 
-use byteorder::{BigEndian, ByteOrder};
-use stun_base::attribute_type::AttributeType;
 use stun_base::header::HEADER_LENGTH;
 use stun_numbers::refusal::Refusal;
-use stun_types::attribute::{ATTRIBUTE_HEADER_LENGTH, RawAttribute, attribute_length};
-use stun_types::message::Message;
+use stun_types::attribute::RawAttribute;
+use stun_types::message::{Message, Visibility};
 
 /// How far a walk has come. One of zeros is before the first attribute.
 #[repr(C)]
@@ -21,57 +18,33 @@ use stun_types::message::Message;
 pub struct Cursor {
     /// Where the next attribute begins, or 0.
     pub place: usize,
-    /// How much the attributes hide that were passed: 1 after MESSAGE-INTEGRITY, 2 after
-    /// MESSAGE-INTEGRITY-SHA256, 3 after FINGERPRINT, the greatest of these, or 0.
+    /// Which attributes are visible: 0 for all of them, 1 for those after MESSAGE-INTEGRITY, 2 for
+    /// those after MESSAGE-INTEGRITY-SHA256, and any other number for none.
     pub hidden: u32,
 }
 
-/// How much an attribute of this type hides of those after it.
-fn rank(kind: AttributeType) -> u32
-    ensures { result ≡ rank kind.0 }
+/// What is visible ahead of a cursor, by its number.
+fn visibility_from(hidden: u32) -> Visibility
+    ensures { result ≡ visibility_from hidden }
 {
-    if kind == AttributeType::MESSAGE_INTEGRITY {
-        1
-    } else if kind == AttributeType::MESSAGE_INTEGRITY_SHA256 {
-        2
-    } else if kind == AttributeType::FINGERPRINT {
-        3
-    } else {
-        0
+    match hidden {
+        0 => Visibility::Everything,
+        1 => Visibility::AfterIntegrity,
+        2 => Visibility::AfterIntegritySha256,
+        _ => Visibility::Nothing,
     }
 }
 
-/// Whether an attribute of this type is visible after those that hide so much.
-fn is_shown(hidden: u32, kind: AttributeType) -> bool
-    ensures { result ≡ is_shown hidden kind.0 }
+/// The number of what is visible in a cursor.
+fn hidden_number(visibility: Visibility) -> u32
+    ensures { visibility_from result ≡ visibility }
 {
-    hidden == 0 || hidden < rank(kind)
-}
-
-/// How much they hide together with one of this type.
-fn hidden_behind(hidden: u32, kind: AttributeType) -> u32
-    ensures { result ≡ max hidden (rank kind.0) }
-{
-    hidden.max(rank(kind))
-}
-
-/// The attribute at a place, where it and its padding are whole.
-pub fn attribute_at(message: &[u8], place: usize) -> Option<RawAttribute<'_>>
-    ensures none { IfNone result (has_attribute (drop place message.now) ≡ false) }
-    ensures whole { OnSome result (has_attribute (drop place message.now) ≡ true) }
-    ensures value { IfSome result
-        (λ attribute. attribute ≡ first_attribute (drop place message.now)) }
-{
-    let bytes = message.get(place..)?;
-    if bytes.len() < ATTRIBUTE_HEADER_LENGTH {
-        return None;
+    match visibility {
+        Visibility::Everything => 0,
+        Visibility::AfterIntegrity => 1,
+        Visibility::AfterIntegritySha256 => 2,
+        Visibility::Nothing => 3,
     }
-    let kind = AttributeType::new(BigEndian::read_u16(bytes));
-    let length = usize::from(BigEndian::read_u16(&bytes[2..]));
-    if bytes.len() < attribute_length(length) {
-        return None;
-    }
-    Some(RawAttribute::new(kind, &bytes[ATTRIBUTE_HEADER_LENGTH..][..length]))
 }
 
 /// The first attribute that is visible from a cursor, with its place. The cursor comes to stand
@@ -79,21 +52,24 @@ pub fn attribute_at(message: &[u8], place: usize) -> Option<RawAttribute<'_>>
 fn advance<'a>(message: &'a [u8], cursor: &mut Cursor) -> Option<(usize, RawAttribute<'a>)>
     requires behind { 20 ≤ cursor.old.place }
     requires within { cursor.old.place ≤ length message.now }
-    ensures first { result ≡ slice_get
-        (visible_after cursor.old.hidden (walk_from cursor.old.place message.now)) 0 }
+    ensures first { result ≡ slice_get (visible_after (visibility_from cursor.old.hidden)
+        (walk_from cursor.old.place message.now)) 0 }
     ensures place { IfSome result (λ m. m.0 ≤ length message.now) }
-    ensures rest { visible_after cursor.new.hidden (walk_from cursor.new.place message.now)
-        ≡ drop 1 (visible_after cursor.old.hidden (walk_from cursor.old.place message.now)) }
+    ensures rest { visible_after (visibility_from cursor.new.hidden)
+        (walk_from cursor.new.place message.now)
+        ≡ drop 1 (visible_after (visibility_from cursor.old.hidden)
+        (walk_from cursor.old.place message.now)) }
     ensures behind { 20 ≤ cursor.new.place }
     ensures within { cursor.new.place ≤ length message.now }
 {
-    while let Some(attribute) = attribute_at(message, cursor.place) {
+    while let Some(attribute) = RawAttribute::at(message, cursor.place) {
         let place = cursor.place;
         let kind = attribute.get_type();
-        let shown = is_shown(cursor.hidden, kind);
+        let visibility = visibility_from(cursor.hidden);
+        let after = visibility.after(kind);
         cursor.place += attribute.padded_len();
-        cursor.hidden = hidden_behind(cursor.hidden, kind);
-        if shown {
+        cursor.hidden = hidden_number(after);
+        if visibility.shows(kind) {
             return Some((place, attribute));
         }
     }
@@ -105,7 +81,7 @@ fn advance<'a>(message: &'a [u8], cursor: &mut Cursor) -> Option<(usize, RawAttr
 #[tactic(auto, using(crate::proofs::Walking::shown_visible))]
 fn begun(message: &[u8], cursor: Cursor) -> Result<Cursor, Refusal>
     ensures ok { IfOk result
-        (λ begun. visible_after begun.hidden (walk_from begun.place message.now)
+        (λ begun. visible_after (visibility_from begun.hidden) (walk_from begun.place message.now)
         ≡ ahead cursor message.now) }
     ensures behind { IfOk result (λ begun. 20 ≤ begun.place) }
     ensures within { IfOk result (λ begun. begun.place ≤ length message.now) }

@@ -19,7 +19,7 @@ use Rattle.stun_types.specs.Grammar.{spelled_attribute}
 use Rattle.stun_types.specs.Integrity.{deciding, first_of, verified_at, verified_by}
 use Rattle.stun_types.specs.Limits.{max_length}
 use Rattle.stun_types.specs.Message.{IsMessage, with_length}
-use Rattle.stun_types.specs.Visible.{before, is_visible, is_visible_after, has_kind, visible}
+use Rattle.stun_types.specs.Visible.{before, is_visible, has_kind, visible}
 use Rattle.stun_types.specs.Walk.{Member, walk}
 use Rattle.stun_types.specs.Writing.{HasOneMore, IsAddable, length_with}
 use Rattle.stun_types.specs.code.Walk.{IsInside}
@@ -27,6 +27,7 @@ use Rattle.stun_types.proofs.AddingLemmas.{IsMessage-added, length-spelled_attri
 use Rattle.stun_types.proofs.AddingLemmas.{or_none, raised, walk-added}
 use Rattle.stun_types.proofs.IntegrityLemmas.{deciding_within, walk_up_to-within}
 use Rattle.stun_types.proofs.TailLemmas.{verified_by-tail}
+use Rattle.stun_types.proofs.VisibleLemmas.{is_visible_after}
 use Rattle.stun_extra.specs.Crc32.{crc32}
 use Rattle.stun_extra.specs.Fingerprint.{FINGERPRINT_XOR, fingerprint_at}
 use Rattle.stun_extra.specs.Fingerprint.{fingerprint_attribute, fingerprint_if}

@@ -311,8 +311,9 @@ impl AttributeStaticType for ConnectionId {
     }
 }
 
-/// MOBILITY-TICKET (RFC 8016, section 3.3): what a TURN server recognizes an allocation by when its
-/// client comes from another address. A client that asks for one sends it empty.
+/// MOBILITY-TICKET (RFC 8016, section 3.3): the ticket by which a TURN server recognizes an
+/// allocation after the address of its client has changed. A client that requests a ticket sends it
+/// empty.
 pub type MobilityTicket<'a> = Bytes<'a, 0x8030>;
 
 impl<'a> AttributeStaticType for MobilityTicket<'a> {

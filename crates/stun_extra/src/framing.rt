@@ -158,7 +158,7 @@ fn next_channel_frame(bytes: &[u8]) -> Frame
     frame_to(bytes.len(), CHANNEL_HEADER_LENGTH + (length + 3) / 4 * 4)
 }
 
-/// Returns `Need` or `Message`, by how many bytes of the whole are there.
+/// Returns `Message` if all bytes of a frame have arrived, and otherwise `Need`.
 fn frame_to(there: usize, whole: usize) -> Frame
     ensures { result ≡ frame_to there whole }
 {

@@ -24,8 +24,8 @@ pub fn one_changed_byte_changes_the_crc()
         → crc32 (front ++ byte ∷ behind) ≡ crc32 (front ++ other ∷ behind) → byte ≡ other }
 {}
 
-/// If two messages differ in one byte before the same FINGERPRINT at the same place, at most one of
-/// them is right.
+/// If two messages have the same FINGERPRINT at the same offset, and differ in one byte before it,
+/// the FINGERPRINT is right in at most one of them.
 pub fn one_changed_byte_makes_fingerprint_wrong()
     ensures { (front behind : List ℕ) (byte other : ℕ) (m : Member)
         → byte < 256 → other < 256 → length front < m.0
@@ -36,7 +36,7 @@ pub fn one_changed_byte_makes_fingerprint_wrong()
         → byte ≡ other }
 {}
 
-/// The list with each number once has the same numbers, and each of them one time.
+/// Without its repetitions, a list has the same numbers, each of them once.
 pub fn each_number_is_there_once()
     ensures { (x : ℕ) (xs : List ℕ) → length (filter (λ y. y == x) (without_repeats xs))
         ≡ cond (list_any (λ y. y == x) xs) 1 0 }

@@ -25,7 +25,7 @@ pub const UNKNOWN_ATTRIBUTES: AttributeType = AttributeType(0x000A);
 ///
 /// It does not allocate: it has 4 KiB of its own, a bit for each such type.
 ///
-/// Contracts: they see the list of the types that are left.
+/// Contracts: the value is the list of the types that are left.
 #[derive(Debug, Drop)]
 pub struct UnknownTypes<'a> {
     left: MessageAttributesIter<'a>,

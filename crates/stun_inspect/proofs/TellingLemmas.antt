@@ -1,45 +1,35 @@
 -- What is told of a message, and which of it nothing hides.
-use Rattle.std.proofs.Common.{◌≡◌, ℕ, Bool, true, false, cond, Some, None}
-use Rattle.std.proofs.Common.{List, [], ◌∷◌, ◌++◌, drop, refl, sym, ap}
-use Rattle.std.specs.Prelude.{◌==◌, ◌&&◌, ◌||◌, not, is_none, map, filter}
+use Rattle.std.proofs.Common.{◌≡◌, ℕ, true, false, cond, List, [], ◌∷◌, ◌++◌, drop, refl, sym, ap}
+use Rattle.std.proofs.Common.{◌∙◌}
+use Rattle.std.specs.Prelude.{is_none, map, filter, Some, None}
 use Rattle.std.proofs.lemmas.List.{map-append}
-use Rattle.stun_base.specs.Attributes.{MESSAGE_INTEGRITY_SHA256, FINGERPRINT}
-use Rattle.stun_base.specs.declared.wire.attribute_type.AttributeType.{AttributeType}
+use Rattle.stun_base.specs.Attributes.{MESSAGE_INTEGRITY, MESSAGE_INTEGRITY_SHA256, FINGERPRINT}
 use Rattle.stun_types.specs.Attribute.{TypedValue, first_attribute}
-use Rattle.stun_types.specs.Walk.{Member, walk}
-use Rattle.stun_types.specs.Visible.{before, is_visible, is_visible_after, visible}
-use Rattle.stun_types.specs.code.Visible.{HasSeenKinds}
+use Rattle.stun_types.specs.Walk.{Member, walk, walk_from}
+use Rattle.stun_types.specs.Visible.{after, before, has_kind, hider, is_visible, shows}
+use Rattle.stun_types.specs.Visible.{visibility_at, visibility_of, visible}
+use Rattle.stun_types.specs.declared.message.visibility.Visibility.{Visibility}
+use Rattle.stun_types.specs.declared.message.visibility.Visibility.TheVariants.{Everything, Nothing}
+use Rattle.stun_types.specs.declared.message.visibility.Visibility.TheVariants.{AfterIntegrity}
+use Rattle.stun_types.specs.declared.message.visibility.Visibility.TheVariants.{
+  AfterIntegritySha256,
+}
 use Rattle.stun_types.proofs.WalkLemmas.{before-step}
-use Rattle.stun_types.proofs.VisibleLemmas.{StandsAt}
+use Rattle.stun_types.proofs.VisibleLemmas.{after-of, HasSeenKinds, HasSeenKinds-and, StandsAt}
 use Rattle.stun_inspect.specs.declared.telling.Told.{Told}
-use Rattle.stun_inspect.specs.Telling.{hider, told_at, told_attributes, unhidden_members}
-
--- the cases of both, in the same order
-cases_agree : (fingerprint last integrity_sha256 integrity stronger : Bool) (a b c : AttributeType)
-    → is_none
-    (cond fingerprint (Some a)
-    (cond last None
-    (cond integrity_sha256 (Some b) (cond (integrity && not stronger) (Some c) None))))
-    ≡ (not fingerprint && (not integrity_sha256 || last) && (not integrity || stronger || last))
-cases_agree true last integrity_sha256 integrity stronger a b c = refl
-cases_agree false false true integrity stronger a b c = refl
-cases_agree false false false false stronger a b c = refl
-cases_agree false false false true true a b c = refl
-cases_agree false false false true false a b c = refl
-cases_agree false true true false stronger a b c = refl
-cases_agree false true false false stronger a b c = refl
-cases_agree false true true true true a b c = refl
-cases_agree false true true true false a b c = refl
-cases_agree false true false true true a b c = refl
-cases_agree false true false true false a b c = refl
+use Rattle.stun_inspect.specs.Telling.{told_at, told_attributes, unhidden_members}
 
 -- nothing hides what is visible, and something hides the rest
-hider-none : (integrity integrity_sha256 fingerprint : Bool) (kind : ℕ)
-    → is_none (hider integrity integrity_sha256 fingerprint kind)
-    ≡ is_visible_after integrity integrity_sha256 fingerprint kind
-hider-none integrity integrity_sha256 fingerprint kind =
-    cases_agree fingerprint (kind == FINGERPRINT) integrity_sha256 integrity
-    (kind == MESSAGE_INTEGRITY_SHA256) _ _ _
+hider-none : (visibility : Visibility) (kind : ℕ) → is_none (hider visibility kind)
+    ≡ shows visibility kind
+hider-none Everything kind = refl
+hider-none AfterIntegrity kind =
+    elim (shows AfterIntegrity kind) as (λ is. is_none (cond is None (Some _)) ≡ is)
+    [ true ↦ refl | false ↦ refl ]
+hider-none AfterIntegritySha256 kind =
+    elim (shows AfterIntegritySha256 kind) as (λ is. is_none (cond is None (Some _)) ≡ is)
+    [ true ↦ refl | false ↦ refl ]
+hider-none Nothing kind = refl
 
 -- what is told of attributes shows those that are visible among all
 unhidden_members-told : (all members : List Member)
@@ -47,7 +37,7 @@ unhidden_members-told : (all members : List Member)
 unhidden_members-told all [] = refl
 unhidden_members-told all (m ∷ members) =
     let rest = unhidden_members-told all members in
-    let same : is_none (told_at all m).hidden_by ≡ is_visible all m = hider-none _ _ _ m.1.kind in
+    let same : is_none (told_at all m).hidden_by ≡ is_visible all m = hider-none _ m.1.kind in
     rw same (elim (is_visible all m) as (λ is_shown.
     map (λ t. (t.place, t.attribute))
     (cond is_shown (told_at all m ∷ filter (λ t. is_none t.hidden_by) (map (told_at all) members))
@@ -63,29 +53,51 @@ pub unhidden_members-visible : (bytes : List ℕ)
 unfolding visible
 unhidden_members-visible bytes = unhidden_members-told (walk bytes) (walk bytes)
 
--- the attribute at a place is told after those before it
-pub told-step : {place kind behind : ℕ} {integrity integrity_sha256 fingerprint : Bool}
-    {bytes : List ℕ} {attribute : TypedValue} {told : List Told}
-    → HasSeenKinds place integrity integrity_sha256 fingerprint bytes
+-- the attribute at a place is passed, which changes what is visible
+pub passed-step : {place kind behind : ℕ} {bytes : List ℕ} {attribute : TypedValue}
+    → before place (walk bytes) ++ walk_from place bytes ≡ walk bytes
     → StandsAt place bytes attribute kind behind
+    → (before behind (walk bytes) ++ walk_from behind bytes ≡ walk bytes)
+    × (after (visibility_at place (walk bytes)) kind ≡ visibility_at behind (walk bytes))
+passed-step {place} {kind} {bytes = bytes} is_place stands =
+    let integrity = has_kind MESSAGE_INTEGRITY (before place (walk bytes)) in
+    let integrity_sha256 = has_kind MESSAGE_INTEGRITY_SHA256 (before place (walk bytes)) in
+    let fingerprint = has_kind FINGERPRINT (before place (walk bytes)) in
+    let passed : HasSeenKinds place integrity integrity_sha256 fingerprint bytes = record {
+      is_place = is_place;
+      integrity_seen = refl;
+      integrity_sha256_seen = refl;
+      fingerprint_seen = refl;
+    } in
+    let next = HasSeenKinds-and passed stands refl refl refl in (
+      next.is_place,
+      after-of integrity integrity_sha256 fingerprint kind
+          ∙ (λ i. visibility_of (next.integrity_seen i) (next.integrity_sha256_seen i)
+          (next.fingerprint_seen i)),
+    )
+
+-- it is told after those before it
+pub told-step : {place kind behind : ℕ} {bytes : List ℕ} {attribute : TypedValue}
+    {visibility : Visibility} {told : List Told}
+    → before place (walk bytes) ++ walk_from place bytes ≡ walk bytes
+    → StandsAt place bytes attribute kind behind
+    → visibility ≡ visibility_at place (walk bytes)
     → told ≡ map (told_at (walk bytes)) (before place (walk bytes))
     → told ++ record {
       place = place;
       attribute = attribute;
-      hidden_by = hider integrity integrity_sha256 fingerprint kind;
+      hidden_by = hider visibility kind;
     } ∷ []
     ≡ map (told_at (walk bytes)) (before behind (walk bytes))
-told-step {place} {bytes = bytes} passed stands so_far =
-    let step = before-step place bytes passed.is_place stands.whole in
+told-step {place} {bytes = bytes} is_place stands visibility_is so_far =
+    let step = before-step place bytes is_place stands.whole in
     rw (
       stands.behind_is,
       stands.kind_is,
       stands.attribute_is,
       so_far,
       step,
-      passed.integrity_seen,
-      passed.integrity_sha256_seen,
-      passed.fingerprint_seen,
+      visibility_is,
     )
     (sym (map-append (told_at (walk bytes)) (before place (walk bytes))
     ((place, first_attribute (drop place bytes)) ∷ [])))

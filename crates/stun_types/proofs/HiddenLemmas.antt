@@ -15,11 +15,12 @@ use Rattle.stun_types.specs.Attribute.{attribute_length, has_attribute, first_at
 use Rattle.stun_types.specs.Integrity.{deciding, first_of}
 use Rattle.stun_types.specs.Message.{with_length}
 use Rattle.stun_types.specs.Tail.{besides_fingerprint, place_behind}
-use Rattle.stun_types.specs.Visible.{before, is_visible, is_visible_after, has_kind, visible}
+use Rattle.stun_types.specs.Visible.{before, is_visible, has_kind, visible}
 use Rattle.stun_types.specs.Walk.{Member, next_place, walk_up_to, walk_from, walk}
 use Rattle.stun_types.specs.code.Walk.{IsInside}
 use Rattle.stun_types.proofs.IntegrityLemmas.{walk_up_to-within}
 use Rattle.stun_types.proofs.ReachedLemmas.{Reaches, length-front, walk-divided, walk_up_to-reaches}
+use Rattle.stun_types.proofs.VisibleLemmas.{is_visible_after, is_visible_after-all}
 use Rattle.stun_types.proofs.WalkLemmas.{before-walk_from}
 
 -- ---- lists
@@ -188,6 +189,18 @@ seen bytes m kind place reaches is later =
     ∙ filter-append (λ n. nat_lt n.0 place) front (m ∷ rest))
     ∙ rw at (has_kind-middle kind (before place front) (before place rest) m is)
 
+-- what is before a member that counts lets it through
+all_let_through : (bytes : List ℕ) (m : Member) → is_visible (walk bytes) m ≡ true
+    → (not (has_kind FINGERPRINT (before m.0 (walk bytes)))
+    && (not (has_kind MESSAGE_INTEGRITY_SHA256 (before m.0 (walk bytes)))
+    || (m.1.kind == FINGERPRINT))
+    && (not (has_kind MESSAGE_INTEGRITY (before m.0 (walk bytes)))
+    || (m.1.kind == MESSAGE_INTEGRITY_SHA256) || (m.1.kind == FINGERPRINT))) ≡ true
+all_let_through bytes m shown =
+    sym (is_visible_after-all (has_kind MESSAGE_INTEGRITY (before m.0 (walk bytes)))
+    (has_kind MESSAGE_INTEGRITY_SHA256 (before m.0 (walk bytes)))
+    (has_kind FINGERPRINT (before m.0 (walk bytes))) m.1.kind) ∙ shown
+
 -- only FINGERPRINT counts behind the stronger attribute
 hidden-sha256 : (bytes : List ℕ) (m : Member) → Reaches HEADER_LENGTH bytes m
     → (m.1.kind == MESSAGE_INTEGRITY_SHA256) ≡ true
@@ -200,9 +213,10 @@ hidden-sha256 bytes m reaches is =
     (λ n reached again shown.
     let there =
     seen bytes m MESSAGE_INTEGRITY_SHA256 n.0 reaches is (omega (arith, reached.behind)) in
+    let all = all_let_through bytes n shown in
     hidden_by_sha256 (has_kind MESSAGE_INTEGRITY (before n.0 (walk bytes)))
     (has_kind FINGERPRINT (before n.0 (walk bytes)))
-    (n.1.kind == MESSAGE_INTEGRITY_SHA256) (n.1.kind == FINGERPRINT) (rw there at shown))
+    (n.1.kind == MESSAGE_INTEGRITY_SHA256) (n.1.kind == FINGERPRINT) (rw there at all))
 
 -- and behind the weaker one, where the stronger one does not count
 hidden-integrity : (bytes : List ℕ) (m : Member) → Reaches HEADER_LENGTH bytes m
@@ -219,9 +233,10 @@ hidden-integrity bytes m reaches is none =
     (none_found test (λ n. n.1.kind == MESSAGE_INTEGRITY_SHA256) rest none)
     (λ n reached absent shown.
     let there = seen bytes m MESSAGE_INTEGRITY n.0 reaches is (omega (arith, reached.behind)) in
+    let all = all_let_through bytes n shown in
     hidden_by_integrity (has_kind MESSAGE_INTEGRITY_SHA256 (before n.0 (walk bytes)))
     (has_kind FINGERPRINT (before n.0 (walk bytes)))
-    (n.1.kind == MESSAGE_INTEGRITY_SHA256) (n.1.kind == FINGERPRINT) (rw there at shown)
+    (n.1.kind == MESSAGE_INTEGRITY_SHA256) (n.1.kind == FINGERPRINT) (rw there at all)
     (absent shown))
 
 -- ---- the deciding attribute

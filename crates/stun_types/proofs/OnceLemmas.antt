@@ -5,10 +5,10 @@ use Rattle.std.specs.Prelude.{◌||◌, ◌==◌}
 use Rattle.stun_base.specs.Attributes.{MESSAGE_INTEGRITY, MESSAGE_INTEGRITY_SHA256, FINGERPRINT}
 use Rattle.stun_base.specs.Header.{HEADER_LENGTH}
 use Rattle.stun_types.specs.Attribute.{has_attribute, first_attribute}
-use Rattle.stun_types.specs.Visible.{before, is_visible, is_visible_after, has_kind, of_kind}
+use Rattle.stun_types.specs.Visible.{before, is_visible, has_kind, of_kind}
 use Rattle.stun_types.specs.Visible.{visible}
-use Rattle.stun_types.specs.code.Visible.{visible_from, HasSeenKinds}
 use Rattle.stun_types.specs.Walk.{Member, next_place, walk}
+use Rattle.stun_types.proofs.VisibleLemmas.{visible_from, HasSeenKinds, is_visible_after}
 use Rattle.stun_types.proofs.VisibleLemmas.{HasSeenKinds-none, HasSeenKinds-step}
 use Rattle.stun_types.proofs.VisibleLemmas.{has_kind-append, visible_from-end}
 use Rattle.stun_types.proofs.VisibleLemmas.{visible_from-header, visible_from-step}

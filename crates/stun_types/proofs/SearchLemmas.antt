@@ -8,9 +8,10 @@ use Rattle.stun_base.specs.Attributes.{MESSAGE_INTEGRITY, MESSAGE_INTEGRITY_SHA2
 use Rattle.stun_base.specs.Header.{HEADER_LENGTH}
 use Rattle.stun_types.specs.Attribute.{TypedValue, has_attribute, first_attribute}
 use Rattle.stun_types.specs.Integrity.{deciding, first_of}
-use Rattle.stun_types.specs.Visible.{is_visible_after, is_visible, visible}
+use Rattle.stun_types.specs.Visible.{is_visible, visible}
 use Rattle.stun_types.specs.Walk.{Member, next_place, walk_up_to, walk}
-use Rattle.stun_types.specs.code.Visible.{visible_from, HasSeenKinds}
+use Rattle.stun_types.proofs.VisibleLemmas.{visible_from, HasSeenKinds, is_visible_after}
+use Rattle.stun_types.proofs.VisibleLemmas.{is_visible_after-all}
 use Rattle.stun_types.proofs.VisibleLemmas.{StandsAt, HasSeenKinds-none, HasSeenKinds-step}
 use Rattle.stun_types.proofs.VisibleLemmas.{HasSeenKinds-and}
 use Rattle.stun_types.proofs.VisibleLemmas.{is_visible-passed, visible_from-header}
@@ -59,8 +60,10 @@ pub is_visible_after-or : (i s f a b c : Bool) (kind : ℕ)
 is_visible_after-or i s f a b c kind =
     let x = (kind == FINGERPRINT) in
     let y = (kind == MESSAGE_INTEGRITY_SHA256) in
-    (λ j. not-or f c j && unless-or s b x j && unless-or_either i a y x j)
-    ∙ in_threes (not f) (not c) (not s || x) (not b || x) (not i || y || x) (not a || y || x)
+    is_visible_after-all (i || a) (s || b) (f || c) kind
+    ∙ ((λ j. not-or f c j && unless-or s b x j && unless-or_either i a y x j)
+    ∙ (in_threes (not f) (not c) (not s || x) (not b || x) (not i || y || x) (not a || y || x)
+    ∙ (λ j. sym (is_visible_after-all i s f kind) j && sym (is_visible_after-all a b c kind) j)))
 
 -- ---- the first of a type from a place
 

@@ -4,7 +4,6 @@ pub mod AlgorithmSource
 pub mod AttributeLaws
 pub mod Message
 pub mod PasswordAlgorithms
-pub mod Visible
 pub mod Walk
 pub mod WriteVec
 pub mod XoredOctets

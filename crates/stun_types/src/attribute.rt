@@ -44,7 +44,7 @@ pub use xor_mapped_address::XorMappedAddress;
 /// its value (RFC 8489, section 14).
 pub const ATTRIBUTE_HEADER_LENGTH: usize = 4;
 
-/// How many zeros pad a value of so many bytes up to a multiple of 4.
+/// Returns the number of zeros that pad a value of this many bytes to a multiple of 4 bytes.
 pub(crate) fn padding_length(value_length: usize) -> usize
     ensures { result ≡ padded_length value_length - value_length }
 {
@@ -165,8 +165,8 @@ pub trait AttributeStaticType {
 
     /// Returns `TYPE`.
     ///
-    /// Contracts: this gives the number of the type, which a constant cannot. An impl of a type
-    /// with a lifetime repeats the clause.
+    /// Contracts: the clause states the number of the type, because a constant has no clause. An
+    /// impl of a type with a lifetime repeats it.
     fn static_type() -> AttributeType
         ensures { result.0 ≡ static_kind };
 }
@@ -202,8 +202,14 @@ impl<'a> RawAttribute<'a> {
         RawAttribute { kind, value }
     }
 
-    /// The attribute at this place of the bytes, or `None` if it or its padding is not whole.
-    pub(crate) fn at(bytes: &'a [u8], place: usize) -> Option<RawAttribute<'a>>
+    /// Returns the attribute at an offset of a message, visible or not, or `None` if the attribute
+    /// or its padding extends past the end of the bytes.
+    ///
+    /// The first attribute of a message has the offset 20, and each other attribute begins where
+    /// the one before it ends, `padded_len` bytes after its offset. At any other offset the bytes
+    /// are read as an attribute too. `Message::iter_attributes` returns only the visible
+    /// attributes.
+    pub fn at(bytes: &'a [u8], place: usize) -> Option<RawAttribute<'a>>
         ensures none { IfNone result (has_attribute (drop place bytes.now) ≡ false) }
         ensures whole { OnSome result (has_attribute (drop place bytes.now) ≡ true) }
         ensures value { IfSome result

@@ -32,7 +32,7 @@ use stun_base::prepared_key::PreparedKey;
 /// The fewest bytes of an HMAC-SHA256 that is cut short (RFC 8489, section 14.6).
 const MIN_SHA256_LENGTH: usize = 16;
 
-/// The first attribute of a type, with its place.
+/// Returns the first visible attribute of a type, with its offset.
 pub(crate) fn first_of<'a>(
     message: &Message<'a>,
     kind: AttributeType,
@@ -45,7 +45,7 @@ pub(crate) fn first_of<'a>(
     Some((place, RawAttribute::at(bytes, place)?))
 }
 
-/// The algorithm of an integrity attribute.
+/// Returns the algorithm of an integrity attribute.
 fn integrity_algorithm(attribute: &RawAttribute<'_>) -> IntegrityAlgorithm
     ensures { result ≡ integrity_algorithm attribute.now }
 {
@@ -69,8 +69,8 @@ pub fn deciding_algorithm(bytes: &[u8]) -> Option<IntegrityAlgorithm>
     Some(integrity_algorithm(&attribute))
 }
 
-/// Whether the value of an integrity attribute has a length of its type. A SHA-256 digest may be
-/// cut short.
+/// Returns `true` if the value of an integrity attribute has a length that its type allows. An
+/// HMAC-SHA256 may be cut short.
 pub(crate) fn is_well_formed(attribute: &RawAttribute<'_>) -> bool
     ensures { result ≡ is_well_formed attribute.now }
 {
@@ -83,7 +83,8 @@ pub(crate) fn is_well_formed(attribute: &RawAttribute<'_>) -> bool
     }
 }
 
-/// The attribute whose digest is compared, with its place. Fails if no digest can verify.
+/// Returns the attribute whose digest is compared, with its offset. Fails if no key can make the
+/// signature valid.
 fn claimed_digest<'a>(message: &Message<'a>) -> Result<(usize, RawAttribute<'a>), ValidateError>
     ensures deciding { IfOk result (λ m. deciding message.now ≡ Some m) }
     ensures whole { IfOk result (λ m. length m.1.value ≡ digest_length (integrity_algorithm m.1)) }
@@ -123,8 +124,8 @@ fn check_whole(attribute: &RawAttribute<'_>) -> Result<(), ValidateError>
     Ok(())
 }
 
-/// The length field under the digest of an attribute at this place: that of a message that ends
-/// after the attribute.
+/// Returns the length field that the digest of an attribute at this offset covers: that of a
+/// message which ends after the attribute.
 fn covered_length(place: usize, value_length: usize) -> u16
     requires behind_header { header_length ≤ place }
     requires fits { place + attribute_header_length + value_length < header_length + 2 ^ 16 }
@@ -133,8 +134,8 @@ fn covered_length(place: usize, value_length: usize) -> u16
     (place + ATTRIBUTE_HEADER_LENGTH + value_length - HEADER_LENGTH) as u16
 }
 
-/// The first four bytes of the header under the digest of an attribute at this place: the type, and
-/// that length.
+/// Returns the first four bytes that the digest of an attribute at this offset covers: the type of
+/// the message, and the length field that `covered_length` returns.
 fn covered_start(message: &[u8], place: usize, value_length: usize) -> [u8; 4]
     requires behind_header { header_length ≤ place }
     requires within { place + attribute_header_length + value_length ≤ length message.now }
@@ -147,8 +148,8 @@ fn covered_start(message: &[u8], place: usize, value_length: usize) -> [u8; 4]
     [message[0], message[1], length[0], length[1]]
 }
 
-/// Whether the value of the integrity attribute at this place is the digest of what it covers. The
-/// message is not copied.
+/// Returns `true` if the value of the integrity attribute at this offset is the digest of the bytes
+/// that it covers. The message is not copied.
 fn is_digest(message: &[u8], key: &[u8], place: usize, attribute: &RawAttribute<'_>) -> bool
     requires behind_header { header_length ≤ place }
     requires within { place + attribute_header_length + length attribute.now.value
@@ -167,7 +168,7 @@ fn is_digest(message: &[u8], key: &[u8], place: usize, attribute: &RawAttribute<
     }
 }
 
-/// The same under a prepared key.
+/// Like `is_digest`, with a prepared key.
 fn is_prepared_digest<A: Allocator>(
     message: &[u8],
     key: &PreparedKey<A>,

@@ -14,12 +14,13 @@ ghost use Rattle.stun_types.specs.Integrity.{deciding, verified_algorithm, verif
 ghost use Rattle.stun_types.specs.Limits.{max_length};
 ghost use Rattle.stun_types.specs.Message.{with_length};
 ghost use Rattle.stun_types.specs.Tail.{AgreeUpToIntegrity, IsContinuedAnew, besides_fingerprint};
-ghost use Rattle.stun_types.specs.Visible.{of_kind, visible};
+ghost use Rattle.stun_types.specs.Visible.{of_kind, visible, visible_after};
 ghost use Rattle.stun_types.specs.Walk.{Member, walk};
 ghost use Rattle.stun_types.specs.Writing.{HasOneMore, IsAddable, IsOpen};
 ghost use Rattle.stun_types.specs.Writing.{integrity_attribute, is_set_apart};
 ghost use Rattle.stun_types.specs.Writing.{length_with, with_attribute, with_integrity};
 
+use crate::message::Visibility;
 use stun_base::algorithm::IntegrityAlgorithm;
 
 /// Every message consists of a header and its attributes, spelled one after the other. A reader
@@ -31,6 +32,14 @@ pub fn message_is_spelled_attributes()
         → FindsWhatIsSpelled bytes attributes }
     ensures written { (message_type transaction_id : ℕ) (attributes : List TypedValue)
         → FindsWhatIsWritten message_type transaction_id attributes }
+{}
+
+/// A walk finds the visible attributes of a message by `Visibility` alone: if it begins with
+/// `Everything` at the first attribute, and goes on from each attribute with `after`, the visible
+/// attributes are those that `shows` accepts.
+pub fn a_walk_finds_what_is_visible()
+    ensures { (bytes : List ℕ) → visible_after Visibility.Everything (walk bytes)
+        ≡ visible bytes }
 {}
 
 /// At most one MESSAGE-INTEGRITY, one MESSAGE-INTEGRITY-SHA256 and one FINGERPRINT are visible in a

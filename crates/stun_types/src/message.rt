@@ -17,12 +17,14 @@ ghost use Rattle.stun_types.specs.Walk.{walk};
 ghost use Rattle.stun_types.specs.Writing.{IsOpen, empty_message, empty_answer};
 
 pub(crate) mod attributes_iter;
+pub(crate) mod visibility;
 pub(crate) mod walk;
 
 use crate::attribute::{AttributeFromRaw, AttributeStaticType};
 pub use crate::integrity::deciding_algorithm;
 use crate::integrity::first_of;
 pub use crate::message::attributes_iter::MessageAttributesIter;
+pub use crate::message::visibility::Visibility;
 use crate::message::walk::kind_at;
 use crate::write::MessageWrite;
 pub use crate::write::{MessageWriteMutSlice, MessageWriteVec};

@@ -15,7 +15,7 @@ use stun_types::prelude::*;
 /// Only IPv6 is allowed. A server answers IPv4 with the error 400 (section 7.2), so IPv4 can be
 /// parsed here.
 ///
-/// Contracts: they see the family.
+/// Contracts: the value is the family.
 #[derive(Clone, Copy, Debug, PartialEq, Eq)]
 pub struct AdditionalAddressFamily {
     family: AddressFamily,

@@ -69,7 +69,7 @@ impl Address {
 
 /// An attribute of type `KIND` whose value is an address and a port that are not XORed.
 ///
-/// Contracts: they see the address and the port.
+/// Contracts: the value is the address and the port.
 #[derive(Clone, Copy, Debug, PartialEq, Eq)]
 pub struct PlainAddress<const KIND: u16> {
     address: Address,

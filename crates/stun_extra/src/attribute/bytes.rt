@@ -12,7 +12,7 @@ use stun_types::prelude::*;
 
 /// An attribute of type `KIND` whose value is any bytes, which are borrowed.
 ///
-/// Contracts: they see the bytes.
+/// Contracts: the value is the list of its bytes.
 #[derive(Debug, Drop)]
 pub struct Bytes<'a, const KIND: u16> {
     bytes: &'a [u8],

@@ -19,7 +19,7 @@ const LENGTH: usize = 4;
 /// All of 0x4000 to 0x7FFF are parsed, because RFC 5766 allowed them, and its clients still bind
 /// them.
 ///
-/// Contracts: they see the number.
+/// Contracts: the value is the number.
 ///
 /// # Examples
 ///

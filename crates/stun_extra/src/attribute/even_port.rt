@@ -14,7 +14,7 @@ const RESERVE_NEXT: u8 = 0x80;
 /// EVEN-PORT (RFC 8656, section 18.7): asks for an even port. Its bit R also asks the server to
 /// reserve the next higher port.
 ///
-/// Contracts: they see that bit.
+/// Contracts: the value is that bit.
 ///
 /// # Examples
 ///

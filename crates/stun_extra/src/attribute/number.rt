@@ -11,7 +11,7 @@ use stun_types::prelude::*;
 
 /// An attribute of type `KIND` whose value is a number of 32 bits, the highest byte first.
 ///
-/// Contracts: they see the number.
+/// Contracts: the value is the number.
 #[derive(Clone, Copy, Debug, PartialEq, Eq)]
 pub struct Number<const KIND: u16> {
     number: u32,

@@ -12,7 +12,7 @@ use stun_types::prelude::*;
 /// REQUESTED-ADDRESS-FAMILY (RFC 8656, section 18.6): the family of the address that a client asks
 /// a server to allocate.
 ///
-/// Contracts: they see the family.
+/// Contracts: the value is the family.
 ///
 /// # Examples
 ///

@@ -14,7 +14,7 @@ const LENGTH: usize = 4;
 /// REQUESTED-TRANSPORT (RFC 8656, section 18.8): the protocol between the server and the peers, as
 /// its number in the IP header.
 ///
-/// Contracts: they see the number.
+/// Contracts: the value is the number.
 ///
 /// # Examples
 ///

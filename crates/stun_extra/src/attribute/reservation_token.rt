@@ -14,7 +14,7 @@ const LENGTH: usize = 8;
 /// RESERVATION-TOKEN (RFC 8656, section 18.10): 8 bytes that name a port which the server has
 /// reserved.
 ///
-/// Contracts: they see the bytes.
+/// Contracts: the value is the list of its bytes.
 ///
 /// # Examples
 ///

@@ -16,7 +16,7 @@ use stun_types::prelude::*;
 /// It is written with a length of 2, which leaves the two bytes after the port to the padding of
 /// the attribute. It is parsed with a length of 2 and of 4, because senders differ in this.
 ///
-/// Contracts: they see the port.
+/// Contracts: the value is the port.
 ///
 /// # Examples
 ///

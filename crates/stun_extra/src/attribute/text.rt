@@ -14,7 +14,7 @@ use stun_types::prelude::*;
 
 /// An attribute of type `KIND` whose value is a text, in UTF-8 of at most `LIMIT` bytes.
 ///
-/// Contracts: they see its bytes.
+/// Contracts: the value is the list of its bytes.
 #[derive(Debug, Drop)]
 pub struct Text<'a, const KIND: u16, const LIMIT: usize> {
     text: &'a str,
@@ -116,7 +116,8 @@ impl<'a, const KIND: u16, const LIMIT: usize> AttributeFromRaw<'a> for Text<'a, 
     }
 }
 
-/// Returns bytes as a text. Fails with `InvalidAttributeData` if they are too many or not UTF-8.
+/// Reads the bytes as a text. Fails with `InvalidAttributeData` if there are more than `most`
+/// bytes, or if they are not UTF-8.
 #[tactic(auto, using(stun_types::proofs::ReadingLemmas::short_text_read, stun_types::proofs::ReadingLemmas::short_text_not_read))]
 fn read_short_text(bytes: &[u8], most: usize) -> Result<&str, StunParseError>
     ensures ok { IfOk result (λ text. short_text most bytes.now ≡ Some text.now) }

@@ -11,7 +11,7 @@ use stun_types::prelude::*;
 
 /// An attribute of type `KIND` whose value is a tie-breaker of 64 bits.
 ///
-/// Contracts: they see the number.
+/// Contracts: the value is the number.
 #[derive(Clone, Copy, Debug, PartialEq, Eq)]
 pub struct TieBreaker<const KIND: u16> {
     tie_breaker: u64,

@@ -24,7 +24,7 @@ const LONGEST: usize = 24;
 
 /// An attribute of type `KIND` whose value is an address, XORed as in XOR-MAPPED-ADDRESS.
 ///
-/// Contracts: they see the XORed parts.
+/// Contracts: the value is the XORed parts.
 #[derive(Clone, Copy, Debug, PartialEq, Eq)]
 pub struct XorAddress<const KIND: u16> {
     hidden: XorMappedAddress,
@@ -51,8 +51,9 @@ impl<const KIND: u16> XorAddress<KIND> {
         }
     }
 
-    /// Returns the address, if the attribute is of a message with this transaction ID. The flow
-    /// information and the scope of an IPv6 address are 0.
+    /// Returns the address. `id` must be the transaction ID of the message that the attribute is
+    /// in: with any other ID the result may be a different address. The flow information and the
+    /// scope of an IPv6 address are 0.
     pub fn addr(&self, id: TransactionId) -> SocketAddr
         ensures ip { IsHidden id self.now (socket_ip result) }
         ensures port { IsPlainSocket result (xor_port self.now.port) }
@@ -106,7 +107,7 @@ fn read_xored(
     XorMappedAddress::from_raw(RawAttribute::new(AttributeType::XOR_MAPPED_ADDRESS, raw.value()))
 }
 
-/// Appends the attribute with this type whose value is that of XOR-MAPPED-ADDRESS.
+/// Appends an attribute of this type with the value of an XOR-MAPPED-ADDRESS.
 fn append_xored<W: MessageWrite>(writer: &mut W, kind: AttributeType, address: &XorMappedAddress)
     requires { attribute_length (length (xored_value address.now)) ≤ W.reserved writer.old }
     ensures bytes { W.bytes writer.new ≡ W.bytes writer.old

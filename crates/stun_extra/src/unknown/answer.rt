@@ -103,7 +103,7 @@ fn write_parts<W: MessageWrite>(
     Ok(answer)
 }
 
-/// Returns the number of bytes of that response.
+/// Returns the number of bytes of the response that `write_refusal` writes.
 fn refusal_length(request: &Message<'_>, known: &[AttributeType]) -> usize
     ensures { result ≡ length (refusing_answer known.now request.now) }
 {

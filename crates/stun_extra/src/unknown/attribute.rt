@@ -32,7 +32,7 @@ enum Source<'a> {
 /// server must understand and does not know. A server finds them in the request, and a client reads
 /// them in the response with the code 420.
 ///
-/// Contracts: they see the list of the types.
+/// Contracts: the value is the list of the types.
 ///
 /// # Examples
 ///
@@ -114,7 +114,7 @@ impl<'a> UnknownAttributes<'a> {
         }
     }
 
-    /// Returns `true` if it has no type.
+    /// Returns `true` if the list of types is empty.
     pub fn is_empty(&self) -> bool
         ensures { IsTrue result ↔ (self.now ≡ []) }
     {

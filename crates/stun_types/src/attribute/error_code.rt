@@ -118,7 +118,7 @@ impl<'a> ErrorCode<'a> {
     }
 }
 
-/// The phrase of a code whose reason is not set.
+/// Returns the reason phrase of a code for which none was set.
 fn default_reason(code: u16) -> &'static str
     ensures { result.now ≡ default_reason code }
 {
@@ -185,8 +185,8 @@ impl<'a> ErrorCodeBuilder<'a> {
     }
 }
 
-/// The code in a value, or `None` if its class is not from 3 to 6 or its number is 100 or more. The
-/// reserved bits are ignored.
+/// Reads the code in a value. Returns `None` if its class is not from 3 to 6 or its number is 100
+/// or more. The reserved bits are ignored.
 fn read_code(value: &[u8]) -> Option<u16>
     requires { CODE_LENGTH ≤ length value.now }
     ensures code { result ≡ code_in value.now }

@@ -58,7 +58,7 @@ pub fn hidden_and_read(addr: SocketAddr, id: TransactionId) -> SocketAddr
     XorMappedAddress::new(addr, id).addr(id)
 }
 
-/// The number of octets of an address, by its family.
+/// Returns the number of octets of an address, which depends on its family.
 fn octet_count(ip: IpAddr) -> usize
     ensures { HasOctets ip }
 {

@@ -52,7 +52,7 @@ impl PasswordAlgorithmValue {
         }
     }
 
-    /// The algorithm as an entry: its number, and no parameters.
+    /// Returns the algorithm as an entry: its number, and no parameters.
     pub(super) fn entry(self) -> [u8; ENTRY_LENGTH]
         ensures { result ≡ spelled_entry self }
     {
@@ -63,8 +63,8 @@ impl PasswordAlgorithmValue {
     }
 }
 
-/// The algorithm of the entry at the front, or `None` if its number is unknown or it has
-/// parameters.
+/// Reads the algorithm of the entry that the bytes begin with. Returns `None` if its number is
+/// unknown or it has parameters.
 pub(super) fn read_entry(bytes: &[u8]) -> Option<PasswordAlgorithmValue>
     requires { ENTRY_LENGTH ≤ length bytes.now }
     ensures { result ≡ entry_at_front bytes.now }

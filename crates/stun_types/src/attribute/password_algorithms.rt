@@ -68,7 +68,7 @@ impl<'a> Clone for PasswordAlgorithms<'a> {
     }
 }
 
-/// Whether bytes are entries of known algorithms without parameters.
+/// Returns `true` if the bytes are entries of known algorithms without parameters.
 fn are_known(bytes: &[u8]) -> bool
     ensures { result ≡ are_entries bytes.now }
 {
@@ -82,7 +82,7 @@ fn are_known(bytes: &[u8]) -> bool
     true
 }
 
-/// The algorithm of the entry of this index, or `None` if there are fewer.
+/// Returns the algorithm of the entry with this index, or `None` if there are fewer entries.
 fn entry_at(bytes: &[u8], i: usize) -> Option<PasswordAlgorithmValue>
     requires { IsTrue (are_entries bytes.now) }
     ensures { result ≡ slice_get (entry_list bytes.now) i }
@@ -93,7 +93,7 @@ fn entry_at(bytes: &[u8], i: usize) -> Option<PasswordAlgorithmValue>
     read_entry(&bytes[ENTRY_LENGTH * i..])
 }
 
-/// The number of entries.
+/// Returns the number of entries.
 fn entry_count(bytes: &[u8]) -> usize
     requires { IsTrue (are_entries bytes.now) }
     ensures { result ≡ length (entry_list bytes.now) }

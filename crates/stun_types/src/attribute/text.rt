@@ -75,7 +75,7 @@ impl<'a, const KIND: u16, const LIMIT: usize> Text<'a, KIND, LIMIT> {
         Ok(Text { text })
     }
 
-    /// The text.
+    /// Returns the text.
     pub(super) fn text(&self) -> &'a str
         ensures text { result.now ≡ self.now }
         ensures within_limit { length result.now ≤ LIMIT }
@@ -118,7 +118,8 @@ impl<'a, const KIND: u16, const LIMIT: usize> AttributeFromRaw<'a> for Text<'a, 
     }
 }
 
-/// The bytes as a text. Fails with `InvalidAttributeData` if they are too many or not UTF-8.
+/// Reads the bytes as a text. Fails with `InvalidAttributeData` if there are more than `most`
+/// bytes, or if they are not UTF-8.
 #[tactic(auto, using(crate::proofs::ReadingLemmas::short_text_read, crate::proofs::ReadingLemmas::short_text_not_read))]
 pub(super) fn read_short_text(bytes: &[u8], most: usize) -> Result<&str, StunParseError>
     ensures ok { IfOk result (λ text. short_text most bytes.now ≡ Some text.now) }

@@ -23,7 +23,7 @@ use stun_base::error::StunParseError;
 use stun_base::header::MAGIC_COOKIE;
 use stun_base::transaction_id::TransactionId;
 
-/// The first half of the magic cookie, which the port is xored with.
+/// The first half of the magic cookie, which the port is XORed with.
 const PORT_KEY: u16 = (MAGIC_COOKIE >> 16) as u16;
 
 /// The number of bytes of the value before the octets.
@@ -35,7 +35,7 @@ const IPV4: u8 = 1;
 /// The family of IPv6.
 const IPV6: u8 = 2;
 
-/// The octets of an address, each xored with a byte of the key.
+/// The octets of an address, each XORed with a byte of the key.
 #[derive(Clone, Copy, Debug, PartialEq, Eq)]
 enum XoredOctets {
     V4([u8; 4]),
@@ -76,7 +76,7 @@ impl Model for XorMappedAddress {
         record { port = address.port; octets = with_family-of address.octets i } };
 }
 
-/// Each octet xor the byte of the key at its place.
+/// XORs each octet with the byte of the key at the same index.
 fn xor_with(octets: &mut [u8], key: &[u8])
     requires { length octets.old ≤ length key.now }
     ensures { octets.new ≡ xor_bytes octets.old key.now }
@@ -86,7 +86,7 @@ fn xor_with(octets: &mut [u8], key: &[u8])
     }
 }
 
-/// The magic cookie, then the transaction id.
+/// Returns the key of the octets: the magic cookie, and then the transaction ID.
 fn xor_key(id: TransactionId) -> [u8; 16]
     ensures { result ≡ xor_key id }
 {
@@ -95,7 +95,8 @@ fn xor_key(id: TransactionId) -> [u8; 16]
     key
 }
 
-/// The octets of an address of this family, or `None` if it has another number of them.
+/// Reads the octets of an address of this family. Returns `None` if such an address has another
+/// number of octets.
 fn read_octets(family: u8, octets: &[u8]) -> Option<XoredOctets>
     ensures { MatchOption result (has_octets family (length octets.now) ≡ false)
         (λ read. (has_octets family (length octets.now) ≡ true)
@@ -202,7 +203,7 @@ impl Attribute for XorMappedAddress {
     }
 }
 
-/// Appends the attribute of an address in this family.
+/// Appends the attribute of an address with this family, port and octets, which are XORed already.
 fn append_address<W: MessageWrite>(writer: &mut W, family: u8, port: u16, octets: &[u8])
     requires whole { length octets.now % 4 ≡ 0 }
     requires short { length octets.now ≤ 16 }

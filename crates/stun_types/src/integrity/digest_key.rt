@@ -13,11 +13,11 @@ pub(crate) trait DigestKey {
     // Its bytes.
     ghost key_bytes: { Self → List ℕ };
 
-    /// HMAC-SHA1 of a text.
+    /// Returns the HMAC-SHA1 of a text.
     fn digest_sha1(&self, text: &[u8]) -> [u8; SHA1_LENGTH]
         ensures { result ≡ digest IntegrityAlgorithm.Sha1 (key_bytes self.now) text.now };
 
-    /// HMAC-SHA256 of a text.
+    /// Returns the HMAC-SHA256 of a text.
     fn digest_sha256(&self, text: &[u8]) -> [u8; SHA256_LENGTH]
         ensures { result ≡ digest IntegrityAlgorithm.Sha256 (key_bytes self.now) text.now };
 }

@@ -1,4 +1,4 @@
-//! The walk of a message's attributes, which reads their types and lengths alone.
+//! Walks over the attributes of a message that read only their types and lengths.
 
 ghost use Rattle.std.specs.Prelude.{◌≡◌, true, false, drop, IfSome, IfNone, OnSome};
 ghost use Rattle.std.specs.Option.{option_map};
@@ -9,19 +9,20 @@ ghost use Rattle.stun_types.specs.Visible.{has_kind, visible};
 ghost use Rattle.stun_types.specs.Walk.{next_place, walk};
 
 use crate::attribute::{ATTRIBUTE_HEADER_LENGTH, AttributeType};
-use crate::message::attributes_iter::Passed;
+use crate::message::visibility::Visibility;
 use byteorder::{BigEndian, ByteOrder};
 use stun_base::header::HEADER_LENGTH;
 
-/// The number of bytes of an attribute with this length field, with its header and its padding.
+/// Returns the number of bytes of an attribute with this length field, with its header and its
+/// padding.
 fn length_by_field(value_length: u16) -> usize
     ensures { result ≡ attribute_length value_length }
 {
     (usize::from(value_length) + ATTRIBUTE_HEADER_LENGTH + 3) / 4 * 4
 }
 
-/// The type of the attribute at this place of the bytes, and the place after its padding. `None` if
-/// they are not whole.
+/// Returns the type of the attribute at an offset, and the offset after its padding. Returns `None`
+/// if the attribute or its padding extends past the end of the bytes.
 pub(crate) fn kind_at(bytes: &[u8], place: usize) -> Option<(AttributeType, usize)>
     ensures none { IfNone result (has_attribute (drop place bytes.now) ≡ false) }
     ensures whole { OnSome result (has_attribute (drop place bytes.now) ≡ true) }
@@ -40,7 +41,7 @@ pub(crate) fn kind_at(bytes: &[u8], place: usize) -> Option<(AttributeType, usiz
     Some((kind, place + length))
 }
 
-/// Whether a message has an attribute of this type, visible or not.
+/// Returns `true` if a message has an attribute of this type, visible or not.
 pub(crate) fn has_attribute(message: &[u8], kind: AttributeType) -> bool
     ensures { result ≡ has_kind kind.0 (walk message.now) }
 {
@@ -54,8 +55,8 @@ pub(crate) fn has_attribute(message: &[u8], kind: AttributeType) -> bool
     false
 }
 
-/// The place of the first visible attribute of a type. The walk ends at the first attribute that
-/// hides the type.
+/// Returns the offset of the first visible attribute of a type. The walk ends at the first
+/// attribute that hides the type, because none is visible after it.
 pub(crate) fn first_place(message: &[u8], kind: AttributeType) -> Option<usize>
     ensures whole { IfSome result (λ place. has_attribute (drop place message.now) ≡ true) }
     ensures first { first_of kind.0 (visible message.now)
@@ -66,7 +67,7 @@ pub(crate) fn first_place(message: &[u8], kind: AttributeType) -> Option<usize>
         if found == kind {
             return Some(place);
         }
-        if !Passed::NONE.and(found).shows(kind) {
+        if !Visibility::Everything.after(found).shows(kind) {
             return None;
         }
         place = behind;
@@ -74,8 +75,9 @@ pub(crate) fn first_place(message: &[u8], kind: AttributeType) -> Option<usize>
     None
 }
 
-/// The place of the attribute whose digest decides: the stronger one, if both are visible. The walk
-/// ends at the stronger one, and at FINGERPRINT, which hides both.
+/// Returns the offset of the attribute that decides whether the message is signed: the stronger
+/// one, if both are visible. The walk ends at the stronger one, and at FINGERPRINT, because neither
+/// is visible after it.
 pub(crate) fn deciding_place(message: &[u8]) -> Option<usize>
     ensures whole { IfSome result (λ place. has_attribute (drop place message.now) ≡ true) }
     ensures deciding { deciding message.now

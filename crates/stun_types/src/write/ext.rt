@@ -35,7 +35,8 @@ use stun_base::message_type::MessageClass;
 use stun_base::prepared_key::PreparedKey;
 use stun_base::transaction_id::TransactionId;
 
-/// Whether only the calls that sign write attributes of this type, or no call.
+/// Returns `true` for the types that `add_attribute` never writes: the integrity attributes, which
+/// only the calls that sign a message write, and FINGERPRINT.
 fn is_set_apart(kind: AttributeType) -> bool
     ensures { result ≡ is_set_apart kind.0 }
 {
@@ -152,8 +153,8 @@ pub trait MessageWriteExt: MessageWrite {
     /// type already.
     ///
     /// A request with several attributes of one type needs this, such as CreatePermission for
-    /// several peers (RFC 8656, section 9.1). Where the type may occur once, use `add_attribute`,
-    /// which makes sure of that.
+    /// several peers (RFC 8656, section 9.1). If the type may occur only once, use `add_attribute`,
+    /// which fails if it occurs already.
     ///
     /// # Errors
     ///
@@ -427,7 +428,7 @@ pub trait MessageWriteExt: MessageWrite {
 
 impl<W: MessageWrite> MessageWriteExt for W {}
 
-/// The header of a message.
+/// Reads the header of a message.
 fn header(message: &[u8]) -> MessageHeader
     requires { BeginsWithHeader message.now }
     ensures { result ≡ header_of message.now }
@@ -435,7 +436,7 @@ fn header(message: &[u8]) -> MessageHeader
     MessageHeader::from_bytes(message).unwrap()
 }
 
-/// Whether a message has an integrity attribute.
+/// Returns `true` if a message has an integrity attribute, visible or not.
 fn has_integrity(message: &[u8]) -> bool
     requires { header_length ≤ length message.now }
     ensures { result ≡ has_integrity message.now }
@@ -444,7 +445,7 @@ fn has_integrity(message: &[u8]) -> bool
         || has_attribute(message, AttributeType::MESSAGE_INTEGRITY_SHA256)
 }
 
-/// The message length with so many bytes more, at most `usize::MAX`.
+/// Returns the message length after this many bytes are added, at most `usize::MAX`.
 fn length_with(message: &[u8], more: usize) -> usize
     requires { header_length ≤ length message.now }
     ensures { result ≡ min (length message.now - header_length + more) (2 ^ 64 - 1) }
@@ -491,14 +492,14 @@ fn add_whole<W: MessageWrite, A: Attribute>(
     Ok(())
 }
 
-/// The number of bytes of the integrity attribute of an algorithm with its header.
+/// Returns the number of bytes of the integrity attribute of an algorithm, with its header.
 fn integrity_length(algorithm: IntegrityAlgorithm) -> usize
     ensures { result ≡ attribute_length (digest_length algorithm) }
 {
     attribute_length(algorithm.digest_length())
 }
 
-/// Adds the integrity attribute of an algorithm, or fails with the first reason that holds.
+/// Adds the integrity attribute of an algorithm, or fails with the first error that applies.
 fn add_integrity<W: MessageWrite, K: DigestKey>(
     writer: &mut W,
     key: &K,
@@ -568,7 +569,7 @@ fn sign<W: MessageWrite, K: DigestKey>(
     Ok(())
 }
 
-/// Appends the integrity attribute whose digest is that of all bytes before it.
+/// Appends the integrity attribute with the digest of all bytes before it.
 fn append_integrity<W: MessageWrite, K: DigestKey>(
     writer: &mut W,
     key: &K,

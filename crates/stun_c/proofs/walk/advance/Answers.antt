@@ -1,14 +1,16 @@
--- What is shown from a place is the attribute there, where it is shown, and what is shown after it.
+-- What is visible from a place is the attribute there, where it is, and what is visible after it.
 use Rattle.std.proofs.Common.{◌≡◌, ◌+◌, ◌∷◌, drop, sym, ◌∙◌, ap, arith}
 use Rattle.std.specs.Prelude.{slice_get}
+use Rattle.stun_types.specs.Visible.{visible_after}
 use Rattle.stun_types.specs.Walk.{walk_from}
-use Rattle.stun_c.specs.Walking.{visible_after}
-use Rattle.stun_c.proofs.Walking.{MetAt, met-visible_after, met-hidden, met_within}
-use Rattle.stun_c.proofs.Walking.{visible_after-end}
+use Rattle.stun_types.proofs.VisibleLemmas.{StandsAt, visible_after-end, visible_after-hidden}
+use Rattle.stun_types.proofs.VisibleLemmas.{visible_after-shown}
+use Rattle.stun_c.specs.Walking.{visibility_from}
+use Rattle.stun_c.proofs.Walking.{stands-within}
 use Rattle.stun_c.proofs.walk.advance.Goals as goal
 
-shown_at : (c : goal.Then-shown)
-    → MetAt c.loop-attribute.cursor.place c.args.message.now c.in-Some.attribute
+shown_at : (c : goal.Then-shows)
+    → StandsAt c.loop-attribute.cursor.place c.args.message.now c.in-Some.attribute
     c.get_type-kind.result.0 (c.loop-attribute.cursor.place + c.padded_len.result)
 shown_at c = record {
   whole = c.in-Some.ensures.whole;
@@ -17,8 +19,8 @@ shown_at c = record {
   behind_is = ap (λ n. c.loop-attribute.cursor.place + n) c.padded_len.ensures;
 }
 
-hidden_at : (c : goal.Else-shown)
-    → MetAt c.loop-attribute.cursor.place c.args.message.now c.in-Some.attribute
+hidden_at : (c : goal.Else-shows)
+    → StandsAt c.loop-attribute.cursor.place c.args.message.now c.in-Some.attribute
     c.get_type-kind.result.0 (c.loop-attribute.cursor.place + c.padded_len.result)
 hidden_at c = record {
   whole = c.in-Some.ensures.whole;
@@ -28,45 +30,56 @@ hidden_at c = record {
 }
 
 -- what was to be given begins with the attribute
-begins : (c : goal.Then-shown)
-    → visible_after c.args.cursor.now.hidden (walk_from c.args.cursor.now.place c.args.message.now)
+begins : (c : goal.Then-shows)
+    → visible_after (visibility_from c.args.cursor.now.hidden)
+    (walk_from c.args.cursor.now.place c.args.message.now)
     ≡ (c.loop-attribute.cursor.place, c.in-Some.attribute)
-    ∷ visible_after c.hidden_behind-cursor.result
+    ∷ visible_after (visibility_from c.hidden_number-cursor.result)
     (walk_from (c.loop-attribute.cursor.place + c.padded_len.result) c.args.message.now)
 begins c =
+    let here = walk_from c.loop-attribute.cursor.place c.args.message.now in
+    let rest =
+    walk_from (c.loop-attribute.cursor.place + c.padded_len.result) c.args.message.now in
     sym c.loop-attribute.invariant.left
-    ∙ met-visible_after c.loop-attribute.cursor.hidden (shown_at c)
-    (sym c.is_shown-shown.ensures ∙ c.if-shown.true) c.hidden_behind-cursor.ensures
+    ∙ (ap (λ v. visible_after v here) (sym c.visibility_from-visibility.ensures)
+    ∙ (visible_after-shown c.visibility_from-visibility.result (shown_at c)
+    (sym c.shows.ensures ∙ c.if-shows.true)
+    ∙ ap (λ v. (c.loop-attribute.cursor.place, c.in-Some.attribute) ∷ visible_after v rest)
+    (sym (c.hidden_number-cursor.ensures ∙ c.after-after.ensures))))
 
-pub returns-then-shown-clause-first : goal.returns-then-shown-clause-first
-returns-then-shown-clause-first c = ap (λ left. slice_get left 0) (sym (begins c))
+pub returns-then-shows-clause-first : goal.returns-then-shows-clause-first
+returns-then-shows-clause-first c = ap (λ left. slice_get left 0) (sym (begins c))
 
-pub returns-then-shown-clause-rest : goal.returns-then-shown-clause-rest
-returns-then-shown-clause-rest c = ap (drop 1) (sym (begins c))
+pub returns-then-shows-clause-rest : goal.returns-then-shows-clause-rest
+returns-then-shows-clause-rest c = ap (drop 1) (sym (begins c))
 
 pub loop-attribute-preserved : goal.loop-attribute-preserved
-loop-attribute-preserved c = record {
-  left =
-      sym (met-hidden c.loop-attribute.cursor.hidden (hidden_at c)
-      (sym c.is_shown-shown.ensures ∙ c.if-shown.false) c.hidden_behind-cursor.ensures)
-      ∙ c.loop-attribute.invariant.left;
-  behind = omega (arith, c.loop-attribute.invariant.behind);
-  within = met_within (hidden_at c);
-}
+loop-attribute-preserved c =
+    let here = walk_from c.loop-attribute.cursor.place c.args.message.now in
+    let rest =
+    walk_from (c.loop-attribute.cursor.place + c.padded_len.result) c.args.message.now in
+    record {
+      left = ap (λ v. visible_after v rest)
+          (c.hidden_number-cursor.ensures ∙ c.after-after.ensures)
+          ∙ (sym (visible_after-hidden c.visibility_from-visibility.result (hidden_at c)
+          (sym c.shows.ensures ∙ c.if-shows.false))
+          ∙ (ap (λ v. visible_after v here) c.visibility_from-visibility.ensures
+          ∙ c.loop-attribute.invariant.left));
+      behind = omega (arith, c.loop-attribute.invariant.behind);
+      within = stands-within (hidden_at c);
+    }
 
 -- nothing is left where no attribute is
 pub returns-clause-first : goal.returns-clause-first
 returns-clause-first c =
     let none =
-    visible_after-end c.loop-attribute.cursor.hidden c.loop-attribute.cursor.place
-    c.args.message.now
-    c.in_default.ensures.none in
+    visible_after-end (visibility_from c.loop-attribute.cursor.hidden)
+    c.loop-attribute.cursor.place c.args.message.now c.in_default.ensures.none in
     ap (λ left. slice_get left 0) (sym none ∙ c.loop-attribute.invariant.left)
 
 pub returns-clause-rest : goal.returns-clause-rest
 returns-clause-rest c =
     let none =
-    visible_after-end c.loop-attribute.cursor.hidden c.loop-attribute.cursor.place
-    c.args.message.now
-    c.in_default.ensures.none in
+    visible_after-end (visibility_from c.loop-attribute.cursor.hidden)
+    c.loop-attribute.cursor.place c.args.message.now c.in_default.ensures.none in
     none ∙ ap (drop 1) (sym none ∙ c.loop-attribute.invariant.left)

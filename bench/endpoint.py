@@ -1,12 +1,14 @@
 #!/usr/bin/env python3
-"""Counts what a datagram costs at a server of the exported crate.
+"""Counts what a datagram costs at a server of the exported crate, and a request at a client.
 
     bench/endpoint.py
 
 Each row is counted at `endpoint::Server` and at a loop of calls by hand with its table of addresses
 (rust/examples/endpoint_cost): 1,000 and 3,000 datagrams each, and the difference through 2,000 is
-one: instructions by callgrind. It wants `make rust` before, cargo and valgrind. It prints the table
-of README.md; status 1 if a bar is missed.
+one: instructions by callgrind. The rows of the client (rust/examples/client_cost) are counted at
+`endpoint::Client` and at the calls of the agent and of the authenticator in a row. It wants
+`make rust` before, cargo and valgrind. It prints the tables of README.md; status 1 if a bar of the
+server is missed.
 """
 
 import concurrent.futures
@@ -28,6 +30,12 @@ ROWS = [
     ("a request with an expired nonce: 438", ("sha256", "stale"), None),
 ]
 
+# A request of a client and its response: the title and the word.
+CLIENT = [
+    ("a Binding request, without credentials", "unsigned"),
+    ("a Binding request, long-term credentials, HMAC-SHA256", "signed"),
+]
+
 
 def counted(words):
     """The instructions of a run."""
@@ -39,12 +47,26 @@ def counted(words):
     return int(found[1])
 
 
+def client(counts):
+    """Prints the table of the client. Each run makes 1,000 requests, once or three times."""
+    print("\n| A request of a client | `endpoint::Client` | the calls in a row | ratio |")
+    print("|---|---|---|---|")
+    for title, _ in CLIENT:
+        once, thrice, calls_once, calls_thrice = (next(counts) for _ in range(4))
+        endpoint, by_hand = (thrice - once) // 2000, (calls_thrice - calls_once) // 2000
+        print(f"| {title} | {endpoint:,} | {by_hand:,} | {endpoint / by_hand:.2f} |")
+
+
 def main():
-    build = ["cargo", "build", "--quiet", "--release", "--example", "endpoint_cost"]
-    subprocess.run(build, cwd=EXPORT, check=True)
-    program = str(EXPORT / "target/release/examples/endpoint_cost")
+    build = ["cargo", "build", "--quiet", "--release"]
+    for example in ("endpoint_cost", "client_cost"):
+        subprocess.run([*build, "--example", example], cwd=EXPORT, check=True)
+    program, asking = (str(EXPORT / "target/release/examples" / name)
+                       for name in ("endpoint_cost", "client_cost"))
     runs = [(program, kind, *words, str(times)) for _, words, _ in ROWS
             for kind in ("endpoint", "loop") for times in (FEW, MANY)]
+    runs += [(asking, kind, word, times) for _, word in CLIENT
+             for kind in ("endpoint", "calls") for times in ("1", "3")]
     with concurrent.futures.ThreadPoolExecutor(min(4, os.cpu_count() or 1)) as pool:
         counts = iter(list(pool.map(counted, runs)))
     print("| A datagram at a server | `endpoint::Server` | a loop with a table | at most |")
@@ -55,6 +77,7 @@ def main():
         endpoint, by_hand = ((many - few) // (MANY - FEW), (loop_many - loop_few) // (MANY - FEW))
         missed += most is not None and endpoint > most
         print(f"| {title} | {endpoint:,} | {by_hand:,} | {f'{most:,}' if most else ''} |")
+    client(counts)
     return 1 if missed else 0
 
 

@@ -191,6 +191,9 @@ class Spelling:
                 self.add_word(word)
 
     def add_word(self, word):
+        if word == "FP":
+            self.attributes = stun.fingerprinted(self.finish())[20:]
+            return
         name, equals, value = word.partition("=")
         if not equals:
             raise Words(word)

@@ -11,7 +11,7 @@ from spelling import PHRASES, TYPES, Words
 
 NAMES = {number: name for name, number in TYPES.items()
          if name not in ("PASSWORD-ALGORITHM", "USERHASH")}
-LISTS = {b"\0\2\0\0\0\1\0\0": "SHA256,MD5", b"\0\2\0\0": "SHA256", b"\0\1\0\0": "MD5"}
+PASSWORD_ALGORITHM_NAMES = {1: "MD5", 2: "SHA256"}
 # STUN's own attributes that must be understood (RFC 8489, section 14).
 OWN = {0x0001, 0x0006, 0x0008, 0x0009, 0x000A, 0x0014, 0x0015, 0x001C, 0x001D, 0x001E, 0x0020}
 LIMIT = 763
@@ -41,7 +41,8 @@ def shown(name, value, identity):
         has_own = PHRASES.get(str(code), "").encode() == phrase != b""
         return f"{code}" if has_own else f"{code}:{shown_text(phrase)}"
     if name == "PASSWORD-ALGORITHMS":
-        return LISTS[value]
+        numbers = (struct.unpack_from(">H", value, at)[0] for at in range(0, len(value), 4))
+        return ",".join(PASSWORD_ALGORITHM_NAMES[one] for one in numbers)
     if name == "XOR-MAPPED-ADDRESS":
         port = struct.unpack(">H", value[2:4])[0] ^ 0x2112
         octets = bytes(a ^ b for a, b in zip(value[4:], spelling.COOKIE + identity))

@@ -5,11 +5,12 @@ use crate::words::*;
 use std::net::{IpAddr, Ipv4Addr, Ipv6Addr, SocketAddr};
 
 const COOKIE: [u8; 4] = [0x21, 0x12, 0xa4, 0x42];
-const PHRASES: [(u64, &str); 4] = [
+const PHRASES: [(u64, &str); 5] = [
     (400, "Bad Request"),
     (401, "Unauthorized"),
     (420, "Unknown Attribute"),
     (438, "Stale Nonce"),
+    (487, "Role Conflict"),
 ];
 const CLASSES: [(&str, u16); 4] = [
     ("request", 0x0001),

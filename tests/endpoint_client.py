@@ -54,6 +54,13 @@ def reading(message):
     return values
 
 
+def plain_address(value):
+    """The address in a value that is not XORed (section 14.1)."""
+    if value is None:
+        return "none"
+    return spelling.address_text(value[4:], int.from_bytes(value[2:4], "big"))
+
+
 class ClientStage:
     """The lines `endpoint client ..`."""
 
@@ -387,7 +394,5 @@ class ClientStage:
         if code != 300:
             return f"refused {code} {signed}: {told(message)}"
         values = reading(message)
-        other = values.get(ALTERNATE_SERVER)
-        other = spelling.address_text(other[4:], int.from_bytes(other[2:4], "big")) if other else "none"
         domain = values.get(ALTERNATE_DOMAIN, b"none").decode()
-        return f"redirected {other} {domain} {signed}"
+        return f"redirected {plain_address(values.get(ALTERNATE_SERVER))} {domain} {signed}"

@@ -1,5 +1,5 @@
-"""A model of an agent of ICE, as far as its checks are concerned (RFC 8445, sections 7.2 and 7.3). It
-is written as endpoint_model.py says."""
+"""A model of an agent of ICE, as far as its checks are concerned (RFC 8445, sections 7.2 and 7.3).
+It is written as endpoint_model.py says."""
 
 import struct
 

@@ -2,11 +2,11 @@
 """endpoint_model.py [--write] FILE ..: plays transcripts of endpoints (docs/maintainers/
 TRANSCRIPTS.md) by models of them, and compares the answers.
 
-The models are written from RFC 8489 and RFC 8445, and of nonces from specs/Nonces.antt of stun_endpoint,
-over Python's hashlib, hmac and zlib. They share no code with the library, so the answers come from
-outside it. This file has the server with long-term credentials; endpoint_open.py, endpoint_ice.py and
-endpoint_client.py have the others. With --write it fills in the answers that are empty. The status
-is 1 if an answer is wrong."""
+The models are written from RFC 8489 and RFC 8445, and of nonces from specs/Nonces.antt of
+stun_endpoint, over Python's hashlib, hmac and zlib. They share no code with the library, so the
+answers come from outside it. This file has the server with long-term credentials; endpoint_open.py,
+endpoint_ice.py and endpoint_client.py have the others. With --write it fills in the answers that
+are empty. The status is 1 if an answer is wrong."""
 
 import base64
 import hashlib

@@ -90,7 +90,8 @@ impl ClientStage {
 
     fn hear(&mut self, around: &Around<'_>, words: &[&str]) -> Option<String> {
         let bytes = &around.message(words)?[..];
-        Some(match self.client.as_mut()?.receive(bytes, around.from, at(around)) {
+        let client = self.client.as_mut()?;
+        Some(match client.receive(bytes, around.from, at(around)) {
             Input::Consumed => "consumed".to_string(),
             Input::Indication(message) => format!("indication{}", unless(is_of(&message, bytes))),
             Input::NotOurs => "not ours".to_string(),
@@ -181,7 +182,8 @@ fn of_result(result: Result<Response, RequestError>) -> String {
             format!("refused {} {signed}: {told}", error.code())
         }
         Err(RequestError::Redirected(to)) => {
-            let server = to.server().map_or("none".to_string(), |one| one.to_string());
+            let server = to.server().map(|server| server.to_string());
+            let server = server.as_deref().unwrap_or("none");
             let domain = to.domain().unwrap_or("none");
             format!("redirected {server} {domain} {}", signer(to.signed_by()))
         }

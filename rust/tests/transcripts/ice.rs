@@ -41,7 +41,7 @@ impl IceStage {
             ["check", words @ ..] => self.check(words),
             ["hears", words @ ..] => {
                 let bytes = around.message(words)?;
-                let id = bytes.get(8..20).and_then(|id| <[u8; 12]>::try_from(id).ok());
+                let id = bytes.get(8..20).and_then(|id| id.try_into().ok());
                 let place = self.place(id.unwrap_or_default());
                 self.hear(around, &bytes, place)
             }
@@ -78,10 +78,7 @@ impl IceStage {
             |made| matches!(made, Err(BuildError::OutOfMemory)),
         );
         match made {
-            Ok(checker) => *self = IceStage {
-                checker: Some(checker),
-                checks: Vec::new(),
-            },
+            Ok(checker) => (self.checker, self.checks) = (Some(checker), Vec::new()),
             Err(why) => return Some(format!("{why:?}")),
         }
         Some(String::new())
@@ -94,10 +91,8 @@ impl IceStage {
         };
         let (id, to) = (TransactionId::from(id(word)?), address(to)?);
         let priority = u32::try_from(number(priority)?).ok()?;
-        let check = self
-            .checker
-            .as_ref()?
-            .check(id, to, priority, words == ["nominates"]);
+        let checker = self.checker.as_ref()?;
+        let check = checker.check(id, to, priority, words == ["nominates"]);
         let (role, nominates) = (role_name(check.role()), check.nominates());
         let nominates = if nominates { " nominates" } else { "" };
         let is_so = check.id() == id && check.to() == to;
@@ -107,12 +102,7 @@ impl IceStage {
     }
 
     /// What a datagram comes to, with one of the stored checks.
-    fn hear(
-        &mut self,
-        around: &Around<'_>,
-        bytes: &[u8],
-        place: Option<usize>,
-    ) -> Option<String> {
+    fn hear(&mut self, around: &Around<'_>, bytes: &[u8], place: Option<usize>) -> Option<String> {
         let checker = self.checker.as_mut()?;
         let check = place.map(|place| &self.checks[place]);
         let received = until_enough(
@@ -120,7 +110,9 @@ impl IceStage {
             |received| matches!(received, Received::Dropped(DropReason::OutOfMemory)),
         );
         Some(match received {
-            Received::Check { answer, judged } => format!("{}: {}", of_check(judged), told(&answer)),
+            Received::Check { answer, judged } => {
+                format!("{}: {}", of_check(judged), told(&answer))
+            }
             Received::Response(outcome) => {
                 let nominates = check.is_some_and(Check::nominates);
                 of_outcome(outcome, nominates)
@@ -154,10 +146,12 @@ fn of_check(judged: Judged) -> String {
 fn of_outcome(outcome: Outcome, nominates: bool) -> String {
     match outcome {
         Outcome::Valid { mapped } => {
-            format!("valid {mapped}{}", if nominates { " nominated" } else { "" })
+            let nominated = if nominates { " nominated" } else { "" };
+            format!("valid {mapped}{nominated}")
         }
         Outcome::RoleConflict { switched } => {
-            format!("role conflict{}", if switched { ", switched" } else { "" })
+            let switched = if switched { ", switched" } else { "" };
+            format!("role conflict{switched}")
         }
         Outcome::Failed(Failure::Error(code)) => format!("failed {code}"),
         Outcome::Failed(Failure::NotUnderstood(kind)) => {

@@ -176,7 +176,9 @@ impl LookupStage {
             let Identified::Lookup(again) = server.identify(bytes, from, arrived) else {
                 break;
             };
-            if !is_out_of_memory(&crate::limited::within(blocks, || server.resume(again, user))) {
+            if !is_out_of_memory(&crate::limited::within(blocks, || {
+                server.resume(again, user)
+            })) {
                 break;
             }
         }

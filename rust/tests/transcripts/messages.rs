@@ -268,7 +268,9 @@ fn shown(name: &str, value: &[u8], id: &[u8; 12]) -> String {
             }
         }
         "PASSWORD-ALGORITHMS" => {
-            let names = value.chunks(4).map(|one| ["?", "MD5", "SHA256"][one[1] as usize]);
+            let names = value
+                .chunks(4)
+                .map(|one| ["?", "MD5", "SHA256"][one[1] as usize]);
             names.collect::<Vec<_>>().join(",")
         }
         "XOR-MAPPED-ADDRESS" => {

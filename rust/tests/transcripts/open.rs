@@ -86,7 +86,10 @@ impl ShortTermStage {
     pub fn call(&mut self, around: &Around<'_>, words: &[&str]) -> Option<String> {
         let (name, words) = words.split_first()?;
         match (*name, words) {
-            ("build", _) => built(&mut self.server, ShortTermServer::new(self.settings.clone())),
+            ("build", _) => built(
+                &mut self.server,
+                ShortTermServer::new(self.settings.clone()),
+            ),
             ("hears", _) => self.hear(around, words),
             ("responds", _) => respond(around, self.reply.as_ref()?, words),
             ("add-user", [user, password]) => {

@@ -30,6 +30,13 @@ Anew = collections.namedtuple("Anew", "challenge")
 Dropped = collections.namedtuple("Dropped", "why")
 
 
+class Timer:
+    """A message, the waits that are left of its request, and when the first of them ends."""
+
+    def __init__(self, message, waits, at):
+        self.message, self.waits, self.at = message, waits, at
+
+
 class Request:
     def __init__(self, number, method, body):
         self.number, self.method, self.body = number, method, body
@@ -160,19 +167,17 @@ class ClientStage:
             self.next_id = before
             return None
         self.requests[identity] = request
-        self.due[identity] = self.planned(message)
+        waits = self.waits()
+        self.due[identity] = Timer(message, waits, self.stage.now + waits[0])
         self.unsent.append((identity, message))
         return identity
 
-    def planned(self, message):
-        """When a message is sent again, and when its request ends (section 6.2.1)."""
+    def waits(self):
+        """How long a request waits after each of its transmissions (section 6.2.1). Over a stream it
+        is sent once, and waits as long as all that together (section 6.2.2)."""
         first, longest, sends, last = self.built.waits
-        at, times = self.stage.now, []
-        for i in range(sends - 1):
-            at += min(first << i, longest)
-            times.append(at)
-        # Over a stream the request waits as long as all that together (section 6.2.2).
-        return message, [] if self.built.is_stream else times, at + last
+        waits = [min(first << i, longest) for i in range(sends - 1)] + [last]
+        return [sum(waits)] if self.built.is_stream else waits
 
     def written(self, request, identity, challenge):
         method = request.method
@@ -223,22 +228,24 @@ class ClientStage:
             identity, message = self.unsent.pop(0)
             if identity in self.requests:
                 return "sends " + told(message)
-        for identity, (message, times, _) in self.due.items():
-            if times and times[0] <= self.stage.now:
-                times.pop(0)
-                return "sends " + told(message)
+        for timer in self.due.values():
+            if len(timer.waits) > 1 and timer.at <= self.stage.now:
+                # The next wait begins now, even if this transmission is late.
+                timer.waits.pop(0)
+                timer.at = self.stage.now + timer.waits[0]
+                return "sends " + told(timer.message)
         if not self.ended:
             self.time_out()
         if self.ended:
             return self.ended.pop(0)
         if not self.requests:
             return "wait"
-        until = min(min(times + [end]) for _, times, end in self.due.values())
+        until = min(timer.at for timer in self.due.values())
         return f"wait {until // 10**6}ms" if until % 10**6 == 0 else f"wait {until}ns"
 
     def time_out(self):
-        for identity, (_, _, end) in list(self.due.items()):
-            if end <= self.stage.now:
+        for identity, timer in list(self.due.items()):
+            if timer.at <= self.stage.now:
                 request = self.take(identity)
                 self.ended.append(f"{request.number} timed out, {self.drops_of(request)} dropped")
                 self.step_back(request.signed_for)

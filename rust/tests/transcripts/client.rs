@@ -1,7 +1,7 @@
 //! `endpoint client ..`: a client as one value.
 
 use crate::look_ups::{algorithm, algorithms, understood};
-use crate::messages::{address_in, attributes, told};
+use crate::messages::{address_in, attributes, in_words};
 use crate::servers::{is_of, unless};
 use crate::stage::Around;
 use crate::words::{address, number, secret, span, text};
@@ -102,7 +102,7 @@ impl ClientStage {
 
     fn poll(&mut self, around: &Around<'_>) -> Option<String> {
         Some(match self.client.as_mut()?.poll(at(around)) {
-            Output::Transmit(bytes) => format!("sends {}", told(bytes)),
+            Output::Transmit(bytes) => format!("sends {}", in_words(bytes)),
             Output::Ended(request, result) => {
                 let place = self.requests.iter().position(|one| *one == request)?;
                 format!("{} {}", place + 1, of_result(result))
@@ -174,12 +174,12 @@ fn of_result(result: Result<Response, RequestError>) -> String {
     match result {
         Ok(response) => {
             let signed = signer(response.signed_by());
-            format!("success {signed}: {}", told(&response.into_bytes()))
+            format!("success {signed}: {}", in_words(&response.into_bytes()))
         }
         Err(RequestError::Refused(error)) => {
             let signed = signer(error.signed_by());
-            let told = told(error.message().as_bytes());
-            format!("refused {} {signed}: {told}", error.code())
+            let words = in_words(error.message().as_bytes());
+            format!("refused {} {signed}: {words}", error.code())
         }
         Err(RequestError::Redirected(to)) => {
             let server = to.server().map(|server| server.to_string());

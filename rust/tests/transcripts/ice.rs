@@ -1,6 +1,6 @@
 //! `endpoint ice ..`: an agent of ICE.
 
-use crate::messages::told;
+use crate::messages::in_words;
 use crate::servers::{is_of, unless};
 use crate::stage::{Around, until_enough};
 use crate::words::{address, id, number, text};
@@ -96,9 +96,9 @@ impl IceStage {
         let (role, nominates) = (role_name(check.role()), check.nominates());
         let nominates = if nominates { " nominates" } else { "" };
         let is_so = check.id() == id && check.to() == to;
-        let told = told(check.bytes());
+        let words = in_words(check.bytes());
         self.checks.push(check);
-        Some(format!("{role}{nominates}: {told}{}", unless(is_so)))
+        Some(format!("{role}{nominates}: {words}{}", unless(is_so)))
     }
 
     /// What a datagram comes to, with one of the stored checks.
@@ -111,7 +111,7 @@ impl IceStage {
         );
         Some(match received {
             Received::Check { answer, judged } => {
-                format!("{}: {}", of_check(judged), told(&answer))
+                format!("{}: {}", of_check(judged), in_words(&answer))
             }
             Received::Response(outcome) => {
                 let nominates = check.is_some_and(Check::nominates);

@@ -151,7 +151,7 @@ fn masked(octets: &[u8], id: &[u8; 12]) -> Vec<u8> {
     octets.iter().zip(mask).map(|(a, b)| a ^ b).collect()
 }
 
-/// The address that such a value hides.
+/// The address in such a value.
 pub fn address_in(value: &[u8], id: &[u8; 12]) -> Option<SocketAddr> {
     let port = u16::from_be_bytes(value.get(2..4)?.try_into().ok()?) ^ 0x2112;
     let octets = masked(&value[4..], id);
@@ -237,7 +237,7 @@ fn changed(mut bytes: Vec<u8>, words: &[&str], known: &impl Known) -> Option<Vec
 }
 
 /// A message in the words that spell it.
-pub fn told(message: &[u8]) -> String {
+pub fn in_words(message: &[u8]) -> String {
     let kind = u16::from_be_bytes([message[0], message[1]]);
     let id: [u8; 12] = message[8..20].try_into().unwrap();
     let class = CLASSES.iter().find(|(_, number)| *number == kind);

@@ -1,6 +1,6 @@
 //! What servers answer, in words.
 
-use crate::messages::{attributes, told};
+use crate::messages::{attributes, in_words};
 use crate::stage::{Around, until_enough};
 use crate::words::{number, text};
 use seatcrane_stun::endpoint::{Answer, Reply, ReplyWriter, Request};
@@ -20,7 +20,7 @@ pub fn of_answer(answer: &Answer, from: SocketAddr) -> String {
         None => "answer".to_string(),
     };
     let is_to_sender = unless(answer.to() == from);
-    format!("{front}: {}{is_to_sender}", told(answer.bytes()))
+    format!("{front}: {}{is_to_sender}", in_words(answer.bytes()))
 }
 
 /// `request USER ALGORITHM`
@@ -60,7 +60,7 @@ pub fn respond(around: &Around<'_>, reply: &Reply, words: &[&str]) -> Option<Str
         |written| matches!(written, Err(StunWriteError::OutOfMemory)),
     );
     Some(match written {
-        Ok(bytes) => told(&bytes),
+        Ok(bytes) => in_words(&bytes),
         Err(StunWriteError::AttributeExists(kind)) => {
             format!("AttributeExists 0x{:04x}", kind.value())
         }

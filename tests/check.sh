@@ -74,8 +74,9 @@ c99="-std=c99 -D_DEFAULT_SOURCE -O1 -g $strict $sanitized"
 
 # The transcripts, and each allocation refused.
 $cc $c99 c/play.c $heap $archives -o "$scratch/play"
-python3 play.py "$scratch/play" ../crates/transcripts/data/*.txt >"$scratch/played" ||
-    { cat "$scratch/played" >&2 && exit 1; }
+endpoints='../rust/tests/transcripts/data'
+python3 play.py "$scratch/play" ../crates/transcripts/data/*.txt $endpoints/look-ups.*.txt \
+    $endpoints/ice.*.txt >"$scratch/played" || { cat "$scratch/played" >&2 && exit 1; }
 
 # What only C can pass, what strangers may send, many addresses, and the worked examples of both
 # headers, without the comment round them. No call of the archive without state wants memory: it is

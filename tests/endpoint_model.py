@@ -1,109 +1,30 @@
 #!/usr/bin/env python3
-"""endpoint_model.py [--write] FILE ..: plays the lines `endpoint server ..` of transcripts
-(docs/maintainers/TRANSCRIPTS.md) by a model of the server, and compares the answers.
+"""endpoint_model.py [--write] FILE ..: plays transcripts of endpoints (docs/maintainers/
+TRANSCRIPTS.md) by models of them, and compares the answers.
 
-The model is written from RFC 8489, and of nonces from specs/Nonces.antt of stun_endpoint, over Python's
-hashlib, hmac and zlib. It shares no code with the library, so the answers come from outside it.
-With --write it fills in the answers that are empty. The status is 1 where an answer is wrong."""
+The models are written from RFC 8489 and RFC 8445, and of nonces from specs/Nonces.antt of
+stun_endpoint, over Python's hashlib, hmac and zlib. They share no code with the library, so the
+answers come from outside it. This file has the server with long-term credentials; endpoint_open.py,
+endpoint_ice.py and endpoint_client.py have the others. With --write it fills in the answers that
+are empty. The status is 1 if an answer is wrong."""
 
 import base64
 import hashlib
 import hmac
-import ipaddress
 import struct
 import sys
 
 import spelling
 import stun
-from spelling import CLASSES, PHRASES, TYPES, Words
-
-NAMES = {number: name for name, number in TYPES.items()
-         if name not in ("PASSWORD-ALGORITHM", "USERHASH")}
-LISTS = {b"\0\2\0\0\0\1\0\0": "SHA256,MD5", b"\0\2\0\0": "SHA256", b"\0\1\0\0": "MD5"}
-# STUN's own attributes that must be understood (RFC 8489, section 14).
-OWN = {0x0001, 0x0006, 0x0008, 0x0009, 0x000A, 0x0014, 0x0015, 0x001C, 0x001D, 0x001E, 0x0020}
-LIMIT = 763
-SIGNED = {stun.SHA1: "Sha1", stun.SHA256: "Sha256"}
-REFUSALS = {400: "BadRequest", 401: "Unauthenticated", 420: "UnknownAttribute", 438: "StaleNonce"}
-
-
-class Refused(Exception):
-    """A request gets an error response with this code."""
+from endpoint_client import ClientStage
+from endpoint_ice import IceStage
+from endpoint_messages import *
+from endpoint_open import OpenStage, ShortTermStage
+from spelling import Words
 
 
 class Waits(Exception):
     """A request waits for this user."""
-
-
-# ---- Messages in words.
-
-
-def shown_text(value):
-    """A text in a word: `a*764` is 764 letters, `-` is empty."""
-    word = value.decode() or "-"
-    return f"{word[0]}*{len(word)}" if len(word) > 40 and word == word[0] * len(word) else word
-
-
-def shown(name, value, identity):
-    """The value of an attribute in the words of its type."""
-    if name in ("REALM", "NONCE", "SOFTWARE", "USERNAME"):
-        return shown_text(value)
-    if name == "ERROR-CODE":
-        code, phrase = value[2] * 100 + value[3], value[4:]
-        has_own = PHRASES.get(str(code), "").encode() == phrase != b""
-        return f"{code}" if has_own else f"{code}:{shown_text(phrase)}"
-    if name == "PASSWORD-ALGORITHMS":
-        return LISTS[value]
-    if name == "XOR-MAPPED-ADDRESS":
-        port = struct.unpack(">H", value[2:4])[0] ^ 0x2112
-        octets = bytes(a ^ b for a, b in zip(value[4:], spelling.COOKIE + identity))
-        return spelling.address_text(octets, port)
-    return value.hex()
-
-
-def told(message):
-    """A message in the words that spell it."""
-    kind, identity = int.from_bytes(message[:2], "big"), message[8:20]
-    classes = {0x0001: "request", 0x0011: "indication", 0x0101: "success", 0x0111: "error"}
-    words = [classes.get(kind, f"request TYPE=0x{kind:04x}")]
-    if identity != spelling.id_of("1"):
-        words.append("ID=0x" + identity.hex())
-    for number, _, value in spelling.attributes_of(message):
-        name = NAMES.get(number)
-        words.append(f"{name}={shown(name, value, identity)}" if name
-                     else f"0x{number:04x}={value.hex()}")
-    return " ".join(words)
-
-
-# ---- The server.
-
-
-def octets_of(host):
-    """An address as sixteen octets, IPv4 as IPv6 maps it (RFC 4291, section 2.5.5.2)."""
-    return bytes(10) + b"\xff\xff" + host if len(host) == 4 else host
-
-
-def canonical(host):
-    """IPv4 in either spelling as four octets."""
-    return host[12:] if host[:12] == bytes(10) + b"\xff\xff" and len(host) == 16 else host
-
-
-def bits_of(nonce):
-    """The security bits of a nonce, if it has them (section 9.2)."""
-    if not nonce.startswith(b"obMatJos2") or len(nonce) < 13:
-        return None
-    try:
-        return base64.b64decode(nonce[9:13], validate=True)
-    except ValueError:
-        return None
-
-
-def integrity_of(message):
-    """The algorithm of the integrity attribute that decides: the stronger, if it is visible."""
-    kinds = {kind for kind, _, _ in spelling.visible(message)}
-    if stun.INTEGRITY_SHA256 in kinds:
-        return stun.SHA256
-    return stun.SHA1 if stun.INTEGRITY in kinds else None
 
 
 class Settings:
@@ -140,7 +61,7 @@ class Table:
         return None
 
 
-class Server:
+class Server(Responder):
     def __init__(self, settings):
         self.__dict__.update(settings.__dict__)
 
@@ -222,26 +143,6 @@ class Server:
             return users.by_hash(values[stun.USERHASH]) if self.hashes else None
         return values[stun.USERNAME].decode()
 
-    # ---- Responses.
-
-    def end(self, response, request, key=None):
-        if self.software is not None:
-            response = stun.added(response, stun.SOFTWARE, self.software.encode())
-        if key:
-            response = stun.signed(response, integrity_of(request), key)
-        return stun.fingerprinted(response) if stun.has_right_fingerprint(request) else response
-
-    def begun(self, request, response_class):
-        kind = int.from_bytes(request[:2], "big") | response_class
-        return stun.message(kind, (), request[8:20])
-
-    def error(self, request, code, phrase, key=None, extra=()):
-        response = self.begun(request, 0x110)
-        value = struct.pack(">HBB", 0, *divmod(code, 100)) + phrase.encode()
-        for kind, value in [(stun.ERROR_CODE, value), *extra]:
-            response = stun.added(response, kind, value)
-        return self.end(response, request, key)
-
     def refused(self, request, source, now, code):
         """400, 401 or 438, the last two with what a client needs to sign."""
         if code == 400:
@@ -252,39 +153,6 @@ class Server:
         return self.error(request, code, {401: "Unauthenticated", 438: "Stale Nonce"}[code],
                           extra=extra)
 
-    def unknown(self, message):
-        known, seen = OWN | self.known, []
-        for kind, _, _ in spelling.visible(message):
-            if kind < 0x8000 and kind not in known and kind not in seen:
-                seen.append(kind)
-        return seen
-
-
-def is_message(datagram):
-    """Whether bytes are a message, and whether they begin with a header (section 5)."""
-    if len(datagram) < 20 or datagram[0] & 0xC0 or datagram[4:8] != spelling.COOKIE:
-        return False, False
-    length = struct.unpack(">H", datagram[2:4])[0]
-    if length % 4:
-        return False, False
-    if length != len(datagram) - 20:
-        return False, True
-    place = 20
-    while place < len(datagram):
-        if place + 4 > len(datagram):
-            return False, True
-        size = struct.unpack_from(">H", datagram, place + 2)[0]
-        place += 4 + size + -size % 4
-    return place == len(datagram), True
-
-
-def has_wrong_fingerprint(message):
-    """FINGERPRINT is the last attribute (section 14.7)."""
-    visible = [kind for kind, _, _ in spelling.visible(message)]
-    if visible[-1:] != [stun.FINGERPRINT] or message[-8:-4] != b"\x80\x28\0\4":
-        return False
-    return not stun.has_right_fingerprint(message)
-
 
 # ---- Lines.
 
@@ -294,8 +162,10 @@ class Stage:
         self.meanings, self.kept = meanings, {}
         self.now, self.source = 0, (bytes((10, 0, 0, 1)), 12345)
         self.settings, self.server, self.users, self.user = Settings(), None, None, None
-        self.waits = False
+        self.waits, self.waiting = False, None
         self.reply = None
+        self.others = {"open": OpenStage(self), "short-term": ShortTermStage(self),
+                       "ice": IceStage(self), "client": ClientStage(self)}
 
     def message(self, words):
         return spelling.message(words, self.kept, self.meanings)
@@ -310,7 +180,11 @@ class Stage:
         if words[:1] == ["from"]:
             self.source = spelling.address(words[1])
             return ""
-        if words[:2] != ["endpoint", "server"]:
+        if words[0] != "endpoint" or len(words) < 3:
+            raise Words(call)
+        if words[1] in self.others:
+            return self.others[words[1]].call(words[2], words[3:]) or ""
+        if words[1] != "server":
             raise Words(call)
         return self.call(words[2], words[3:]) or ""
 
@@ -343,13 +217,12 @@ class Stage:
                 algorithm: bytes.fromhex(word)
                 for algorithm, word in zip((stun.SHA1, stun.SHA256), words[1:]) if word != "-"}
             return None
-        if name in ("identifies", "resumes"):
-            self.waits = name == "identifies"
-            came = self.hears(self.message(words), self.user or Table(self.server.realm))
-            self.waits = False
-            return came
+        if name == "identifies":
+            return self.identifies(self.message(words))
+        if name == "resumes":
+            return self.resumes()
         if name == "responds":
-            return self.responds(*words)
+            return self.responds(words)
         return self.set(name, words[0])
 
     def set(self, name, word):
@@ -380,12 +253,29 @@ class Stage:
     def seconds(self):
         return self.now // 10**9
 
+    def identifies(self, datagram):
+        """A request that waits for its user is stored, with its source and the time."""
+        self.waits = True
+        came = self.hears(datagram, Table(self.server.realm))
+        self.waits = False
+        if came.startswith("looks up "):
+            self.waiting = datagram, self.source, self.now
+        return came
+
+    def resumes(self):
+        """Judges the request that waits, as of when it arrived."""
+        if self.waiting is None:
+            raise Words("nothing waits")
+        source, now = self.source, self.now
+        datagram, self.source, self.now = self.waiting
+        came = self.hears(datagram, self.user or Table(self.server.realm))
+        self.waiting, self.source, self.now = None, source, now
+        return came
+
     def hears(self, datagram, users):
-        is_one, has_header = is_message(datagram)
-        if not is_one:
-            return "dropped Malformed" if has_header else "dropped NotStun"
-        if has_wrong_fingerprint(datagram):
-            return "dropped WrongFingerprint"
+        why = dropped(datagram)
+        if why:
+            return why
         kind = int.from_bytes(datagram[:2], "big")
         if kind & 0x100:
             return "response"
@@ -400,47 +290,16 @@ class Stage:
                                                  self.waits)
         except Refused as refused:
             code = refused.args[0]
-            return self.refusal(code, server.refused(request, self.source, self.seconds(), code))
+            return refusal(code, server.refused(request, self.source, self.seconds(), code))
         except Waits as waits:
             return "looks up " + waits.args[0]
-        unknown = server.unknown(request)
-        if unknown:
-            types = b"".join(struct.pack(">H", one) for one in unknown)
-            return self.refusal(420, server.error(request, 420, "Unknown Attribute", key,
-                                                  [(stun.UNKNOWN, types)]))
-        if server.binding and request[:2] == b"\0\1":
-            host, port = canonical(self.source[0]), self.source[1]
-            hidden = bytes(a ^ b for a, b in zip(host, spelling.COOKIE + request[8:20]))
-            value = struct.pack(">BBH", 0, 1 if len(host) == 4 else 2, port ^ 0x2112) + hidden
-            response = stun.added(server.begun(request, 0x100), stun.XOR_MAPPED_ADDRESS, value)
-            return "answer: " + told(server.end(response, request, key))
-        self.reply = server, request, key
-        return f"request {name} {SIGNED[algorithm]}"
+        answer = server.answered(request, self.source, key)
+        if answer is None:
+            self.reply = server, request, key
+        return answer or f"request {name} {SIGNED[algorithm]}"
 
-    def refusal(self, code, response):
-        return f"{code} {REFUSALS[code]}: {told(response)}"
-
-    def responds(self, first, *words):
-        server, request, key = self.reply
-        if first == "success":
-            response = server.begun(request, 0x100)
-        else:
-            phrase, words = spelling.text(words[0]), words[1:]
-            if not 300 <= int(first) <= 699:
-                return "NotAllowed"
-            if len(phrase) > LIMIT:
-                return "TooLarge"
-            value = struct.pack(">HBB", 0, *divmod(int(first), 100)) + phrase
-            response = stun.added(server.begun(request, 0x110), stun.ERROR_CODE, value)
-        carrier = self.message(["request", *words])
-        own = [] if server.software is None else [stun.SOFTWARE]
-        kinds = [kind for kind, _, _ in spelling.attributes_of(carrier)] + own
-        twice = [kind for at, kind in enumerate(kinds) if kind in kinds[:at]]
-        if twice:
-            return f"AttributeExists 0x{twice[0]:04x}"
-        for kind, _, value in spelling.attributes_of(carrier):
-            response = stun.added(response, kind, value)
-        return told(server.end(response, request, key))
+    def responds(self, words):
+        return responded(self, self.reply, words)
 
 
 def played(path, writes):

@@ -92,8 +92,9 @@ for name in agents endpoint handles hostile ice many users worked play; do
         -o "$out/$name"
     [ $name = play ] || expect "$name: passed" "$out/$name"
 done
-python3 tests/play.py "$out/play" crates/transcripts/data/*.txt > "$out/played" ||
-    { cat "$out/played" >&2; exit 1; }
+endpoints=rust/tests/transcripts/data
+python3 tests/play.py "$out/play" crates/transcripts/data/*.txt $endpoints/look-ups.*.txt \
+    $endpoints/ice.*.txt > "$out/played" || { cat "$out/played" >&2; exit 1; }
 tail -n 1 "$out/played"
 # The same installed, in the place of the three archives, and the manual.
 tests/manual.sh

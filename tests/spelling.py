@@ -16,7 +16,7 @@ TYPES = {
     "SOFTWARE": 0x8022, "FINGERPRINT": 0x8028,
 }
 PHRASES = {"400": "Bad Request", "401": "Unauthorized", "438": "Stale Nonce",
-           "420": "Unknown Attribute"}
+           "420": "Unknown Attribute", "487": "Role Conflict"}
 ALGORITHMS = {"MD5": b"\0\1\0\0", "SHA256": b"\0\2\0\0"}
 FOREVER = 2**64 - 1
 
@@ -191,6 +191,9 @@ class Spelling:
                 self.add_word(word)
 
     def add_word(self, word):
+        if word == "FP":
+            self.attributes = stun.fingerprinted(self.finish())[20:]
+            return
         name, equals, value = word.partition("=")
         if not equals:
             raise Words(word)

@@ -6,6 +6,7 @@ import subprocess
 import sys
 
 from spelling import *
+from stage_endpoints import *
 from wording import *
 
 AMPLE = 4096
@@ -36,16 +37,13 @@ WRITERS = ("agent", "client", "meet", "serve", "server", "short-term", "write")
 ALLOCATING = (
     "agent-handle", "agent-new", "agent-new-with", "agent-send-request", "agent-validated-peer",
     "client-new", "client-set-credentials", "client-sign", "client-validate",
-    "endpoint-build", "endpoint-server-receive", "endpoint-users-add", "endpoint-users-add-keys",
+    "endpoint-build", "endpoint-server-identify", "endpoint-server-receive",
+    "endpoint-server-resume", "endpoint-users-add", "endpoint-users-add-keys",
+    "ice-check", "ice-new", "ice-receive",
     "server-add-user", "server-new", "server-sign", "server-validate",
 )
-# How a server of the endpoint refuses a request, and why it drops a datagram.
-ENDPOINT_REFUSALS = {400: "BadRequest", 401: "Unauthenticated", 420: "UnknownAttribute",
-                     438: "StaleNonce"}
-ENDPOINT_DROPS = {1: "NotStun", 2: "Malformed", 3: "WrongFingerprint", 4: "UnknownAttribute"}
-# What stunp_received begins with, and where its name is.
-RECEIVED = struct.Struct("@N3I2H2N")
-NAME_IN_RECEIVED = 122
+# The calls that need a server of the endpoint.
+BUILT_FIRST = ("hears", "identifies", "add-user", "remove-user", "responds")
 # The settings of an endpoint that are yes or no.
 YES_OR_NO = {"yes": True, "no": False}
 
@@ -82,7 +80,7 @@ class Child:
         return self.ask("reset")[0] == 0
 
 
-class Stage:
+class Stage(Endpoints):
     """An agent, a server and a client as they are made, and what surrounds them."""
 
     def __init__(self, child, meanings):
@@ -93,6 +91,7 @@ class Stage:
         self.counts = self.is_untimed = False
         self.writer = self.room = None
         self.settings, self.built, self.has_request = {}, None, False
+        self.begin_endpoints()
         child.reset()
         self.ask("server-new", b"")
         self.ask("client-new")
@@ -310,7 +309,7 @@ class Stage:
         made = getattr(self, "endpoint_" + what.replace("-", "_"), None)
         if made is None:
             raise Left(f"endpoint server {what}")
-        if what in ("hears", "add-user", "remove-user", "responds") and not self.built:
+        if what in BUILT_FIRST and not self.built:
             raise Words("nothing is built")
         return made(*words)
 
@@ -397,20 +396,8 @@ class Stage:
 
     def endpoint_hears(self, *words):
         message = self.message(words)
-        kind, outputs = self.ask("endpoint-server-receive", message, wide(self.origin),
-                                 self.now // 10**9, 1 << 16)
-        if kind < 0:
-            return REFUSALS[kind]
-        told = outputs[-1]
-        _, _, why, code, _, algorithm, _, length = RECEIVED.unpack_from(told)
-        if kind == 1:
-            refusal = f"{code} {ENDPOINT_REFUSALS[code]}" if code else "answer"
-            return self.spelled(refusal, outputs[0])
-        if kind == 2:
-            self.has_request = True
-            name = told[NAME_IN_RECEIVED:NAME_IN_RECEIVED + length]
-            return f"request {shown(name)} {VERDICTS[algorithm]}"
-        return {0: f"dropped {ENDPOINT_DROPS.get(why)}", 3: "indication", 4: "response"}[kind]
+        return self.came(self.ask("endpoint-server-receive", message, wide(self.origin),
+                                  self.now // 10**9, 1 << 16))
 
     def endpoint_responds(self, what, *words):
         if not self.has_request:

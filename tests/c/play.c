@@ -22,7 +22,7 @@
 #include <stdlib.h>
 #include <string.h>
 
-enum { LONGEST_LINE = 1 << 20, MOST_BLOCKS = 10, PATTERN = 0xa5 };
+enum { LONGEST_LINE = 1 << 20, MOST_BLOCKS = 12, PATTERN = 0xa5 };
 
 static char line[LONGEST_LINE];
 
@@ -391,6 +391,47 @@ static int64_t endpoint_server_receive(void) {
     return kind;
 }
 
+/* The same in two steps, for a user who is looked up in between. */
+static int64_t endpoint_server_identify(void) {
+    static const stunp_received fresh = STUNP_INIT(stunp_received);
+    block *message = bytes();
+    const stunp_address *from = address();
+    uint64_t seconds = number();
+    block *out = output(), *told = block_of_value(&fresh, sizeof fresh);
+    stunp_received *received = VALUE(stunp_received, told);
+    int64_t kind = stunp_endpoint_server_identify(&endpoint_server, ALL(message), from, seconds,
+                                                  ALL(out), received);
+    wrote_all(told, kind >= 0);
+    if (kind == STUNP_IS_REQUEST) fail("a request without its user");
+    out->written = kind == STUNP_ANSWER ? received->length : 0;
+    return kind;
+}
+
+/* The words of the user are 0 if there is none, and 1 or 2 with a password or with keys. */
+static int64_t endpoint_server_resume(void) {
+    static const stunp_received fresh = STUNP_INIT(stunp_received);
+    uint32_t way = short_number();
+    block *name = bytes(), *password = bytes(), *sha1 = bytes(), *sha256 = bytes();
+    block *message = bytes();
+    const stunp_address *from = address();
+    uint64_t seconds = number();
+    block *out = output(), *told = block_of_value(&fresh, sizeof fresh);
+    stunp_received *received = VALUE(stunp_received, told);
+    char text[1024];
+    snprintf(text, sizeof text, "%.*s", (int)password->length, (const char *)password->at);
+    stunp_found_user found = STUNP_INIT(stunp_found_user);
+    found.name = (const char *)name->at, found.name_length = name->length;
+    if (way == 1) found.password = text;
+    if (way == 2 && sha1->length != 0) found.sha1_key = sha1->at;
+    if (way == 2 && sha256->length != 0) found.sha256_key = sha256->at;
+    int64_t kind = stunp_endpoint_server_resume(&endpoint_server, way == 0 ? NULL : &found,
+                                                ALL(message), from, seconds, ALL(out), received);
+    wrote_all(told, kind >= 0);
+    out->written = kind == STUNP_ANSWER ? received->length : 0;
+    if (kind == STUNP_IS_REQUEST) reply = received->reply;
+    return kind;
+}
+
 /* Begins a response: 0 is a success. */
 static int64_t reply_begin(void) {
     uint32_t code = short_number();
@@ -413,6 +454,51 @@ static int64_t reply_finish(void) {
     int64_t answer = stunp_reply_finish(&reply, &writer);
     if (answer < 0) memcpy(message->before, message->at, message->length);
     return wrote(message, answer);
+}
+
+/* ---- An agent of ICE. */
+
+static stunp_ice_checker ice_checker;
+
+static int64_t ice_new(void) {
+    block *name = bytes(), *password = bytes(), *peer_name = bytes(), *peer_password = bytes();
+    uint64_t tie_breaker = number();
+    MAKES(ice_checker, stunp_ice_checker_new_with(&fresh, ALL(name), ALL(password), ALL(peer_name),
+                                                  ALL(peer_password), tie_breaker, number() != 0));
+}
+
+CALL(ice_is_controlling, (void)0, stunp_ice_checker_is_controlling(&ice_checker))
+CALL(ice_set_tie_breaker, (void)0, stunp_ice_checker_set_tie_breaker(&ice_checker, number()))
+
+/* Answers the check and what is to be stored of it. */
+static int64_t ice_check(void) {
+    block *id = bytes();
+    const stunp_address *to = address();
+    uint32_t priority = short_number();
+    bool nominate = number() != 0;
+    block *out = output(), *stored = block_of(sizeof(stunp_ice_check));
+    if (id->length != sizeof VALUE(stunp_ice_check, stored)->id) fail("no ID");
+    int64_t answer = stunp_ice_checker_check(&ice_checker, id->at, to, priority, nominate, ALL(out),
+                                             VALUE(stunp_ice_check, stored));
+    wrote_all(stored, answer >= 0);
+    return wrote(out, answer);
+}
+
+/* The check is what was stored of it, or nothing. */
+static int64_t ice_receive(void) {
+    static const stunp_ice_received fresh = STUNP_INIT(stunp_ice_received);
+    block *message = bytes();
+    const stunp_address *from = address();
+    block *check = bytes(), *out = output(), *told = block_of_value(&fresh, sizeof fresh);
+    if (check->length != 0 && check->length != sizeof(stunp_ice_check)) fail("no check");
+    stunp_ice_received *received = VALUE(stunp_ice_received, told);
+    int64_t kind = stunp_ice_checker_receive(
+        &ice_checker, ALL(message), from, check->length == 0 ? NULL : VALUE(stunp_ice_check, check),
+        ALL(out), received);
+    wrote_all(told, kind >= 0);
+    if (kind != STUNP_ANSWER && kind >= 0 && received->length != 0) fail("a length of nothing");
+    out->written = kind == STUNP_ANSWER ? received->length : 0;
+    return kind;
 }
 
 /* ---- Lines. */
@@ -448,7 +534,10 @@ static const struct { const char *name; int64_t (*call)(void); } calls[] = {
     {"endpoint-users-add-keys", endpoint_users_add_keys},
     {"endpoint-users-remove", endpoint_users_remove},
     {"endpoint-server-receive", endpoint_server_receive}, {"reply-begin", reply_begin},
-    {"reply-finish", reply_finish},
+    {"reply-finish", reply_finish}, {"endpoint-server-identify", endpoint_server_identify},
+    {"endpoint-server-resume", endpoint_server_resume}, {"ice-new", ice_new},
+    {"ice-is-controlling", ice_is_controlling}, {"ice-set-tie-breaker", ice_set_tie_breaker},
+    {"ice-check", ice_check}, {"ice-receive", ice_receive},
 };
 
 static void print_bytes(const uint8_t *at, size_t length) {
@@ -482,11 +571,13 @@ static void make(int64_t (*call)(void)) {
     stunp_client old_client = client;
     stunp_endpoint_server old_endpoint = endpoint_server;
     stunp_endpoint_users old_users = endpoint_users;
+    stunp_ice_checker old_checker = ice_checker;
     size_t asked = stunp_heap_asked();
     int64_t answer = call();
     if (answer < 0 && !(IS_SAME(agent, old_agent) && IS_SAME(server, old_server)
                         && IS_SAME(client, old_client) && IS_SAME(endpoint_server, old_endpoint)
-                        && IS_SAME(endpoint_users, old_users)))
+                        && IS_SAME(endpoint_users, old_users)
+                        && IS_SAME(ice_checker, old_checker)))
         fail("a refusal changes a handle");
     printf("%lld %zu", (long long)answer, stunp_heap_asked() - asked);
     finish(answer);
@@ -504,6 +595,7 @@ static void play(const char *name) {
         stunp_client_free(&client);
         stunp_endpoint_server_free(&endpoint_server);
         stunp_endpoint_users_free(&endpoint_users);
+        stunp_ice_checker_free(&ice_checker);
     }
     if (strcmp(name, "reset") == 0 || strcmp(name, "blocks") == 0) {
         printf("%zu %zu", stunp_heap_blocks(), stunp_heap_bytes());

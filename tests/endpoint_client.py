@@ -1,0 +1,405 @@
+"""A model of a client as one value (RFC 8489, sections 6.2.1, 9.1 and 9.2.5). It is written as
+endpoint_model.py says."""
+
+import collections
+import hashlib
+import hmac
+import struct
+
+import spelling
+import stun
+from endpoint_messages import *
+from spelling import Words
+
+ALTERNATE_SERVER, ALTERNATE_DOMAIN = 0x8023, 0x8003
+PEER = 0x0012
+# What a client writes itself, what depends on the ID, and ERROR-CODE: no body has it.
+RESERVED = {0x0006, 0x0008, 0x0009, 0x0012, 0x0014, 0x0015, 0x0016, 0x001C, 0x001D, 0x001E, 0x0020,
+            0x8002, 0x8022, 0x8028}
+# What must be understood and can be read: RFC 8489, 8656, 8445, 5780 and 6062.
+READ = OWN | {0x000C, 0x000D, 0x0012, 0x0013, 0x0016, 0x0017, 0x0018, 0x0019, 0x001A, 0x0022,
+              0x0024, 0x0025, 0x0003, 0x0026, 0x0027, 0x001B, 0x002A}
+NUMBERS = {"sha1": stun.SHA1, "sha256": stun.SHA256}
+FOREVER = 2**63
+
+# A challenge: what decides how a request is signed.
+Challenge = collections.namedtuple("Challenge", "realm nonce algorithms algorithm is_hashed")
+# What comes of a response: believed and signed by; signed anew for; or dropped because.
+Believed = collections.namedtuple("Believed", "algorithm")
+Anew = collections.namedtuple("Anew", "challenge")
+Dropped = collections.namedtuple("Dropped", "why")
+
+
+class Timer:
+    """A message, the waits that are left of its request, and when the first of them ends."""
+
+    def __init__(self, message, waits, at):
+        self.message, self.waits, self.at = message, waits, at
+
+
+class Request:
+    def __init__(self, number, method, body):
+        self.number, self.method, self.body = number, method, body
+        self.challenges, self.drops = 0, []
+        self.signed_for = None
+
+
+class Settings:
+    def __init__(self, server):
+        self.server, self.kind, self.name, self.password = server, None, None, None
+        self.algorithm, self.algorithms, self.hashes = None, {stun.SHA1, stun.SHA256}, "auto"
+        self.waits, self.is_stream = (500 * 10**6, FOREVER, 7, 8 * 10**9), False
+        self.most, self.accepts_unsigned, self.known = 6, False, set()
+        self.software, self.has_fingerprint = None, False
+
+
+def reading(message):
+    """The first visible attribute of each type."""
+    values = {}
+    for kind, _, value in spelling.visible(message):
+        values.setdefault(kind, value)
+    return values
+
+
+def plain_address(value):
+    """The address in a value that is not XORed (section 14.1)."""
+    if value is None:
+        return "none"
+    return spelling.address_text(value[4:], int.from_bytes(value[2:4], "big"))
+
+
+class ClientStage:
+    """The lines `endpoint client ..`."""
+
+    def __init__(self, stage):
+        self.stage, self.settings, self.built = stage, None, None
+
+    def call(self, name, words):
+        if name == "server":
+            self.settings = Settings(spelling.address(words[0]))
+        elif self.settings is None:
+            raise Words("no settings")
+        elif name == "build":
+            return self.build(words[0])
+        elif name in ("request", "hears", "polls", "cancel", "dropped", "outstanding"):
+            if self.built is None:
+                raise Words("no client")
+            return getattr(self, name)(*words)
+        else:
+            self.set(name, words)
+        return None
+
+    def set(self, name, words):
+        settings = self.settings
+        if name == "long-term":
+            settings.kind = "long"
+            settings.name, settings.password = (spelling.text(word).decode() for word in words)
+        elif name == "short-term":
+            settings.kind, settings.algorithm = "short", NUMBERS[words[2]]
+            settings.name, settings.password = (spelling.text(word).decode() for word in words[:2])
+        elif name == "algorithms":
+            settings.algorithms = {NUMBERS[one] for one in words[0].split(",") if one != "-"}
+        elif name == "hashes":
+            settings.hashes = words[0]
+        elif name == "stream":
+            settings.is_stream = True
+        elif name == "retransmission":
+            first, longest, sends, last = words
+            settings.waits = (spelling.nanos(first), spelling.nanos(longest),
+                              spelling.number(sends), spelling.nanos(last))
+        elif name == "challenges":
+            settings.most = spelling.number(words[0])
+        elif name == "accepts-unsigned":
+            settings.accepts_unsigned = True
+        elif name == "understands":
+            settings.known = {spelling.attribute_type(one) for one in words[0].split(",")}
+        elif name == "software":
+            settings.software = spelling.text(words[0])
+        elif name == "fingerprint":
+            settings.has_fingerprint = True
+        else:
+            raise Words(name)
+
+    def build(self, word):
+        settings = self.settings
+        if len((settings.name or "").encode()) > 513:
+            return "NameTooLong"
+        if len(settings.software or b"") > LIMIT:
+            return "SoftwareTooLong"
+        if not settings.algorithms:
+            return "NoAlgorithm"
+        seed = bytes.fromhex(word)
+        self.built, self.seed = settings, seed * 32 if len(seed) == 1 else seed
+        self.next_id, self.next_number = 0, 1
+        self.requests, self.due, self.unsent, self.ended = {}, {}, [], []
+        # The challenge that new requests are signed for, whether a success has confirmed it, and
+        # the one before that was confirmed.
+        self.current, self.is_confirmed, self.confirmed = None, False, None
+        return None
+
+    # ---- Sending.
+
+    def new_id(self):
+        """The first 96 bits of the HMAC-SHA1 of a number under the seed."""
+        number, self.next_id = self.next_id, self.next_id + 1
+        return hmac.new(self.seed, struct.pack(">Q", number), hashlib.sha1).digest()[:12]
+
+    def request(self, method, *words):
+        body, carrier = [], self.stage.message(["request", *words])
+        for kind, _, value in spelling.attributes_of(carrier):
+            # XOR-PEER-ADDRESS is written anew for each ID.
+            if kind in RESERVED and kind != PEER:
+                return "NotAllowed"
+            body.append((kind, value))
+        request = Request(self.next_number, int(method, 16), body)
+        request.signed_for = self.current
+        if self.send(request, self.current) is None:
+            return "TooLarge"
+        self.next_number += 1
+        return f"request {request.number}"
+
+    def send(self, request, challenge):
+        """Writes a request and plans its transmissions, unless it is too large."""
+        before = self.next_id
+        identity = self.new_id()
+        message = self.written(request, identity, challenge)
+        if message is None:
+            self.next_id = before
+            return None
+        self.requests[identity] = request
+        waits = self.waits()
+        self.due[identity] = Timer(message, waits, self.stage.now + waits[0])
+        self.unsent.append((identity, message))
+        return identity
+
+    def waits(self):
+        """How long a request waits after each of its transmissions (section 6.2.1). Over a stream it
+        is sent once, and waits as long as all that together (section 6.2.2)."""
+        first, longest, sends, last = self.built.waits
+        waits = [min(first << i, longest) for i in range(sends - 1)] + [last]
+        return [sum(waits)] if self.built.is_stream else waits
+
+    def written(self, request, identity, challenge):
+        method = request.method
+        kind = (method & 0xF) | (method & 0x70) << 1 | (method & 0xF80) << 2
+        attributes = list(request.body)
+        attributes = [(kind, self.peer(value, identity) if kind == PEER else value)
+                      for kind, value in attributes]
+        if self.built.software is not None:
+            attributes.append((stun.SOFTWARE, self.built.software))
+        key = algorithm = None
+        if self.built.kind == "short":
+            attributes.append((stun.USERNAME, self.built.name.encode()))
+            key, algorithm = self.built.password.encode(), self.built.algorithm
+        elif challenge is not None:
+            attributes += self.identity(challenge)
+            key, algorithm = self.key_of(challenge), challenge.algorithm
+        length = sum(4 + len(value) + -len(value) % 4 for _, value in attributes)
+        length += 0 if key is None else {stun.SHA1: 24, stun.SHA256: 36}[algorithm]
+        if length + 8 * self.built.has_fingerprint > 0xFFFF:
+            return None
+        message = stun.message(kind, attributes, identity)
+        message = stun.signed(message, algorithm, key) if key is not None else message
+        return stun.fingerprinted(message) if self.built.has_fingerprint else message
+
+    def peer(self, value, identity):
+        """The words of a body spell the address for ID 1."""
+        octets = bytes(a ^ b for a, b in zip(value[4:], spelling.COOKIE + spelling.id_of("1")))
+        return value[:4] + bytes(a ^ b for a, b in zip(octets, spelling.COOKIE + identity))
+
+    def identity(self, challenge):
+        name = self.built.name.encode()
+        userhash = hashlib.sha256(name + b":" + challenge.realm).digest()
+        attributes = [(stun.NONCE, challenge.nonce), (stun.REALM, challenge.realm),
+                      (stun.USERHASH, userhash) if challenge.is_hashed else (stun.USERNAME, name)]
+        if challenge.algorithms:
+            attributes += [(stun.PASSWORD_ALGORITHMS, challenge.algorithms),
+                           (stun.PASSWORD_ALGORITHM, struct.pack(">HH", challenge.algorithm, 0))]
+        return attributes
+
+    def key_of(self, challenge):
+        return spelling.long_term_key(challenge.algorithm, self.built.name.encode(),
+                                      challenge.realm, self.built.password.encode())
+
+    # ---- What is to be done.
+
+    def polls(self):
+        while self.unsent:
+            identity, message = self.unsent.pop(0)
+            if identity in self.requests:
+                return "sends " + told(message)
+        for timer in self.due.values():
+            if len(timer.waits) > 1 and timer.at <= self.stage.now:
+                # The next wait begins now, even if this transmission is late.
+                timer.waits.pop(0)
+                timer.at = self.stage.now + timer.waits[0]
+                return "sends " + told(timer.message)
+        if not self.ended:
+            self.time_out()
+        if self.ended:
+            return self.ended.pop(0)
+        if not self.requests:
+            return "wait"
+        until = min(timer.at for timer in self.due.values())
+        return f"wait {until // 10**6}ms" if until % 10**6 == 0 else f"wait {until}ns"
+
+    def time_out(self):
+        for identity, timer in list(self.due.items()):
+            if timer.at <= self.stage.now:
+                request = self.take(identity)
+                self.ended.append(f"{request.number} timed out, {self.drops_of(request)} dropped")
+                self.step_back(request.signed_for)
+                return
+
+    def take(self, identity):
+        del self.due[identity]
+        return self.requests.pop(identity)
+
+    def cancel(self, word):
+        for identity, request in list(self.requests.items()):
+            if str(request.number) == word:
+                self.take(identity)
+                self.ended.append(f"{word} Cancelled")
+                return "yes"
+        return "no"
+
+    def dropped(self, word):
+        return next((self.drops_of(request) for request in self.requests.values()
+                     if str(request.number) == word), "none")
+
+    def drops_of(self, request):
+        if not request.drops:
+            return "0"
+        why, code = request.drops[-1]
+        return f"{len(request.drops)} {why}" + (f" {code}" if code else "")
+
+    def outstanding(self):
+        return str(len(self.requests))
+
+    # ---- What arrives.
+
+    def hears(self, *words):
+        message = self.stage.message(words)
+        if not is_message(message)[0] or not is_same(self.stage.source, self.built.server):
+            return "not ours"
+        kind, identity = int.from_bytes(message[:2], "big"), message[8:20]
+        if not kind & 0x110:
+            return "not ours"
+        if not kind & 0x100:
+            return "indication"
+        method = (kind & 0xF) | (kind & 0xE0) >> 1 | (kind & 0x3E00) >> 2
+        request = self.requests.get(identity)
+        if request is None or request.method != method:
+            return "not ours"
+        judged = self.judged(request, message)
+        if isinstance(judged, Anew):
+            judged = self.anew(identity, request, judged.challenge)
+        if isinstance(judged, Dropped):
+            code = code_in(message) if kind & 0x10 else None
+            request.drops.append((judged.why, code))
+            return f"dropped {judged.why}"
+        if isinstance(judged, Believed):
+            self.take(identity)
+            if not kind & 0x10:
+                self.confirm(request.signed_for)
+            self.ended.append(f"{request.number} {self.result(message, judged.algorithm)}")
+        return "consumed"
+
+    def judged(self, request, response):
+        built = self.built
+        if has_wrong_fingerprint(response):
+            return Dropped("WrongFingerprint")
+        if built.kind is None:
+            return Believed(None)
+        if built.kind == "short":
+            algorithm = verified(response, built.password.encode())
+            return Believed(algorithm) if algorithm == built.algorithm else Dropped("NotVerified")
+        code = code_in(response) if response[1] & 0x10 else None
+        if code not in (401, 438):
+            return self.by_signature(request, response, "NotVerified")
+        challenge = self.challenge_in(request, response, code)
+        if challenge is None:
+            return self.by_signature(request, response, "UnanswerableChallenge")
+        if challenge == request.signed_for:
+            return Anew(None)
+        confirmed = self.current if self.is_confirmed else self.confirmed
+        if confirmed and ((confirmed.algorithm == stun.SHA256 and challenge.algorithm == stun.SHA1)
+                          or (confirmed.is_hashed and not challenge.is_hashed)):
+            return Dropped("WeakerChallenge")
+        return Anew(challenge)
+
+    def by_signature(self, request, response, why):
+        if request.signed_for is None:
+            return Believed(None) if self.built.accepts_unsigned else Dropped(why)
+        algorithm = verified(response, self.key_of(request.signed_for))
+        return Believed(algorithm) if algorithm else Dropped(why)
+
+    def challenge_in(self, request, response, code):
+        """The challenge by the rule of section 9.2.5, or None if it is ignored."""
+        values, before = reading(response), request.signed_for
+        realm, nonce = values.get(stun.REALM), values.get(stun.NONCE)
+        if any(text is None or len(text) > LIMIT for text in (realm, nonce)):
+            return None
+        algorithms = values.get(stun.PASSWORD_ALGORITHMS)
+        if algorithms is None and before and code == 438:
+            if verified(response, self.key_of(before)):
+                algorithms = before.algorithms
+        bits = bits_of(nonce)
+        may_hash = bits is not None and bits[0] & 0x40 != 0
+        if self.built.hashes == "required" and not may_hash:
+            return None
+        if bits is not None and bits[0] & 0x80:
+            listed = [int.from_bytes(algorithms[at:at + 2], "big")
+                      for at in range(0, len(algorithms or b""), 4)]
+            algorithm = next((one for one in listed if one in self.built.algorithms), None)
+        else:
+            algorithm = stun.SHA1 if stun.SHA1 in self.built.algorithms else None
+            algorithms = b""
+        if algorithm is None:
+            return None
+        return Challenge(realm, nonce, algorithms, algorithm,
+                         may_hash and self.built.hashes != "disabled")
+
+    def anew(self, identity, request, challenge):
+        """Sends a request again, or ends it if that was done too often."""
+        if request.challenges >= self.built.most:
+            self.take(identity)
+            self.ended.append(f"{request.number} Unauthorized")
+            return None
+        if self.send(request, challenge) is None:
+            return Dropped("UnanswerableChallenge")
+        self.take(identity)
+        request.challenges += 1
+        request.signed_for = challenge
+        if challenge is not None and challenge != self.current:
+            if self.is_confirmed:
+                self.confirmed = self.current
+            self.current, self.is_confirmed = challenge, False
+        return None
+
+    def confirm(self, challenge):
+        """A success under the challenge that new requests are signed for confirms it."""
+        if challenge is not None and challenge == self.current:
+            self.is_confirmed, self.confirmed = True, None
+
+    def step_back(self, challenge):
+        """A request that times out may have been signed for a forged challenge."""
+        if challenge is not None and challenge == self.current:
+            self.current, self.confirmed = self.confirmed, None
+            self.is_confirmed = self.current is not None
+
+    def result(self, message, algorithm):
+        signed = SIGNED.get(algorithm, "unsigned")
+        unknown = unknown_in(message, READ | self.built.known)
+        if unknown:
+            return f"NotUnderstood 0x{unknown[0]:04x}"
+        if not message[1] & 0x10:
+            return f"success {signed}: {told(message)}"
+        code = code_in(message)
+        if code is None:
+            return "MalformedResponse"
+        if code != 300:
+            return f"refused {code} {signed}: {told(message)}"
+        values = reading(message)
+        domain = values.get(ALTERNATE_DOMAIN, b"none").decode()
+        return f"redirected {plain_address(values.get(ALTERNATE_SERVER))} {domain} {signed}"

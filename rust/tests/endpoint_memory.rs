@@ -3,6 +3,7 @@
 mod limited;
 
 use limited::within;
+use seatcrane_stun::Instant;
 use seatcrane_stun::auth::LongTermClientAuth;
 use seatcrane_stun::endpoint::*;
 use seatcrane_stun::types::attribute::*;
@@ -96,4 +97,59 @@ fn where_memory_ends_the_users_stay_as_they_were() {
         blocks += 1;
     }
     assert!(blocks > 0);
+}
+
+/// The client, its request, and whether the request and its response went through with so few blocks
+/// of memory each.
+fn asked_within(blocks: usize, response: &dyn Fn(&[u8]) -> Vec<u8>) -> (bool, bool) {
+    let (server, now) = (SocketAddr::from(([192, 0, 2, 1], 3478)), Instant::ZERO);
+    let mut client = Client::builder(server).build([7; 32]).unwrap();
+    let started = within(blocks, || client.request(BINDING, Body::new(), now));
+    if let Err(error) = started {
+        assert_eq!(error, RequestError::OutOfMemory);
+        assert_eq!(client.outstanding(), 0);
+        assert!(matches!(within(0, || client.poll(now)), Output::Wait(None)));
+        return (false, false);
+    }
+    let answer = match within(0, || client.poll(now)) {
+        Output::Transmit(bytes) => response(bytes),
+        other => panic!("{other:?}"),
+    };
+    match within(blocks, || client.receive(&answer, server, now)) {
+        Input::Consumed => match within(0, || client.poll(now)) {
+            Output::Ended(_, _) => (true, true),
+            other => panic!("{other:?}"),
+        },
+        Input::Dropped(DropReason::OutOfMemory) => {
+            assert_eq!(client.outstanding(), 1);
+            assert!(matches!(client.receive(&answer, server, now), Input::Consumed));
+            (true, false)
+        }
+        other => panic!("{other:?}"),
+    }
+}
+
+#[test]
+fn where_memory_ends_a_client_loses_nothing() {
+    let from: SocketAddr = "192.0.2.2:4242".parse().unwrap();
+    let open = OpenServer::new(ResponseSettings::new().answer_binding()).unwrap();
+    let success = |bytes: &[u8]| match open.receive(bytes, from) {
+        OpenReceived::Answer(answer) => answer.into_bytes(),
+        other => panic!("{other:?}"),
+    };
+    let redirected = |bytes: &[u8]| {
+        let request = Message::from_bytes(bytes).unwrap();
+        let mut page = Message::builder_error(&request, MessageWriteVec::new());
+        page.add_attribute(&ErrorCode::builder(300).build().unwrap()).unwrap();
+        page.add_attribute(&AlternateDomain::new("other.example.org").unwrap()).unwrap();
+        page.finish()
+    };
+    for response in [&success as &dyn Fn(&[u8]) -> Vec<u8>, &redirected] {
+        let mut went = Vec::new();
+        while went.last() != Some(&(true, true)) {
+            assert!(went.len() < 40, "{went:?}");
+            went.push(asked_within(went.len(), response));
+        }
+        assert!(went.contains(&(false, false)), "{went:?}");
+    }
 }

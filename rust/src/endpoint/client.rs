@@ -15,16 +15,18 @@ use crate::exported::stun_client::ids::id_of;
 use crate::exported::stun_client::judged::{Distrust, Judged, Outcome};
 use crate::exported::stun_extra::attribute::{AlternateDomain, AlternateServer, Software};
 use crate::exported::stun_types::message::{
-    IntegrityAlgorithm, IntegrityKey, MessageClass, Method, PreparedKey, StunWriteError,
+    IntegrityAlgorithm, IntegrityKey, MessageClass, MessageType, Method, PreparedKey,
+    StunWriteError,
 };
 use crate::exported::stun_types::prelude::MessageWrite;
 use crate::extra::finish_with_fingerprint;
 use crate::kit::alloc::Global;
+use crate::kit::collections::BTreeMap;
 use crate::message::Message;
 use crate::stats::StunAgentStats;
 use crate::transaction::TransactionId;
 use crate::write::{MessageWriteExt, MessageWriteVec};
-use alloc::collections::{BTreeMap, VecDeque};
+use alloc::collections::VecDeque;
 use alloc::string::String;
 use alloc::vec::Vec;
 use core::fmt;
@@ -51,7 +53,9 @@ struct Sent {
 /// strongest that both support, provided that the server's nonces and lists match its current
 /// settings, as those of [`Server`](super::Server) do.
 ///
-/// If the client cannot allocate memory for one of its own lists, it aborts the program.
+/// If an allocation fails, [`request`](Client::request) returns an error, and a datagram is dropped
+/// with [`DropReason::OutOfMemory`]. `poll` and `cancel` do not allocate. Only
+/// [`build`](ClientBuilder::build) aborts the program then.
 ///
 /// # Examples
 ///
@@ -102,16 +106,18 @@ impl fmt::Debug for Client {
 }
 
 impl Client {
-    pub(super) fn new(mut settings: ClientBuilder, agent: StunAgent, seed: [u8; 32]) -> Client {
+    pub(super) fn new(mut settings: ClientBuilder, mut agent: StunAgent, seed: [u8; 32]) -> Client {
         let credentials = credentials_of(&mut settings);
         let (server, challenges) = (settings.server, settings.challenges);
+        // A peer that the agent knows takes no memory when it answers.
+        agent.validated_peer(server);
         Client {
             settings,
             core: Core::new(Global, server, credentials, challenges),
             agent,
             seed: prepared(&seed, IntegrityAlgorithm::Sha1),
             next_id: 0,
-            requests: BTreeMap::new(),
+            requests: BTreeMap::new(Global),
             unsent: VecDeque::new(),
             ended: VecDeque::new(),
             lent: Vec::new(),
@@ -140,15 +146,19 @@ impl Client {
     ) -> Result<RequestId, RequestError> {
         let (id, next_id) = self.new_id()?;
         let bytes = self.written(method, &body, id, self.core.challenge().as_ref())?;
+        self.reserve(bytes.len())?;
         self.send(&bytes, now)?;
         let Ok(number) = self.core.start(method, id.0) else {
             self.withdraw(id);
             return Err(RequestError::OutOfMemory);
         };
+        let (request, drops) = (RequestId(number), Drops::default());
+        if self.requests.insert(request, Sent { body, id, drops }).is_err() {
+            self.core.cancel(id.0);
+            self.withdraw(id);
+            return Err(RequestError::OutOfMemory);
+        }
         self.next_id = next_id;
-        let drops = Drops::default();
-        let request = RequestId(number);
-        self.requests.insert(request, Sent { body, id, drops });
         self.unsent.push_back((id, bytes));
         Ok(request)
     }
@@ -177,10 +187,12 @@ impl Client {
     pub fn poll(&mut self, now: Instant) -> Output<'_> {
         while let Some((id, bytes)) = self.unsent.pop_front() {
             if self.core.get(id.0).is_some() {
-                self.lent = bytes;
+                self.lent.clear();
+                self.lent.extend_from_slice(&bytes);
                 return Output::Transmit(&self.lent);
             }
         }
+        // `reserve` has made room for each request.
         if let Some(again) = self.agent.poll_transmit(now) {
             self.lent.clear();
             self.lent.extend_from_slice(again.data);
@@ -271,10 +283,12 @@ impl Client {
             return self.dropped_for(request, DropReason::OutOfMemory, message);
         }
         bytes.extend_from_slice(message.as_bytes());
+        let Some(result) = self.result_of(message, Response { bytes, signed_by }) else {
+            return self.dropped_for(request, DropReason::OutOfMemory, message);
+        };
         self.forget_sent(message, now);
         let is_success = message.has_class(MessageClass::Success);
         self.core.end(message.transaction_id().0, is_success);
-        let result = self.result_of(message, Response { bytes, signed_by });
         self.end(request, result);
         Input::Consumed
     }
@@ -286,26 +300,19 @@ impl Client {
         let _ = agent.handle_stun_message_with_time(message, server, now);
     }
 
+    /// Returns what a response ends its request with, or `None` if there is no memory for it.
     fn result_of(
         &self,
         message: &Message<'_>,
         response: Response,
-    ) -> Result<Response, RequestError> {
-        match Outcome::of(&message.0, &self.settings.understood) {
-            Outcome::Success => Ok(response),
-            Outcome::Refused(code) => Err(RequestError::Refused(ErrorResponse { response, code })),
-            Outcome::Redirected => {
-                let server = message.attribute::<AlternateServer>().ok();
-                let domain = message.attribute::<AlternateDomain>().ok();
-                Err(RequestError::Redirected(Redirect {
-                    server: server.map(|found| found.server()),
-                    domain: domain.map(|found| String::from(found.domain())),
-                    signed_by: response.signed_by,
-                }))
-            }
-            Outcome::NotUnderstood(kind) => Err(RequestError::NotUnderstood(kind)),
-            Outcome::Malformed => Err(RequestError::MalformedResponse),
-        }
+    ) -> Option<Result<Response, RequestError>> {
+        Some(Err(match Outcome::of(&message.0, &self.settings.understood) {
+            Outcome::Success => return Some(Ok(response)),
+            Outcome::Refused(code) => RequestError::Refused(ErrorResponse { response, code }),
+            Outcome::Redirected => RequestError::Redirected(redirect(message, response.signed_by)?),
+            Outcome::NotUnderstood(kind) => RequestError::NotUnderstood(kind),
+            Outcome::Malformed => RequestError::MalformedResponse,
+        }))
     }
 
     /// Sends a request again under another ID, signed for this challenge or unsigned, or ends it if
@@ -351,6 +358,18 @@ impl Client {
     }
 
     // ---- Sending
+
+    /// Makes room for one more request in the lists, for the end of each outstanding request, and
+    /// for this many bytes that `poll` returns.
+    fn reserve(&mut self, length: usize) -> Result<(), RequestError> {
+        let ends = self.requests.len() + 1;
+        let room = length.saturating_sub(self.lent.len());
+        self.unsent
+            .try_reserve(1)
+            .and_then(|()| self.ended.try_reserve(ends))
+            .and_then(|()| self.lent.try_reserve(room))
+            .map_err(|_| RequestError::OutOfMemory)
+    }
 
     /// Returns the next ID that is not outstanding, and the number after it. The n-th ID is the first
     /// 96 bits of HMAC-SHA1(seed, n).
@@ -398,6 +417,7 @@ impl Client {
         }
         let (new_id, next_id) = self.new_id()?;
         let bytes = self.written(asked.method(), &sent.body, new_id, challenge.as_ref())?;
+        self.reserve(bytes.len())?;
         self.send(&bytes, now)?;
         if self.core.renew(id.0, new_id.0, challenge).is_err() {
             self.withdraw(new_id);
@@ -420,8 +440,8 @@ impl Client {
         signed_for: Option<&Challenge<Global>>,
     ) -> Result<Vec<u8>, RequestError> {
         let write = || -> Result<Vec<u8>, StunWriteError> {
-            let page = MessageWriteVec::new();
-            let mut page = Message::builder_request_with_id(method, id, page);
+            let kind = MessageType::from_class_method(MessageClass::Request, method);
+            let mut page = Message::try_builder(kind, id, MessageWriteVec::new())?;
             body.write(&mut page)?;
             if let Some(software) = &self.settings.software {
                 page.add_attribute(&Software::new(software)?)?;
@@ -460,6 +480,25 @@ fn credentials_of(settings: &mut ClientBuilder) -> Credentials<Global> {
 /// Returns a key that is prepared for an algorithm. One of at most 32 bytes takes no memory.
 fn prepared(bytes: &[u8], algorithm: IntegrityAlgorithm) -> PreparedKey<Global> {
     PreparedKey::new(granted(IntegrityKey::from_bytes(Global, bytes)), algorithm)
+}
+
+/// Returns where a response with the code 300 leads, or `None` if there is no memory for the name.
+fn redirect(message: &Message<'_>, signed_by: Option<IntegrityAlgorithm>) -> Option<Redirect> {
+    let server = message.attribute::<AlternateServer>().ok();
+    let domain = match message.attribute::<AlternateDomain>() {
+        Ok(found) => {
+            let mut domain = String::new();
+            domain.try_reserve_exact(found.domain().len()).ok()?;
+            domain.push_str(found.domain());
+            Some(domain)
+        }
+        Err(_) => None,
+    };
+    Some(Redirect {
+        server: server.map(|found| found.server()),
+        domain,
+        signed_by,
+    })
 }
 
 fn reason_of(why: Distrust) -> DropReason {

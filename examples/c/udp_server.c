@@ -1,4 +1,4 @@
-/* A STUN server on UDP (RFC 8489), IPv4 and IPv6, with users, over stunp_endpoint.h.
+/* A STUN server on UDP and TCP (RFC 8489), IPv4 and IPv6, with users, over stunp_endpoint.h.
  *
  * It answers everybody with the address that the request came from or, if it has a realm, the users
  * of that realm alone, and challenges everybody else (section 9.2.4). It stores nothing about an
@@ -13,6 +13,7 @@
 #include "heap.h"
 #include "net.h"
 #include "processes.h"
+#include "streams.h"
 #include "stunp_endpoint.h"
 #include "users.h"
 #include "words.h"
@@ -42,6 +43,9 @@ static const char help[] =
     "                    long. 3600 unless given\n"
     "  --at ADDRESS      an IP address to serve; may be repeated. `-` is the socket that is\n"
     "                    standard input. All of this machine unless given\n"
+    "  --tcp             serve TCP too, 256 connections at a time in each process: one more ends\n"
+    "                    the connection that has been silent for longest\n"
+    "  --idle SECONDS    end a connection if no whole message came for so long. 30 unless given\n"
     "  --workers N       so many processes: 1 unless given\n"
     "  --shared          let other servers have the port too (SO_REUSEPORT)\n"
     "  --any-method      judge requests of other methods too, and answer them 420 if they have\n"
@@ -59,11 +63,12 @@ enum { MOST_BATCHES = 4 /* of one socket in turn */, MOST_WAIT = 1000 /* millise
 enum { MEMORY = 1 << 30 /* of one process, at most: users, and one answer */ };
 
 static struct {
-    unsigned long port, workers, expiry, ahead, counts;
+    unsigned long port, workers, expiry, ahead, counts, idle;
     const char *file, *secret;
     struct texts at;
-    bool has_users, has_sha256, is_verbose, is_shared, takes_any_method, wants_help, wants_version;
-} settings = {.workers = 1, .expiry = 3600};
+    bool has_users, has_sha256, has_tcp, is_verbose, is_shared, takes_any_method;
+    bool wants_help, wants_version;
+} settings = {.workers = 1, .expiry = 3600, .idle = 30};
 
 static const struct option options[] = {
     {"-v", .flag = &settings.is_verbose},
@@ -71,6 +76,8 @@ static const struct option options[] = {
     {"--secret", .text = &settings.secret},
     {"--at", .texts = &settings.at},
     {"--sha256", .flag = &settings.has_sha256},
+    {"--tcp", .flag = &settings.has_tcp},
+    {"--idle", .number = &settings.idle, .least = 1, .most = 1000000},
     {"--shared", .flag = &settings.is_shared},
     {"--any-method", .flag = &settings.takes_any_method},
     {"--workers", .number = &settings.workers, .least = 1, .most = MOST_PROCESSES},
@@ -295,14 +302,25 @@ static void serve_some(int socket) {
     }
 }
 
+/* What epoll waits for, by number: UDP sockets, sockets that listen, and from FIRST_CONNECTION on
+ * the connections. */
+enum { FIRST_STREAM = MOST_SOCKETS, FIRST_CONNECTION = 2 * MOST_SOCKETS };
+
 /* An epoll of the sockets, or -1. */
-static int watch(const struct listener *listener) {
+static int watch_all(const struct listener *listener) {
     int queue = epoll_create1(EPOLL_CLOEXEC);
-    for (int i = 0; i < listener->number; i++) {
-        struct epoll_event wanted = {.events = EPOLLIN, .data.fd = listener->sockets[i]};
-        if (epoll_ctl(queue, EPOLL_CTL_ADD, wanted.data.fd, &wanted) != 0) return -1;
-    }
-    return queue;
+    bool is_right = queue >= 0;
+    for (int i = 0; i < listener->number; i++)
+        is_right = is_right && watch(queue, listener->sockets[i], i);
+    for (int i = 0; i < listener->streams_number; i++)
+        is_right = is_right && watch(queue, listener->streams[i], FIRST_STREAM + i);
+    return is_right ? queue : -1;
+}
+
+static void serve_one(const struct listener *listener, int queue, int number) {
+    if (number >= FIRST_CONNECTION) read_stream(number - FIRST_CONNECTION, answer_one);
+    else if (number < FIRST_STREAM) serve_some(listener->sockets[number]);
+    else accept_stream(listener->streams[number - FIRST_STREAM], queue, FIRST_CONNECTION);
 }
 
 /* Prints the counters if they are due or asked for. The first process calls this now and then. */
@@ -317,13 +335,14 @@ static void look(void) {
 
 static bool serve(const struct listener *listener, unsigned long number) {
     struct epoll_event ready[MOST_SOCKETS];
-    int queue = watch(listener);
+    int queue = watch_all(listener);
     sig_atomic_t read_at = hangups;
     counts = &all_counts[number];
     if (queue < 0) perror("epoll");
     while (queue >= 0 && !is_ending) {
         int events = epoll_wait(queue, ready, MOST_SOCKETS, MOST_WAIT);
-        for (int i = 0; i < events; i++) serve_some(ready[i].data.fd);
+        for (int i = 0; i < events; i++) serve_one(listener, queue, ready[i].data.fd);
+        if (settings.has_tcp) end_idle_streams(settings.idle * SECOND);
         if (read_at != hangups) reload();
         read_at = hangups;
         if (settings.workers == 1) look();
@@ -383,8 +402,8 @@ int main(int number, char **words) {
     hear_signals();
     sigaction(SIGUSR2, &(struct sigaction){.sa_handler = jump}, NULL);
     int status = serve_in_processes(&(struct service){
-        settings.at.texts, settings.at.count, settings.port, settings.workers, settings.is_shared,
-        serve, look});
+        {settings.at.texts, settings.at.count, settings.is_shared, settings.has_tcp},
+        settings.port, settings.workers, serve, look});
     stunp_endpoint_users_free(&users);
     stunp_endpoint_server_free(&server);
     return status;

@@ -42,8 +42,8 @@ def named(name, what, *words):
 def of_server(server, first):
     """Each keeps nothing of an address (endpoint.py). The first server has what the others need not:
     other methods than Binding, nonces that expire at a signal, the address that was asked, a large
-    buffer, no fear of faults but sleep, a port of its own, and users and counters at a signal. The
-    others have TCP, and look at the file themselves."""
+    buffer, no fear of faults but sleep, a port of its own, a place for whoever connects, and users
+    and counters at a signal. The others look at the file themselves."""
     one = lambda what, *words: named(label(server), what, server, *words)
     for what in (alone.unknown_attributes, alone.choices, alone.many_attributes, alone.fingerprints,
                  alone.workers, alone.begins_again, alone.new_address):
@@ -60,24 +60,23 @@ def of_server(server, first):
             yield one(alone.malformed, words, algorithm)
         for what in (alone.another_address, alone.burst, alone.stopped_reader, alone.hidden_words,
                      alone.wiped, alone.failing_reads, alone.no_ipv6, alone.one_server,
-                     alone.counted, endpoint.addresses, endpoint.reloaded_at_a_signal):
+                     alone.counted, endpoint.many_streams, endpoint.reloaded_at_a_signal):
             yield one(what)
     else:
         yield from of_others(server, str(pathlib.Path(first).parent / "exhausted.so"))
-    for what in (endpoint.tells, endpoint.counters, endpoint.bad_lines, endpoint.many_users):
+    for what in (endpoint.tells, endpoint.counters, endpoint.bad_lines, endpoint.many_users,
+                 endpoint.addresses, endpoint.one_port, endpoint.no_streams):
         yield one(what)
     for words in BOTH:
-        for what in (endpoint.restarted, endpoint.behind_one_port, endpoint.one_socket,
+        for what in (endpoint.streams, endpoint.restarted, endpoint.behind_one_port, endpoint.one_socket,
                      endpoint.stored_keys):
             yield one(what, words)
 
 
 def of_others(server, exhausted):
     one = lambda what, *words: named(label(server), what, server, *words)
-    for what in (endpoint.addresses_of_both, endpoint.one_port, endpoint.reloaded,
-                 endpoint.too_many_users):
+    for what in (endpoint.reloaded, endpoint.too_many_users):
         yield one(what)
-    yield from (one(endpoint.streams, words) for words in BOTH)
     yield one(endpoint.no_memory, exhausted)
 
 

@@ -43,7 +43,8 @@ def of_server(server, first):
     """Each keeps nothing of an address (endpoint.py). The first server has what the others need not:
     other methods than Binding, nonces that expire at a signal, the address that was asked, a large
     buffer, no fear of faults but sleep, a port of its own, a place for whoever connects, and users
-    and counters at a signal. The others look at the file themselves."""
+    and counters at a signal. The others look at the file
+    themselves, and serve NAT behavior discovery."""
     one = lambda what, *words: named(label(server), what, server, *words)
     for what in (alone.unknown_attributes, alone.choices, alone.many_attributes, alone.fingerprints,
                  alone.workers, alone.begins_again, alone.new_address):
@@ -78,6 +79,7 @@ def of_others(server, exhausted):
     for what in (endpoint.reloaded, endpoint.too_many_users):
         yield one(what)
     yield one(endpoint.no_memory, exhausted)
+    yield from (one(endpoint.four_sockets, words) for words in ((), USER))
 
 
 def of_client(client):

@@ -275,6 +275,58 @@ def many_streams(server):
         assert stun.code_of(asked_over(first, stun.message(stun.REQUEST))) == 200
 
 
+# ---- NAT behavior discovery (RFC 5780)
+
+CHANGE_REQUEST, PADDING, RESPONSE_PORT = 0x0003, 0x0026, 0x0027
+RESPONSE_ORIGIN, OTHER_ADDRESS = 0x802B, 0x802C
+
+
+def four_sockets(server, words):
+    """A response leaves from the address and the port that the request asks for, and says which ones
+    those are, and which are the others. It goes to the port that is asked for, with as much padding
+    as the request had."""
+    spoken = lambda host, port: b"\0\1" + port.to_bytes(2, "big") + socket.inet_aton(host)
+    with Server(server, *words, "--at", "127.0.0.2", "--other", "127.0.0.3") as running:
+        ports, hosts = (running.port, running.port + 1), ("127.0.0.2", "127.0.0.3")
+        with Peer(0) as peer, Peer(0) as second:
+            second.socket.bind(("0.0.0.0", 0))
+
+            def asked(host, port, attributes, reader=peer):
+                peer.target = (hosts[host], ports[port])
+                request = stun.message(stun.REQUEST, attributes)
+                if words:
+                    challenge = peer.ask(stun.message(stun.REQUEST))
+                    request = answering(challenge, stun.SHA1, attributes)
+                peer.socket.sendto(request, peer.target)
+                answer, source = reader.socket.recvfrom(4096)
+                assert answer[8:20] == request[8:20]
+                return answer, source
+
+            for place in range(16):
+                host, port, change_host, change_port = (place >> bit & 1 for bit in range(4))
+                change = bytes([0, 0, 0, change_host << 2 | change_port << 1])
+                answer, source = asked(host, port, [(CHANGE_REQUEST, change), (PADDING, bytes(20))])
+                wanted = (hosts[host ^ change_host], ports[port ^ change_port])
+                assert stun.code_of(answer) == 200 and source == wanted, (source, wanted)
+                assert stun.value_of(answer, RESPONSE_ORIGIN) == spoken(*wanted)
+                others = spoken(hosts[host ^ 1], ports[port ^ 1])
+                assert stun.value_of(answer, OTHER_ADDRESS) == others
+                assert stun.value_of(answer, PADDING) == bytes(20)
+            there = second.socket.getsockname()[1].to_bytes(2, "big")
+            answer, source = asked(0, 0, [(RESPONSE_PORT, there + b"\0\0")], second)
+            assert stun.code_of(answer) == 200 and source == (hosts[0], ports[0])
+            for bad in ([(CHANGE_REQUEST, b"\0")], [(RESPONSE_PORT, b"\0")],
+                        [(RESPONSE_PORT, there + b"\0\0"), (PADDING, bytes(4))]):
+                answer, source = asked(1, 1, bad)
+                assert stun.code_of(answer) == 400 and source == (hosts[1], ports[1]), bad
+            answer, _ = asked(0, 1, [(0x7FFF, b"")])
+            assert stun.code_of(answer) == 420
+    for wrong in (("--other", "127.0.0.3"), ("--at", "::1", "--other", "here"),
+                  ("--at", "127.0.0.2", "--other", "127.0.0.3", "--tcp")):
+        run = subprocess.run([server, "0", *wrong], capture_output=True, timeout=20)
+        assert run.returncode == 2 and run.stdout == b"", run
+
+
 # ---- The file of users
 
 

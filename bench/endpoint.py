@@ -4,7 +4,7 @@
     bench/endpoint.py
 
 Each row is counted at `endpoint::Server` and at a loop of calls by hand with its table of addresses
-(rust/examples/endpoint_cost): 1,000 and 3,000 datagrams each, and the difference through 2,000 is
+(rust/bench/endpoint_cost): 1,000 and 3,000 datagrams each, and the difference through 2,000 is
 one: instructions by callgrind. It wants `make rust` before, cargo and valgrind. It prints the table
 of README.md; status 1 if a bar is missed.
 """

@@ -82,8 +82,8 @@ if echo 'fn main() {}' |
     mkdir "$scratch/libraries"
     cp "$STUN_C" "$scratch/libraries/libstun_c.a"
     rustc --edition 2024 -O ../examples/rust/main.rs -L "$scratch/libraries" -o "$scratch/main"
-    expect 0 'Ok(1)
-Ok(2)' "$scratch/main"
+    expect 0 '1
+2' "$scratch/main"
     checked="$checked, Rust"
 fi
 

@@ -7,8 +7,8 @@
 //! it allocates only bytes of one answer at a time; if that fails, it drops the datagram.
 //!
 //! It calls the system by the standard library alone and without `unsafe`, which has these limits:
-//! - It cannot catch a signal, so SIGHUP ends it. It looks every second whether the file of users
-//!   has changed, and prints its counters at an interval.
+//! - It cannot catch a signal, so SIGHUP ends it. It looks every second at the length and the time
+//!   of the file of users, and prints its counters at an interval.
 //! - It cannot set the options of a socket. IPv4 arrives at the IPv6 socket `::`, unless the system
 //!   keeps them apart (`net.ipv6.bindv6only`, and Windows): then name both by `--at`. On a machine
 //!   with several addresses, an answer may leave from another one than was asked, unless each is
@@ -36,7 +36,7 @@ use std::net::{IpAddr, SocketAddr, TcpListener, TcpStream, UdpSocket};
 use std::process::ExitCode;
 use std::sync::{PoisonError, RwLock};
 use std::thread;
-use std::time::{Duration, Instant};
+use std::time::{Duration, Instant, SystemTime};
 
 const USAGE: &str = "usage: udp_server PORT [REALM [NAME PASSWORD].. [--users FILE]] [OPTION]..";
 const HELP: &str = "
@@ -175,24 +175,25 @@ impl Service<'_> {
         outcome
     }
 
-    /// Builds the table of users again whenever their file has changed. If it cannot be read, the
+    /// Builds the table of users again once their file is not as it was when it was first read, and
+    /// has stayed the same for a second: it may be written in pieces. If it cannot be read, the
     /// users stay as they were.
-    fn reload(&self) {
-        let (Some((server, table)), Some(file)) = (&self.of_realm, &self.settings.file) else {
+    fn reload(&self, file: &str, first: Option<Stamp>) {
+        let Some((server, table)) = &self.of_realm else {
             return;
         };
-        let stamp = || fs::metadata(file).and_then(|of| Ok((of.modified()?, of.len())));
-        let mut last = stamp().ok();
+        let (mut last, mut before) = (first, first);
         loop {
             thread::sleep(Duration::from_secs(1));
-            let now = stamp().ok();
-            if now.is_some() && now != last {
+            let now = stamp(file);
+            if now.is_some() && now != last && now == before {
                 match users::table(server, &self.settings.users, Some(file)) {
                     Ok(users) => *table.write().unwrap_or_else(PoisonError::into_inner) = users,
                     Err(error) => eprintln!("udp_server: users stay as they were: {error}"),
                 }
                 last = now;
             }
+            before = now;
         }
     }
 
@@ -311,15 +312,25 @@ fn sockets(settings: &Settings) -> Result<Vec<UdpSocket>, Box<dyn Error>> {
     Ok(bound)
 }
 
+/// When a file was last written, and its length.
+type Stamp = (SystemTime, u64);
+
+fn stamp(file: &str) -> Option<Stamp> {
+    let of = fs::metadata(file).ok()?;
+    Some((of.modified().ok()?, of.len()))
+}
+
 fn run(settings: &Settings) -> Result<(), Box<dyn Error>> {
+    let file = settings.file.as_deref().filter(|file| *file != "-");
+    let first = file.and_then(stamp);
     let service = &Service::new(settings)?;
     let addresses = service.addresses.iter().filter(|_| settings.has_tcp);
     let listeners = addresses
         .map(TcpListener::bind)
         .collect::<io::Result<Vec<_>>>()?;
     thread::scope(|scope| {
-        if settings.file.as_deref().is_some_and(|file| file != "-") {
-            scope.spawn(|| service.reload());
+        if let Some(file) = file {
+            scope.spawn(move || service.reload(file, first));
         }
         if let Some(seconds) = settings.counts {
             scope.spawn(move || {

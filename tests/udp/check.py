@@ -76,7 +76,7 @@ def of_server(server, first):
 
 def of_others(server, exhausted):
     one = lambda what, *words: named(label(server), what, server, *words)
-    for what in (endpoint.reloaded, endpoint.too_many_users):
+    for what in (endpoint.reloaded, endpoint.written_slowly, endpoint.too_many_users):
         yield one(what)
     yield one(endpoint.no_memory, exhausted)
     yield from (one(endpoint.four_sockets, words) for words in ((), USER))

@@ -372,6 +372,25 @@ def reloaded(server):
     read_again(server, (), lambda running: None)
 
 
+def written_slowly(server):
+    """While the file is being written in pieces, the users are those of before."""
+    with tempfile.TemporaryDirectory() as folder:
+        path = pathlib.Path(folder) / "users"
+        path.write_text(f"{NAME} {PASSWORD}\n")
+        with Server(server, REALM, "--users", str(path)) as running, Peer(running.port) as peer:
+            alice = answering(peer.ask(stun.message(stun.REQUEST)))
+            with open(path, "w") as file:
+                for number in range(12):
+                    assert stun.code_of(peer.ask(alice)) == 200, number
+                    file.write("# a line more\n" if number else "")
+                    file.flush()
+                    time.sleep(0.25)
+            end = time.monotonic() + 10
+            while stun.code_of(peer.ask(alice)) != 401:
+                assert time.monotonic() < end, "no 401"
+                time.sleep(0.1)
+
+
 def reloaded_at_a_signal(server):
     """The same at SIGHUP, by each worker."""
     for words in ((), ("--workers", "2")):

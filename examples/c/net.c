@@ -184,7 +184,8 @@ static bool open_each(const char *const *at, int count, const struct place *plac
         int fd = -1;
         if (listener->number == MOST_SOCKETS) errno = EMFILE;
         else if (strcmp(at[i], "-") == 0) fd = inherited(port);
-        else if (read_address(at[i], &name)) fd = open_at(&name, SOCK_DGRAM, port, place->is_shared);
+        else if (read_address(at[i], &name))
+            fd = open_at(&name, SOCK_DGRAM, port, place->is_shared);
         if (fd < 0) return false;
         listener->sockets[listener->number++] = fd;
         if (!place->has_tcp) continue;
@@ -228,19 +229,14 @@ void close_server(const struct listener *listener) {
     for (int i = 0; i < listener->streams_number; i++) close(listener->streams[i]);
 }
 
-/* Opens a socket of a server's family, and writes its own address. Returns -1 if that fails, with
- * the reason in errno. */
-static int open_to(const struct peer *server, stunp_address *own) {
-    struct peer any = {.name.ss_family = server->name.ss_family,
-                       .name_length = server->name_length};
-    int fd = socket(any.name.ss_family, SOCK_DGRAM, 0);
+int open_own(const struct peer *at, stunp_address *own) {
+    struct peer peer = *at;
+    int fd = socket(peer.name.ss_family, SOCK_DGRAM | SOCK_NONBLOCK | SOCK_CLOEXEC, 0);
     if (fd < 0) return -1;
-    if (bind(fd, (struct sockaddr *)&any.name, any.name_length) < 0
-        || getsockname(fd, (struct sockaddr *)&any.name, &any.name_length) < 0)
+    if (bind(fd, (struct sockaddr *)&peer.name, peer.name_length) < 0
+        || getsockname(fd, (struct sockaddr *)&peer.name, &peer.name_length) < 0)
         return give_up(fd);
-    if (any.name.ss_family == AF_INET6) set(fd, IPPROTO_IPV6, IPV6_RECVERR, 1);
-    else set(fd, IPPROTO_IP, IP_RECVERR, 1);
-    *own = address_of(&any);
+    *own = address_of(&peer);
     return fd;
 }
 
@@ -254,9 +250,12 @@ int open_client(const char *host, const char *port, struct peer *server, stunp_a
     for (struct addrinfo *one = found; one != NULL && fd < 0; one = one->ai_next) {
         *server = (struct peer){.name_length = one->ai_addrlen};
         memcpy(&server->name, one->ai_addr, one->ai_addrlen);
-        fd = open_to(server, own);
+        fd = open_own(&(struct peer){.name.ss_family = server->name.ss_family,
+                                     .name_length = server->name_length}, own);
     }
     if (fd < 0) perror("socket");
+    else if (server->name.ss_family == AF_INET6) set(fd, IPPROTO_IPV6, IPV6_RECVERR, 1);
+    else set(fd, IPPROTO_IP, IP_RECVERR, 1);
     freeaddrinfo(found);
     return fd;
 }

@@ -67,6 +67,10 @@ struct listener {
 bool open_server(const struct place *place, unsigned long *port, struct listener *listener);
 void close_server(const struct listener *listener);
 
+/* Opens a socket, on which no call waits, at an address, and writes its own address with its port.
+ * Returns -1 if that fails, with the reason in errno. */
+int open_own(const struct peer *at, stunp_address *own);
+
 /* Finds a server, and opens a socket of its family, whose own address it writes. If the host has
  * several addresses, it is the first to which a socket opens. Returns the socket, or -1 after it
  * printed the reason on standard error. */

@@ -15,8 +15,8 @@ void hear_signals(void);
 void say(const char *format, ...) __attribute__((format(printf, 1, 2)));
 
 /* What is served: where (open_server) and on which port, by how many processes, and how. `serve`
- * gets the number of its process from 0, and returns whether all went well. `look` is called now and
- * then in the first process, which serves only if it is alone. */
+ * gets the number of its process from 0, and returns whether all went well. `look` is called now
+ * and then in the first process, which serves only if it is alone. */
 enum { MOST_PROCESSES = 64 };
 struct service {
     struct place place;

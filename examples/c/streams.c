@@ -53,8 +53,9 @@ void accept_stream(int listening, int queue, int first) {
     if (!watch(queue, socket, first + (int)(one - connections))) end(one);
 }
 
-/* Answers the messages that are whole. Returns false if the connection is to end: no message begins
- * in the stream, one is too long, or there is no room for an answer, since the client reads none. */
+/* Answers the messages that are whole. Returns false if the connection is to end: no message
+ * begins in the stream, one is too long, or there is no room for an answer, since the client reads
+ * none. */
 static bool answer_whole(struct connection *one, answer_message *answer_one) {
     static struct answer answer;
     struct datagram *got = &one->got;

@@ -1,6 +1,6 @@
 #!/bin/sh
 # Times the exported crate beside OpenSSL's bare digest calls (its calls for C, by bench.c). It is
-# timed beside plain code over the same crates of digests, too (rust/examples/bench.rs). Both are
+# timed beside plain code over the same crates of digests, too (rust/bench/bench.rs). Both are
 # done with and without the processor's SHA instructions, where it has them. Then it tells how long
 # a program is that verifies one message. It wants `make rust` before, cargo, a C compiler and
 # OpenSSL's headers (libssl-dev).

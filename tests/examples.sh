@@ -82,8 +82,8 @@ if echo 'fn main() {}' |
     mkdir "$scratch/libraries"
     cp "$STUN_C" "$scratch/libraries/libstun_c.a"
     rustc --edition 2024 -O ../examples/rust/main.rs -L "$scratch/libraries" -o "$scratch/main"
-    expect 0 'Ok(1)
-Ok(2)' "$scratch/main"
+    expect 0 '1
+2' "$scratch/main"
     checked="$checked, Rust"
 fi
 
@@ -106,9 +106,21 @@ if python3 -c "$loopback" >/dev/null 2>&1; then
         built="../target/export/target/debug/examples/udp_$one"
         if [ -x "$built" ]; then set -- "$@" "--$one" "$built"; fi
     done
+    # The client on tokio, over the exported crate and Debian's tokio.
+    registry=/usr/share/cargo/registry
+    tokio=''
+    if [ ! -f ../target/export/Cargo.toml ] || ! ls -d $registry/tokio-1.* >/dev/null 2>&1; then
+        checked="$checked; tokio: left out: no exported crate or no librust-tokio-dev"
+    else
+        (cd ../examples/rust/tokio_client && CARGO_TARGET_DIR=../../../target/tokio cargo \
+            --config 'source.crates-io.replace-with="debian"' \
+            --config "source.debian.directory=\"$registry\"" build --quiet --offline)
+        tokio=../target/tokio/debug/tokio_client
+        checked="$checked; tokio"
+    fi
     # Once more where a case failed: a machine that is very busy may hold a datagram for longer than
     # a case waits.
-    udp() { python3 udp/check.py "$@" >"$scratch/udp" 2>&1; }
+    udp() { python3 udp/check.py "$@" ${tokio:+--tokio "$tokio"} >"$scratch/udp" 2>&1; }
     if ! udp "$@" && ! { cat "$scratch/udp" >&2 && udp "$@"; }; then
         cat "$scratch/udp" >&2
         exit 1

@@ -5,7 +5,7 @@
 #include <string.h>
 #include <unistd.h>
 
-enum { MOST_ASKS = 4, MOST_AT_ONCE = 16 };
+enum { MOST_ASKS = 4 };
 
 /* The types that must be understood, and are. The last three are SOURCE-ADDRESS and CHANGED-ADDRESS
  * of RFC 3489, and BANDWIDTH of a draft of TURN: RFC 8489 reserves them, older servers send them,
@@ -37,10 +37,11 @@ static enum verdict fails_with(struct asker *asker, int64_t refusal) {
 bool open_asker(struct asker *asker, const char *host, const char *port, uint64_t within) {
     stunp_address own;
     *asker = (struct asker){.give_up = moment() + within};
-    asker->socket = open_client(host, port, &asker->server, &own);
-    if (asker->socket < 0) return false;
-    asker->at = address_of(&asker->server);
-    int64_t answer = stunp_agent_new(&asker->agent, STUNP_UDP, &own);
+    asker->exchange.remotes = &asker->server, asker->exchange.remotes_number = 1;
+    asker->exchange.socket = open_client(host, port, &asker->server.peer, &own);
+    if (asker->exchange.socket < 0) return false;
+    asker->server.at = address_of(&asker->server.peer);
+    int64_t answer = stunp_agent_new(&asker->exchange.agent, STUNP_UDP, &own);
     if (answer < 0) fprintf(stderr, "failed: %s\n", stunp_strerror(answer));
     return answer >= 0;
 }
@@ -56,9 +57,9 @@ int64_t set_user(struct asker *asker, const char *name, const char *password, bo
 }
 
 void close_asker(struct asker *asker) {
-    stunp_agent_free(&asker->agent);
+    stunp_agent_free(&asker->exchange.agent);
     stunp_client_free(&asker->client);
-    if (asker->socket >= 0) close(asker->socket);
+    if (asker->exchange.socket >= 0) close(asker->exchange.socket);
 }
 
 /* ---- Sending */
@@ -71,29 +72,12 @@ static enum verdict send_request(struct asker *asker, fill_request *fill, const 
     stunp_writer request = stunp_write(STUNP_REQUEST, asker->method, id, bytes, sizeof bytes);
     if (fill != NULL) fill(&request, what);
     if (asker->has_user) stunp_write_client_sign(&request, &asker->client);
-    int64_t sent = stunp_written(&request);
-    if (sent == 0)
-        sent = stunp_agent_send_request(&asker->agent, bytes, request.length, &asker->at, moment());
-    if (sent < 0) return fails_with(asker, sent);
-    send_data(asker, &request);
-    return WAITING;
+    int64_t sent = ask_remote(&asker->exchange, &request, &asker->server);
+    return sent < 0 ? fails_with(asker, sent) : WAITING;
 }
 
 void send_data(const struct asker *asker, const stunp_writer *data) {
-    if (stunp_written(data) == 0) send_to(asker->socket, data->bytes, data->length, &asker->server);
-}
-
-/* Sends again what is due; not all of it if that is much, because responses are to be read between.
- * The bytes go to the address of the server that has the scope of a link-local one. */
-static void send_again(struct asker *asker, uint64_t now) {
-    uint8_t bytes[MOST_BYTES];
-    stunp_address to;
-    for (int sent = 0; sent < MOST_AT_ONCE; sent++) {
-        int64_t due = stunp_agent_poll_transmit(&asker->agent, now, bytes, sizeof bytes, &to);
-        if (due <= 0) return;
-        stunp_writer again = stunp_write_on(due, bytes, sizeof bytes);
-        send_data(asker, &again);
-    }
+    tell(&asker->exchange, data, &asker->server.peer);
 }
 
 /* ---- Receiving */
@@ -108,7 +92,8 @@ static bool is_response(const struct asker *asker, const struct datagram *got,
            && stunp_read_header(got->bytes, got->length, header) == 0
            && (header->message_class == STUNP_SUCCESS || header->message_class == STUNP_ERROR)
            && header->method == asker->method
-           && stunp_agent_is_outstanding(&asker->agent, header->id, STUNP_ID_LENGTH, &asked) == 1
+           && stunp_agent_is_outstanding(&asker->exchange.agent, header->id, STUNP_ID_LENGTH,
+                                         &asked) == 1
            && is_same(&asked, &got->from);
 }
 
@@ -141,7 +126,7 @@ static enum verdict judge(struct asker *asker, const struct datagram *got) {
     if (verdict == STUNP_UNAUTHORIZED) return is_refused(asker, got);
     if (verdict < 0) return fails_with(asker, verdict);
     int64_t ended =
-        stunp_agent_handle(&asker->agent, got->bytes, got->length, &got->from, moment());
+        stunp_agent_handle(&asker->exchange.agent, got->bytes, got->length, &got->from, moment());
     if (ended < 0) return fails_with(asker, ended);
     if (stunp_unknown_types(got->bytes, got->length, known, KNOWN_TYPES, &unknown, 1) != 0)
         return fails(asker, "failed: ", "the response has an attribute that is not understood");
@@ -165,21 +150,21 @@ static enum verdict no_answer(struct asker *asker, const char *why) {
 static enum verdict step(struct asker *asker, struct datagram *got) {
     uint8_t id[STUNP_ID_LENGTH];
     uint64_t now = moment(), until;
-    send_again(asker, now);
+    send_again(&asker->exchange, now);
     int64_t ended = 1;
     if (now < asker->give_up)
-        ended = stunp_agent_poll(&asker->agent, now, &until, id, sizeof id);
+        ended = stunp_agent_poll(&asker->exchange.agent, now, &until, id, sizeof id);
     if (ended < 0) return fails_with(asker, ended);
     if (ended > 0) return no_answer(asker, "");
     if (until > asker->give_up) until = asker->give_up;
-    enum arrival came = wait_for(asker->socket, until > now ? until - now : 0);
+    enum arrival came = wait_for(asker->exchange.socket, until > now ? until - now : 0);
     if (came == ERROR_REPORT) {
         char why[80];
-        int error = hard_error(asker->socket);
+        int error = hard_error(asker->exchange.socket);
         snprintf(why, sizeof why, ": %s", strerror(error));
         return error != 0 ? no_answer(asker, why) : WAITING;
     }
-    return came == DATAGRAM && receive(asker->socket, got) ? judge(asker, got) : WAITING;
+    return came == DATAGRAM && receive(asker->exchange.socket, got) ? judge(asker, got) : WAITING;
 }
 
 bool ask(struct asker *asker, uint32_t method, fill_request *fill, const void *what,
@@ -197,7 +182,8 @@ bool ask(struct asker *asker, uint32_t method, fill_request *fill, const void *w
 
 bool receive_data(const struct asker *asker, uint64_t until, struct datagram *got) {
     uint64_t now = moment();
-    enum arrival came = wait_for(asker->socket, until > now ? until - now : 0);
-    if (came == ERROR_REPORT) hard_error(asker->socket);
-    return came == DATAGRAM && receive(asker->socket, got) && is_same(&got->from, &asker->at);
+    enum arrival came = wait_for(asker->exchange.socket, until > now ? until - now : 0);
+    if (came == ERROR_REPORT) hard_error(asker->exchange.socket);
+    return came == DATAGRAM && receive(asker->exchange.socket, got)
+           && is_same(&got->from, &asker->server.at);
 }

@@ -3,17 +3,14 @@
 #ifndef STUN_ASKER_H
 #define STUN_ASKER_H
 
-#include "net.h"
-#include "stunp_state.h"
+#include "exchange.h"
 
 struct asker {
     uint64_t give_up; /* at this time of moment() */
     char why[160];    /* why the last request failed, as in `refused 401` */
     /* The fields below belong to asker.c. */
-    int socket;
-    struct peer server;
-    stunp_address at; /* the address of the server */
-    stunp_agent agent;
+    struct exchange exchange;
+    struct remote server;
     stunp_client client;
     bool has_user;
     uint32_t method;

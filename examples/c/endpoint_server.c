@@ -61,7 +61,7 @@ int main(int count, char **words) {
         fprintf(stderr, "endpoint_server: %s\n", stunp_strerror(made));
         return 1;
     }
-    if (!open_server(NULL, 0, &port, false, &listener)) return 1;
+    if (!open_server(&(struct place){.count = 0}, &port, &listener)) return 1;
     printf("port %lu\n", port);
     fflush(stdout);
     for (int i = 0; i < listener.number; i++)

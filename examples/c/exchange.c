@@ -4,7 +4,6 @@
 #include <netdb.h>
 #include <stdio.h>
 #include <string.h>
-#include <unistd.h>
 
 enum { MOST_AT_ONCE = 16 };
 
@@ -25,15 +24,8 @@ bool find_remote(const char *host, const char *port, struct remote *remote) {
 int open_at(const char *host, stunp_address *own) {
     struct remote at;
     if (!find_remote(host, "0", &at)) return -1;
-    struct sockaddr *name = (struct sockaddr *)&at.peer.name;
-    int fd = socket(name->sa_family, SOCK_DGRAM | SOCK_NONBLOCK, 0);
-    if (fd < 0 || bind(fd, name, at.peer.name_length) < 0
-        || getsockname(fd, name, &at.peer.name_length) < 0) {
-        perror(host);
-        if (fd >= 0) close(fd);
-        return -1;
-    }
-    *own = address_of(&at.peer);
+    int fd = open_own(&at.peer, own);
+    if (fd < 0) perror(host);
     return fd;
 }
 
@@ -43,7 +35,8 @@ int64_t tell(const struct exchange *exchange, const stunp_writer *message, const
     return written;
 }
 
-int64_t ask(struct exchange *exchange, const stunp_writer *request, const struct remote *of) {
+int64_t ask_remote(struct exchange *exchange, const stunp_writer *request,
+                   const struct remote *of) {
     int64_t kept = stunp_written(request);
     if (kept == 0)
         kept = stunp_agent_send_request(&exchange->agent, request->bytes, request->length, &of->at,

@@ -186,7 +186,7 @@ static int64_t send_check(struct pair *pair) {
                                              sizeof bytes, current(pair));
     if (length < 0) return length;
     stunp_writer check = stunp_write_on(length, bytes, sizeof bytes);
-    return ask(&ours[our_of(pair)], &check, to);
+    return ask_remote(&ours[our_of(pair)], &check, to);
 }
 
 /* A check of ours ended (section 7.2.5). */

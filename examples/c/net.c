@@ -123,19 +123,23 @@ static bool has_port(int fd, unsigned long *port) {
     return true;
 }
 
-/* Opens a socket at an address and a port. Returns -1 if that fails, with the reason in errno. */
-static int open_at(const struct sockaddr_storage *at, unsigned long *port, bool is_shared) {
+/* Opens a socket of a type at an address and a port. Returns -1 if that fails, with the reason in
+ * errno. After a restart, old connections do not keep a TCP port in use. */
+static int open_at(const struct sockaddr_storage *at, int type, unsigned long *port,
+                   bool is_shared) {
     struct sockaddr_in6 name;
-    int fd = socket(at->ss_family, SOCK_DGRAM | SOCK_NONBLOCK | SOCK_CLOEXEC, 0);
+    int fd = socket(at->ss_family, type | SOCK_NONBLOCK | SOCK_CLOEXEC, 0);
     if (fd < 0) return -1;
     memcpy(&name, at, sizeof name);
     name.sin6_port = htons((uint16_t)*port);
     if (at->ss_family == AF_INET6) set(fd, IPPROTO_IPV6, IPV6_V6ONLY, 1);
-    prepare(fd, at->ss_family);
+    if (type == SOCK_DGRAM) prepare(fd, at->ss_family);
+    else set(fd, SOL_SOCKET, SO_REUSEADDR, 1);
     if (is_shared) set(fd, SOL_SOCKET, SO_REUSEPORT, 1);
     size_t length = at->ss_family == AF_INET6 ? sizeof name : sizeof(struct sockaddr_in);
-    if (bind(fd, (struct sockaddr *)&name, (socklen_t)length) == 0 && has_port(fd, port)) return fd;
-    return give_up(fd);
+    bool is_bound = bind(fd, (struct sockaddr *)&name, (socklen_t)length) == 0
+                    && has_port(fd, port) && (type == SOCK_DGRAM || listen(fd, SOMAXCONN) == 0);
+    return is_bound ? fd : give_up(fd);
 }
 
 /* The socket that is standard input, which other processes may have too. */
@@ -171,38 +175,44 @@ bool read_host(const char *host, unsigned long port, stunp_address *address) {
     return true;
 }
 
-/* A socket of each address on one port. */
-static bool open_each(const char *const *at, int count, unsigned long *port, bool is_shared,
-                      struct listener *listener) {
+/* Opens a socket of each address on one port, and one for TCP at the address of each of these. */
+static bool open_each(const char *const *at, int count, const struct place *place,
+                      unsigned long *port, struct listener *listener) {
     for (int i = 0; i < count; i++) {
         struct sockaddr_storage name;
+        socklen_t length = sizeof name;
         int fd = -1;
         if (listener->number == MOST_SOCKETS) errno = EMFILE;
         else if (strcmp(at[i], "-") == 0) fd = inherited(port);
-        else if (read_address(at[i], &name)) fd = open_at(&name, port, is_shared);
+        else if (read_address(at[i], &name))
+            fd = open_at(&name, SOCK_DGRAM, port, place->is_shared);
         if (fd < 0) return false;
         listener->sockets[listener->number++] = fd;
+        if (!place->has_tcp) continue;
+        if (getsockname(fd, (struct sockaddr *)&name, &length) != 0) return false;
+        fd = open_at(&name, SOCK_STREAM, port, place->is_shared);
+        if (fd < 0) return false;
+        listener->streams[listener->streams_number++] = fd;
     }
     return true;
 }
 
 /* Both families on one port, or whichever the machine has. */
-static bool open_both(unsigned long *port, bool is_shared, struct listener *listener) {
+static bool open_both(const struct place *place, unsigned long *port, struct listener *listener) {
     static const char *const all[] = {"::", "0.0.0.0"};
     for (int i = 0; i < 2; i++)
-        if (!open_each(&all[i], 1, port, is_shared, listener) && errno != EAFNOSUPPORT
+        if (!open_each(&all[i], 1, place, port, listener) && errno != EAFNOSUPPORT
             && errno != EADDRNOTAVAIL)
             return false;
     return listener->number > 0;
 }
 
-bool open_server(const char *const *at, int count, unsigned long *port, bool is_shared,
-                 struct listener *listener) {
+bool open_server(const struct place *place, unsigned long *port, struct listener *listener) {
     for (int tries = *port == 0 ? MOST_TRIES : 1; tries > 0; tries--) {
         unsigned long found = *port;
-        listener->number = 0;
-        if (count > 0 ? open_each(at, count, &found, is_shared, listener)
-                      : open_both(&found, is_shared, listener)) {
+        *listener = (struct listener){.number = 0};
+        if (place->count > 0 ? open_each(place->at, place->count, place, &found, listener)
+                             : open_both(place, &found, listener)) {
             *port = found;
             return true;
         }
@@ -216,21 +226,17 @@ bool open_server(const char *const *at, int count, unsigned long *port, bool is_
 
 void close_server(const struct listener *listener) {
     for (int i = 0; i < listener->number; i++) close(listener->sockets[i]);
+    for (int i = 0; i < listener->streams_number; i++) close(listener->streams[i]);
 }
 
-/* Opens a socket of a server's family, and writes its own address. Returns -1 if that fails, with
- * the reason in errno. */
-static int open_to(const struct peer *server, stunp_address *own) {
-    struct peer any = {.name.ss_family = server->name.ss_family,
-                       .name_length = server->name_length};
-    int fd = socket(any.name.ss_family, SOCK_DGRAM, 0);
+int open_own(const struct peer *at, stunp_address *own) {
+    struct peer peer = *at;
+    int fd = socket(peer.name.ss_family, SOCK_DGRAM | SOCK_NONBLOCK | SOCK_CLOEXEC, 0);
     if (fd < 0) return -1;
-    if (bind(fd, (struct sockaddr *)&any.name, any.name_length) < 0
-        || getsockname(fd, (struct sockaddr *)&any.name, &any.name_length) < 0)
+    if (bind(fd, (struct sockaddr *)&peer.name, peer.name_length) < 0
+        || getsockname(fd, (struct sockaddr *)&peer.name, &peer.name_length) < 0)
         return give_up(fd);
-    if (any.name.ss_family == AF_INET6) set(fd, IPPROTO_IPV6, IPV6_RECVERR, 1);
-    else set(fd, IPPROTO_IP, IP_RECVERR, 1);
-    *own = address_of(&any);
+    *own = address_of(&peer);
     return fd;
 }
 
@@ -244,9 +250,12 @@ int open_client(const char *host, const char *port, struct peer *server, stunp_a
     for (struct addrinfo *one = found; one != NULL && fd < 0; one = one->ai_next) {
         *server = (struct peer){.name_length = one->ai_addrlen};
         memcpy(&server->name, one->ai_addr, one->ai_addrlen);
-        fd = open_to(server, own);
+        fd = open_own(&(struct peer){.name.ss_family = server->name.ss_family,
+                                     .name_length = server->name_length}, own);
     }
     if (fd < 0) perror("socket");
+    else if (server->name.ss_family == AF_INET6) set(fd, IPPROTO_IPV6, IPV6_RECVERR, 1);
+    else set(fd, IPPROTO_IP, IP_RECVERR, 1);
     freeaddrinfo(found);
     return fd;
 }
@@ -277,9 +286,7 @@ int hard_error(int socket) {
     }
 }
 
-/* Tells of a failure no more than every ten seconds, and lets some time pass, since the next call
- * may fail at once too. */
-static void rest_after(const char *what) {
+void rest_after(const char *what) {
     static uint64_t next;
     const struct timespec rest = {0, REST};
     if (moment() >= next) perror(what);

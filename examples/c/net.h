@@ -45,21 +45,31 @@ bool read_host(const char *host, unsigned long port, stunp_address *address);
 /* Returns an address as `IPv4:PORT` or `[IPv6]:PORT`, until the next call. */
 const char *text_of(const stunp_address *address);
 
-/* The sockets of a server, on one port: one for each of its addresses. */
-enum { MOST_SOCKETS = 16 };
-struct listener {
-    int sockets[MOST_SOCKETS];
-    int number;
+/* Where a server listens: at `count` IPv4 or IPv6 addresses, or at all addresses of this machine if
+ * there are none, of both families if it has both. `-` is the UDP socket that is standard input,
+ * with its port. If the port is shared, other sockets may be bound to it too. */
+struct place {
+    const char *const *at;
+    int count;
+    bool is_shared, has_tcp;
 };
 
-/* Opens the sockets of a server, on which no call waits (use epoll). `at` are `count` IPv4 or IPv6
- * addresses; without any they are all addresses of this machine, of both families if it has both.
- * `-` is the socket that is standard input, with its port. Port 0 becomes one that was free at each
- * address. If the port is shared, other sockets may be bound to it too. Returns false after it
- * printed the reason on standard error. */
-bool open_server(const char *const *at, int count, unsigned long *port, bool is_shared,
-                 struct listener *listener);
+/* The sockets of a server, on one port: one for each of its addresses, and one more that listens
+ * for TCP connections, if it has TCP. */
+enum { MOST_SOCKETS = 16 };
+struct listener {
+    int sockets[MOST_SOCKETS], streams[MOST_SOCKETS];
+    int number, streams_number;
+};
+
+/* Opens the sockets of a server, on which no call waits (use epoll). Port 0 becomes one that was
+ * free at each address. Returns false after it printed the reason on standard error. */
+bool open_server(const struct place *place, unsigned long *port, struct listener *listener);
 void close_server(const struct listener *listener);
+
+/* Opens a socket, on which no call waits, at an address, and writes its own address with its port.
+ * Returns -1 if that fails, with the reason in errno. */
+int open_own(const struct peer *at, stunp_address *own);
 
 /* Finds a server, and opens a socket of its family, whose own address it writes. If the host has
  * several addresses, it is the first to which a socket opens. Returns the socket, or -1 after it
@@ -74,6 +84,10 @@ enum arrival wait_for(int socket, uint64_t nanoseconds);
 /* Reads what ICMP reported about the datagrams that a client sent. Returns the error if none of
  * them will ever be answered, such as from a closed port, or 0. */
 int hard_error(int socket);
+
+/* Prints why a call on a socket failed, every ten seconds at most, and waits for 10 ms, because the
+ * next call may fail at once too. */
+void rest_after(const char *what);
 
 /* Reads a datagram. Returns false if none was there or it was too long. If the socket fails, it
  * waits for 10 ms and prints the reason now and then. */

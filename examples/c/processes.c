@@ -43,7 +43,7 @@ void say(const char *format, ...) {
 static int serve_alone(const struct service *service) {
     struct listener listener;
     unsigned long port = service->port;
-    if (!open_server(service->at, service->count, &port, service->is_shared, &listener)) return 1;
+    if (!open_server(&service->place, &port, &listener)) return 1;
     say("port %lu\n", port);
     bool is_right = service->serve(&listener, 0);
     close_server(&listener);
@@ -53,8 +53,10 @@ static int serve_alone(const struct service *service) {
 /* Whether nobody else has the port; the sockets of workers share it, and would share it with others
  * too. Port 0 becomes one that was free. */
 static bool is_free(const struct service *service, unsigned long *port) {
+    struct place place = service->place;
     struct listener listener;
-    if (!open_server(service->at, service->count, port, false, &listener)) return false;
+    place.is_shared = false;
+    if (!open_server(&place, port, &listener)) return false;
     close_server(&listener);
     return true;
 }
@@ -63,8 +65,10 @@ static bool is_free(const struct service *service, unsigned long *port) {
 static pid_t start_worker(const struct service *service, unsigned long port,
                           unsigned long number) {
     pid_t parent = getpid();
+    struct place place = service->place;
     struct listener listener;
-    if (!open_server(service->at, service->count, &port, true, &listener)) return -1;
+    place.is_shared = true;
+    if (!open_server(&place, &port, &listener)) return -1;
     pid_t worker = fork();
     if (worker == 0) {
         prctl(PR_SET_PDEATHSIG, SIGTERM);
@@ -102,7 +106,7 @@ int serve_in_processes(const struct service *service) {
     pid_t workers[MOST_PROCESSES];
     unsigned long port = service->port;
     if (service->processes == 1) return serve_alone(service);
-    if ((!service->is_shared || port == 0) && !is_free(service, &port)) return 1;
+    if ((!service->place.is_shared || port == 0) && !is_free(service, &port)) return 1;
     for (unsigned long i = 0; i < service->processes; i++)
         if ((workers[i] = start_worker(service, port, i)) < 0) return 1;
     say("port %lu\n", port);

@@ -14,16 +14,13 @@ void hear_signals(void);
 /* Prints like printf, or nothing if it would have to wait. */
 void say(const char *format, ...) __attribute__((format(printf, 1, 2)));
 
-/* What is served: at which addresses and on which port (open_server), by how many processes,
- * whether other servers may have the port too, and how. `serve` gets the number of its process from
- * 0, and returns whether all went well. `look` is called now and then in the first process, which
- * serves only if it is alone. */
+/* What is served: where (open_server) and on which port, by how many processes, and how. `serve`
+ * gets the number of its process from 0, and returns whether all went well. `look` is called now
+ * and then in the first process, which serves only if it is alone. */
 enum { MOST_PROCESSES = 64 };
 struct service {
-    const char *const *at;
-    int count;
+    struct place place;
     unsigned long port, processes;
-    bool is_shared;
     bool (*serve)(const struct listener *listener, unsigned long number);
     void (*look)(void);
 };

@@ -1,4 +1,4 @@
-/* A STUN server on UDP (RFC 8489), IPv4 and IPv6, with users, over stunp_endpoint.h.
+/* A STUN server on UDP and TCP (RFC 8489), IPv4 and IPv6, with users, over stunp_endpoint.h.
  *
  * It answers everybody with the address that the request came from or, if it has a realm, the users
  * of that realm alone, and challenges everybody else (section 9.2.4). It stores nothing about an
@@ -13,6 +13,7 @@
 #include "heap.h"
 #include "net.h"
 #include "processes.h"
+#include "streams.h"
 #include "stunp_endpoint.h"
 #include "users.h"
 #include "words.h"
@@ -42,6 +43,9 @@ static const char help[] =
     "                    long. 3600 unless given\n"
     "  --at ADDRESS      an IP address to serve; may be repeated. `-` is the socket that is\n"
     "                    standard input. All of this machine unless given\n"
+    "  --tcp             serve TCP too, 256 connections at a time in each process: one more ends\n"
+    "                    the connection that has been silent for longest\n"
+    "  --idle SECONDS    end a connection if no whole message came for so long. 30 unless given\n"
     "  --workers N       so many processes: 1 unless given\n"
     "  --shared          let other servers have the port too (SO_REUSEPORT)\n"
     "  --any-method      judge requests of other methods too, and answer them 420 if they have\n"
@@ -59,11 +63,12 @@ enum { MOST_BATCHES = 4 /* of one socket in turn */, MOST_WAIT = 1000 /* millise
 enum { MEMORY = 1 << 30 /* of one process, at most: users, and one answer */ };
 
 static struct {
-    unsigned long port, workers, expiry, ahead, counts;
+    unsigned long port, workers, expiry, ahead, counts, idle;
     const char *file, *secret;
     struct texts at;
-    bool has_users, has_sha256, is_verbose, is_shared, takes_any_method, wants_help, wants_version;
-} settings = {.workers = 1, .expiry = 3600};
+    bool has_users, has_sha256, has_tcp, is_verbose, is_shared, takes_any_method;
+    bool wants_help, wants_version;
+} settings = {.workers = 1, .expiry = 3600, .idle = 30};
 
 static const struct option options[] = {
     {"-v", .flag = &settings.is_verbose},
@@ -71,6 +76,8 @@ static const struct option options[] = {
     {"--secret", .text = &settings.secret},
     {"--at", .texts = &settings.at},
     {"--sha256", .flag = &settings.has_sha256},
+    {"--tcp", .flag = &settings.has_tcp},
+    {"--idle", .number = &settings.idle, .least = 1, .most = 1000000},
     {"--shared", .flag = &settings.is_shared},
     {"--any-method", .flag = &settings.takes_any_method},
     {"--workers", .number = &settings.workers, .least = 1, .most = MOST_PROCESSES},
@@ -98,47 +105,39 @@ static uint64_t now(void) {
 
 /* ---- Counters, of each process in memory that all share */
 
-enum { REFUSALS = 4 };
-enum reason { NOT_STUN, MALFORMED, WRONG_FINGERPRINT, UNKNOWN_ATTRIBUTE, OUT_OF_MEMORY, OTHER,
-              REASONS };
-static const uint32_t codes[REFUSALS] = {400, 401, 420, 438};
-static const char *const reasons[REASONS] = {"NotStun", "Malformed", "WrongFingerprint",
-                                             "UnknownAttribute", "OutOfMemory", "Other"};
-static struct counts {
-    uint64_t answered, refused[REFUSALS], dropped[REASONS], others;
-} *all_counts, *counts;
+/* What they count, with what is printed before each. The reasons for a drop are in the order of
+ * stunp_drop; OTHER is what no reason is told of. */
+enum number { ANSWERED, REFUSED_400, REFUSED_401, REFUSED_420, REFUSED_438, NOT_STUN, MALFORMED,
+              WRONG_FINGERPRINT, UNKNOWN_ATTRIBUTE, OUT_OF_MEMORY, OTHER, NO_BINDING, NUMBERS };
+static const char *const labels[NUMBERS] = {
+    "answered ", "; refused 400: ", " 401: ", " 420: ", " 438: ", "; dropped NotStun: ",
+    " Malformed: ", " WrongFingerprint: ", " UnknownAttribute: ", " OutOfMemory: ", " Other: ",
+    "; no Binding request: ",
+};
+static uint64_t (*all_counts)[NUMBERS], *counts;
 
-static void count(uint64_t *number) { __atomic_fetch_add(number, 1, __ATOMIC_RELAXED); }
-
-static uint64_t sum(size_t offset) {
-    uint64_t whole = 0;
-    for (unsigned long i = 0; i < settings.workers; i++)
-        whole += __atomic_load_n((uint64_t *)((char *)&all_counts[i] + offset), __ATOMIC_RELAXED);
-    return whole;
-}
+static void count(enum number what) { __atomic_fetch_add(&counts[what], 1, __ATOMIC_RELAXED); }
 
 static void tell_counts(void) {
     char line[512];
-    int end = snprintf(line, sizeof line, "answered %llu; refused",
-                       (unsigned long long)sum(offsetof(struct counts, answered)));
-    for (int i = 0; i < REFUSALS; i++)
-        end += snprintf(line + end, sizeof line - (size_t)end, " %u: %llu", codes[i],
-                        (unsigned long long)sum(offsetof(struct counts, refused[i])));
-    end += snprintf(line + end, sizeof line - (size_t)end, "; dropped");
-    for (int i = 0; i < REASONS; i++)
-        end += snprintf(line + end, sizeof line - (size_t)end, " %s: %llu", reasons[i],
-                        (unsigned long long)sum(offsetof(struct counts, dropped[i])));
-    say("%s; no Binding request: %llu\n", line,
-        (unsigned long long)sum(offsetof(struct counts, others)));
+    int end = 0;
+    for (int what = 0; what < NUMBERS; what++) {
+        uint64_t sum = 0;
+        for (unsigned long i = 0; i < settings.workers; i++)
+            sum += __atomic_load_n(&all_counts[i][what], __ATOMIC_RELAXED);
+        end += snprintf(line + end, sizeof line - (size_t)end, "%s%llu", labels[what],
+                        (unsigned long long)sum);
+    }
+    say("%s\n", line);
 }
 
 static void count_code(uint32_t code) {
-    for (int i = 0; i < REFUSALS; i++)
-        if (codes[i] == code) {
-            count(&counts->refused[i]);
-            return;
-        }
-    count(code == 200 ? &counts->answered : &counts->others);
+    count(code == 200   ? ANSWERED
+          : code == 400 ? REFUSED_400
+          : code == 401 ? REFUSED_401
+          : code == 420 ? REFUSED_420
+          : code == 438 ? REFUSED_438
+                        : NO_BINDING);
 }
 
 /* ---- Answers */
@@ -181,8 +180,8 @@ static void tell(const stunp_address *from, uint32_t code, const stunp_received 
             (const char *)received->name);
 }
 
-static void drop(const stunp_address *from, uint64_t *number, const char *why) {
-    count(number);
+static void drop(const stunp_address *from, enum number what, const char *why) {
+    count(what);
     if (settings.is_verbose) say("%s dropped: %s\n", text_of(from), why);
 }
 
@@ -212,11 +211,10 @@ static void answer_user(const struct datagram *got, struct answer *answer) {
         tell(&got->from, reply(got, &received, answer), &received);
         stunp_reply_wipe(&received.reply);
     } else if (kind == STUNP_DROPPED)
-        drop(&got->from, &counts->dropped[received.why - 1], stunp_drop_text(received.why));
+        drop(&got->from, NOT_STUN + received.why - 1, stunp_drop_text(received.why));
     else if (kind < 0)
-        drop(&got->from, &counts->dropped[kind == STUNP_OUT_OF_MEMORY ? OUT_OF_MEMORY : OTHER],
-             stunp_strerror(kind));
-    else drop(&got->from, &counts->others, "not a request");
+        drop(&got->from, kind == STUNP_OUT_OF_MEMORY ? OUT_OF_MEMORY : OTHER, stunp_strerror(kind));
+    else drop(&got->from, NO_BINDING, "not a request");
 }
 
 /* Judges a datagram at a server that everybody may ask, and answers it. */
@@ -224,14 +222,13 @@ static void answer_anybody(const struct datagram *got, struct answer *answer) {
     stunp_header header;
     int64_t fingerprint = stunp_check_fingerprint(got->bytes, got->length);
     if (fingerprint < 0)
-        drop(&got->from,
-             &counts->dropped[stunp_is_stun(got->bytes, got->length) ? MALFORMED : NOT_STUN],
+        drop(&got->from, stunp_is_stun(got->bytes, got->length) ? MALFORMED : NOT_STUN,
              stunp_strerror(fingerprint));
     else if (fingerprint > STUNP_RIGHT_FINGERPRINT)
-        drop(&got->from, &counts->dropped[WRONG_FINGERPRINT], "wrong FINGERPRINT");
+        drop(&got->from, WRONG_FINGERPRINT, "wrong FINGERPRINT");
     else if (stunp_read_header(got->bytes, got->length, &header) != 0
              || header.message_class != STUNP_REQUEST)
-        drop(&got->from, &counts->others, "not a request");
+        drop(&got->from, NO_BINDING, "not a request");
     else {
         const size_t room = sizeof answer->bytes;
         int64_t refusal = stunp_refuse_unknown(got->bytes, got->length, known, KNOWN_TYPES,
@@ -252,7 +249,7 @@ static void answer_one(const struct datagram *got, struct answer *answer) {
     int64_t method = stunp_method(got->bytes, got->length);
     answer->length = 0;
     if (method >= 0 && method != STUNP_BINDING && !settings.takes_any_method)
-        drop(&got->from, &counts->others, "not a Binding request");
+        drop(&got->from, NO_BINDING, "not a Binding request");
     else if (settings.has_users) answer_user(got, answer);
     else answer_anybody(got, answer);
 }
@@ -295,14 +292,25 @@ static void serve_some(int socket) {
     }
 }
 
+/* What epoll waits for, by number: UDP sockets, sockets that listen, and from FIRST_CONNECTION on
+ * the connections. */
+enum { FIRST_STREAM = MOST_SOCKETS, FIRST_CONNECTION = 2 * MOST_SOCKETS };
+
 /* An epoll of the sockets, or -1. */
-static int watch(const struct listener *listener) {
+static int watch_all(const struct listener *listener) {
     int queue = epoll_create1(EPOLL_CLOEXEC);
-    for (int i = 0; i < listener->number; i++) {
-        struct epoll_event wanted = {.events = EPOLLIN, .data.fd = listener->sockets[i]};
-        if (epoll_ctl(queue, EPOLL_CTL_ADD, wanted.data.fd, &wanted) != 0) return -1;
-    }
-    return queue;
+    bool is_right = queue >= 0;
+    for (int i = 0; i < listener->number; i++)
+        is_right = is_right && watch(queue, listener->sockets[i], i);
+    for (int i = 0; i < listener->streams_number; i++)
+        is_right = is_right && watch(queue, listener->streams[i], FIRST_STREAM + i);
+    return is_right ? queue : -1;
+}
+
+static void serve_one(const struct listener *listener, int queue, int number) {
+    if (number >= FIRST_CONNECTION) read_stream(number - FIRST_CONNECTION, answer_one);
+    else if (number < FIRST_STREAM) serve_some(listener->sockets[number]);
+    else accept_stream(listener->streams[number - FIRST_STREAM], queue, FIRST_CONNECTION);
 }
 
 /* Prints the counters if they are due or asked for. The first process calls this now and then. */
@@ -317,13 +325,14 @@ static void look(void) {
 
 static bool serve(const struct listener *listener, unsigned long number) {
     struct epoll_event ready[MOST_SOCKETS];
-    int queue = watch(listener);
+    int queue = watch_all(listener);
     sig_atomic_t read_at = hangups;
-    counts = &all_counts[number];
+    counts = all_counts[number];
     if (queue < 0) perror("epoll");
     while (queue >= 0 && !is_ending) {
         int events = epoll_wait(queue, ready, MOST_SOCKETS, MOST_WAIT);
-        for (int i = 0; i < events; i++) serve_some(ready[i].data.fd);
+        for (int i = 0; i < events; i++) serve_one(listener, queue, ready[i].data.fd);
+        if (settings.has_tcp) end_idle_streams(settings.idle * SECOND);
         if (read_at != hangups) reload();
         read_at = hangups;
         if (settings.workers == 1) look();
@@ -383,8 +392,8 @@ int main(int number, char **words) {
     hear_signals();
     sigaction(SIGUSR2, &(struct sigaction){.sa_handler = jump}, NULL);
     int status = serve_in_processes(&(struct service){
-        settings.at.texts, settings.at.count, settings.port, settings.workers, settings.is_shared,
-        serve, look});
+        {settings.at.texts, settings.at.count, settings.is_shared, settings.has_tcp},
+        settings.port, settings.workers, serve, look});
     stunp_endpoint_users_free(&users);
     stunp_endpoint_server_free(&server);
     return status;

@@ -7,10 +7,7 @@
 //! three things: a caller, a datagram and a time. The standard library cannot wait for a socket and
 //! a channel together, so another thread reads the socket and passes on what arrives.
 //!
-//! On tokio, `drive` is a task, in which `select!` waits for the three: the receiver of a channel,
-//! `socket.recv(..)`, and `sleep_until(clock.to_std(until).into())`. The channel of an answer is a
-//! `oneshot`. If its receiver is dropped, call `Client::cancel`. Nothing else changes, because no
-//! call of the client waits.
+//! On tokio one task does both: `tokio_client` of examples/rust.
 
 use seatcrane_stun::endpoint::{Body, Client, Clock, Credentials, Output, RequestError, Response};
 use seatcrane_stun::types::message::{BINDING, Method};
@@ -37,11 +34,7 @@ struct Front(Sender<Event>);
 impl Front {
     /// Starts the two threads of a client. They end with the program.
     fn start(server: SocketAddr, client: Client) -> Result<Front, Box<dyn Error>> {
-        let any = if server.is_ipv4() {
-            "0.0.0.0:0"
-        } else {
-            "[::]:0"
-        };
+        let any = ["0.0.0.0:0", "[::]:0"][usize::from(server.is_ipv6())];
         let socket = UdpSocket::bind(any)?;
         socket.connect(server)?;
         let (front, events) = channel();

@@ -1,5 +1,5 @@
 //! Finds out how the NAT in front of this host treats UDP (RFC 5780, sections 4.3 and 4.4), with
-//! the help of a server that has two addresses and two ports, such as `nat_server`.
+//! the help of a server that has two addresses and two ports, such as `udp_server --other`.
 //!
 //!     nat_discovery HOST [PORT] [--within SECONDS]
 //!
@@ -8,60 +8,33 @@
 //! time, 3 seconds unless given. Status 0; or 1, and why on standard error; or 2 for wrong
 //! arguments.
 
+#[path = "client/asker.rs"]
+mod asker;
+
+use asker::{Arguments, arguments, find};
 use seatcrane_stun::endpoint::{
     Body, Client, Clock, Output, RequestError, Response, Retransmission,
 };
 use seatcrane_stun::extra::attribute::{ChangeRequest, OtherAddress};
 use seatcrane_stun::types::message::BINDING;
 use std::error::Error;
-use std::fmt;
-use std::net::{IpAddr, SocketAddr, ToSocketAddrs, UdpSocket};
+use std::net::{SocketAddr, UdpSocket};
 use std::process::ExitCode;
 use std::time::Duration;
 
 /// How a NAT chooses the address that others see (RFC 4787, section 4.1).
-#[derive(Clone, Copy, PartialEq, Eq)]
-enum Mapping {
-    NoNat,
-    EndpointIndependent,
-    AddressDependent,
-    AddressAndPortDependent,
-}
-
-impl fmt::Display for Mapping {
-    fn fmt(&self, f: &mut fmt::Formatter<'_>) -> fmt::Result {
-        f.write_str(match self {
-            Mapping::NoNat => "none: the server sees the address of the socket",
-            Mapping::EndpointIndependent => "endpoint-independent: all hosts see the same address",
-            Mapping::AddressDependent => "address-dependent: each host sees another address",
-            Mapping::AddressAndPortDependent => {
-                "address and port-dependent: each port of each host sees another address"
-            }
-        })
-    }
-}
-
+const MAPPINGS: [&str; 4] = [
+    "none: the server sees the address of the socket",
+    "endpoint-independent: all hosts see the same address",
+    "address-dependent: each host sees another address",
+    "address and port-dependent: each port of each host sees another address",
+];
 /// What a NAT lets in (RFC 4787, section 5).
-#[derive(Clone, Copy, PartialEq, Eq)]
-enum Filtering {
-    EndpointIndependent,
-    AddressDependent,
-    AddressAndPortDependent,
-}
-
-impl fmt::Display for Filtering {
-    fn fmt(&self, f: &mut fmt::Formatter<'_>) -> fmt::Result {
-        f.write_str(match self {
-            Filtering::EndpointIndependent => "endpoint-independent: any host may send",
-            Filtering::AddressDependent => {
-                "address-dependent: hosts that were sent something may send"
-            }
-            Filtering::AddressAndPortDependent => {
-                "address and port-dependent: ports that were sent something may send"
-            }
-        })
-    }
-}
+const FILTERINGS: [&str; 3] = [
+    "endpoint-independent: any host may send",
+    "address-dependent: hosts that were sent something may send",
+    "address and port-dependent: ports that were sent something may send",
+];
 
 /// What a response says: the address that the server saw, and its other address, if it has one.
 struct Answer {
@@ -97,11 +70,7 @@ struct Tests {
 impl Tests {
     /// Opens a socket at the address from which this host reaches the server.
     fn open(server: SocketAddr, within: Duration) -> Result<Tests, Box<dyn Error>> {
-        let any = if server.is_ipv4() {
-            "0.0.0.0:0"
-        } else {
-            "[::]:0"
-        };
+        let any = ["0.0.0.0:0", "[::]:0"][usize::from(server.is_ipv6())];
         let routed = UdpSocket::bind(any)?;
         routed.connect(server)?; // this sends nothing
         let socket = UdpSocket::bind((routed.local_addr()?.ip(), 0))?;
@@ -164,63 +133,44 @@ impl Tests {
 }
 
 /// Finds out the mapping (section 4.3), and returns it with the address that the server saw.
-fn mapping(tests: &Tests, server: SocketAddr) -> Result<(SocketAddr, Mapping), Box<dyn Error>> {
+fn mapping(
+    tests: &Tests,
+    server: SocketAddr,
+) -> Result<(SocketAddr, &'static str), Box<dyn Error>> {
     let first = tests.ask(server)?;
     if first.mapped == tests.socket.local_addr()? {
-        return Ok((first.mapped, Mapping::NoNat));
+        return Ok((first.mapped, MAPPINGS[0]));
     }
     let other = first.other(server)?;
     let second = tests.ask(SocketAddr::new(other.ip(), server.port()))?;
     if second.mapped == first.mapped {
-        return Ok((first.mapped, Mapping::EndpointIndependent));
+        return Ok((first.mapped, MAPPINGS[1]));
     }
     let third = tests.ask(other)?;
     let mapping = match third.mapped == second.mapped {
-        true => Mapping::AddressDependent,
-        false => Mapping::AddressAndPortDependent,
+        true => MAPPINGS[2],
+        false => MAPPINGS[3],
     };
     Ok((first.mapped, mapping))
 }
 
 /// Finds out the filtering (section 4.4). The socket must have sent nothing to the other addresses
 /// of the server, because a NAT may let in whatever comes from where something was sent.
-fn filtering(tests: &Tests, server: SocketAddr) -> Result<Filtering, Box<dyn Error>> {
+fn filtering(tests: &Tests, server: SocketAddr) -> Result<&'static str, Box<dyn Error>> {
     let other = tests.ask(server)?.other(server)?;
     if tests.hears(server, ChangeRequest::new(true, true), other)? {
-        return Ok(Filtering::EndpointIndependent);
+        return Ok(FILTERINGS[0]);
     }
     let same_host = SocketAddr::new(server.ip(), other.port());
     match tests.hears(server, ChangeRequest::new(false, true), same_host)? {
-        true => Ok(Filtering::AddressDependent),
-        false => Ok(Filtering::AddressAndPortDependent),
+        true => Ok(FILTERINGS[1]),
+        false => Ok(FILTERINGS[2]),
     }
 }
 
-/// The arguments of the command line: the server, and how long to wait for a response.
-fn words(mut words: impl Iterator<Item = String>) -> Option<(String, u16, Duration)> {
-    let (mut left, mut within) = (Vec::new(), 3.0);
-    while let Some(word) = words.next() {
-        match word.as_str() {
-            "--within" => within = words.next()?.parse().ok()?,
-            _ if word.starts_with('-') => return None,
-            _ => left.push(word),
-        }
-    }
-    let port = left.get(1).map_or(Some(3478), |port| port.parse().ok())?;
-    let within = Duration::try_from_secs_f64(within).ok()?;
-    let host = left.first()?.clone();
-    (left.len() <= 2).then_some((host, port, within))
-}
-
-fn discover(host: &str, port: u16, within: Duration) -> Result<(), Box<dyn Error>> {
-    let literal = host.parse::<IpAddr>().map(|ip| SocketAddr::new(ip, port));
-    let server = match literal {
-        Ok(server) => server,
-        Err(_) => (host, port)
-            .to_socket_addrs()?
-            .next()
-            .ok_or("no such host")?,
-    };
+fn discover(arguments: &Arguments) -> Result<(), Box<dyn Error>> {
+    let port = arguments.left.get(1).map_or("3478", String::as_str);
+    let (server, within) = (find(&arguments.left[0], port)?, arguments.within);
     let tests = Tests::open(server, within)?;
     println!("socket     {}", tests.socket.local_addr()?);
     let (mapped, mapping) = mapping(&tests, server)?;
@@ -232,15 +182,7 @@ fn discover(host: &str, port: u16, within: Duration) -> Result<(), Box<dyn Error
 }
 
 fn main() -> ExitCode {
-    let Some((host, port, within)) = words(std::env::args().skip(1)) else {
-        eprintln!("usage: nat_discovery HOST [PORT] [--within SECONDS]");
-        return ExitCode::from(2);
-    };
-    match discover(&host, port, within) {
-        Ok(()) => ExitCode::SUCCESS,
-        Err(error) => {
-            eprintln!("{error}");
-            ExitCode::FAILURE
-        }
-    }
+    let is_right = |words: &Arguments| matches!(words.left.len(), 1 | 2);
+    let usage = "nat_discovery HOST [PORT] [--within SECONDS]";
+    asker::run(usage, arguments(3.0, &[]).filter(is_right), discover)
 }

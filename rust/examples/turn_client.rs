@@ -10,7 +10,7 @@
 #[path = "client/asker.rs"]
 mod asker;
 
-use asker::{Asker, find};
+use asker::{Arguments, Asker, arguments, find};
 use seatcrane_stun::endpoint::{Body, Client, Credentials, Response};
 use seatcrane_stun::extra::attribute::*;
 use seatcrane_stun::extra::turn::TurnMethod;
@@ -152,40 +152,21 @@ impl Session {
     }
 }
 
-/// Returns the arguments that are no options, and the time.
-fn arguments(mut words: impl Iterator<Item = String>) -> Option<(Vec<String>, Duration)> {
-    let (mut left, mut within) = (Vec::new(), 30.0);
-    while let Some(word) = words.next() {
-        match word.as_str() {
-            "--within" => within = words.next()?.parse().ok()?,
-            "--" => left.extend(words.by_ref()),
-            _ if word.starts_with('-') => return None,
-            _ => left.push(word),
-        }
-    }
-    let is_right = left.len() >= 6 && left.len() % 2 == 0;
-    Some((left, Duration::try_from_secs_f64(within).ok()?)).filter(|_| is_right)
-}
-
-fn session(left: &[String], within: Duration) -> Result<(), Failure> {
+fn session(arguments: &Arguments) -> Result<(), Failure> {
+    let left = &arguments.left;
     let server = find(&left[0], &left[1])?;
     let peers = left[4..].chunks(2).map(|pair| find(&pair[0], &pair[1]));
     let user = Credentials::long_term(&*left[2], &*left[3]);
-    let asker = Asker::new(server, Client::builder(server).credentials(user), within)?;
+    let asker = Asker::new(
+        server,
+        Client::builder(server).credentials(user),
+        arguments.within,
+    )?;
     let peers = peers.collect::<Result<_, _>>()?;
     Session { asker, peers }.run()
 }
 
 fn main() -> ExitCode {
-    let Some((left, within)) = arguments(std::env::args().skip(1)) else {
-        eprintln!("usage: {USAGE}");
-        return ExitCode::from(2);
-    };
-    match session(&left, within) {
-        Ok(()) => ExitCode::SUCCESS,
-        Err(error) => {
-            eprintln!("{error}");
-            ExitCode::FAILURE
-        }
-    }
+    let is_right = |words: &Arguments| words.left.len() >= 6 && words.left.len() % 2 == 0;
+    asker::run(USAGE, arguments(30.0, &[]).filter(is_right), session)
 }

@@ -10,47 +10,15 @@
 #[path = "client/asker.rs"]
 mod asker;
 
-use asker::{Asker, find};
+use asker::{Arguments, Asker, arguments, find};
 use seatcrane_stun::endpoint::{Body, Client, Credentials};
 use seatcrane_stun::types::message::{BINDING, IntegrityAlgorithm};
 use std::error::Error;
 use std::io::{Read, stdin};
-use std::net::SocketAddr;
 use std::process::ExitCode;
-use std::time::Duration;
 
 const USAGE: &str =
     "udp_client HOST PORT [NAME PASSWORD] [--user FILE] [--sha256] [--within SECONDS]";
-
-/// The arguments of the command line.
-struct Arguments {
-    left: Vec<String>,
-    file: Option<String>,
-    has_sha256: bool,
-    within: Duration,
-}
-
-fn arguments(mut words: impl Iterator<Item = String>) -> Option<Arguments> {
-    let (mut left, mut file, mut has_sha256, mut within) = (Vec::new(), None, false, 60.0);
-    while let Some(word) = words.next() {
-        match word.as_str() {
-            "--sha256" => has_sha256 = true,
-            "--user" => file = Some(words.next()?),
-            "--within" => within = words.next()?.parse().ok()?,
-            "--" => left.extend(words.by_ref()),
-            _ if word.starts_with('-') => return None,
-            _ => left.push(word),
-        }
-    }
-    let within = Duration::try_from_secs_f64(within).ok()?;
-    let is_right = left.len() == 2 || left.len() == 4 && file.is_none();
-    is_right.then_some(Arguments {
-        left,
-        file,
-        has_sha256,
-        within,
-    })
-}
 
 /// Returns the name and the password to ask with, if there are any: in a file, those of the last
 /// line. A file without a user is an error, because its owner wants no answer that nobody signed.
@@ -74,8 +42,8 @@ fn credentials(arguments: &Arguments) -> Result<Credentials, Box<dyn Error>> {
     Ok(Credentials::long_term(name, password))
 }
 
-/// Asks the server for the address of this client.
-fn address(arguments: &Arguments) -> Result<SocketAddr, Box<dyn Error>> {
+/// Asks the server for the address of this client, and prints it.
+fn print_address(arguments: &Arguments) -> Result<(), Box<dyn Error>> {
     let server = find(&arguments.left[0], &arguments.left[1])?;
     let mut settings = Client::builder(server).credentials(credentials(arguments)?);
     if !arguments.has_sha256 {
@@ -84,22 +52,13 @@ fn address(arguments: &Arguments) -> Result<SocketAddr, Box<dyn Error>> {
     let mut asker = Asker::new(server, settings, arguments.within)?;
     let response = asker.ask(BINDING, Body::new())?;
     let address = response.message().xor_mapped_address();
-    Ok(address.map_err(|error| format!("failed: {error}"))?)
+    println!("{}", address.map_err(|error| format!("failed: {error}"))?);
+    Ok(())
 }
 
 fn main() -> ExitCode {
-    let Some(arguments) = arguments(std::env::args().skip(1)) else {
-        eprintln!("usage: {USAGE}");
-        return ExitCode::from(2);
-    };
-    match address(&arguments) {
-        Ok(address) => {
-            println!("{address}");
-            ExitCode::SUCCESS
-        }
-        Err(error) => {
-            eprintln!("{error}");
-            ExitCode::FAILURE
-        }
-    }
+    let is_right =
+        |words: &Arguments| words.left.len() == 2 || words.left.len() == 4 && words.file.is_none();
+    let arguments = arguments(60.0, &["--sha256", "--user"]).filter(is_right);
+    asker::run(USAGE, arguments, print_address)
 }

@@ -7,8 +7,8 @@
 //! it allocates only bytes of one answer at a time; if that fails, it drops the datagram.
 //!
 //! It calls the system by the standard library alone and without `unsafe`, which has these limits:
-//! - It cannot catch a signal, so SIGHUP ends it. It looks every second whether the file of users
-//!   has changed, and prints its counters at an interval.
+//! - It cannot catch a signal, so SIGHUP ends it. It looks every second at the length and the time
+//!   of the file of users, and prints its counters at an interval.
 //! - It cannot set the options of a socket. IPv4 arrives at the IPv6 socket `::`, unless the system
 //!   keeps them apart (`net.ipv6.bindv6only`, and Windows): then name both by `--at`. On a machine
 //!   with several addresses, an answer may leave from another one than was asked, unless each is
@@ -17,11 +17,16 @@
 
 #[path = "udp_server/counts.rs"]
 mod counts;
+#[path = "udp_server/discovery.rs"]
+mod discovery;
 #[path = "udp_server/users.rs"]
 mod users;
 
 use counts::{Counts, Outcome};
-use seatcrane_stun::endpoint::{LongTerm, OpenServer, ResponseSettings, Server, UnixTime, Users};
+use seatcrane_stun::endpoint::{
+    DropReason, LongTerm, OpenReceived, OpenServer, Received, Reply, ResponseSettings, Server,
+    UnixTime, Users,
+};
 use seatcrane_stun::extra::{Frame, next_frame};
 use seatcrane_stun::types::message::*;
 use std::error::Error;
@@ -31,7 +36,7 @@ use std::net::{IpAddr, SocketAddr, TcpListener, TcpStream, UdpSocket};
 use std::process::ExitCode;
 use std::sync::{PoisonError, RwLock};
 use std::thread;
-use std::time::Duration;
+use std::time::{Duration, Instant, SystemTime};
 
 const USAGE: &str = "usage: udp_server PORT [REALM [NAME PASSWORD].. [--users FILE]] [OPTION]..";
 const HELP: &str = "
@@ -50,6 +55,10 @@ that realm alone. PORT 0 is any free one. The first line of output is `port N`.
   --at ADDRESS      an IP address to serve; may be repeated. `-` is the socket that is standard
                     input. `::` unless given, which is IPv4 too
   --tcp             serve TCP too, 64 connections at a time for each address
+  --idle SECONDS    end a connection if no whole message came for so long. 30 unless given
+  --other ADDRESS   another IP address of this host, which makes this a server for NAT behavior
+                    discovery (RFC 5780). It needs one --at, and takes ADDRESS:PORT for the other
+                    port, which is PORT + 1 unless given
   --workers N       threads that read each socket: 1 unless given
   --counts SECONDS  print a line of counters so often
   -v                print a line for each datagram
@@ -58,20 +67,20 @@ that realm alone. PORT 0 is any free one. The first line of output is `port N`.
 const MOST_WORKERS: u64 = 64;
 const MOST_LENGTH: usize = 2048;
 const CONNECTIONS: usize = 64;
-/// How long a connection may be silent.
-const SILENCE: Duration = Duration::from_secs(30);
 
 /// The arguments of the command line.
 #[derive(Default)]
 struct Settings {
     port: u16,
     at: Vec<String>,
+    other: Option<SocketAddr>,
     realm: Option<String>,
     users: Vec<(String, String)>,
     file: Option<String>,
     secret: Option<String>,
     has_sha256: bool,
     has_tcp: bool,
+    idle: u64,
     expiry: u64,
     workers: u64,
     counts: Option<u64>,
@@ -79,90 +88,126 @@ struct Settings {
 }
 
 /// What all threads share. Without a realm, the open server answers.
-struct Service {
+struct Service<'a> {
+    settings: &'a Settings,
+    sockets: Vec<UdpSocket>,
+    addresses: Vec<SocketAddr>,
     of_realm: Option<(Server, RwLock<Users>)>,
     open: OpenServer,
     counts: Counts,
-    is_verbose: bool,
 }
 
-impl Service {
-    fn new(settings: &Settings) -> Result<Service, Box<dyn Error>> {
-        let of_realm = match &settings.realm {
-            None => None,
-            Some(realm) => {
-                let both = [IntegrityAlgorithm::Sha1, IntegrityAlgorithm::Sha256];
-                let algorithms = &both[..1 + usize::from(settings.has_sha256)];
-                let long_term = LongTerm::new(realm, secret(settings)?)
-                    .algorithms(algorithms)
-                    .nonce_lifetime(settings.expiry);
-                let server = Server::builder(long_term).answer_binding().build()?;
-                let users = users::table(&server, &settings.users, settings.file.as_deref())?;
-                Some((server, RwLock::new(users)))
-            }
+impl Service<'_> {
+    fn new(settings: &Settings) -> Result<Service<'_>, Box<dyn Error>> {
+        let (mut open, mut of_realm) = (ResponseSettings::new(), None);
+        open = match settings.other {
+            Some(_) => open.understands(&discovery::ATTRIBUTES),
+            None => open.answer_binding(),
         };
+        if let Some(realm) = &settings.realm {
+            let both = [IntegrityAlgorithm::Sha1, IntegrityAlgorithm::Sha256];
+            let algorithms = &both[..1 + usize::from(settings.has_sha256)];
+            let long_term = LongTerm::new(realm, secret(settings)?)
+                .algorithms(algorithms)
+                .nonce_lifetime(settings.expiry);
+            let server = match settings.other {
+                Some(_) => Server::builder(long_term).understands(&discovery::ATTRIBUTES),
+                None => Server::builder(long_term).answer_binding(),
+            };
+            let server = server.build()?;
+            let users = users::table(&server, &settings.users, settings.file.as_deref())?;
+            of_realm = Some((server, RwLock::new(users)));
+        }
+        let sockets = sockets(settings)?;
+        let addresses = sockets.iter().map(UdpSocket::local_addr);
         Ok(Service {
+            settings,
+            addresses: addresses.collect::<io::Result<_>>()?,
+            sockets,
             of_realm,
-            open: OpenServer::new(ResponseSettings::new().answer_binding())?,
+            open: OpenServer::new(open)?,
             counts: Counts::default(),
-            is_verbose: settings.is_verbose,
         })
     }
 
-    /// Returns the bytes of the answer to a message, if it gets one. Messages with a method that is
-    /// not supported get none (section 6.3).
-    fn answer(&self, bytes: &[u8], from: SocketAddr) -> Option<Vec<u8>> {
+    /// Returns what a message comes to that arrived at the socket with this number. Messages with a
+    /// method that is not supported get no answer (section 6.3).
+    fn judge(&self, bytes: &[u8], from: SocketAddr, at: usize) -> Outcome {
         let is_ours = |header: MessageHeader| header.get_type().method() == BINDING;
-        let outcome = match &self.of_realm {
-            _ if !MessageHeader::from_bytes(bytes).map_or(true, is_ours) => Outcome::Other,
-            None => Outcome::from(self.open.receive(bytes, from)),
-            Some((server, users)) => {
-                let users = users.read().unwrap_or_else(PoisonError::into_inner);
-                Outcome::from(server.receive(bytes, from, UnixTime::now(), &users))
-            }
-        };
-        self.counts.note(&outcome);
-        if self.is_verbose {
-            let from = SocketAddr::new(from.ip().to_canonical(), from.port());
-            let _ = writeln!(io::stdout(), "{from} {outcome}");
+        if !MessageHeader::from_bytes(bytes).map_or(true, is_ours) {
+            return Outcome::Other;
         }
-        match outcome {
-            Outcome::Answer(_, answer) => Some(answer),
-            _ => None,
+        let Some((server, users)) = &self.of_realm else {
+            return match self.open.receive(bytes, from) {
+                OpenReceived::Answer(answer) => Outcome::from(answer),
+                OpenReceived::Request(request) => {
+                    self.respond(request.message(), request.reply(), at)
+                }
+                OpenReceived::Dropped(why) => Outcome::Dropped(why),
+                _ => Outcome::Other,
+            };
+        };
+        let users = users.read().unwrap_or_else(PoisonError::into_inner);
+        match server.receive(bytes, from, UnixTime::now(), &users) {
+            Received::Answer(answer) => Outcome::from(answer),
+            Received::Request(request) => self.respond(request.message(), request.reply(), at),
+            Received::Dropped(why) => Outcome::Dropped(why),
+            _ => Outcome::Other,
         }
     }
 
-    /// Builds the table of users again whenever their file has changed. If it cannot be read, the
+    /// Responds to a request of NAT behavior discovery. Others are answered before.
+    fn respond(&self, request: &Message<'_>, reply: &Reply, at: usize) -> Outcome {
+        match discovery::respond(&self.addresses, request, reply, at) {
+            Ok((code, bytes, to, from)) => Outcome::Answer(code, bytes, to, Some(from)),
+            Err(_) => Outcome::Dropped(DropReason::OutOfMemory),
+        }
+    }
+
+    /// Judges a message, counts the outcome and prints it if that is asked for.
+    fn receive(&self, bytes: &[u8], from: SocketAddr, at: usize) -> Outcome {
+        let outcome = self.judge(bytes, from, at);
+        self.counts.note(&outcome);
+        if self.settings.is_verbose {
+            let from = SocketAddr::new(from.ip().to_canonical(), from.port());
+            let _ = writeln!(io::stdout(), "{from} {outcome}");
+        }
+        outcome
+    }
+
+    /// Builds the table of users again once their file is not as it was when it was first read, and
+    /// has stayed the same for a second: it may be written in pieces. If it cannot be read, the
     /// users stay as they were.
-    fn reload(&self, settings: &Settings) {
-        let (Some((server, table)), Some(file)) = (&self.of_realm, &settings.file) else {
+    fn reload(&self, file: &str, first: Option<Stamp>) {
+        let Some((server, table)) = &self.of_realm else {
             return;
         };
-        let stamp = || fs::metadata(file).and_then(|of| Ok((of.modified()?, of.len())));
-        let mut last = stamp().ok();
+        let (mut last, mut before) = (first, first);
         loop {
             thread::sleep(Duration::from_secs(1));
-            let now = stamp().ok();
-            if now.is_some() && now != last {
-                match users::table(server, &settings.users, Some(file)) {
+            let now = stamp(file);
+            if now.is_some() && now != last && now == before {
+                match users::table(server, &self.settings.users, Some(file)) {
                     Ok(users) => *table.write().unwrap_or_else(PoisonError::into_inner) = users,
                     Err(error) => eprintln!("udp_server: users stay as they were: {error}"),
                 }
                 last = now;
             }
+            before = now;
         }
     }
 
-    /// Answers the datagrams of a socket.
-    fn serve(&self, socket: &UdpSocket) {
+    /// Answers the datagrams of the socket with this number.
+    fn serve(&self, at: usize) {
         let mut bytes = [0; MOST_LENGTH + 1]; // a longer datagram is cut, and so malformed
         loop {
-            let Ok((length, peer)) = socket.recv_from(&mut bytes) else {
+            let Ok((length, peer)) = self.sockets[at].recv_from(&mut bytes) else {
                 thread::sleep(Duration::from_millis(10)); // the next call may fail at once too
                 continue;
             };
-            if let Some(answer) = self.answer(&bytes[..length], peer) {
-                let _ = socket.send_to(&answer, peer); // a client without an answer asks again
+            if let Outcome::Answer(_, answer, to, from) = self.receive(&bytes[..length], peer, at) {
+                let socket = &self.sockets[from.unwrap_or(at)];
+                let _ = socket.send_to(&answer, to); // a client without an answer asks again
             }
         }
     }
@@ -178,26 +223,29 @@ impl Service {
         }
     }
 
-    /// Answers messages until the connection ends, is silent for too long, or carries no STUN.
+    /// Answers messages until the connection ends, has no whole message for too long, or carries no
+    /// STUN.
     fn converse(
         &self,
         mut stream: TcpStream,
         peer: SocketAddr,
         bytes: &mut [u8],
     ) -> io::Result<()> {
-        stream.set_read_timeout(Some(SILENCE))?;
-        stream.set_write_timeout(Some(SILENCE))?;
-        let mut length = 0;
+        let idle = Duration::from_secs(self.settings.idle);
+        stream.set_write_timeout(Some(idle))?;
+        let (mut end, mut length) = (Instant::now() + idle, 0);
         loop {
             match next_frame(&bytes[..length]) {
-                Frame::Message(end) => {
-                    if let Some(answer) = self.answer(&bytes[..end], peer) {
+                Frame::Message(whole) => {
+                    if let Outcome::Answer(_, answer, ..) = self.receive(&bytes[..whole], peer, 0) {
                         stream.write_all(&answer)?;
                     }
-                    bytes.copy_within(end..length, 0);
-                    length -= end;
+                    bytes.copy_within(whole..length, 0);
+                    (length, end) = (length - whole, Instant::now() + idle);
                 }
                 Frame::Need(more) if length + more <= bytes.len() => {
+                    let left = end.saturating_duration_since(Instant::now());
+                    stream.set_read_timeout(Some(left.max(Duration::from_nanos(1000))))?;
                     match stream.read(&mut bytes[length..])? {
                         0 => return Ok(()),
                         read => length += read,
@@ -235,7 +283,7 @@ fn inherited() -> io::Result<UdpSocket> {
     Err(io::ErrorKind::Unsupported.into())
 }
 
-/// Binds a socket for each address, all with the same port.
+/// Binds a socket for each address, all with the same port; or the four of NAT behavior discovery.
 fn sockets(settings: &Settings) -> Result<Vec<UdpSocket>, Box<dyn Error>> {
     let (mut port, mut bound) = (settings.port, Vec::new());
     for at in &settings.at {
@@ -251,20 +299,38 @@ fn sockets(settings: &Settings) -> Result<Vec<UdpSocket>, Box<dyn Error>> {
         let any = UdpSocket::bind(("::", port)).or_else(|_| UdpSocket::bind(("0.0.0.0", port)));
         bound.push(any?);
     }
+    if let Some(other) = settings.other {
+        let first = bound[0].local_addr()?;
+        let other_port = match other.port() {
+            0 => first.port().wrapping_add(1),
+            port => port,
+        };
+        bound.push(UdpSocket::bind((first.ip(), other_port))?);
+        bound.push(UdpSocket::bind((other.ip(), first.port()))?);
+        bound.push(UdpSocket::bind((other.ip(), other_port))?);
+    }
     Ok(bound)
 }
 
+/// When a file was last written, and its length.
+type Stamp = (SystemTime, u64);
+
+fn stamp(file: &str) -> Option<Stamp> {
+    let of = fs::metadata(file).ok()?;
+    Some((of.modified().ok()?, of.len()))
+}
+
 fn run(settings: &Settings) -> Result<(), Box<dyn Error>> {
+    let file = settings.file.as_deref().filter(|file| *file != "-");
+    let first = file.and_then(stamp);
     let service = &Service::new(settings)?;
-    let sockets = sockets(settings)?;
-    let mut listeners = Vec::new();
-    for socket in sockets.iter().filter(|_| settings.has_tcp) {
-        listeners.push(TcpListener::bind(socket.local_addr()?)?);
-    }
-    let port = sockets[0].local_addr()?.port();
+    let addresses = service.addresses.iter().filter(|_| settings.has_tcp);
+    let listeners = addresses
+        .map(TcpListener::bind)
+        .collect::<io::Result<Vec<_>>>()?;
     thread::scope(|scope| {
-        if settings.file.as_deref().is_some_and(|file| file != "-") {
-            scope.spawn(|| service.reload(settings));
+        if let Some(file) = file {
+            scope.spawn(move || service.reload(file, first));
         }
         if let Some(seconds) = settings.counts {
             scope.spawn(move || {
@@ -278,20 +344,27 @@ fn run(settings: &Settings) -> Result<(), Box<dyn Error>> {
             (0..CONNECTIONS).for_each(|_| drop(scope.spawn(|| service.accept(listener))));
         }
         // This thread is the first worker of the first socket.
-        for (number, socket) in sockets.iter().enumerate() {
-            let others = settings.workers - u64::from(number == 0);
-            (0..others).for_each(|_| drop(scope.spawn(|| service.serve(socket))));
+        for at in 0..service.sockets.len() {
+            let others = settings.workers - u64::from(at == 0);
+            (0..others).for_each(|_| drop(scope.spawn(move || service.serve(at))));
         }
-        println!("port {port}");
-        service.serve(&sockets[0]);
+        println!("port {}", service.addresses[0].port());
+        service.serve(0);
     });
     Ok(())
+}
+
+/// Reads an IP address, with or without a port.
+fn other(word: &str) -> Option<SocketAddr> {
+    let address = word.parse::<IpAddr>().map(|ip| SocketAddr::new(ip, 0));
+    address.ok().or_else(|| word.parse().ok())
 }
 
 /// Returns the settings of the arguments, or `None` if they are wrong.
 fn settings(mut words: impl Iterator<Item = String>) -> Option<Settings> {
     let mut settings = Settings {
         expiry: 3600,
+        idle: 30,
         workers: 1,
         ..Settings::default()
     };
@@ -306,6 +379,8 @@ fn settings(mut words: impl Iterator<Item = String>) -> Option<Settings> {
             "--tcp" => settings.has_tcp = true,
             "-v" => settings.is_verbose = true,
             "--at" => settings.at.push(words.next()?),
+            "--other" => settings.other = Some(other(&words.next()?)?),
+            "--idle" => settings.idle = number(words.next(), 1, 1_000_000)?,
             "--users" => settings.file = Some(words.next()?),
             "--secret" => settings.secret = Some(words.next()?),
             "--expiry" => settings.expiry = number(words.next(), 30, 1_000_000)?,
@@ -322,7 +397,8 @@ fn settings(mut words: impl Iterator<Item = String>) -> Option<Settings> {
         settings.users.push((name, left.next()?));
     }
     let has_users = !settings.users.is_empty() || settings.file.is_some();
-    (settings.realm.is_some() == has_users).then_some(settings)
+    let is_right = settings.other.is_none() || settings.at.len() == 1 && !settings.has_tcp;
+    (settings.realm.is_some() == has_users && is_right).then_some(settings)
 }
 
 fn main() -> ExitCode {

@@ -1,7 +1,7 @@
 //! The table of addresses of a server by hand, beside a plain list: the same address loses its
 //! place each time.
 
-#[path = "../examples/endpoint_cost/places.rs"]
+#[path = "../bench/endpoint_cost/places.rs"]
 mod places;
 
 use places::{Places, SHARES};

@@ -1,13 +1,13 @@
 #!/usr/bin/env python3
 """Tries the STUN programs on UDP against each other over loopback.
 
-    check.py [--server PROGRAM].. [--client PROGRAM]..
+    check.py [--server PROGRAM].. [--client PROGRAM].. [--tokio PROGRAM]
 
 The programs of examples/c are built with all warnings, and with sanitizers where the compiler has
 them. Programs that are named take the same words (examples/c/udp_server.c,
 examples/c/udp_client.c), a server those of rust/examples/udp_server.rs too. They are tried as well:
 each client against each server (pairs.py), and each alone (alone.py, endpoint.py), and the program
-`many` beside a client (rust/examples/many.rs). What goes over
+`many` beside a client (rust/examples/many.rs) and `tokio_client` (examples/rust). What goes over
 the wire is judged by stun.py, which shares nothing with the library. Every port is a free one, every
 wait has an end, and only processes of its own are ended.
 
@@ -42,8 +42,9 @@ def named(name, what, *words):
 def of_server(server, first):
     """Each keeps nothing of an address (endpoint.py). The first server has what the others need not:
     other methods than Binding, nonces that expire at a signal, the address that was asked, a large
-    buffer, no fear of faults but sleep, a port of its own, and users and counters at a signal. The
-    others have TCP, and look at the file themselves."""
+    buffer, no fear of faults but sleep, a port of its own, a place for whoever connects, and users
+    and counters at a signal. The others look at the file
+    themselves, and serve NAT behavior discovery."""
     one = lambda what, *words: named(label(server), what, server, *words)
     for what in (alone.unknown_attributes, alone.choices, alone.many_attributes, alone.fingerprints,
                  alone.workers, alone.begins_again, alone.new_address):
@@ -60,25 +61,25 @@ def of_server(server, first):
             yield one(alone.malformed, words, algorithm)
         for what in (alone.another_address, alone.burst, alone.stopped_reader, alone.hidden_words,
                      alone.wiped, alone.failing_reads, alone.no_ipv6, alone.one_server,
-                     alone.counted, endpoint.addresses, endpoint.reloaded_at_a_signal):
+                     alone.counted, endpoint.many_streams, endpoint.reloaded_at_a_signal):
             yield one(what)
     else:
         yield from of_others(server, str(pathlib.Path(first).parent / "exhausted.so"))
-    for what in (endpoint.tells, endpoint.counters, endpoint.bad_lines, endpoint.many_users):
+    for what in (endpoint.tells, endpoint.counters, endpoint.bad_lines, endpoint.many_users,
+                 endpoint.addresses, endpoint.one_port, endpoint.no_streams):
         yield one(what)
     for words in BOTH:
-        for what in (endpoint.restarted, endpoint.behind_one_port, endpoint.one_socket,
+        for what in (endpoint.streams, endpoint.restarted, endpoint.behind_one_port, endpoint.one_socket,
                      endpoint.stored_keys):
             yield one(what, words)
 
 
 def of_others(server, exhausted):
     one = lambda what, *words: named(label(server), what, server, *words)
-    for what in (endpoint.addresses_of_both, endpoint.one_port, endpoint.reloaded,
-                 endpoint.too_many_users):
+    for what in (endpoint.reloaded, endpoint.written_slowly, endpoint.too_many_users):
         yield one(what)
-    yield from (one(endpoint.streams, words) for words in BOTH)
     yield one(endpoint.no_memory, exhausted)
+    yield from (one(endpoint.four_sockets, words) for words in ((), USER))
 
 
 def of_client(client):
@@ -107,10 +108,12 @@ def of_pair(server, client, hosts, is_first):
             yield from (two(pairs.expired, words, "61"), two(pairs.expired, words, "300"))
 
 
-def cases(servers, clients, hosts):
+def cases(servers, clients, tokio, hosts):
     """Each case with its name."""
     for server in servers:
         yield from of_server(server, servers[0])
+        for words in ((), USER, (*USER, "--sha256")) if tokio else ():
+            yield named(f"{label(tokio)} -> {label(server)}", pairs.in_flight, server, tokio, words)
     for client in clients:
         yield from of_client(client)
         for server in servers:
@@ -137,6 +140,7 @@ def main():
     words = argparse.ArgumentParser()
     words.add_argument("--server", action="append", default=[])
     words.add_argument("--client", action="append", default=[])
+    words.add_argument("--tokio")
     words.add_argument("--only", default="", help="cases whose name has this in it")
     chosen = words.parse_args()
     with harness.scratch() as folder:
@@ -148,7 +152,8 @@ def main():
         clients = [str(folder / "udp_client"), *chosen.client]
         hosts = ["127.0.0.1", "::1"] if harness.has_ipv6() else ["127.0.0.1"]
         harness.end_within()
-        all_cases = [case for case in cases(servers, clients, hosts) if chosen.only in case[0]]
+        every = cases(servers, clients, chosen.tokio, hosts)
+        all_cases = [case for case in every if chosen.only in case[0]]
         with concurrent.futures.ThreadPoolExecutor(8) as pool:
             results = list(pool.map(tried, all_cases))
         failed = [(name, error) for name, error in results if error]

@@ -42,7 +42,7 @@ static void answer(int server, const struct asker *asker) {
     socklen_t length = sizeof own;
     static const uint8_t octets[] = {192, 0, 2, 1};
     uint8_t bytes[64];
-    getsockname(asker->socket, (struct sockaddr *)&own, &length);
+    getsockname(asker->exchange.socket, (struct sockaddr *)&own, &length);
     to.sin_port = ((struct sockaddr_in *)&own)->sin_port;
     for (int i = 0; i < NOISE; i++)
         sendto(server, "noise", 5, 0, (struct sockaddr *)&to, sizeof to);

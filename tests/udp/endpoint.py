@@ -139,91 +139,192 @@ def counters(server):
 
 
 def addresses(server):
-    """It serves each address that is named, of both families, and no other."""
-    others = ("--at", "::1") if has_ipv6() else ()
-    with Server(server, "--at", "127.0.0.2", "--at", "127.0.0.3", *others) as running:
-        for host in ("127.0.0.2", "127.0.0.3", *others[1:]):
-            with Peer(running.port, host) as peer:
+    """It serves each address that is named, of both families, over UDP and TCP, and no other."""
+    hosts = ("127.0.0.2", "127.0.0.3", "::1")[:2 + has_ipv6()]
+    with Server(server, "--tcp", *(word for host in hosts for word in ("--at", host))) as running:
+        for host in hosts:
+            with Peer(running.port, host) as peer, connected(running, host) as stream:
                 assert stun.code_of(peer.ask(stun.message(stun.REQUEST))) == 200
+                assert stun.code_of(asked_over(stream, stun.message(stun.REQUEST))) == 200
         with Peer(running.port) as peer:
             peer.socket.settimeout(0.3)
-            try:
-                peer.ask(stun.message(stun.REQUEST))
+            for ask in (lambda: peer.ask(stun.message(stun.REQUEST)), lambda: connected(running)):
+                try:
+                    ask()
+                except (TimeoutError, ConnectionRefusedError):
+                    continue
                 raise AssertionError("it serves 127.0.0.1")
-            except (TimeoutError, ConnectionRefusedError):
-                pass
     for wrong in ("here", "127.0.0.256", "192.0.2.1"):
         run = subprocess.run([server, "0", "--at", wrong], capture_output=True, timeout=20)
         assert run.returncode == 1 and run.stdout == b"", run
 
 
 def one_port(server):
-    """A second server on the port is refused."""
-    with Server(server) as running:
-        run = subprocess.run([server, str(running.port)], capture_output=True, text=True, timeout=20)
-        assert run.returncode == 1 and run.stderr and run.stdout == "", run
-
-
-def addresses_of_both(server):
-    """It serves each address that is named, over UDP and TCP, and none else."""
-    words = ("--tcp", "--at", "127.0.0.2", "--at", "127.0.0.3")
-    with Server(server, *words) as running:
-        for host in ("127.0.0.2", "127.0.0.3"):
-            with Peer(running.port, host) as peer:
-                assert stun.code_of(peer.ask(stun.message(stun.REQUEST))) == 200
-            with socket.create_connection((host, running.port), 10) as stream:
-                assert stun.code_of(asked_over(stream, stun.message(stun.REQUEST))) == 200
-        try:
-            socket.create_connection(("127.0.0.1", running.port), 10).close()
-            raise AssertionError("it listens at 127.0.0.1")
-        except ConnectionRefusedError:
-            pass
+    """A second server on the port is refused, over UDP and over TCP."""
+    for held, words in (((), ()), (("--tcp",), ("--tcp",))):
+        with Server(server, *held) as running:
+            run = subprocess.run([server, str(running.port), *words], capture_output=True,
+                                 text=True, timeout=20)
+            assert run.returncode == 1 and run.stderr and run.stdout == "", run
 
 
 # ---- TCP
 
 
-def message_of(stream):
-    head = b""
-    while len(head) < 20 or len(head) < 20 + int.from_bytes(head[2:4], "big"):
-        more = stream.recv(4096)
-        assert more, "the connection ended"
-        head += more
-    length = 20 + int.from_bytes(head[2:4], "big")
-    assert len(head) == length, "more than one message"
-    return head
+def read_messages(stream, number):
+    """So many messages, and nothing after them."""
+    found, head = [], b""
+    while len(found) < number:
+        length = 20 + int.from_bytes(head[2:4], "big")
+        if len(head) < length:
+            more = stream.recv(4096)
+            assert more, "the connection ended"
+            head += more
+        else:
+            found.append(head[:length])
+            head = head[length:]
+    assert head == b"", "more than was asked for"
+    return found
 
 
 def asked_over(stream, request):
     stream.sendall(request)
-    return message_of(stream)
+    return read_messages(stream, 1)[0]
+
+
+def connected(running, host="127.0.0.1"):
+    return socket.create_connection((host, running.port), 10)
+
+
+def has_ended(stream):
+    with contextlib.suppress(ConnectionResetError):
+        assert stream.recv(4096) == b"", "the connection goes on"
 
 
 def streams(server, words):
-    """A connection has any number of requests, in any pieces; it ends where no STUN begins."""
+    """A connection has any number of requests, in any pieces: one byte by byte, two in one segment,
+    and one in two segments. What is no request gets no answer, and ends nothing."""
     algorithm = algorithm_of(words)
+    hosts = [("127.0.0.1", socket.AF_INET), ("::1", socket.AF_INET6)][:1 + has_ipv6()]
     with Server(server, *USER, *words, "--tcp") as running:
-        where = ("127.0.0.1", running.port)
-        with socket.create_connection(where, 10) as stream:
-            challenge = asked_over(stream, stun.message(stun.REQUEST))
-            assert stun.code_of(challenge) == 401
-            request = answering(challenge, algorithm)
-            for byte in request:
-                stream.sendall(bytes([byte]))
-            success = message_of(stream)
-            assert stun.code_of(success) == 200
-            octets, port = stun.mapped_address(success)
-            assert (octets, port) == (b"\x7f\0\0\1", stream.getsockname()[1])
-            stream.sendall(request + request[:30])
-            assert stun.code_of(message_of(stream)) == 200
-            assert stun.code_of(asked_over(stream, request[30:])) == 200
-        for wrong in (b"GET / HTTP/1.1\r\n", b"\0\1\xff\xfc" + stun.message(stun.REQUEST)[4:]):
-            with socket.create_connection(where, 10) as stream:
+        for host, family in hosts:
+            with connected(running, host) as stream:
+                stream.setsockopt(socket.IPPROTO_TCP, socket.TCP_NODELAY, 1)
+                challenge = asked_over(stream, stun.message(stun.REQUEST))
+                assert stun.code_of(challenge) == 401
+                request, other = answering(challenge, algorithm), answering(challenge, algorithm)
+                for byte in request:
+                    stream.sendall(bytes([byte]))
+                success = read_messages(stream, 1)[0]
+                own = (socket.inet_pton(family, host), stream.getsockname()[1])
+                assert stun.code_of(success) == 200 and stun.mapped_address(success) == own
+                stream.sendall(request + stun.message(stun.INDICATION) + other)
+                answers = read_messages(stream, 2)
+                assert [one[8:20] for one in answers] == [request[8:20], other[8:20]]
+                assert [stun.code_of(one) for one in answers] == [200, 200]
+                stream.sendall(request + other[:30])
+                assert stun.code_of(read_messages(stream, 1)[0]) == 200
+                assert stun.code_of(asked_over(stream, other[30:])) == 200
+                stream.sendall(request)
+                stream.shutdown(socket.SHUT_WR)
+                assert stun.code_of(read_messages(stream, 1)[0]) == 200
+                has_ended(stream)
+
+
+def no_streams(server):
+    """A connection ends where no STUN begins or a message is too long, and if nothing whole comes in
+    time, though a byte does; the others go on."""
+    plain = stun.message(stun.REQUEST)
+    with Server(server, "--tcp", "--idle", "2") as running, connected(running) as good:
+        for wrong in (b"GET / HTTP/1.1\r\n", b"\0\1\xff\xfc" + plain[4:], plain + b"\x80"):
+            with connected(running) as stream:
                 stream.sendall(wrong)
-                with contextlib.suppress(ConnectionResetError):
-                    assert stream.recv(4096) == b"", "the connection goes on"
-        with socket.create_connection(where, 10) as stream:
-            assert stun.code_of(asked_over(stream, stun.message(stun.REQUEST))) == 401
+                if wrong.startswith(plain):
+                    assert stun.code_of(read_messages(stream, 1)[0]) == 200
+                has_ended(stream)
+        with connected(running) as silent, connected(running) as slow:
+            end = time.monotonic() + 3.5
+            for byte in plain[:7]:
+                slow.sendall(bytes([byte]))
+                assert stun.code_of(asked_over(good, stun.message(stun.REQUEST))) == 200
+                time.sleep(0.2)
+            for stream in (silent, slow):
+                has_ended(stream)
+                assert time.monotonic() < end, "it ended late"
+                assert stun.code_of(asked_over(good, stun.message(stun.REQUEST))) == 200
+
+
+def many_streams(server):
+    """One connection more than there is room for ends the one that has been silent for longest; and a
+    client that does not read its answers is cut off."""
+    with Server(server, "--tcp") as running, contextlib.ExitStack() as held:
+        first, second = (held.enter_context(connected(running)) for _ in range(2))
+        for stream in (second, first):  # so the second is the one that is silent for longest
+            assert stun.code_of(asked_over(stream, stun.message(stun.REQUEST))) == 200
+        for _ in range(255):
+            stream = held.enter_context(connected(running))
+            assert stun.code_of(asked_over(stream, stun.message(stun.REQUEST))) == 200
+        has_ended(second)
+        assert stun.code_of(asked_over(first, stun.message(stun.REQUEST))) == 200
+        deaf = held.enter_context(connected(running))
+        many = b"".join(stun.message(stun.REQUEST) for _ in range(1000))
+        with contextlib.suppress(ConnectionResetError, BrokenPipeError):
+            for _ in range(2000):
+                deaf.sendall(many)
+            raise AssertionError("it is served without end")
+        assert stun.code_of(asked_over(first, stun.message(stun.REQUEST))) == 200
+
+
+# ---- NAT behavior discovery (RFC 5780)
+
+CHANGE_REQUEST, PADDING, RESPONSE_PORT = 0x0003, 0x0026, 0x0027
+RESPONSE_ORIGIN, OTHER_ADDRESS = 0x802B, 0x802C
+
+
+def four_sockets(server, words):
+    """A response leaves from the address and the port that the request asks for, and says which ones
+    those are, and which are the others. It goes to the port that is asked for, with as much padding
+    as the request had."""
+    spoken = lambda host, port: b"\0\1" + port.to_bytes(2, "big") + socket.inet_aton(host)
+    with Server(server, *words, "--at", "127.0.0.2", "--other", "127.0.0.3") as running:
+        ports, hosts = (running.port, running.port + 1), ("127.0.0.2", "127.0.0.3")
+        with Peer(0) as peer, Peer(0) as second:
+            second.socket.bind(("0.0.0.0", 0))
+
+            def asked(host, port, attributes, reader=peer):
+                peer.target = (hosts[host], ports[port])
+                request = stun.message(stun.REQUEST, attributes)
+                if words:
+                    challenge = peer.ask(stun.message(stun.REQUEST))
+                    request = answering(challenge, stun.SHA1, attributes)
+                peer.socket.sendto(request, peer.target)
+                answer, source = reader.socket.recvfrom(4096)
+                assert answer[8:20] == request[8:20]
+                return answer, source
+
+            for place in range(16):
+                host, port, change_host, change_port = (place >> bit & 1 for bit in range(4))
+                change = bytes([0, 0, 0, change_host << 2 | change_port << 1])
+                answer, source = asked(host, port, [(CHANGE_REQUEST, change), (PADDING, bytes(20))])
+                wanted = (hosts[host ^ change_host], ports[port ^ change_port])
+                assert stun.code_of(answer) == 200 and source == wanted, (source, wanted)
+                assert stun.value_of(answer, RESPONSE_ORIGIN) == spoken(*wanted)
+                others = spoken(hosts[host ^ 1], ports[port ^ 1])
+                assert stun.value_of(answer, OTHER_ADDRESS) == others
+                assert stun.value_of(answer, PADDING) == bytes(20)
+            there = second.socket.getsockname()[1].to_bytes(2, "big")
+            answer, source = asked(0, 0, [(RESPONSE_PORT, there + b"\0\0")], second)
+            assert stun.code_of(answer) == 200 and source == (hosts[0], ports[0])
+            for bad in ([(CHANGE_REQUEST, b"\0")], [(RESPONSE_PORT, b"\0")],
+                        [(RESPONSE_PORT, there + b"\0\0"), (PADDING, bytes(4))]):
+                answer, source = asked(1, 1, bad)
+                assert stun.code_of(answer) == 400 and source == (hosts[1], ports[1]), bad
+            answer, _ = asked(0, 1, [(0x7FFF, b"")])
+            assert stun.code_of(answer) == 420
+    for wrong in (("--other", "127.0.0.3"), ("--at", "::1", "--other", "here"),
+                  ("--at", "127.0.0.2", "--other", "127.0.0.3", "--tcp")):
+        run = subprocess.run([server, "0", *wrong], capture_output=True, timeout=20)
+        assert run.returncode == 2 and run.stdout == b"", run
 
 
 # ---- The file of users
@@ -269,6 +370,25 @@ def many_users(server):
 def reloaded(server):
     """The file is read again when it changes; a bad one changes nothing."""
     read_again(server, (), lambda running: None)
+
+
+def written_slowly(server):
+    """While the file is being written in pieces, the users are those of before."""
+    with tempfile.TemporaryDirectory() as folder:
+        path = pathlib.Path(folder) / "users"
+        path.write_text(f"{NAME} {PASSWORD}\n")
+        with Server(server, REALM, "--users", str(path)) as running, Peer(running.port) as peer:
+            alice = answering(peer.ask(stun.message(stun.REQUEST)))
+            with open(path, "w") as file:
+                for number in range(12):
+                    assert stun.code_of(peer.ask(alice)) == 200, number
+                    file.write("# a line more\n" if number else "")
+                    file.flush()
+                    time.sleep(0.25)
+            end = time.monotonic() + 10
+            while stun.code_of(peer.ask(alice)) != 401:
+                assert time.monotonic() < end, "no 401"
+                time.sleep(0.1)
 
 
 def reloaded_at_a_signal(server):

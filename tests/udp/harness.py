@@ -72,7 +72,7 @@ def build_helpers(folder):
     archives = (STATE, ENDPOINT, STATELESS, *BESIDE.split())
     wiped = (HERE / "wiped.c", parts / "heap.c", *archives, "-o", folder / "wiped")
     subprocess.run([*command, *wiped], check=True)
-    client = (parts / name for name in ("net.c", "heap.c"))
+    client = (parts / name for name in ("exchange.c", "net.c", "heap.c"))
     drained = (HERE / "drained.c", *client, *archives, "-o", folder / "drained")
     subprocess.run([*command, *drained], check=True)
     for name in ("faults", "exhausted"):

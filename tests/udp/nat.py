@@ -1,5 +1,5 @@
 #!/usr/bin/env python3
-"""Tries nat_discovery with nat_server through routers that translate addresses in different ways.
+"""Tries nat_discovery with udp_server through routers that translate addresses in different ways.
 
     nat.py [--programs FOLDER]
 
@@ -8,7 +8,7 @@
 All of them are network namespaces, and the router translates by nftables. Run after `make export`
 and `cargo build --examples` in target/export, as anybody who may make user and network namespaces;
 what is made goes with the process. Where coturn is installed, its turnutils_natdiscovery asks
-nat_server too, and nat_discovery asks coturn's server. The last line says what was tried, or what
+udp_server too, and nat_discovery asks coturn's server. The last line says what was tried, or what
 was left out and why. Status 0 where nothing failed.
 """
 import argparse
@@ -26,7 +26,7 @@ WORDS = argparse.ArgumentParser()
 WORDS.add_argument("--programs", default=harness.TOP / "target/export/target/debug/examples")
 WORDS.add_argument("--inside", action="store_true")
 CHOSEN = WORDS.parse_args()
-SERVER, CLIENT = (pathlib.Path(CHOSEN.programs) / name for name in ("nat_server", "nat_discovery"))
+SERVER, CLIENT = (pathlib.Path(CHOSEN.programs) / name for name in ("udp_server", "nat_discovery"))
 FIRST, SECOND = "192.0.2.10", "192.0.2.11"
 
 # Each NAT: rules of nftables, and the mapping and the filtering that they make. Linux keeps the
@@ -93,7 +93,7 @@ class Running:
         if waits:
             time.sleep(waits)
         else:
-            assert self.process.stdout.readline().startswith("ready"), words
+            assert self.process.stdout.readline().startswith("port"), words
 
     def __enter__(self):
         return self
@@ -165,7 +165,7 @@ def coturn_server():
 
 def tried():
     has_coturn = all(map(shutil.which, ("turnutils_natdiscovery", "turnserver")))
-    with Running(SERVER, FIRST, SECOND):
+    with Running(SERVER, "3478", "--at", FIRST, "--other", SECOND):
         without_nat()
         ends_without_answer()
         for name, rules in NATS.items():

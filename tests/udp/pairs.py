@@ -330,6 +330,30 @@ def many(server, program, words):
         assert run.returncode == 1 and run.stderr == "refused 401\n" * 4, run
 
 
+def in_flight(server, program, words):
+    """A client on tokio has 200 requests unanswered at the same time: the relay passes none on until
+    all have come. With a user, each is challenged then, and succeeds when it is signed."""
+    held = {}
+
+    def hold(_relay, is_request, _number, data):
+        if not is_request or len(held) == 200:
+            return [data]
+        held[data[8:20]] = data
+        return list(held.values()) if len(held) == 200 else []
+
+    with Server(server, *words) as running, Relay(running, hold) as relay:
+        user = words[1:3]
+        run = subprocess.run([program, "127.0.0.1", str(relay.port), "200", *user],
+                             capture_output=True, text=True, timeout=60)
+        assert run.returncode == 0 and run.stdout.startswith("answered 200 of 200"), run
+        first = [stun.code_of(answer) for answer in relay.responses[:200]]
+        assert first == [401 if words else 200] * 200, first
+    with Server(server, *USER) as running:
+        wrong = [program, "127.0.0.1", str(running.port), "2", NAME, "wrong"]
+        run = subprocess.run(wrong, capture_output=True, text=True, timeout=60)
+        assert run.returncode == 1 and run.stdout.startswith("answered 0 of 2"), run
+
+
 def password_of_a_file(server, client):
     """Name and password come by files, and by standard input; no list of processes shows them."""
     with tempfile.NamedTemporaryFile("w") as file:

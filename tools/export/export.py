@@ -327,7 +327,7 @@ def main():
     if len(sys.argv) != 2:
         sys.exit(__doc__)
     out = Path(sys.argv[1])
-    for folder in ("src", "checks", "examples", "tests"):
+    for folder in ("src", "checks", "examples", "bench", "tests"):
         shutil.rmtree(out / folder, ignore_errors=True)
     shutil.copytree(ROOT / "rust", out, dirs_exist_ok=True)
     uses = crates_known()

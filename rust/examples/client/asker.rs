@@ -1,5 +1,7 @@
-//! A client on a UDP socket that waits for the response to each request. `udp_client.rs` and
-//! `turn_client.rs` share it; `many.rs` has many requests outstanding instead.
+//! What the clients share: the arguments of a command line and, for `udp_client.rs` and
+//! `turn_client.rs`, a client on a UDP socket that waits for the response to each request.
+//! `many.rs` has many requests outstanding instead.
+#![allow(dead_code, reason = "each program uses some of it")]
 
 use seatcrane_stun::Instant;
 use seatcrane_stun::endpoint::{Body, Client, ClientBuilder, Clock, Input, Output, Response};
@@ -9,6 +11,7 @@ use seatcrane_stun::types::message::Method;
 use std::error::Error;
 use std::io::ErrorKind;
 use std::net::{SocketAddr, ToSocketAddrs, UdpSocket};
+use std::process::ExitCode;
 use std::time::Duration;
 
 /// Attributes in the responses of older servers: SOURCE-ADDRESS and CHANGED-ADDRESS (RFC 3489), and
@@ -18,6 +21,58 @@ const OLDER: [AttributeType; 3] = [
     AttributeType(0x0005),
     AttributeType(0x0010),
 ];
+
+/// The arguments of a command line. What follows `--` is no option.
+pub struct Arguments {
+    pub left: Vec<String>,
+    pub file: Option<String>,
+    pub has_sha256: bool,
+    pub within: Duration,
+}
+
+/// Reads the arguments: `--within SECONDS`, and those of these options that a program has. Returns
+/// `None` if they are wrong.
+pub fn arguments(within: f64, options: &[&str]) -> Option<Arguments> {
+    let mut words = std::env::args().skip(1);
+    let (mut left, mut file, mut has_sha256, mut within) = (Vec::new(), None, false, within);
+    while let Some(word) = words.next() {
+        match word.as_str() {
+            "--within" => within = words.next()?.parse().ok()?,
+            "--" => left.extend(words.by_ref()),
+            "--sha256" if options.contains(&"--sha256") => has_sha256 = true,
+            "--user" if options.contains(&"--user") => file = Some(words.next()?),
+            _ if word.starts_with('-') => return None,
+            _ => left.push(word),
+        }
+    }
+    let within = Duration::try_from_secs_f64(within).ok()?;
+    Some(Arguments {
+        left,
+        file,
+        has_sha256,
+        within,
+    })
+}
+
+/// Runs a program with these arguments, if they are right. Prints why it failed, and returns its
+/// status.
+pub fn run(
+    usage: &str,
+    arguments: Option<Arguments>,
+    program: impl Fn(&Arguments) -> Result<(), Box<dyn Error>>,
+) -> ExitCode {
+    let Some(arguments) = arguments else {
+        eprintln!("usage: {usage}");
+        return ExitCode::from(2);
+    };
+    match program(&arguments) {
+        Ok(()) => ExitCode::SUCCESS,
+        Err(error) => {
+            eprintln!("{error}");
+            ExitCode::FAILURE
+        }
+    }
+}
 
 pub struct Asker {
     socket: UdpSocket,
@@ -44,11 +99,7 @@ impl Asker {
         settings: ClientBuilder,
         within: Duration,
     ) -> Result<Asker, Box<dyn Error>> {
-        let any = if server.is_ipv4() {
-            "0.0.0.0:0"
-        } else {
-            "[::]:0"
-        };
+        let any = ["0.0.0.0:0", "[::]:0"][usize::from(server.is_ipv6())];
         let socket = UdpSocket::bind(any)?;
         socket.connect(server)?;
         let mut seed = [0; 32];
@@ -107,7 +158,6 @@ impl Asker {
     }
 
     /// Sends bytes that are no request.
-    #[allow(dead_code, reason = "udp_client has no data")]
     pub fn send(&self, bytes: &[u8]) {
         let _ = self.socket.send(bytes);
     }
@@ -122,7 +172,6 @@ impl Asker {
     }
 
     /// Gives it more time, such as for a last request.
-    #[allow(dead_code, reason = "udp_client has one request")]
     pub fn extend(&mut self, more: Duration) {
         self.give_up = self.give_up.max(self.now()) + more;
     }

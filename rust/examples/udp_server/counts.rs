@@ -1,50 +1,32 @@
 //! What a datagram came to, and counters of that.
 
-use seatcrane_stun::endpoint::{Answer, DropReason, OpenReceived, Received, Refusal};
+use seatcrane_stun::endpoint::{Answer, DropReason, Refusal};
 use std::fmt;
+use std::net::SocketAddr;
 use std::sync::atomic::{AtomicU64, Ordering::Relaxed};
 
 const CODES: [u16; 4] = [400, 401, 420, 438];
 
 pub enum Outcome {
-    /// A success, or an error with this code, to send.
-    Answer(u16, Vec<u8>),
+    /// A success, or an error with this code, to send to this address. If it is to leave from
+    /// another socket than the datagram came to, it has the number of that.
+    Answer(u16, Vec<u8>, SocketAddr, Option<usize>),
     Dropped(DropReason),
     /// No Binding request.
     Other,
 }
 
-impl From<Received<'_>> for Outcome {
-    fn from(received: Received<'_>) -> Outcome {
-        match received {
-            Received::Answer(answer) => Outcome::from(answer),
-            Received::Dropped(why) => Outcome::Dropped(why),
-            _ => Outcome::Other,
-        }
-    }
-}
-
-impl From<OpenReceived<'_>> for Outcome {
-    fn from(received: OpenReceived<'_>) -> Outcome {
-        match received {
-            OpenReceived::Answer(answer) => Outcome::from(answer),
-            OpenReceived::Dropped(why) => Outcome::Dropped(why),
-            _ => Outcome::Other,
-        }
-    }
-}
-
 impl From<Answer> for Outcome {
     fn from(answer: Answer) -> Outcome {
-        let code = answer.refusal().map_or(200, Refusal::code);
-        Outcome::Answer(code, answer.into_bytes())
+        let (code, to) = (answer.refusal().map_or(200, Refusal::code), answer.to());
+        Outcome::Answer(code, answer.into_bytes(), to, None)
     }
 }
 
 impl fmt::Display for Outcome {
     fn fmt(&self, f: &mut fmt::Formatter<'_>) -> fmt::Result {
         match self {
-            Outcome::Answer(code, _) => write!(f, "{code}"),
+            Outcome::Answer(code, ..) => write!(f, "{code}"),
             Outcome::Dropped(why) => write!(f, "dropped: {why}"),
             Outcome::Other => f.write_str("dropped: no Binding request"),
         }
@@ -62,7 +44,7 @@ pub struct Counts {
 impl Counts {
     pub fn note(&self, outcome: &Outcome) {
         let count = match outcome {
-            Outcome::Answer(code, _) => {
+            Outcome::Answer(code, ..) => {
                 let refused = CODES.iter().position(|one| one == code);
                 refused.map_or(&self.answered, |index| &self.refused[index])
             }

@@ -4,7 +4,7 @@ use seatcrane_stun::auth::StoredKeys;
 use seatcrane_stun::endpoint::{Server, UserError, Users};
 use seatcrane_stun::types::message::LongTermCredentials;
 use std::fs::File;
-use std::io::{self, BufRead, Read};
+use std::io::{self, Read};
 
 /// The longest line in bytes, its end included, and the longest name (RFC 8489, section 14.3).
 const LONGEST: usize = 2048;
@@ -21,78 +21,32 @@ pub fn table(
     for (name, password) in pairs {
         add(&mut users, name, password).map_err(|error| error.to_string())?;
     }
-    match path {
-        None => Ok(users),
-        Some("-") => read(users, "standard input", io::stdin().lock()),
-        Some(path) => {
-            let file = File::open(path).map_err(|error| format!("{path}: {error}"))?;
-            read(users, path, Buffered::new(file))
-        }
-    }
-}
-
-/// A file with its buffer on the stack. A `BufReader` ends the program if there is no memory for
-/// its buffer.
-struct Buffered {
-    file: File,
-    bytes: [u8; 4096],
-    begin: usize,
-    end: usize,
-}
-
-impl Buffered {
-    fn new(file: File) -> Buffered {
-        Buffered {
-            file,
-            bytes: [0; 4096],
-            begin: 0,
-            end: 0,
-        }
-    }
-}
-
-impl Read for Buffered {
-    fn read(&mut self, out: &mut [u8]) -> io::Result<usize> {
-        let read = self.fill_buf()?.read(out)?;
-        self.consume(read);
-        Ok(read)
-    }
-}
-
-impl BufRead for Buffered {
-    fn fill_buf(&mut self) -> io::Result<&[u8]> {
-        if self.begin == self.end {
-            (self.begin, self.end) = (0, self.file.read(&mut self.bytes)?);
-        }
-        Ok(&self.bytes[self.begin..self.end])
-    }
-
-    fn consume(&mut self, count: usize) {
-        self.begin += count;
-    }
+    let Some(path) = path else { return Ok(users) };
+    let mut bytes = Vec::new();
+    let (path, read) = match path {
+        "-" => ("standard input", io::stdin().read_to_end(&mut bytes)),
+        path => (
+            path,
+            File::open(path).and_then(|mut file| file.read_to_end(&mut bytes)),
+        ),
+    };
+    let filled = match read {
+        Ok(_) => fill(users, path, &bytes),
+        Err(error) => Err(format!("{path}: {error}")),
+    };
+    bytes.fill(0); // passwords do not stay in memory that is given back
+    filled
 }
 
 /// Adds the user of each line. Each line that is none is reported by its number.
-fn read(mut users: Users, path: &str, mut lines: impl BufRead) -> Result<Users, String> {
-    let (mut number, mut bad) = (0u64, 0u64);
-    let mut line = Vec::new();
-    line.try_reserve_exact(LONGEST)
-        .map_err(|error| error.to_string())?;
-    loop {
-        line.clear();
-        let read = (&mut lines)
-            .take(LONGEST as u64)
-            .read_until(b'\n', &mut line);
-        if read.map_err(|error| format!("{path}: {error}"))? == 0 {
-            break;
-        }
-        number += 1;
-        let is_cut = line.len() == LONGEST && !line.ends_with(b"\n");
-        let added = match std::str::from_utf8(&line) {
-            Ok(text) if !is_cut => add_line(&mut users, text.trim_end_matches(['\r', '\n'])),
-            _ => return Err(format!("{path}, line {number}: too long, or not UTF-8")),
-        };
-        match added {
+fn fill(mut users: Users, path: &str, bytes: &[u8]) -> Result<Users, String> {
+    let mut bad = 0;
+    for (number, line) in (1..).zip(bytes.split(|byte| *byte == b'\n')) {
+        let text = std::str::from_utf8(line)
+            .ok()
+            .filter(|line| line.len() < LONGEST);
+        let text = text.ok_or_else(|| format!("{path}, line {number}: too long, or not UTF-8"))?;
+        match add_line(&mut users, text.trim_end_matches('\r')) {
             Ok(true) => {}
             Ok(false) => {
                 eprintln!("udp_server: {path}, line {number}: no `NAME PASSWORD`");
@@ -104,7 +58,6 @@ fn read(mut users: Users, path: &str, mut lines: impl BufRead) -> Result<Users, 
             }
         }
     }
-    line.fill(0); // passwords do not stay in memory that is given back
     match bad {
         0 => Ok(users),
         _ => Err(format!("{path}: {bad} lines are no users")),

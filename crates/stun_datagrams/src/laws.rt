@@ -2,12 +2,8 @@
 //! do nothing when they run; the others make one call.
 ghost use Rattle.std.specs.FinMap as fin;
 ghost use Rattle.std.specs.Global.{Vec as TheVec};
-ghost use Rattle.std.specs.Prelude.{◌≡◌, ◌∷◌, ◌++◌, ℕ, List, IfOk, Option, Some, length};
-ghost use Rattle.std.specs.Prelude.{map, slice_get};
-ghost use Rattle.std.specs.declared.net.socket_addr.SocketAddr.{SocketAddr as Address};
-ghost use Rattle.stun_auth.specs.Seen.{ClientSeen};
-ghost use Rattle.stun_auth.specs.Validation.{ServerSeen, new_server};
-ghost use Rattle.stun_base.specs.declared.wire.attribute_type.AttributeType.{AttributeType};
+ghost use Rattle.std.specs.Prelude.{◌≡◌, ◌∷◌, ◌++◌, ℕ, List, IfOk, Some, length, slice_get};
+ghost use Rattle.stun_auth.specs.Validation.{new_server};
 ghost use Rattle.stun_datagrams.specs.Calls.{CanBeCalled, IsPlainResponse, calls_for, calls_of};
 ghost use Rattle.stun_datagrams.specs.Calls.{server_with, settings_calls};
 ghost use Rattle.stun_datagrams.specs.Events.{Arrived, ServerEvent, Secrets, outcomes, users_after};

@@ -1,15 +1,18 @@
 //! The responses to a refused request (RFC 8489, sections 9.2.4 and 14.8).
 
-ghost use Rattle.std.specs.Prelude.{◌≡◌, ◌≤◌, IfOk, length};
+ghost use Rattle.std.specs.Prelude.{◌≡◌, ◌≤◌, ◌∷◌, IfOk, length};
+ghost use Rattle.stun_auth.specs.AddedAttribute as added;
 ghost use Rattle.stun_auth.specs.Algorithms.{contains};
 ghost use Rattle.stun_auth.specs.Nonces.{asks_for_algorithms};
 ghost use Rattle.stun_base.specs.declared.keys.algorithm.IntegrityAlgorithm.TheVariants.{Sha256};
-ghost use Rattle.stun_endpoint.specs.Answers.{challenge_page, is_fingerprinted};
+ghost use Rattle.stun_endpoint.specs.Answers.{challenge_page, is_fingerprinted, offered};
+ghost use Rattle.stun_endpoint.specs.Answers.{with_attributes};
 ghost use Rattle.stun_endpoint.specs.Outcomes.{outcome_of};
 ghost use Rattle.stun_endpoint.specs.Received.{answer_to_refused, challenge_answer, refused_with};
 ghost use Rattle.stun_endpoint.specs.Received.{responding_of};
 ghost use Rattle.stun_endpoint.specs.Refusals.{code_of, phrase_of};
 ghost use Rattle.stun_endpoint.specs.Responding.{refusal_by};
+ghost use Rattle.stun_types.specs.Writing.{IsOpen};
 
 use crate::pages::error_page;
 use crate::received::{Answer, Received, Refusal};
@@ -17,7 +20,7 @@ use crate::server::Server;
 use std::alloc::{AllocError, Allocator};
 use std::net::SocketAddr;
 use stun_auth::auth::{VerdictRefusal, told_refusal};
-use stun_types::message::{Message, MessageWriteVec};
+use stun_types::message::{Message, MessageWriteVec, StunWriteError};
 
 impl<A: Allocator + Copy> Server<A> {
     /// What a refused request comes to.
@@ -104,7 +107,6 @@ impl<A: Allocator + Copy> Server<A> {
     }
 
     /// Begins an error response that tells a client how to sign.
-    #[tactic(auto, using(crate::proofs::OfferLemmas::challenged, crate::proofs::OfferLemmas::header_stays))]
     fn challenge(
         &self,
         request: &Message<'_>,
@@ -117,10 +119,27 @@ impl<A: Allocator + Copy> Server<A> {
         ensures header { IfOk result (λ page. 20 ≤ length page.bytes) }
     {
         let page = error_page(self.alloc, request, refusal.code(), refusal.phrase())?;
-        match self.auth.add_challenge(page, nonce) {
+        match self.challenged(page, nonce) {
             Ok(page) => Ok(page),
             // The settings leave room in each response, so that an allocation failed.
             Err(_) => Err(AllocError),
         }
+    }
+
+    /// Adds NONCE, REALM and PASSWORD-ALGORITHMS. The last is offered if and only if HMAC-SHA256 is
+    /// supported.
+    fn challenged(
+        &self,
+        page: MessageWriteVec<A>,
+        nonce: &str,
+    ) -> Result<MessageWriteVec<A>, StunWriteError>
+        requires page { IsOpen page.bytes }
+        requires offer { asks_for_algorithms nonce.now ≡ contains Sha256 self.now.algorithms }
+        ensures bytes { IfOk result (λ challenged. challenged.bytes
+            ≡ with_attributes page.bytes (added.nonce nonce.now
+            ∷ added.realm self.now.realm ∷ offered self.now.algorithms)) }
+        ensures header { IfOk result (λ challenged. 20 ≤ length challenged.bytes) }
+    {
+        self.auth.add_challenge(page, nonce)
     }
 }

@@ -153,15 +153,15 @@ module _ (s : Settings) (realm : Realm) (from : SocketAddr) (r : Reading)
       forth-both secret e (judged_under s realm s.secret from e r)
       (judged_under s realm secret from e r) refl refl h
 
-  back : (previous : Option (List ℕ)) (e : ℕ)
+  pub accepted_is_judged : (previous : Option (List ℕ)) (e : ℕ)
       → IsAcceptedUnder s realm s.secret from e r client
       ⊎ IsAcceptedByPrevious s realm previous from e r client
       → or_previous s realm previous from e r (judged_under s realm s.secret from e r) ≡ Ok client
-  back None e (inl one) = back-under s.secret e one
-  back None e (inr one) = absurd one
-  back (Some secret) e (inl one) =
+  accepted_is_judged None e (inl one) = back-under s.secret e one
+  accepted_is_judged None e (inr one) = absurd one
+  accepted_is_judged (Some secret) e (inl one) =
       first-or_before client _ (judged_under s realm secret from e r) (back-under s.secret e one)
-  back (Some secret) e (inr one) =
+  accepted_is_judged (Some secret) e (inr one) =
       let found = accepting_epoch secret e one in
       ap (or_before (judged_under s realm s.secret from e r)) (back-under secret e one)
       ∙ stale-under s.secret secret found.0 e found.1
@@ -169,4 +169,4 @@ module _ (s : Settings) (realm : Realm) (from : SocketAddr) (r : Reading)
   pub accepted_at : (epoch : ℕ) → (judged_in s realm from epoch r ≡ Ok client)
       ↔ (IsAcceptedUnder s realm s.secret from epoch r client
       ⊎ IsAcceptedByPrevious s realm s.previous from epoch r client)
-  accepted_at epoch = (forth s.previous epoch, back s.previous epoch)
+  accepted_at epoch = (forth s.previous epoch, accepted_is_judged s.previous epoch)

@@ -129,7 +129,7 @@ module _ (s : Settings) (secrets : fin.FinMap name_cmp UserSecret) where
         ∙ sym (ap answer_to (malformed_is_bad users s.feature
         (nonce_of s.algorithms s.feature words) (Some s.algorithms) r bad))
 
-    asked_once : (words : List ℕ)
+    pub asked_once : (words : List ℕ)
         → asked server from moment words r
         ≡ (
           answer_to (verdict users s.feature (nonce_of s.algorithms s.feature words)

@@ -6,6 +6,7 @@ pub mod laws;
 pub mod lookup;
 mod nonces;
 pub mod open;
+mod pages;
 pub mod received;
 pub mod reply;
 pub mod responder;

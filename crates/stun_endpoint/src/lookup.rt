@@ -27,10 +27,11 @@ pub enum Identified<'a, A: Allocator = Global> {
 /// A request that has a nonce which the server accepts for its source address, and waits for its
 /// user.
 ///
-/// Only such requests reach your database. An attacker who invents a nonce, or who forges a source
-/// address and has not seen a nonce of that address, causes no look-up. The request is judged at the
-/// time at which it arrived, so a slow database does not make its nonce stale. A client that sends
-/// its request again causes another look-up; merge them by `transaction_id`.
+/// Only such requests reach your database. An attacker who invents a nonce causes no look-up. One
+/// who forges a source address causes look-ups only after having seen a nonce of that address, as
+/// somebody on the path has, and while that nonce is accepted. The request is judged at the time at
+/// which it arrived, so a slow database does not make its nonce stale. A client that sends its
+/// request again causes another look-up; merge them by `transaction_id`.
 ///
 /// Contracts see the message, its source, the time, and whom it names.
 #[derive(Debug, Drop)]

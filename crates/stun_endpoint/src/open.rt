@@ -153,10 +153,8 @@ impl<A: Allocator> OpenServer<A> {
           answers_binding = settings.answers_binding;
         }) }
     {
-        match Responder::new(alloc, settings) {
-            Ok(responder) => Ok(OpenServer { responder }),
-            Err(refusal) => Err(refusal),
-        }
+        let responder = Responder::new(alloc, settings)?;
+        Ok(OpenServer { responder })
     }
 }
 

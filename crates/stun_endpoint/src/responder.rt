@@ -1,22 +1,19 @@
 //! What a server does with a datagram whatever its credentials are: how it reads it, what it
 //! understands, and the responses that it writes by itself (RFC 8489, sections 6.3 and 14.8).
 
-ghost use Rattle.std.specs.Net.Socket.{socket_ip, socket_port};
 ghost use Rattle.std.specs.Option.{option_map};
 ghost use Rattle.std.specs.Prelude.{◌≡◌, ◌≤◌, ◌++◌, ◌&&◌, [], Err, IfErr, IfOk, IsOkUnless};
 ghost use Rattle.std.specs.Prelude.{MatchOption, None, Some, false, length};
 ghost use Rattle.std.specs.Prelude.{unwrap_or};
 ghost use Rattle.std.specs.String.{string_bytes};
-ghost use Rattle.stun_base.specs.declared.wire.message_type.MessageClass.TheVariants.{Success};
-ghost use Rattle.stun_endpoint.specs.Answers.{binding_page, error_page, is_fingerprinted};
-ghost use Rattle.stun_endpoint.specs.Answers.{mapped_address, with_end, xored_canonical};
+ghost use Rattle.stun_endpoint.specs.Answers.{is_fingerprinted, with_end};
 ghost use Rattle.stun_endpoint.specs.Built.{software_refusal};
 ghost use Rattle.stun_endpoint.specs.Responding.{binding_by, drop_reason, is_binding};
 ghost use Rattle.stun_endpoint.specs.Responding.{is_empty, no_message, own_answer, refusal_by};
 ghost use Rattle.stun_endpoint.specs.Responding.{reply_by, unknown_by};
 ghost use Rattle.stun_extra.specs.Unknown.{refusing_answer, unknown_types};
-ghost use Rattle.stun_types.specs.Writing.{IsOpen, empty_answer, with_attribute};
 
+use crate::pages::{error_page, mapped_page};
 use crate::received::{Answer, DropReason, Refusal};
 use crate::reply::{Reply, Signature, finish_response};
 use crate::server::{BuildError, STUN_ATTRIBUTES};
@@ -28,9 +25,8 @@ use stun_base::attribute_type::AttributeType;
 use stun_base::header::MessageHeader;
 use stun_extra::fingerprint::{Fingerprint, check_fingerprint};
 use stun_extra::unknown::answer_unknown;
-use stun_types::attribute::{ErrorCode, XorMappedAddress};
 use stun_types::limits::TEXT_LIMIT;
-use stun_types::message::{BINDING, Message, MessageWriteVec, StunWriteError, TransactionId};
+use stun_types::message::{BINDING, Message, MessageWriteVec};
 use stun_types::prelude::*;
 
 /// What a server without a realm understands, and what it adds to its responses. `new` sets no
@@ -337,79 +333,4 @@ pub(crate) fn with_stun_attributes<A: Allocator>(
     let mut known = understood;
     known.extend_from_slice(&STUN_ATTRIBUTES)?;
     Ok(known)
-}
-
-/// Begins an error response with ERROR-CODE alone.
-pub(crate) fn error_page<A: Allocator + Copy>(
-    alloc: A,
-    request: &Message<'_>,
-    code: u16,
-    reason: &str,
-) -> Result<MessageWriteVec<A>, AllocError>
-    ensures bytes { IfOk result (λ page. page.bytes
-        ≡ error_page request.now code reason.now) }
-    ensures open { IfOk result (λ page. IsOpen page.bytes) }
-{
-    match try_error_page(alloc, request, code, reason) {
-        Ok(page) => Ok(page),
-        Err(_) => Err(AllocError),
-    }
-}
-
-/// Begins an error response with ERROR-CODE alone.
-#[tactic(auto, unfolding(crate::specs::Answers::error_page))]
-fn try_error_page<A: Allocator + Copy>(
-    alloc: A,
-    request: &Message<'_>,
-    code: u16,
-    reason: &str,
-) -> Result<MessageWriteVec<A>, StunWriteError>
-    ensures bytes { IfOk result (λ page. page.bytes
-        ≡ error_page request.now code reason.now) }
-    ensures open { IfOk result (λ page. IsOpen page.bytes) }
-{
-    let error = ErrorCode::builder(code).reason(reason).build()?;
-    let mut page = Message::builder_error(request, MessageWriteVec::new(alloc))?;
-    page.add_attribute(&error)?;
-    Ok(page)
-}
-
-/// Begins a success response with the address that a request came from.
-#[tactic(auto, unfolding(crate::specs::Answers::binding_page))]
-fn mapped_page<A: Allocator + Copy>(
-    alloc: A,
-    request: &Message<'_>,
-    from: SocketAddr,
-) -> Result<MessageWriteVec<A>, AllocError>
-    ensures bytes { IfOk result (λ page. page.bytes ≡ binding_page from request.now) }
-    ensures header { IfOk result (λ page. 20 ≤ length page.bytes) }
-{
-    match try_mapped_page(alloc, request, from) {
-        Ok(page) => Ok(page),
-        Err(_) => Err(AllocError),
-    }
-}
-
-/// Begins a success response with the address that a request came from.
-fn try_mapped_page<A: Allocator + Copy>(
-    alloc: A,
-    request: &Message<'_>,
-    from: SocketAddr,
-) -> Result<MessageWriteVec<A>, StunWriteError>
-    ensures bytes { IfOk result (λ page. page.bytes
-        ≡ with_attribute (empty_answer Success request.now)
-        (mapped_address from request.now)) }
-    ensures header { IfOk result (λ page. 20 ≤ length page.bytes) }
-{
-    let mut page = Message::builder_success(request, MessageWriteVec::new(alloc))?;
-    page.add_attribute(&mapped_address(from, request.transaction_id()))?;
-    Ok(page)
-}
-
-/// XOR-MAPPED-ADDRESS of an address. An IPv4 address in either spelling is IPv4.
-fn mapped_address(from: SocketAddr, id: TransactionId) -> XorMappedAddress
-    ensures { result ≡ xored_canonical (socket_ip from) (socket_port from) id }
-{
-    let ip = from.ip().to_canonical();
-    XorMappedAddress::new(SocketAddr::new(ip, from.port()), id)
 }

@@ -4,8 +4,11 @@
 ghost use Rattle.std.specs.Fmt.{WritesOnOk, WritesStyledOnOk};
 ghost use Rattle.std.specs.Prelude.{◌≡◌, Some, IfOk, codes};
 ghost use Rattle.std.specs.String.{string_bytes};
+ghost use Rattle.stun_auth.specs.Algorithms.{contains};
 ghost use Rattle.stun_auth.specs.Handed.{just};
+ghost use Rattle.stun_auth.specs.Nonces.{asks_for_algorithms};
 ghost use Rattle.stun_auth.specs.Registered.{user_by_keys, user_by_password};
+ghost use Rattle.stun_base.specs.declared.keys.algorithm.IntegrityAlgorithm.TheVariants.{Sha256};
 ghost use Rattle.stun_endpoint.specs.Nonces.{current_nonce, nonce_in};
 ghost use Rattle.stun_endpoint.specs.Realm.{table_of};
 ghost use Rattle.stun_endpoint.specs.Settings.{registered_of};
@@ -27,6 +30,7 @@ mod identifying;
 pub(crate) mod judges;
 mod judging;
 mod receiving;
+mod refusing;
 mod settings;
 
 pub use settings::{
@@ -148,15 +152,19 @@ impl<A: Allocator + Copy> Server<A> {
         self.nonce_in(&self.secret, from, now.epoch(self.lifetime))
     }
 
-    /// Returns the nonce of an address in an epoch, under a secret.
+    /// Returns the nonce of an address in an epoch, under a secret. It asks for a choice of algorithms
+    /// if and only if HMAC-SHA256 is supported.
+    #[tactic(auto, using(crate::proofs::OfferLemmas::nonce_asks))]
     fn nonce_in(
         &self,
         secret: &PreparedKey<A>,
         from: SocketAddr,
         epoch: u64,
     ) -> Result<String<A>, AllocError>
-        ensures { IfOk result (λ nonce. string_bytes nonce
+        ensures nonce { IfOk result (λ nonce. string_bytes nonce
             ≡ nonce_in self.now secret.now from epoch) }
+        ensures offer { IfOk result (λ nonce. asks_for_algorithms (string_bytes nonce)
+            ≡ contains Sha256 self.now.algorithms) }
     {
         let words = words_of(secret, from, epoch, self.hmac_sha1, self.hmac_sha256);
         self.auth.nonce_of_words(&words)

@@ -143,10 +143,8 @@ impl<A: Allocator> ShortTermServer<A> {
           answers_binding = settings.answers_binding;
         }) }
     {
-        match Responder::new(alloc, settings) {
-            Ok(responder) => Ok(ShortTermServer { responder }),
-            Err(refusal) => Err(refusal),
-        }
+        let responder = Responder::new(alloc, settings)?;
+        Ok(ShortTermServer { responder })
     }
 }
 

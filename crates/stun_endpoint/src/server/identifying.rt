@@ -57,8 +57,9 @@ impl<A: Allocator + Copy> Server<A> {
     /// - `Lookup` is a request that carries a nonce which is accepted for its source at this time,
     ///   is signed, and names a user. Look that user up, and pass both to `resume`.
     ///
-    /// So an attacker who invents a nonce, or who forges a source address and has not seen a nonce of
-    /// that address, causes no look-up: the nonces of an address are only sent to that address.
+    /// So an attacker who invents a nonce causes no look-up. The nonces of an address are only sent
+    /// to that address: one who forges a source address causes look-ups only after having seen a
+    /// nonce of it, and while that nonce is accepted.
     ///
     /// Fails if an allocation fails. Nothing is lost then, because the client sends again. Memory is
     /// allocated for requests alone.

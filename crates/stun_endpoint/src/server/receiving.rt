@@ -1,47 +1,37 @@
 //! What a datagram comes to (RFC 8489, sections 6.3 and 9.2.4).
 
 ghost use Rattle.std.specs.Option.{option_copied};
-ghost use Rattle.std.specs.Prelude.{◌≡◌, ◌≤◌, ◌∷◌, IfOk, IsOk, OnOk, false, true};
-ghost use Rattle.std.specs.Prelude.{length, map, if◌then◌else◌};
-ghost use Rattle.stun_auth.specs.AddedAttribute as added;
-ghost use Rattle.stun_auth.specs.Algorithms.{algorithms_of};
+ghost use Rattle.std.specs.Prelude.{◌≡◌, IfOk, IsOk, false, if◌then◌else◌};
+ghost use Rattle.stun_auth.specs.Algorithms.{contains};
+ghost use Rattle.stun_auth.specs.Nonces.{asks_for_algorithms};
 ghost use Rattle.stun_auth.specs.Reading.{reading_of};
 ghost use Rattle.stun_base.specs.MessageType.{class_in, is_request};
-ghost use Rattle.stun_endpoint.specs.Answers.{challenge_page, is_fingerprinted, offered};
-ghost use Rattle.stun_endpoint.specs.Answers.{with_attributes};
+ghost use Rattle.stun_base.specs.declared.keys.algorithm.IntegrityAlgorithm.TheVariants.{Sha256};
+ghost use Rattle.stun_endpoint.specs.Answers.{is_fingerprinted};
 ghost use Rattle.stun_endpoint.specs.Judged.{judged, realm_of_table, realm_of_user};
 ghost use Rattle.stun_endpoint.specs.Nonces.{epoch_of};
 ghost use Rattle.stun_endpoint.specs.Outcomes.{outcome_of};
-ghost use Rattle.stun_endpoint.specs.Realm.{algorithms_for};
-ghost use Rattle.stun_endpoint.specs.Received.{answer_to_refused, by_class, by_verdict};
-ghost use Rattle.stun_endpoint.specs.Received.{challenge_answer, dropped, indicated, is_empty};
-ghost use Rattle.stun_endpoint.specs.Received.{outcome_of_accepted, received_by, refused_with};
+ghost use Rattle.stun_endpoint.specs.Received.{by_class, by_verdict, dropped, indicated};
+ghost use Rattle.stun_endpoint.specs.Received.{is_empty, outcome_of_accepted, received_by};
 ghost use Rattle.stun_endpoint.specs.Received.{responding_of, signature_for};
-ghost use Rattle.stun_endpoint.specs.Refusals.{code_of, phrase_of};
-ghost use Rattle.stun_endpoint.specs.Responding.{is_undropped_request, own_answer, refusal_by};
-ghost use Rattle.stun_endpoint.specs.Responding.{reply_by};
+ghost use Rattle.stun_endpoint.specs.Responding.{is_undropped_request, own_answer, reply_by};
 ghost use Rattle.stun_endpoint.specs.code.Judgements.{by_judgement};
 ghost use Rattle.stun_endpoint.specs.code.Judges.{realm_of};
 ghost use Rattle.stun_extra.specs.Unknown.{unknown_types};
-ghost use Rattle.stun_types.specs.PasswordAlgorithms.{password_algorithm_of};
 
-use crate::received::{Answer, DropReason, Received, Refusal, Request};
+use crate::received::{Answer, DropReason, Received, Request};
 use crate::reply::{Reply, Signature};
-use crate::responder::{error_page, no_message};
+use crate::responder::no_message;
 use crate::server::Server;
 use crate::server::judges::Judges;
 use crate::unix_time::UnixTime;
 use crate::users::Users;
 use std::alloc::{AllocError, Allocator};
 use std::net::SocketAddr;
-use stun_auth::auth::{Accepted, LongTermServerUser, VerdictRefusal, told_refusal};
+use stun_auth::auth::{Accepted, LongTermServerUser, VerdictRefusal};
 use stun_base::prepared_key::PreparedKey;
 use stun_extra::fingerprint::{Fingerprint, check_fingerprint};
-use stun_types::attribute::{Nonce, PasswordAlgorithmValue, PasswordAlgorithms, Realm};
-use stun_types::message::{
-    Message, MessageClass, MessageWriteVec, StunWriteError, deciding_algorithm,
-};
-use stun_types::prelude::*;
+use stun_types::message::{Message, MessageClass, deciding_algorithm};
 
 impl<A: Allocator + Copy> Server<A> {
     /// Judges a datagram, and writes the response if it gets one at once.
@@ -185,7 +175,8 @@ impl<A: Allocator + Copy> Server<A> {
         verdict: Result<Accepted<'a, A>, VerdictRefusal>,
         has_fingerprint: bool,
     ) -> Result<Received<'a, A>, AllocError>
-        requires { has_fingerprint ≡ is_fingerprinted message }
+        requires fingerprint { has_fingerprint ≡ is_fingerprinted message }
+        requires offer { asks_for_algorithms nonce.now ≡ contains Sha256 self.now.algorithms }
         ensures { IfOk result (λ received. outcome_of received
             ≡ by_judgement self.now nonce.now from message.entry verdict.entry) }
     {
@@ -256,147 +247,6 @@ impl<A: Allocator + Copy> Server<A> {
     {
         self.responder
             .reply(request, from, signature, has_fingerprint)
-    }
-
-    /// What a refused request comes to.
-    fn refused<'a>(
-        &self,
-        request: &Message<'_>,
-        from: SocketAddr,
-        nonce: &str,
-        refusal: VerdictRefusal,
-        has_fingerprint: bool,
-    ) -> Result<Received<'a, A>, AllocError>
-        requires { has_fingerprint ≡ is_fingerprinted request.now }
-        ensures { IfOk result (λ received. outcome_of received
-            ≡ refused_with self.now nonce.now from request.now refusal) }
-    {
-        let told = told_refusal(refusal, request, nonce);
-        let answer = self.answer_to_refused(request, from, nonce, told, has_fingerprint)?;
-        Ok(Received::Answer(answer))
-    }
-
-    /// Writes the response to a refused request.
-    fn answer_to_refused(
-        &self,
-        request: &Message<'_>,
-        from: SocketAddr,
-        nonce: &str,
-        told: VerdictRefusal,
-        has_fingerprint: bool,
-    ) -> Result<Answer<A>, AllocError>
-        requires { has_fingerprint ≡ is_fingerprinted request.now }
-        ensures { IfOk result (λ answer. answer
-            ≡ answer_to_refused self.now nonce.now from request.now told) }
-    {
-        match told {
-            VerdictRefusal::Unauthorized => self.challenge_answer(
-                request,
-                from,
-                Refusal::Unauthenticated,
-                nonce,
-                has_fingerprint,
-            ),
-            VerdictRefusal::StaleNonce => {
-                self.challenge_answer(request, from, Refusal::StaleNonce, nonce, has_fingerprint)
-            }
-            VerdictRefusal::BadRequest => self.bad_answer(request, from, has_fingerprint),
-        }
-    }
-
-    /// Writes a 400.
-    fn bad_answer(
-        &self,
-        request: &Message<'_>,
-        from: SocketAddr,
-        has_fingerprint: bool,
-    ) -> Result<Answer<A>, AllocError>
-        requires { has_fingerprint ≡ is_fingerprinted request.now }
-        ensures { IfOk result (λ answer. answer
-            ≡ refusal_by (responding_of self.now) Refusal.BadRequest from request.now) }
-    {
-        self.responder
-            .refusal(request, from, Refusal::BadRequest, has_fingerprint)
-    }
-
-    /// Writes a 401 or a 438.
-    #[tactic(auto, unfolding(crate::specs::Received::challenge_answer))]
-    fn challenge_answer(
-        &self,
-        request: &Message<'_>,
-        from: SocketAddr,
-        refusal: Refusal,
-        nonce: &str,
-        has_fingerprint: bool,
-    ) -> Result<Answer<A>, AllocError>
-        requires { has_fingerprint ≡ is_fingerprinted request.now }
-        ensures { IfOk result (λ answer. answer
-            ≡ challenge_answer self.now refusal nonce.now from request.now) }
-    {
-        let page = self.challenge(request, nonce, refusal)?;
-        let bytes = self.responder.end(page, &None, has_fingerprint)?;
-        Ok(Answer::new(from, Some(refusal), bytes))
-    }
-
-    /// Begins an error response that tells a client how to sign.
-    fn challenge(
-        &self,
-        request: &Message<'_>,
-        nonce: &str,
-        refusal: Refusal,
-    ) -> Result<MessageWriteVec<A>, AllocError>
-        ensures bytes { IfOk result (λ page. page.bytes
-            ≡ challenge_page self.now nonce.now request.now (code_of refusal) (phrase_of refusal)) }
-        ensures header { IfOk result (λ page. 20 ≤ length page.bytes) }
-    {
-        let mut page = error_page(self.alloc, request, refusal.code(), refusal.phrase())?;
-        match self.add_challenge(&mut page, nonce) {
-            Ok(()) => Ok(page),
-            // The settings leave room in each response, so that an allocation failed.
-            Err(_) => Err(AllocError),
-        }
-    }
-
-    /// Adds NONCE, REALM and PASSWORD-ALGORITHMS.
-    fn add_challenge(
-        &self,
-        page: &mut MessageWriteVec<A>,
-        nonce: &str,
-    ) -> Result<(), StunWriteError>
-        requires { 20 ≤ length page.old.bytes }
-        ensures bytes { OnOk result (page.new.bytes
-            ≡ with_attributes page.old.bytes (added.nonce nonce.now
-            ∷ added.realm self.now.realm ∷ offered self.now.algorithms)) }
-        ensures header { OnOk result (20 ≤ length page.new.bytes) }
-    {
-        page.add_attribute(&Nonce::new(nonce)?)?;
-        page.add_attribute(&Realm::new(self.auth.realm())?)?;
-        self.add_offer(page)
-    }
-
-    /// Adds PASSWORD-ALGORITHMS, if HMAC-SHA256 is supported.
-    #[tactic(auto, using(crate::proofs::OfferLemmas::offered_with_sha256))]
-    fn add_offer(&self, page: &mut MessageWriteVec<A>) -> Result<(), StunWriteError>
-        requires { 20 ≤ length page.old.bytes }
-        ensures bytes { OnOk result (page.new.bytes
-            ≡ with_attributes page.old.bytes (offered self.now.algorithms)) }
-        ensures header { OnOk result (20 ≤ length page.new.bytes) }
-    {
-        if !self.hmac_sha256 {
-            return Ok(());
-        }
-        page.add_attribute(&PasswordAlgorithms::new(offered_values(self.hmac_sha1)))
-    }
-}
-
-/// The password algorithms of a server that supports HMAC-SHA256, the strongest first.
-fn offered_values(hmac_sha1: bool) -> &'static [PasswordAlgorithmValue]
-    ensures { result.now ≡ map password_algorithm_of (algorithms_of (algorithms_for hmac_sha1 true)) }
-{
-    if hmac_sha1 {
-        &[PasswordAlgorithmValue::SHA256, PasswordAlgorithmValue::MD5]
-    } else {
-        &[PasswordAlgorithmValue::SHA256]
     }
 }
 

@@ -47,10 +47,12 @@ pub const STUN_ATTRIBUTES: [AttributeType; 11] = [
 pub struct LongTerm<A: Allocator = Global> {
     /// The realm, of at most 763 bytes (section 14.9).
     pub realm: String<A>,
-    /// 32 random bytes. Whoever has them can make nonces that are accepted. Servers that share them,
-    /// and have the same algorithms, `user_hashes` and nonce lifetime, accept each other's nonces,
-    /// except that a server refuses a nonce of an epoch that has not begun on its own clock. A
-    /// server that starts again with them serves its old clients at once.
+    /// 32 random bytes. Whoever has them can make nonces that are accepted. Servers with the same
+    /// secret, algorithms, `user_hashes` and nonce lifetime accept each other's nonces, if the nonce
+    /// is of the epoch that each has on its own clock, or of the epoch before. So a server refuses a
+    /// nonce of an epoch that has not begun on its clock, as when the clock of the server that sent
+    /// it is ahead. A server that starts again with this secret serves its old clients at once if
+    /// its clock goes on, as that of the wall does.
     pub secret: [u8; 32],
     /// A secret whose nonces are accepted too, but never sent. Set it to the secret before when you
     /// change the secret, and remove it two nonce lifetimes later.

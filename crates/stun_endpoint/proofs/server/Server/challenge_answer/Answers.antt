@@ -14,5 +14,5 @@ returns g c =
       software = s.software;
       signature = None;
       has_fingerprint = c.args.has_fingerprint;
-    }) c.in_ok-page.page.bytes) c.self.view_is) c.requires c.new.ensures
+    }) c.in_ok-page.page.bytes) c.self.view_is) c.requires.fingerprint c.new.ensures
     c.in_ok-page.ensures.bytes

@@ -1,0 +1,91 @@
+-- What happens at a server, in order: its users change, and datagrams arrive. What each datagram
+-- comes to (RFC 8489, sections 6.3 and 9.2.4).
+use Rattle.std.specs.Prelude.{ℕ, List, [], ◌∷◌, Bool, true, if◌then◌else◌, Option, Some, None}
+use Rattle.std.specs.Prelude.{string_bytes}
+use Rattle.std.specs.FinMap as fin
+use Rattle.std.specs.Global.{Vec}
+use Rattle.std.specs.Option.{option_map}
+use Rattle.std.specs.declared.alloc.Global.{Global}
+use Rattle.std.specs.declared.string.String.{String}
+use Rattle.std.specs.declared.net.socket_addr.SocketAddr.{SocketAddr}
+use Rattle.stun_base.specs.Address.{same_address}
+use Rattle.stun_auth.specs.Registered.{of_password}
+pub use Rattle.stun_proto.specs.DatabaseLoop.{Secrets}
+use Rattle.stun_proto.specs.Serving.{Reply, reply_of_answer}
+use Rattle.stun_endpoint.specs.Judged.{Realm, realm_of_user}
+use Rattle.stun_endpoint.specs.Lookups.{users_with}
+use Rattle.stun_endpoint.specs.Received.{Outcome, received_by}
+use Rattle.stun_endpoint.specs.Runs.{Arrival, verdict_on}
+use Rattle.stun_endpoint.specs.Settings.{Settings}
+
+-- a user is added with a password, or gets another one; the user of a name is removed; a datagram
+-- arrives: its source, when, and its bytes
+pub data ServerEvent : Type 0 where
+  UserAdded : String Global → String Global → ServerEvent
+  UserRemoved : String Global → ServerEvent
+  Arrived : SocketAddr → ℕ → Vec ℕ → ServerEvent
+
+-- ---- users
+
+-- the users after an event
+abbrev pub users_after_event : Secrets → ServerEvent → Secrets
+users_after_event users (UserAdded name password) =
+    fin.insert users (string_bytes name) (of_password (string_bytes password))
+users_after_event users (UserRemoved name) = fin.remove users (string_bytes name)
+users_after_event users (Arrived from now message) = users
+
+abbrev pub users_after : Secrets → List ServerEvent → Secrets
+users_after users [] = users
+users_after users (e ∷ later) = users_after (users_after_event users e) later
+
+-- these users at the realm of a server
+abbrev pub realm_with : Settings → Secrets → Realm
+realm_with s users = realm_of_user s (Some (users_with s users))
+
+-- ---- what each event comes to: nothing, if it is no datagram
+
+abbrev pub outcome_of_event : Settings → Secrets → ServerEvent → Option Outcome
+outcome_of_event s users (UserAdded name password) = None
+outcome_of_event s users (UserRemoved name) = None
+outcome_of_event s users (Arrived from now message) =
+    Some (received_by s (realm_with s users) from now message.items)
+
+abbrev pub outcomes : Settings → Secrets → List ServerEvent → List (Option Outcome)
+outcomes s users [] = []
+outcomes s users (e ∷ later) =
+    outcome_of_event s users e ∷ outcomes s (users_after_event users e) later
+
+-- the verdict on a datagram, if it is a request that is not dropped: as a server that keeps records
+-- replies to it
+abbrev pub verdict_of_event : Settings → Secrets → ServerEvent → Option Reply
+verdict_of_event s users (UserAdded name password) = None
+verdict_of_event s users (UserRemoved name) = None
+verdict_of_event s users (Arrived from now message) =
+    let d : Arrival = record { from = from; now = now; bytes = message.items; users = users } in
+    option_map reply_of_answer (verdict_on s d)
+
+abbrev pub verdicts : Settings → Secrets → List ServerEvent → List (Option Reply)
+verdicts s users [] = []
+verdicts s users (e ∷ later) =
+    verdict_of_event s users e ∷ verdicts s (users_after_event users e) later
+
+-- ---- one source
+
+-- whether an event is a datagram of a source, or changes the users
+abbrev pub is_of_source : SocketAddr → ServerEvent → Bool
+is_of_source a (UserAdded name password) = true
+is_of_source a (UserRemoved name) = true
+is_of_source a (Arrived from now message) = same_address from a
+
+-- the datagrams of a source and all changes of the users, in their order
+abbrev pub own_events : SocketAddr → List ServerEvent → List ServerEvent
+own_events a [] = []
+own_events a (e ∷ later) = if is_of_source a e then e ∷ own_events a later else own_events a later
+
+-- what they come to
+abbrev pub own_outcomes : SocketAddr → List ServerEvent → List (Option Outcome)
+    → List (Option Outcome)
+own_outcomes a [] given = []
+own_outcomes a (e ∷ later) [] = []
+own_outcomes a (e ∷ later) (o ∷ given) =
+    if is_of_source a e then o ∷ own_outcomes a later given else own_outcomes a later given

@@ -1,0 +1,90 @@
+//! Responses before they are ended: an error response with ERROR-CODE, and a success response with
+//! the address that a request came from (RFC 8489, sections 14.2 and 14.8).
+
+ghost use Rattle.std.specs.Net.Socket.{socket_ip, socket_port};
+ghost use Rattle.std.specs.Prelude.{◌≡◌, ◌≤◌, IfOk, length};
+ghost use Rattle.stun_base.specs.declared.wire.message_type.MessageClass.TheVariants.{Success};
+ghost use Rattle.stun_endpoint.specs.Answers.{binding_page, error_page, mapped_address};
+ghost use Rattle.stun_endpoint.specs.Answers.{xored_canonical};
+ghost use Rattle.stun_types.specs.Writing.{IsOpen, empty_answer, with_attribute};
+
+use std::alloc::{AllocError, Allocator};
+use std::net::SocketAddr;
+use stun_types::attribute::{ErrorCode, XorMappedAddress};
+use stun_types::message::{Message, MessageWriteVec, StunWriteError, TransactionId};
+use stun_types::prelude::*;
+
+/// Begins an error response with ERROR-CODE alone.
+pub(crate) fn error_page<A: Allocator + Copy>(
+    alloc: A,
+    request: &Message<'_>,
+    code: u16,
+    reason: &str,
+) -> Result<MessageWriteVec<A>, AllocError>
+    ensures bytes { IfOk result (λ page. page.bytes
+        ≡ error_page request.now code reason.now) }
+    ensures open { IfOk result (λ page. IsOpen page.bytes) }
+{
+    match try_error_page(alloc, request, code, reason) {
+        Ok(page) => Ok(page),
+        Err(_) => Err(AllocError),
+    }
+}
+
+/// Begins an error response with ERROR-CODE alone.
+#[tactic(auto, unfolding(crate::specs::Answers::error_page))]
+fn try_error_page<A: Allocator + Copy>(
+    alloc: A,
+    request: &Message<'_>,
+    code: u16,
+    reason: &str,
+) -> Result<MessageWriteVec<A>, StunWriteError>
+    ensures bytes { IfOk result (λ page. page.bytes
+        ≡ error_page request.now code reason.now) }
+    ensures open { IfOk result (λ page. IsOpen page.bytes) }
+{
+    let error = ErrorCode::builder(code).reason(reason).build()?;
+    let mut page = Message::builder_error(request, MessageWriteVec::new(alloc))?;
+    page.add_attribute(&error)?;
+    Ok(page)
+}
+
+/// Begins a success response with the address that a request came from.
+#[tactic(auto, unfolding(crate::specs::Answers::binding_page))]
+pub(crate) fn mapped_page<A: Allocator + Copy>(
+    alloc: A,
+    request: &Message<'_>,
+    from: SocketAddr,
+) -> Result<MessageWriteVec<A>, AllocError>
+    ensures bytes { IfOk result (λ page. page.bytes ≡ binding_page from request.now) }
+    ensures header { IfOk result (λ page. 20 ≤ length page.bytes) }
+{
+    match try_mapped_page(alloc, request, from) {
+        Ok(page) => Ok(page),
+        Err(_) => Err(AllocError),
+    }
+}
+
+/// Begins a success response with the address that a request came from.
+fn try_mapped_page<A: Allocator + Copy>(
+    alloc: A,
+    request: &Message<'_>,
+    from: SocketAddr,
+) -> Result<MessageWriteVec<A>, StunWriteError>
+    ensures bytes { IfOk result (λ page. page.bytes
+        ≡ with_attribute (empty_answer Success request.now)
+        (mapped_address from request.now)) }
+    ensures header { IfOk result (λ page. 20 ≤ length page.bytes) }
+{
+    let mut page = Message::builder_success(request, MessageWriteVec::new(alloc))?;
+    page.add_attribute(&mapped_address(from, request.transaction_id()))?;
+    Ok(page)
+}
+
+/// XOR-MAPPED-ADDRESS of an address. An IPv4 address in either spelling is IPv4.
+fn mapped_address(from: SocketAddr, id: TransactionId) -> XorMappedAddress
+    ensures { result ≡ xored_canonical (socket_ip from) (socket_port from) id }
+{
+    let ip = from.ip().to_canonical();
+    XorMappedAddress::new(SocketAddr::new(ip, from.port()), id)
+}

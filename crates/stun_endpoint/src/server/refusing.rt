@@ -1,0 +1,145 @@
+//! The responses to a refused request (RFC 8489, sections 9.2.4 and 14.8).
+
+ghost use Rattle.std.specs.Prelude.{◌≡◌, ◌≤◌, ◌∷◌, IfOk, length};
+ghost use Rattle.stun_auth.specs.AddedAttribute as added;
+ghost use Rattle.stun_auth.specs.Algorithms.{contains};
+ghost use Rattle.stun_auth.specs.Nonces.{asks_for_algorithms};
+ghost use Rattle.stun_base.specs.declared.keys.algorithm.IntegrityAlgorithm.TheVariants.{Sha256};
+ghost use Rattle.stun_endpoint.specs.Answers.{challenge_page, is_fingerprinted, offered};
+ghost use Rattle.stun_endpoint.specs.Answers.{with_attributes};
+ghost use Rattle.stun_endpoint.specs.Outcomes.{outcome_of};
+ghost use Rattle.stun_endpoint.specs.Received.{answer_to_refused, challenge_answer, refused_with};
+ghost use Rattle.stun_endpoint.specs.Received.{responding_of};
+ghost use Rattle.stun_endpoint.specs.Refusals.{code_of, phrase_of};
+ghost use Rattle.stun_endpoint.specs.Responding.{refusal_by};
+ghost use Rattle.stun_types.specs.Writing.{IsOpen};
+
+use crate::pages::error_page;
+use crate::received::{Answer, Received, Refusal};
+use crate::server::Server;
+use std::alloc::{AllocError, Allocator};
+use std::net::SocketAddr;
+use stun_auth::auth::{VerdictRefusal, told_refusal};
+use stun_types::message::{Message, MessageWriteVec, StunWriteError};
+
+impl<A: Allocator + Copy> Server<A> {
+    /// What a refused request comes to.
+    pub(super) fn refused<'a>(
+        &self,
+        request: &Message<'_>,
+        from: SocketAddr,
+        nonce: &str,
+        refusal: VerdictRefusal,
+        has_fingerprint: bool,
+    ) -> Result<Received<'a, A>, AllocError>
+        requires fingerprint { has_fingerprint ≡ is_fingerprinted request.now }
+        requires offer { asks_for_algorithms nonce.now ≡ contains Sha256 self.now.algorithms }
+        ensures { IfOk result (λ received. outcome_of received
+            ≡ refused_with self.now nonce.now from request.now refusal) }
+    {
+        let told = told_refusal(refusal, request, nonce);
+        let answer = self.answer_to_refused(request, from, nonce, told, has_fingerprint)?;
+        Ok(Received::Answer(answer))
+    }
+
+    /// Writes the response to a refused request.
+    fn answer_to_refused(
+        &self,
+        request: &Message<'_>,
+        from: SocketAddr,
+        nonce: &str,
+        told: VerdictRefusal,
+        has_fingerprint: bool,
+    ) -> Result<Answer<A>, AllocError>
+        requires fingerprint { has_fingerprint ≡ is_fingerprinted request.now }
+        requires offer { asks_for_algorithms nonce.now ≡ contains Sha256 self.now.algorithms }
+        ensures { IfOk result (λ answer. answer
+            ≡ answer_to_refused self.now nonce.now from request.now told) }
+    {
+        match told {
+            VerdictRefusal::Unauthorized => self.challenge_answer(
+                request,
+                from,
+                Refusal::Unauthenticated,
+                nonce,
+                has_fingerprint,
+            ),
+            VerdictRefusal::StaleNonce => {
+                self.challenge_answer(request, from, Refusal::StaleNonce, nonce, has_fingerprint)
+            }
+            VerdictRefusal::BadRequest => self.bad_answer(request, from, has_fingerprint),
+        }
+    }
+
+    /// Writes a 400.
+    fn bad_answer(
+        &self,
+        request: &Message<'_>,
+        from: SocketAddr,
+        has_fingerprint: bool,
+    ) -> Result<Answer<A>, AllocError>
+        requires { has_fingerprint ≡ is_fingerprinted request.now }
+        ensures { IfOk result (λ answer. answer
+            ≡ refusal_by (responding_of self.now) Refusal.BadRequest from request.now) }
+    {
+        self.responder
+            .refusal(request, from, Refusal::BadRequest, has_fingerprint)
+    }
+
+    /// Writes a 401 or a 438.
+    #[tactic(auto, unfolding(crate::specs::Received::challenge_answer))]
+    fn challenge_answer(
+        &self,
+        request: &Message<'_>,
+        from: SocketAddr,
+        refusal: Refusal,
+        nonce: &str,
+        has_fingerprint: bool,
+    ) -> Result<Answer<A>, AllocError>
+        requires fingerprint { has_fingerprint ≡ is_fingerprinted request.now }
+        requires offer { asks_for_algorithms nonce.now ≡ contains Sha256 self.now.algorithms }
+        ensures { IfOk result (λ answer. answer
+            ≡ challenge_answer self.now refusal nonce.now from request.now) }
+    {
+        let page = self.challenge(request, nonce, refusal)?;
+        let bytes = self.responder.end(page, &None, has_fingerprint)?;
+        Ok(Answer::new(from, Some(refusal), bytes))
+    }
+
+    /// Begins an error response that tells a client how to sign.
+    fn challenge(
+        &self,
+        request: &Message<'_>,
+        nonce: &str,
+        refusal: Refusal,
+    ) -> Result<MessageWriteVec<A>, AllocError>
+        requires { asks_for_algorithms nonce.now ≡ contains Sha256 self.now.algorithms }
+        ensures bytes { IfOk result (λ page. page.bytes
+            ≡ challenge_page self.now nonce.now request.now (code_of refusal) (phrase_of refusal)) }
+        ensures header { IfOk result (λ page. 20 ≤ length page.bytes) }
+    {
+        let page = error_page(self.alloc, request, refusal.code(), refusal.phrase())?;
+        match self.challenged(page, nonce) {
+            Ok(page) => Ok(page),
+            // The settings leave room in each response, so that an allocation failed.
+            Err(_) => Err(AllocError),
+        }
+    }
+
+    /// Adds NONCE, REALM and PASSWORD-ALGORITHMS. The last is offered if and only if HMAC-SHA256 is
+    /// supported.
+    fn challenged(
+        &self,
+        page: MessageWriteVec<A>,
+        nonce: &str,
+    ) -> Result<MessageWriteVec<A>, StunWriteError>
+        requires page { IsOpen page.bytes }
+        requires offer { asks_for_algorithms nonce.now ≡ contains Sha256 self.now.algorithms }
+        ensures bytes { IfOk result (λ challenged. challenged.bytes
+            ≡ with_attributes page.bytes (added.nonce nonce.now
+            ∷ added.realm self.now.realm ∷ offered self.now.algorithms)) }
+        ensures header { IfOk result (λ challenged. 20 ≤ length challenged.bytes) }
+    {
+        self.auth.add_challenge(page, nonce)
+    }
+}

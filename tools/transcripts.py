@@ -207,9 +207,8 @@ def in_c(archives):
 
 
 def in_rust(folder):
-    command = block_after(text_of("README.md"), "section 2.1.").split("\n", 1)
-    if command[0] != "make export" or not prints("valid MESSAGE-INTEGRITY\n",
-                                               ["sh", "-ec", command[1]], cwd=TOP):
+    command = block_after(text_of("README.md"), "section 2.1.")
+    if not prints("valid MESSAGE-INTEGRITY\n", ["sh", "-ec", command], cwd=TOP):
         return False
     source = os.path.join(folder, "examples", "readme.rs")
     jobs = text_of("README.md").split("## Everyday jobs")[1].split("\n## ")[0]

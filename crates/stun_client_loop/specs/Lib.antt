@@ -1,0 +1,6 @@
+-- What the contracts of this crate say, in the order to read it.
+
+-- the requests of a client with their timers, and what each call makes of both
+pub mod Loops
+-- what they are once the loans of a call have ended
+pub mod LoopLends

@@ -205,7 +205,9 @@
  *
  * Handles, memory and errors are those of stunp_state.h, except that a handle may be const, and that
  * the _own calls take a copy of a handle (Threads). In short: a handle begins as {0}, a _new
- * call fills it and a _free call empties it. Calls read their arguments during the call alone. A
+ * call fills it and a _free call empties it. A handle of this header that has a value of another kind
+ * is refused (STUNP_WRONG_HANDLE), and a null one counts as empty where it may be const; but no call
+ * notices a copy of a handle that was freed. Calls read their arguments during the call alone. A
  * pointer may be null only if its length is 0; pointers to results may be null everywhere. A call
  * that fails returns a negative stunp_refusal, for which stunp_strerror has a text, and changes
  * nothing, unless its comment says otherwise. If several errors apply, it returns the first of its

@@ -17,8 +17,7 @@
  *
  * - The proved one is the archive crates/stun_c/out/libstun_c.a, which `rt lib` in crates/stun_c
  *   proves and builds. It holds ELF objects for Linux on x86-64-v2 processors, as do those of
- *   stunp_state.h and stunp_endpoint.h. `make install` adds stunp_is_proved to it, which the archive
- *   in out/ does not have.
+ *   stunp_state.h and stunp_endpoint.h.
  * - The exported one is libstunp.so and libstunp.a in target/c, which `make lib` builds from the
  *   same sources with cargo and a C compiler, also for other processors. It has the calls of all
  *   three headers, is tested, and is not proved. Calls that have their body in a header, such as
@@ -329,8 +328,7 @@ typedef enum stunp_refusal {
     STUNP_MALFORMED_INTEGRITY = -5, /* the integrity attribute that decides has a length that its
                                      * type cannot have */
     STUNP_INTEGRITY_FAILED = -6,    /* the signature is not valid for this message and key: the
-                                     * integrity attribute does not hold the whole HMAC; or a
-                                     * server has no key any more to sign with */
+                                     * integrity attribute does not hold the whole HMAC */
     STUNP_BAD_ARGUMENT = -7,  /* an argument is out of range */
     STUNP_NOT_TEXT = -8,      /* a text is not UTF-8 */
     STUNP_TEXT_TOO_LONG = -9, /* a text is too long: a user name over 513 bytes, or a reason, realm,
@@ -347,7 +345,7 @@ typedef enum stunp_refusal {
     STUNP_MALFORMED_ATTRIBUTE = -16, /* the value of the attribute is malformed */
 
     /* Only the calls of stunp_state.h return these; those of stunp_endpoint.h return the first
-     * three. */
+     * three and the last. */
     STUNP_OUT_OF_MEMORY = -17,       /* an allocation failed */
     STUNP_EMPTY_HANDLE = -18,        /* the handle is empty */
     STUNP_FULL_HANDLE = -19,         /* the handle is full already */
@@ -362,7 +360,10 @@ typedef enum stunp_refusal {
                                       * required; give up */
     STUNP_NO_WAIT = -26,             /* the timeouts would make several transmissions of a request
                                       * due at the same time */
-    STUNP_TOO_MANY_ADDRESSES = -27   /* server: the limit on the number of addresses is reached */
+    STUNP_TOO_MANY_ADDRESSES = -27,  /* server: the limit on the number of addresses is reached */
+    STUNP_CANNOT_SIGN = -28,         /* server: it has no key to sign with. The user was removed, or
+                                      * has no key for the client's algorithm */
+    STUNP_WRONG_HANDLE = -29         /* the handle has a value of another kind */
 } stunp_refusal;
 
 /* Lengths in bytes. */
@@ -1222,19 +1223,20 @@ STUNP_INLINED const char *stunp_strerror(int64_t answer) {
         "a required feature is not supported",
         "a request would be sent again without a wait",
         "as many addresses are kept as may be",
+        "there is no key to sign with",
+        "the handle has a value of another kind",
     };
     if (answer >= 0) return texts[0];
-    return answer >= STUNP_TOO_MANY_ADDRESSES ? texts[-answer] : "unknown refusal";
+    return answer >= STUNP_WRONG_HANDLE ? texts[-answer] : "unknown refusal";
 }
 
 /* Returns the version of the archive. It equals STUNP_VERSION if header and archive come from the
  * same release. Never fails. */
 int64_t stunp_version(void);
 
-/* Returns whether the library is the proved one: true for the archives of `rt lib` as `make
- * install` installs them, false for the libraries of `make lib`, which were exported from the same
- * sources and are tested. Never fails. */
-extern bool stunp_is_proved(void);
+/* Returns whether the library is the proved one: true for the archives of `rt lib`, false for the
+ * libraries of `make lib`, which were exported from the same sources and are tested. Never fails. */
+bool stunp_is_proved(void);
 
 /* Returns the version of the archive too, but under a name that changes with each release that
  * breaks compatibility.

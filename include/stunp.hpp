@@ -1,5 +1,6 @@
-// stunp.hpp: stunp.h and stunp_state.h for C++17, with handles that free themselves, messages that
-// keep their length, views as arguments and results that own what they return.
+// stunp.hpp: stunp.h, stunp_state.h and stunp_endpoint.h for C++17, with handles that free
+// themselves, messages that keep their length, views as arguments and results that own what they
+// return. The endpoints are in the namespaces stunp::endpoint and stunp::ice.
 //
 // Nothing throws, except std::bad_alloc where a vector or a string of this header finds no memory.
 // A call that is not here is made with `ask`, as in
@@ -10,6 +11,7 @@
 #ifndef STUNP_HPP
 #define STUNP_HPP
 
+#include "stunp_endpoint.h"
 #include "stunp_state.h"
 #include <array>
 #include <optional>
@@ -252,6 +254,11 @@ class writer {
     writer &sign(server &by, const address &to, const stored_user &of) & {
         return then(stunp_write_server_sign_of_keys, by.get(), &to, of.name, of.sha1, of.sha256);
     }
+    // Ends the answer to an accepted request (stunp_reply_finish), which may get FINGERPRINT too.
+    writer &sign(const stunp_reply &by) & {
+        if (stunp_reply_finish(&by, &out_) < 0) return *this; // `finish` has the error
+        return *this;
+    }
     writer &fingerprint() & { return then(stunp_write_fingerprint); }
     result<view> finish() const & {
         return result<view>(stunp_written(&out_), view(bytes_.data(), out_.length));
@@ -335,6 +342,183 @@ class message {
     iterator begin() const { return ++iterator{bytes_}; }
     std::nullptr_t end() const { return nullptr; }
 };
+
+// ---- Servers that keep nothing about their clients (stunp_endpoint.h)
+
+namespace endpoint {
+
+using settings = stunp_endpoint_server_settings; // from STUNP_INIT(stunp::endpoint::settings)
+struct users;
+struct server;
+
+// What a datagram comes to: one of `answer`, `request`, `indication`, `response`, `lookup` and
+// `dropped` is not null. It has a key of the user, and wipes it at its end.
+class received {
+    stunp_received told_ = STUNP_INIT(stunp_received);
+    bytes answer_;
+    friend struct server;
+
+    // Makes a call again with more room, where an answer wants that.
+    template <class Judge> static result<received> of(Judge judge) {
+        received got;
+        got.answer_.resize(2048);
+        int64_t kind = judge(got.answer_.data(), got.answer_.size(), &got.told_);
+        if (kind == STUNP_BUFFER_TOO_SMALL) {
+            got.answer_.resize(got.told_.length);
+            kind = judge(got.answer_.data(), got.answer_.size(), &got.told_);
+        }
+        got.answer_.resize(kind == STUNP_ANSWER ? got.told_.length : 0);
+        return result<received>(kind, std::move(got));
+    }
+    const stunp_received *if_is(stunp_kind kind) const {
+        return told_.kind == uint32_t(kind) ? &told_ : nullptr;
+    }
+
+  public:
+    received() = default;
+    received(received &&) = default;
+    received &operator=(received &&) = default;
+    ~received() { stunp_reply_wipe(&told_.reply); }
+
+    // Send it to where the datagram came from. `told().code` is the code of an error.
+    const bytes *answer() const { return if_is(STUNP_ANSWER) ? &answer_ : nullptr; }
+    // Answer it, now or later (`success` and `error` below).
+    const stunp_reply *request() const { return if_is(STUNP_IS_REQUEST) ? &told_.reply : nullptr; }
+    const stunp_received *indication() const { return if_is(STUNP_IS_INDICATION); }
+    const stunp_received *response() const { return if_is(STUNP_IS_RESPONSE); }
+    // Look the user up, and call `resume`.
+    const stunp_received *lookup() const { return if_is(STUNP_LOOKUP); }
+    const char *dropped() const {
+        return if_is(STUNP_DROPPED) ? stunp_drop_text(told_.why) : nullptr;
+    }
+    // Who has signed the message, or whom a request names that waits for its user.
+    std::string_view user() const { return view(told_.name, told_.name_length).text(); }
+    const stunp_received &told() const { return told_; }
+};
+
+struct server : handle<stunp_endpoint_server, stunp_endpoint_server_clear> {
+    static result<server> make(const settings &of) {
+        server made;
+        int64_t answer = stunp_endpoint_server_new(made.get(), &of);
+        return result<server>(answer, std::move(made));
+    }
+    result<received> receive(const users &by, view datagram, const address &from,
+                             uint64_t unix_seconds) const;
+    // The same of a server without credentials.
+    result<received> receive(view datagram, const address &from) const {
+        return received::of([&](uint8_t *out, size_t room, stunp_received *told) {
+            return stunp_endpoint_server_receive(get(), nullptr, datagram.data(), datagram.size(),
+                                                 &from, 0, out, room, told);
+        });
+    }
+    // As far as that is possible without the user (stunp_endpoint_server_identify).
+    result<received> identify(view datagram, const address &from, uint64_t unix_seconds) const {
+        return received::of([&](uint8_t *out, size_t room, stunp_received *told) {
+            return stunp_endpoint_server_identify(get(), datagram.data(), datagram.size(), &from,
+                                                  unix_seconds, out, room, told);
+        });
+    }
+    // By the user who was found, or by nobody.
+    result<received> resume(const stunp_found_user *found, view datagram, const address &from,
+                            uint64_t unix_seconds) const {
+        return received::of([&](uint8_t *out, size_t room, stunp_received *told) {
+            return stunp_endpoint_server_resume(get(), found, datagram.data(), datagram.size(),
+                                                &from, unix_seconds, out, room, told);
+        });
+    }
+};
+
+// The users of a server. Many threads may read a table, or one may change it.
+struct users : handle<stunp_endpoint_users, stunp_endpoint_users_clear> {
+    static result<users> make(const server &of) {
+        users made;
+        int64_t answer = stunp_endpoint_users_new(made.get(), of.get());
+        return result<users>(answer, std::move(made));
+    }
+    result<> add(view name, view password) {
+        return ask(stunp_endpoint_users_add, get(), name, password);
+    }
+    result<> add(const stored_user &of) {
+        return ask(stunp_endpoint_users_add_keys, get(), of.name, of.sha1, of.sha256);
+    }
+    result<> remove(view name) { return ask(stunp_endpoint_users_remove, get(), name); }
+};
+
+inline result<received> server::receive(const users &by, view datagram, const address &from,
+                                        uint64_t unix_seconds) const {
+    return received::of([&](uint8_t *out, size_t room, stunp_received *told) {
+        return stunp_endpoint_server_receive(get(), by.get(), datagram.data(), datagram.size(),
+                                             &from, unix_seconds, out, room, told);
+    });
+}
+
+// Starts the answer to an accepted request. End it with `sign` of the same reply, as in
+//
+//     auto answer = stunp::endpoint::success(*got->request())
+//                       .add_number(STUNP_LIFETIME, 600, 4).sign(*got->request()).finish();
+inline writer success(const stunp_reply &to, size_t room = 2048) {
+    return writer(STUNP_SUCCESS, to.method, to.id, room);
+}
+inline writer error(const stunp_reply &to, uint32_t code, const char *why, size_t room = 2048) {
+    return writer(STUNP_ERROR, to.method, to.id, room).add_error(code, why);
+}
+
+} // namespace endpoint
+
+// ---- Connectivity checks of ICE (stunp_endpoint.h)
+
+namespace ice {
+
+using settings = stunp_ice_settings; // from STUNP_INIT(stunp::ice::settings)
+
+// A check to send, and what its answer is judged by: store that with the pair.
+struct check {
+    bytes datagram;
+    stunp_ice_check stored{};
+};
+
+// What a datagram comes to: `told.kind` and `told.outcome` say it, and an answer is to be sent.
+struct received {
+    stunp_ice_received told = STUNP_INIT(stunp_ice_received);
+    bytes answer;
+};
+
+struct checker : handle<stunp_ice_checker, stunp_ice_checker_clear> {
+    static result<checker> make(const settings &of) {
+        checker made;
+        int64_t answer = stunp_ice_checker_new(made.get(), &of);
+        return result<checker>(answer, std::move(made));
+    }
+    result<bool> is_controlling() { return ask<bool>(stunp_ice_checker_is_controlling, get()); }
+    result<> set_tie_breaker(uint64_t random) {
+        return ask(stunp_ice_checker_set_tie_breaker, get(), random);
+    }
+    result<check> write(const std::array<uint8_t, STUNP_ID_LENGTH> &random_id, const address &to,
+                        uint32_t priority, bool nominate) {
+        check made;
+        made.datagram.resize(STUNP_ICE_CHECK_MAX);
+        int64_t length = stunp_ice_checker_check(get(), random_id.data(), &to, priority, nominate,
+                                                 made.datagram.data(), made.datagram.size(),
+                                                 &made.stored);
+        made.datagram.resize(length < 0 ? 0 : size_t(length));
+        return result<check>(length, std::move(made));
+    }
+    // `stored` is the check with the ID of the datagram, or null.
+    result<received> receive(view datagram, const address &from, const stunp_ice_check *stored) {
+        received got;
+        got.answer.resize(2048);
+        auto judge = [&] {
+            return stunp_ice_checker_receive(get(), datagram.data(), datagram.size(), &from, stored,
+                                             got.answer.data(), got.answer.size(), &got.told);
+        };
+        int64_t kind = judge();
+        if (kind == STUNP_BUFFER_TOO_SMALL) got.answer.resize(got.told.length), kind = judge();
+        got.answer.resize(kind == STUNP_ANSWER ? got.told.length : 0);
+        return result<received>(kind, std::move(got));
+    }
+};
+
+} // namespace ice
 
 } // namespace stunp
 

@@ -4,8 +4,8 @@
  * messages. This header has a server, and the connectivity checks of ICE (RFC 8445): one call judges
  * a datagram and writes the answer. Neither needs stunp_state.h. Most servers need this header alone.
  *
- *   stunp_endpoint_server  the settings of a server with long-term credentials (section 9.2)
- *   stunp_endpoint_users   the users of its realm, by password or by stored keys
+ *   stunp_endpoint_server  the settings of a server: with long-term, short-term or no credentials
+ *   stunp_endpoint_users   its users, by password or by stored keys
  *   stunp_reply            answers an accepted request, now or later, on any thread
  *   stunp_ice_checker      an agent of ICE: the credentials of both sides, and its role
  *   stunp_ice_check        a check that the agent sent, as it is stored with its pair
@@ -59,6 +59,28 @@
  *     }
  *
  * examples/c/endpoint_server.c is this server with a socket.
+ *
+ *
+ * Servers with short-term credentials, or with none
+ *
+ * Both are the same handle, and the same calls, with other `credentials` in the settings. They have
+ * no realm and no nonces, so leave the fields of those as they are.
+ *
+ * A server with STUNP_NO_CREDENTIALS answers everybody, and signs nothing. It has no users: pass null
+ * in their place.
+ *
+ *     // Sets up a public server. The handle begins as {0}. Then `serve` is called as above, with null
+ *     // in place of the users.
+ *     int64_t set_up_openly(stunp_endpoint_server *server) {
+ *         stunp_endpoint_server_settings settings = STUNP_INIT(stunp_endpoint_server_settings);
+ *         settings.credentials = STUNP_NO_CREDENTIALS;
+ *         settings.answers_binding = true;
+ *         return stunp_endpoint_server_new(server, &settings);
+ *     }
+ *
+ * A server with STUNP_SHORT_TERM accepts each message that is signed with the password of the user
+ * whom it names. Such credentials are made for one session, which removes them at its end
+ * (stunp_endpoint_users_add and _remove). Indications must be signed too.
  *
  *
  * What a server keeps
@@ -152,8 +174,9 @@
  *
  * The calls, in the order of this file
  *
- *   server: stunp_endpoint_server_new_with, stunp_endpoint_server_new,
- *    stunp_endpoint_server_clear, stunp_endpoint_server_free
+ *   server: stunp_endpoint_server_new_with, stunp_endpoint_server_new_short_term,
+ *    stunp_endpoint_server_new_open, stunp_endpoint_server_new, stunp_endpoint_server_clear,
+ *    stunp_endpoint_server_free
  *   users: stunp_endpoint_users_new_own, stunp_endpoint_users_new, stunp_endpoint_users_add,
  *    stunp_endpoint_users_add_keys, stunp_endpoint_users_remove, stunp_endpoint_users_clear,
  *    stunp_endpoint_users_free
@@ -182,7 +205,9 @@
  *
  * Handles, memory and errors are those of stunp_state.h, except that a handle may be const, and that
  * the _own calls take a copy of a handle (Threads). In short: a handle begins as {0}, a _new
- * call fills it and a _free call empties it. Calls read their arguments during the call alone. A
+ * call fills it and a _free call empties it. A handle of this header that has a value of another kind
+ * is refused (STUNP_WRONG_HANDLE), and a null one counts as empty where it may be const; but no call
+ * notices a copy of a handle that was freed. Calls read their arguments during the call alone. A
  * pointer may be null only if its length is 0; pointers to results may be null everywhere. A call
  * that fails returns a negative stunp_refusal, for which stunp_strerror has a text, and changes
  * nothing, unless its comment says otherwise. If several errors apply, it returns the first of its
@@ -234,30 +259,40 @@ template <typename Sized> Sized stunp_of_size() {
 #define STUNP_INIT(type) {.size = sizeof(type)}
 #endif
 
-/* The settings of a server. A field that is 0 or null takes its default.
+/* The credentials that a server asks its clients for. */
+typedef enum stunp_credentials {
+    STUNP_LONG_TERM = 0,     /* those of users of a realm, with nonces (section 9.2) */
+    STUNP_SHORT_TERM = 1,    /* a name and a password, without nonces (section 9.1) */
+    STUNP_NO_CREDENTIALS = 2 /* none: everybody is answered */
+} stunp_credentials;
+
+/* The settings of a server. A field that is 0 or null takes its default. Those that a line marks
+ * with (realm) must be 0 or null unless `credentials` is STUNP_LONG_TERM.
  *
  *   size                sizeof (stunp_endpoint_server_settings), set by STUNP_INIT
- *   realm               the realm, of at most 763 bytes. It has no default
- *   secret              32 random bytes. Whoever has them can make nonces that are accepted. It has
- *                       no default
- *   previous_secret     32 bytes whose nonces are accepted too, and never sent. Set it to the secret
- *                       before when you change the secret, for two nonce lifetimes
+ *   credentials         by default STUNP_LONG_TERM
+ *   realm               (realm) the realm, of at most 763 bytes. It has no default
+ *   secret              (realm) 32 random bytes. Whoever has them can make nonces that are accepted.
+ *                       It has no default
+ *   previous_secret     (realm) 32 bytes whose nonces are accepted too, and never sent. Set it to the
+ *                       secret before when you change the secret, for two nonce lifetimes
  *   software            the text of SOFTWARE in each answer that the server writes, of at most 763
  *                       bytes. By default answers have none
  *   understood          the types of attributes that you understand beside those of STUN, as
  *                       `understood_count` numbers: STUNP_LIFETIME .. of a TURN server. A request
  *                       with another type that must be understood is answered 420
- *   nonce_seconds       how long a nonce is sent, 30 seconds at least. It is accepted for one to two
- *                       times as long. By default an hour
- *   algorithms          STUNP_SHA1, STUNP_SHA256, or by default both
- *   anonymous_username  STUNP_DISABLED if clients may not send a hash in place of the user name. By
- *                       default, and with STUNP_REQUIRED, they may
+ *   nonce_seconds       (realm) how long a nonce is sent, 30 seconds at least. It is accepted for one
+ *                       to two times as long. By default an hour
+ *   algorithms          (realm) STUNP_SHA1, STUNP_SHA256, or by default both
+ *   anonymous_username  (realm) STUNP_DISABLED if clients may not send a hash in place of the user
+ *                       name. By default, and with STUNP_REQUIRED, they may
  *   answers_binding     whether an accepted Binding request is answered inside, by the client's
  *                       address. By default it is handed to you
  *
  * The texts end with a zero byte. */
 typedef struct {
     size_t size;
+    stunp_credentials credentials;
     const char *realm;
     const uint8_t *secret;
     const uint8_t *previous_secret;
@@ -275,10 +310,12 @@ typedef struct {
 typedef enum stunp_kind {
     STUNP_DROPPED = 0,       /* nothing is to be done, for the reason `why` */
     STUNP_ANSWER = 1,        /* send the first `length` bytes of the buffer to where it came from */
-    STUNP_IS_REQUEST = 2,    /* an accepted request: answer it by `reply` */
-    STUNP_IS_INDICATION = 3, /* an indication whose attributes are understood. It is not signed
-                              * (section 9.2), so decide by the source address whether to act on
-                              * it. In ICE it keeps a path open, and asks for nothing */
+    STUNP_IS_REQUEST = 2,    /* an accepted request: answer it by `reply`. Without credentials anybody
+                              * may have sent it */
+    STUNP_IS_INDICATION = 3, /* an indication whose attributes are understood. With short-term
+                              * credentials the user in `name` has signed it. Otherwise it is not
+                              * signed (section 9.2), so decide by the source address whether to act
+                              * on it. In ICE it keeps a path open, and asks for nothing */
     STUNP_IS_RESPONSE = 4,   /* at a server, a response for a client on the same socket; in ICE, the
                               * answer that ends your check, as `outcome` says */
     STUNP_LOOKUP = 5         /* a request that waits for its user: look up `name`, and call
@@ -293,6 +330,9 @@ typedef enum stunp_drop {
                                        * another protocol. In ICE also if it has none */
     STUNP_DROP_UNKNOWN_ATTRIBUTE = 4, /* it is an indication with an attribute that must be understood
                                        * and is not */
+    /* This is of short-term credentials alone. */
+    STUNP_DROP_NOT_SIGNED = 8,        /* it is an indication that no user has signed. A request like it
+                                       * would be refused by `code` */
     /* These are of ICE alone. */
     STUNP_DROP_OTHER_METHOD = 5,      /* it has another method than Binding */
     STUNP_DROP_NOT_ASKED = 6,         /* it is a response, and not to the check that was passed */
@@ -357,14 +397,18 @@ typedef struct {
  *   size         sizeof (stunp_received), set by STUNP_INIT once, before the loop
  *   kind         a stunp_kind
  *   why          STUNP_DROPPED: a stunp_drop
- *   code         STUNP_ANSWER: the code of an error, 400, 401, 420 or 438; 0 of a success
+ *   code         STUNP_ANSWER: the code of an error, 400, 401, 420 or 438; 0 of a success.
+ *                STUNP_DROP_NOT_SIGNED: 400 or 401
  *   method       STUNP_IS_REQUEST, _IS_INDICATION, _IS_RESPONSE, STUNP_LOOKUP: the method of the
  *                message
- *   algorithm    STUNP_IS_REQUEST: the password algorithm that both sides agreed on
+ *   algorithm    STUNP_IS_REQUEST: the password algorithm that both sides agreed on. With short-term
+ *                credentials the algorithm of the signature, also STUNP_IS_INDICATION. Without
+ *                credentials 0
  *   length       STUNP_ANSWER: how many bytes are to be sent
- *   name_length  STUNP_IS_REQUEST, STUNP_LOOKUP: how long `name` is
- *   name         STUNP_IS_REQUEST: the name of the user who sent the request, also if that has a
- *                hash of it. STUNP_LOOKUP: whom the request names. A zero byte follows it
+ *   name_length  STUNP_IS_REQUEST, _IS_INDICATION, STUNP_LOOKUP: how long `name` is
+ *   name         STUNP_IS_REQUEST, _IS_INDICATION: the name of the user who signed the message, also if
+ *                that has a hash of it; zeros if nobody did. STUNP_LOOKUP: whom the request names. A
+ *                zero byte follows it
  *   is_hash      STUNP_LOOKUP: `name` is the hash of a name (stunp_userhash, section 14.4), of
  *                STUNP_USERHASH_LENGTH bytes
  *   reply        STUNP_IS_REQUEST: what answers it
@@ -494,21 +538,56 @@ int64_t stunp_endpoint_server_new_with(stunp_endpoint_server *server, const void
                                        uint64_t nonce_seconds, uint32_t algorithms,
                                        uint32_t anonymous_username, bool answers_binding);
 
+/* Creates a server with short-term credentials, like stunp_endpoint_server_new, from settings that
+ * are passed one by one. `understood_length` counts numbers, not bytes. A `software_length` of 0
+ * means no SOFTWARE.
+ *
+ * Returns 0. Errors:
+ *   STUNP_FULL_HANDLE    the handle is not empty
+ *   STUNP_NOT_TEXT       SOFTWARE is not UTF-8
+ *   STUNP_TEXT_TOO_LONG  SOFTWARE has more than 763 bytes
+ *   STUNP_OUT_OF_MEMORY  an allocation failed */
+STUNP_READS(2, 3) STUNP_READS(4, 5) STUNP_NOT_NULL(1)
+int64_t stunp_endpoint_server_new_short_term(stunp_endpoint_server *server, const void *software,
+                                             size_t software_length, const uint16_t *understood,
+                                             size_t understood_length, bool answers_binding);
+
+/* Creates a server without credentials, like stunp_endpoint_server_new_short_term.
+ *
+ * Returns 0. Errors: those of stunp_endpoint_server_new_short_term. */
+STUNP_READS(2, 3) STUNP_READS(4, 5) STUNP_NOT_NULL(1)
+int64_t stunp_endpoint_server_new_open(stunp_endpoint_server *server, const void *software,
+                                       size_t software_length, const uint16_t *understood,
+                                       size_t understood_length, bool answers_binding);
+
 /* Creates a server with these settings. They are copied.
  *
  * Returns 0. Errors:
- *   STUNP_BAD_ARGUMENT   `size` is wrong, or `secret` or `realm` is null
- * and then those of stunp_endpoint_server_new_with. */
+ *   STUNP_BAD_ARGUMENT  `size` is wrong; or `credentials` is STUNP_LONG_TERM, and `secret` or `realm`
+ *                       is null; or it is another, and a field for a realm is neither 0 nor null; or
+ *                       it is above 2
+ * and then those of stunp_endpoint_server_new_with, or of stunp_endpoint_server_new_short_term. */
 STUNP_INLINED int64_t
 stunp_endpoint_server_new(stunp_endpoint_server *server,
                           const stunp_endpoint_server_settings *settings) {
     if (settings->size != sizeof *settings) return STUNP_BAD_ARGUMENT;
+    size_t software_length = settings->software == NULL ? 0 : strlen(settings->software);
+    if (settings->credentials != STUNP_LONG_TERM) {
+        if (settings->realm != NULL || settings->secret != NULL || settings->previous_secret != NULL
+            || settings->nonce_seconds != 0 || settings->algorithms != 0
+            || settings->anonymous_username != 0
+            || (uint32_t)settings->credentials > STUNP_NO_CREDENTIALS)
+            return STUNP_BAD_ARGUMENT;
+        return (settings->credentials == STUNP_SHORT_TERM ? stunp_endpoint_server_new_short_term
+                                                          : stunp_endpoint_server_new_open)(
+            server, settings->software, software_length, settings->understood,
+            settings->understood_count, settings->answers_binding);
+    }
     if (settings->secret == NULL || settings->realm == NULL) return STUNP_BAD_ARGUMENT;
     bool has_previous = settings->previous_secret != NULL;
     return stunp_endpoint_server_new_with(
-        server, settings->realm, strlen(settings->realm), settings->software,
-        settings->software == NULL ? 0 : strlen(settings->software), settings->secret,
-        has_previous ? settings->previous_secret : settings->secret, has_previous,
+        server, settings->realm, strlen(settings->realm), settings->software, software_length,
+        settings->secret, has_previous ? settings->previous_secret : settings->secret, has_previous,
         settings->understood, settings->understood_count, settings->nonce_seconds,
         settings->algorithms, (uint32_t)settings->anonymous_username, settings->answers_binding);
 }
@@ -528,7 +607,8 @@ STUNP_INLINED void stunp_endpoint_server_free(stunp_endpoint_server *server) {
 /* ---- Users
  *
  * Keys depend on the realm and the algorithms, so a table is made for a server, and serves every
- * server of the same realm and algorithms. */
+ * server of the same realm and algorithms. With short-term credentials the key is the password, and a
+ * table serves every server with short-term credentials. */
 
 /* Creates an empty table, like stunp_endpoint_users_new, with a handle of the server that nothing
  * else uses during the call. It stays as it is.
@@ -537,23 +617,27 @@ STUNP_INLINED void stunp_endpoint_server_free(stunp_endpoint_server *server) {
 STUNP_NOT_NULL(1, 2)
 int64_t stunp_endpoint_users_new_own(stunp_endpoint_users *users, stunp_endpoint_server *server);
 
-/* Creates an empty table of users for the realm and the algorithms of a server.
+/* Creates an empty table of users for a server: for its realm and its algorithms, or of users with
+ * short-term credentials.
  *
  * Returns 0. Errors:
  *   STUNP_FULL_HANDLE    the table's handle is not empty
- *   STUNP_EMPTY_HANDLE   the server's handle has no server
+ *   STUNP_EMPTY_HANDLE   the server's handle is empty, or null
+ *   STUNP_WRONG_HANDLE   it has no server, or one without credentials
  *   STUNP_OUT_OF_MEMORY  an allocation failed */
 STUNP_INLINED int64_t stunp_endpoint_users_new(stunp_endpoint_users *users,
                                                const stunp_endpoint_server *server) {
-    stunp_endpoint_server own = *server;
+    stunp_endpoint_server own = {false, NULL};
+    if (server != NULL) own = *server;
     return stunp_endpoint_users_new_own(users, &own);
 }
 
 /* Adds a user with a password, or replaces what the table has of a user of this name, and derives
- * the keys (section 9.2.2).
+ * the keys (sections 9.1.1 and 9.2.2).
  *
  * Returns 0. Errors:
- *   STUNP_EMPTY_HANDLE   the handle has no table
+ *   STUNP_EMPTY_HANDLE   the handle is empty
+ *   STUNP_WRONG_HANDLE   it has no table
  *   STUNP_NOT_TEXT       the name or the password is not UTF-8
  *   STUNP_TEXT_TOO_LONG  the name has more than STUNP_NAME_MAX bytes
  *   STUNP_OUT_OF_MEMORY  an allocation failed */
@@ -566,7 +650,8 @@ int64_t stunp_endpoint_users_add(stunp_endpoint_users *users, const void *name, 
  * table. A key that is not stored has length 0.
  *
  * Returns 0. Errors:
- *   STUNP_EMPTY_HANDLE   the handle has no table
+ *   STUNP_EMPTY_HANDLE   the handle is empty
+ *   STUNP_WRONG_HANDLE   it has no table, or one of users with short-term credentials
  *   STUNP_NOT_TEXT       the name is not UTF-8
  *   STUNP_TEXT_TOO_LONG  the name has more than STUNP_NAME_MAX bytes
  *   STUNP_BAD_ARGUMENT   `sha1_length` is neither 0 nor 16, or `sha256_length` neither 0 nor 32
@@ -579,7 +664,8 @@ int64_t stunp_endpoint_users_add_keys(stunp_endpoint_users *users, const void *n
 /* Removes a user, so that requests of that name are answered 401 from now on.
  *
  * Returns 0, also if the table has no user of this name. Errors:
- *   STUNP_EMPTY_HANDLE  the handle has no table
+ *   STUNP_EMPTY_HANDLE  the handle is empty
+ *   STUNP_WRONG_HANDLE  it has no table
  *   STUNP_NOT_TEXT      the name is not UTF-8 */
 STUNP_READS(2, 3) STUNP_NOT_NULL(1)
 int64_t stunp_endpoint_users_remove(stunp_endpoint_users *users, const void *name,
@@ -614,12 +700,19 @@ int64_t stunp_endpoint_server_receive_own(stunp_endpoint_server *server,
  * `*received`. If it gets an answer at once, that is written to the front of `out`.
  *
  *   - A datagram is dropped if it is not a STUN message, or if its FINGERPRINT is wrong.
- *   - A request is answered 401 if it is not signed, or not by one of these users; 438 if its nonce
+ *   - With long-term credentials a request is answered 401 if it is not signed, or not by one of these users; 438 if its nonce
  *     is not accepted; 400 if it is malformed, or its algorithms are not those that were offered with
- *     the current nonce; and 420 if it has an attribute that must be understood and is not. A Binding
+ *     the current nonce.
+ *   - With short-term credentials a request is answered 400 if it is not signed or has no USERNAME, and
+ *     401 if USERNAME is not the name of one of these users, or the signature is not made with the
+ *     user's password. An indication like that is dropped.
+ *   - A request is answered 420 if it has an attribute that must be understood and is not. A Binding
  *     request is answered if the settings say so. All others are yours.
  *   - An indication with an attribute that must be understood and is not is dropped. Others are
  *     yours, and so are responses.
+ *
+ * `users` may be null or empty if the server has no credentials, and is not looked at then. The time
+ * counts with long-term credentials alone: for others pass 0.
  *
  * `unix_seconds` is the time of the wall clock, in seconds since 1970: (uint64_t)time(NULL). With a
  * clock that starts at zero, the nonces of an earlier run of the program would be current again,
@@ -629,7 +722,10 @@ int64_t stunp_endpoint_server_receive_own(stunp_endpoint_server *server,
  * `received` may be null if the returned kind is all that you want.
  *
  * Returns a stunp_kind. Errors:
- *   STUNP_EMPTY_HANDLE      a handle is empty, or of another kind
+ *   STUNP_EMPTY_HANDLE, STUNP_WRONG_HANDLE
+ *                           the server's handle is empty or null, or has no server; and then the
+ *                           users' is empty or null, or has no table, or one that was made for
+ *                           another kind of credentials
  *   STUNP_BAD_ARGUMENT      `received->size` is wrong, `unix_seconds` is above 2 to the power of 40, so
  *                           you probably passed nanoseconds, or `from` is not an IPv4 or IPv6 address
  *   STUNP_OUT_OF_MEMORY     an allocation failed. Nothing is lost: the client sends again
@@ -641,8 +737,10 @@ stunp_endpoint_server_receive(const stunp_endpoint_server *server,
                               const stunp_endpoint_users *users, const uint8_t *bytes,
                               size_t length, const stunp_address *from, uint64_t unix_seconds,
                               uint8_t *out, size_t room, stunp_received *received) {
-    stunp_endpoint_server own = *server;
-    stunp_endpoint_users own_users = *users;
+    stunp_endpoint_server own = {false, NULL};
+    stunp_endpoint_users own_users = {false, NULL};
+    if (server != NULL) own = *server;
+    if (users != NULL) own_users = *users;
     stunp_received unread = STUNP_INIT(stunp_received);
     return stunp_endpoint_server_receive_own(&own, &own_users, bytes, length, from, unix_seconds,
                                              out, room, received == NULL ? &unread : received);
@@ -655,6 +753,7 @@ STUNP_INLINED const char *stunp_drop_text(uint32_t why) {
     case STUNP_DROP_MALFORMED: return "it is not what its header says";
     case STUNP_DROP_WRONG_FINGERPRINT: return "its FINGERPRINT is wrong";
     case STUNP_DROP_UNKNOWN_ATTRIBUTE: return "an indication has an unknown attribute";
+    case STUNP_DROP_NOT_SIGNED: return "an indication is not signed by a user";
     case STUNP_DROP_OTHER_METHOD: return "its method is not Binding";
     case STUNP_DROP_NOT_ASKED: return "it is a response to no check";
     case STUNP_DROP_WRONG_SIGNATURE: return "a response is not signed by the peer";
@@ -682,13 +781,20 @@ int64_t stunp_endpoint_server_identify_own(stunp_endpoint_server *server, const 
  * again causes another look-up: merge look-ups with the same source address and transaction ID, which
  * is in the 12 bytes from `bytes + 8` on.
  *
- * Returns a stunp_kind, and fails as stunp_endpoint_server_receive does. */
+ * This is for servers with long-term credentials. With short-term credentials look the user of
+ * USERNAME up (stunp_find_text), and call stunp_endpoint_server_resume.
+ *
+ * Returns a stunp_kind. Errors:
+ *   STUNP_EMPTY_HANDLE  the handle is empty, or null
+ *   STUNP_WRONG_HANDLE  it has no server with long-term credentials
+ * and then those of stunp_endpoint_server_receive. */
 STUNP_USE_RESULT
 STUNP_INLINED int64_t
 stunp_endpoint_server_identify(const stunp_endpoint_server *server, const uint8_t *bytes,
                                size_t length, const stunp_address *from, uint64_t unix_seconds,
                                uint8_t *out, size_t room, stunp_received *received) {
-    stunp_endpoint_server own = *server;
+    stunp_endpoint_server own = {false, NULL};
+    if (server != NULL) own = *server;
     stunp_received unread = STUNP_INIT(stunp_received);
     return stunp_endpoint_server_identify_own(&own, bytes, length, from, unix_seconds, out, room,
                                               received == NULL ? &unread : received);
@@ -701,7 +807,9 @@ stunp_endpoint_server_identify(const stunp_endpoint_server *server, const uint8_
  * Returns a stunp_kind. Errors:
  *   STUNP_BAD_ARGUMENT   `found->size` is wrong, its name is null, or it has neither a password nor a
  *                        key
- *   STUNP_EMPTY_HANDLE   the handle has no server
+ *   STUNP_EMPTY_HANDLE   the handle is empty, or null
+ *   STUNP_WRONG_HANDLE   it has no server, or one without credentials, or one with short-term
+ *                        credentials for which the user has only keys
  *   STUNP_NOT_TEXT       the name or the password is not UTF-8
  *   STUNP_TEXT_TOO_LONG  the name has more than STUNP_NAME_MAX bytes
  * and then those of stunp_endpoint_server_receive. */
@@ -829,7 +937,8 @@ STUNP_INLINED void stunp_ice_checker_free(stunp_ice_checker *checker) {
 }
 
 /* Returns 1 if the agent controls now, and so nominates pairs, or 0 if the peer does. Errors:
- *   STUNP_EMPTY_HANDLE  the handle has no agent */
+ *   STUNP_EMPTY_HANDLE  the handle is empty
+ *   STUNP_WRONG_HANDLE  it has no agent */
 STUNP_USE_RESULT STUNP_NOT_NULL(1)
 int64_t stunp_ice_checker_is_controlling(stunp_ice_checker *checker);
 
@@ -837,7 +946,8 @@ int64_t stunp_ice_checker_is_controlling(stunp_ice_checker *checker);
  * next check (section 16.1).
  *
  * Returns 0. Errors:
- *   STUNP_EMPTY_HANDLE  the handle has no agent */
+ *   STUNP_EMPTY_HANDLE  the handle is empty
+ *   STUNP_WRONG_HANDLE  it has no agent */
 STUNP_NOT_NULL(1)
 int64_t stunp_ice_checker_set_tie_breaker(stunp_ice_checker *checker, uint64_t tie_breaker);
 
@@ -858,7 +968,8 @@ int64_t stunp_ice_checker_check_with(stunp_ice_checker *checker, const uint8_t i
  * nominates its pair if `nominate` is true and this agent controls.
  *
  * Returns the length of the check. Errors:
- *   STUNP_EMPTY_HANDLE      the handle has no agent
+ *   STUNP_EMPTY_HANDLE      the handle is empty
+ *   STUNP_WRONG_HANDLE      it has no agent
  *   STUNP_BAD_ARGUMENT      `to` is not an IPv4 or IPv6 address
  *   STUNP_OUT_OF_MEMORY     an allocation failed
  *   STUNP_BUFFER_TOO_SMALL  the check does not fit into `room` bytes */
@@ -905,7 +1016,8 @@ int64_t stunp_ice_checker_receive_with(stunp_ice_checker *checker, const uint8_t
  *
  * Returns a stunp_kind: STUNP_DROPPED, _ANSWER, _IS_INDICATION or _IS_RESPONSE. Errors, which leave
  * the agent and its role as they were:
- *   STUNP_EMPTY_HANDLE      the handle has no agent
+ *   STUNP_EMPTY_HANDLE      the handle is empty
+ *   STUNP_WRONG_HANDLE      it has no agent
  *   STUNP_BAD_ARGUMENT      `received->size` is wrong, or `from` or the address in `check` is not an
  *                           IPv4 or IPv6 address
  *   STUNP_OUT_OF_MEMORY     an allocation failed. Nothing is lost: the peer sends again

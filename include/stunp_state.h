@@ -916,7 +916,7 @@ int64_t stunp_server_client(const stunp_server *server, const stunp_address *at,
  *                            the message would be too long with everything that is added
  *   STUNP_ATTRIBUTE_EXISTS   the message has this attribute already
  *   STUNP_MESSAGE_TOO_LONG   the message would be longer than a STUN message may be
- *   STUNP_INTEGRITY_FAILED   the client's user was removed, or its algorithm is no longer
+ *   STUNP_CANNOT_SIGN        the client's user was removed, or its algorithm is no longer
  *                            supported: call stunp_server_remove_client */
 STUNP_USE_RESULT STUNP_CHANGES(2, 3) STUNP_NOT_NULL(1, 5)
 int64_t stunp_server_sign(stunp_server *server, uint8_t *buffer, size_t room, size_t length,
@@ -1051,7 +1051,7 @@ int64_t stunp_server_validate_of_keys(stunp_server *server, const uint8_t *messa
  *                            the message would be too long with everything that is added
  *   STUNP_ATTRIBUTE_EXISTS   the message has this attribute already
  *   STUNP_MESSAGE_TOO_LONG   the message would be longer than a STUN message may be
- *   STUNP_INTEGRITY_FAILED   this user is not the client of the address, or has no key for the
+ *   STUNP_CANNOT_SIGN        this user is not the client of the address, or has no key for the
  *                            client's algorithm */
 STUNP_USE_RESULT STUNP_CHANGES(2, 3) STUNP_READS(6, 7) STUNP_READS(8, 9) STUNP_NOT_NULL(1, 5)
 int64_t stunp_server_sign_of(stunp_server *server, uint8_t *buffer, size_t room, size_t length,
@@ -1077,7 +1077,7 @@ int64_t stunp_server_sign_of(stunp_server *server, uint8_t *buffer, size_t room,
  *                            the message would be too long with everything that is added
  *   STUNP_ATTRIBUTE_EXISTS   the message has this attribute already
  *   STUNP_MESSAGE_TOO_LONG   the message would be longer than a STUN message may be
- *   STUNP_INTEGRITY_FAILED   this user is not the client of the address, or has no key for the
+ *   STUNP_CANNOT_SIGN        this user is not the client of the address, or has no key for the
  *                            client's algorithm */
 STUNP_USE_RESULT STUNP_CHANGES(2, 3) STUNP_READS(6, 7) STUNP_READS(8, 9) STUNP_READS(10, 11)
 STUNP_NOT_NULL(1, 5)

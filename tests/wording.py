@@ -12,7 +12,7 @@ HOUR = 3600 * 10**9
 # call that writes, and also where nothing would be written. There the transcripts have
 # MessageIntegrityExists, or another reason, or no refusal. Which type is in the way or missing C
 # does not say. Two numbers are one word where the library tells TooLarge of a text and of a
-# message.
+# message, and IntegrityFailed of a message that is read and of one that is to be signed.
 REFUSALS = {
     -1: "Truncated", -2: "NotStun", -3: "TooLarge", -4: "MissingAttribute",
     -5: "InvalidAttributeData", -6: "IntegrityFailed", -7: "NotAllowed", -8: "none", -9: "TooLarge",
@@ -20,6 +20,7 @@ REFUSALS = {
     -15: "MissingAttribute", -16: "InvalidAttributeData", -17: "OutOfMemory", -18: "empty handle",
     -19: "full handle", -20: "AlreadyInProgress", -21: "ProtocolViolation", -22: "Unauthorized",
     -23: "BadRequest", -24: "StaleNonce", -25: "UnsupportedFeature",
+    -28: "IntegrityFailed", -29: "wrong handle",
 }
 NO_MESSAGE = (-1, -2, -3)
 VERDICTS = {1: "Sha1", 2: "Sha256", 3: "resend", 4: "resend Sha1", 5: "resend Sha256"}

@@ -134,7 +134,7 @@ def functions_of_header(text):
 MAY_IGNORE = re.compile(
     r"stunp_((agent|server|client)_(new(_with)?|set_\w+|add_user|remove_\w+|forget\w*|cancel\w*|"
     r"configure|statistics|validated_peer|send)|read_header|id|error_text|"
-    r"endpoint_(server_new_with|users_(new_own|add(_keys)?|remove))|"
+    r"endpoint_(server_new_(with|short_term|open)|users_(new_own|add(_keys)?|remove))|"
     r"ice_checker_(new_with|set_tie_breaker)|"
     r"(state_|endpoint_)?(version|release_\w+))")
 

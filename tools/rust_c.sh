@@ -14,8 +14,9 @@ rm -f "$out"/libstunp*
 (cd target/export && cargo build --quiet --release -p seatcrane-stun-c)
 built=${CARGO_TARGET_DIR:-target/export/target}
 built=$built/${CARGO_BUILD_TARGET:+$CARGO_BUILD_TARGET/}release/libstunp.a
-$cc -std=c99 ${CFLAGS--O2} -fPIC -ffunction-sections -fdata-sections -Iinclude \
-    -c rust/capi/inline.c -o "$out/inline.o"
+# What programs in C have from the headers is here for others: small, and without tables to unwind.
+$cc -std=c99 ${CFLAGS--Os -fno-asynchronous-unwind-tables} -fPIC -ffunction-sections \
+    -fdata-sections -Iinclude -c rust/capi/inline.c -o "$out/inline.o"
 
 # One object, in which no symbol is seen but the calls. Each function is a section of its own, so a
 # linker that is told --gc-sections takes in what a program calls.
@@ -27,8 +28,9 @@ ${OBJCOPY:-objcopy} -w --keep-global-symbol='stunp_*' -R .llvmbc -R .llvmcmd -R 
 ${AR:-ar} rcsD "$out/libstunp.a" "$out/one.o"
 # The name for the loader has as many numbers of the version as releases that go together share.
 shared=libstunp.so.$(sed 's/^\(0\.[0-9]*\)\..*/\1/; s/^\([1-9][0-9]*\)\..*/\1/' VERSION)
-$cc -shared -nostartfiles ${LDFLAGS--Wl,-z,relro,-z,now} -Wl,-soname,"$shared" "$out/one.o" \
-    -o "$out/$shared"
+# Its own calls go directly to each other, and its segments have no padding of a page between them.
+$cc -shared -nostartfiles -Wl,-Bsymbolic-functions ${LDFLAGS--Wl,-z,relro,-z,now,-z,noseparate-code} \
+    -Wl,-soname,"$shared" "$out/one.o" -o "$out/$shared"
 # A copy: `rt ci` refuses a repository in which a link stands.
 cp "$out/$shared" "$out/libstunp.so"
 rm "$out/one.o" "$out/inline.o"

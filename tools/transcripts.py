@@ -176,7 +176,7 @@ def wrapped_in_c(scratch):
     """The commands of examples/README.md for C++, over the proved archives."""
     for name in ("include", "examples", "tests", "crates"):
         os.symlink(os.path.join(TOP, name), os.path.join(scratch, name))
-    shown = block_after(text_of("examples/README.md"), "and both archives:")
+    shown = block_after(text_of("examples/README.md"), "and the archives:")
     return prints(text_of("tests/cpp/check.txt"), ["sh", "-ec", shown + "./a.out"], cwd=scratch)
 
 

@@ -121,9 +121,12 @@ static void users_in_order(void) {
     /* A handle of another kind has no table, and no server. */
     stunp_endpoint_users as_users = {realm.server.is_full, realm.server.state};
     stunp_endpoint_server as_server = {users->is_full, users->state};
-    want("of users", stunp_endpoint_users_new(&empty, &as_server), STUNP_EMPTY_HANDLE);
-    want("to a server", stunp_endpoint_users_add(&as_users, &byte, 1, "", 0), STUNP_EMPTY_HANDLE);
-    want("of a server", stunp_endpoint_users_remove(&as_users, &byte, 1), STUNP_EMPTY_HANDLE);
+    want("null", stunp_endpoint_users_new(&empty, NULL), STUNP_EMPTY_HANDLE);
+    want("of users", stunp_endpoint_users_new(&empty, &as_server), STUNP_WRONG_HANDLE);
+    want("to a server", stunp_endpoint_users_add(&as_users, &byte, 1, "", 0), STUNP_WRONG_HANDLE);
+    want("to a server", stunp_endpoint_users_add_keys(&as_users, &byte, 1, key, 1, key, 1),
+         STUNP_WRONG_HANDLE);
+    want("of a server", stunp_endpoint_users_remove(&as_users, &byte, 1), STUNP_WRONG_HANDLE);
     want("as it was", as_users.is_full && as_users.state == realm.server.state, true);
     want("none", stunp_endpoint_users_add(&empty, &byte, 1, "", 0), STUNP_EMPTY_HANDLE);
     want("none", stunp_endpoint_users_add_keys(&empty, &byte, 1, key, 1, key, 1),
@@ -166,6 +169,18 @@ static void receiving_in_order(void) {
     want("no users", judge(&none, &plain, LAST + 1, 0, &before), STUNP_EMPTY_HANDLE);
     none = realm, none.server.is_full = false;
     want("no server", judge(&none, &plain, LAST + 1, 0, &before), STUNP_EMPTY_HANDLE);
+    want("null", stunp_endpoint_server_receive(NULL, NULL, plain.bytes, plain.length, &nowhere, NOW,
+         NULL, 0, &before), STUNP_EMPTY_HANDLE);
+    want("null", stunp_endpoint_server_receive(&realm.server, NULL, plain.bytes, plain.length,
+         &nowhere, NOW, NULL, 0, &before), STUNP_EMPTY_HANDLE);
+    want("null", stunp_endpoint_server_identify(NULL, plain.bytes, plain.length, &nowhere, NOW, NULL,
+         0, &before), STUNP_EMPTY_HANDLE);
+    none = realm, none.server.state = realm.users.state;
+    want("users for a server", judge(&none, &plain, LAST + 1, 0, &before), STUNP_WRONG_HANDLE);
+    want("users for a server", stunp_endpoint_server_identify(&none.server, plain.bytes,
+         plain.length, &nowhere, NOW, NULL, 0, &before), STUNP_WRONG_HANDLE);
+    none = realm, none.users.state = realm.server.state;
+    want("a server for users", judge(&none, &plain, LAST + 1, 0, &before), STUNP_WRONG_HANDLE);
     want("size", judge(&realm, &plain, NOW, sizeof out, &before), STUNP_BAD_ARGUMENT);
     before = received;
     want("time", judge(&realm, &plain, (uint64_t)LAST + 1, sizeof out, &received),
@@ -450,6 +465,197 @@ static void each_allocation(void) {
     free_realm(&realm);
 }
 
+/* The settings of a server without a realm. */
+static stunp_endpoint_server_settings settings_alone(stunp_credentials credentials) {
+    stunp_endpoint_server_settings settings = STUNP_INIT(stunp_endpoint_server_settings);
+    settings.credentials = credentials;
+    return settings;
+}
+
+/* Fields of a realm are refused there, and so are credentials that there are not. */
+static void settings_without_realm(stunp_credentials credentials) {
+    stunp_endpoint_server server = {0}, full = {0};
+    stunp_endpoint_server_settings good = settings_alone(credentials), settings = good;
+    static char longest[765];
+    memset(longest, 'x', 764);
+    want("good", stunp_endpoint_server_new(&full, &good), 0);
+    settings.realm = "realm";
+    want("realm", stunp_endpoint_server_new(&server, &settings), STUNP_BAD_ARGUMENT);
+    settings = good, settings.secret = secret;
+    want("secret", stunp_endpoint_server_new(&server, &settings), STUNP_BAD_ARGUMENT);
+    settings = good, settings.previous_secret = secret;
+    want("previous", stunp_endpoint_server_new(&server, &settings), STUNP_BAD_ARGUMENT);
+    settings = good, settings.nonce_seconds = 3600;
+    want("nonces", stunp_endpoint_server_new(&server, &settings), STUNP_BAD_ARGUMENT);
+    settings = good, settings.algorithms = STUNP_SHA1;
+    want("algorithms", stunp_endpoint_server_new(&server, &settings), STUNP_BAD_ARGUMENT);
+    settings = good, settings.anonymous_username = STUNP_DISABLED;
+    want("hashes", stunp_endpoint_server_new(&server, &settings), STUNP_BAD_ARGUMENT);
+    settings = good, settings.credentials = (stunp_credentials)3;
+    want("credentials", stunp_endpoint_server_new(&server, &settings), STUNP_BAD_ARGUMENT);
+    settings = good, settings.software = "\xff";
+    want("no text", stunp_endpoint_server_new(&server, &settings), STUNP_NOT_TEXT);
+    want("full first", stunp_endpoint_server_new(&full, &settings), STUNP_FULL_HANDLE);
+    settings.software = longest;
+    want("long", stunp_endpoint_server_new(&server, &settings), STUNP_TEXT_TOO_LONG);
+    longest[763] = 0;
+    int64_t made = STUNP_OUT_OF_MEMORY;
+    for (size_t n = 1; made == STUNP_OUT_OF_MEMORY; n++) {
+        stunp_heap_refuse(n);
+        made = stunp_endpoint_server_new(&server, &settings);
+        want("empty", server.is_full, made == 0);
+    }
+    stunp_heap_refuse(0);
+    want("longest", made, 0);
+    stunp_endpoint_server_free(&server);
+    stunp_endpoint_server_free(&full);
+}
+
+/* A server without credentials: everybody is answered, nothing is signed, and there are no users. */
+static void open_server(void) {
+    const uint16_t understood[] = {STUNP_LIFETIME};
+    stunp_endpoint_server_settings settings = settings_alone(STUNP_NO_CREDENTIALS);
+    stunp_endpoint_server server = {0};
+    stunp_endpoint_users users = {0};
+    stunp_received received = STUNP_INIT(stunp_received);
+    settings.understood = understood, settings.understood_count = 1;
+    want("open", stunp_endpoint_server_new(&server, &settings), 0);
+    want("no users", stunp_endpoint_users_new(&users, &server), STUNP_WRONG_HANDLE);
+    want("no look-ups", stunp_endpoint_server_identify(&server, NULL, 0, &from, 0, out, sizeof out,
+         &received), STUNP_WRONG_HANDLE);
+    want("no look-ups", stunp_endpoint_server_resume(&server, NULL, NULL, 0, &from, 0, out,
+         sizeof out, &received), STUNP_WRONG_HANDLE);
+    struct message plain = message_of(STUNP_REQUEST, 1);
+    memset(received.name, 9, sizeof received.name);
+    received.size--;
+    want("size", stunp_endpoint_server_receive(&server, NULL, plain.bytes, 20, &nowhere, 0, out,
+         sizeof out, &received), STUNP_BAD_ARGUMENT);
+    received.size++;
+    want("time", stunp_endpoint_server_receive(&server, NULL, plain.bytes, 20, &from, LAST + 1, out,
+         sizeof out, &received), STUNP_BAD_ARGUMENT);
+    want("nowhere", stunp_endpoint_server_receive(&server, NULL, plain.bytes, 20, &nowhere, 0, out,
+         sizeof out, &received), STUNP_BAD_ARGUMENT);
+    want("asked", stunp_endpoint_server_receive(&server, NULL, plain.bytes, 20, &from, 0, out,
+         sizeof out, &received), STUNP_IS_REQUEST);
+    want("method", received.method, STUNP_BINDING);
+    want("nobody", (int64_t)received.name_length, 0);
+    want("nobody", received.name[0] | received.name[513], 0);
+    want("no algorithm", received.algorithm, 0);
+    stunp_writer answer = stunp_reply_success(&received.reply, out, sizeof out);
+    want("reply", stunp_reply_finish(&received.reply, &answer), 20);
+    stunp_writer unknown = stunp_write_on(20, plain.bytes, sizeof plain.bytes);
+    stunp_write_number(&unknown, STUNP_REQUESTED_TRANSPORT, 17, 4);
+    want("unknown", stunp_endpoint_server_receive(&server, NULL, plain.bytes, unknown.length, &from,
+         0, out, sizeof out, &received), STUNP_ANSWER);
+    want("420", received.code, 420);
+    struct message indication = message_of(STUNP_INDICATION, 2);
+    want("heard", stunp_endpoint_server_receive(&server, NULL, indication.bytes, 20, &from, 0, out,
+         sizeof out, &received), STUNP_IS_INDICATION);
+    want("a response", stunp_endpoint_server_receive(&server, NULL, message_of(STUNP_SUCCESS,
+         3).bytes, 20, &from, 0, out, sizeof out, &received), STUNP_IS_RESPONSE);
+    stunp_endpoint_server_free(&server);
+    /* Any table may be passed, and is not looked at. */
+    want("worked", set_up_openly(&server), 0);
+    stunp_endpoint_server_settings of_realm = settings_of(NULL, 0);
+    struct realm realm = realm_of(&of_realm);
+    want("served", serve(&server, &realm.users, message_of(STUNP_REQUEST, 4).bytes, 20, &from, 0,
+         out, sizeof out) > 20, true);
+    want("served", serve(&server, NULL, message_of(STUNP_REQUEST, 4).bytes, 20, &from, 0, out,
+         sizeof out) > 20, true);
+    free_realm(&realm);
+    stunp_endpoint_server_free(&server);
+}
+
+/* A message that a user signed with a password. */
+static struct message signed_by(stunp_message_class class, uint32_t number, const char *name,
+                                stunp_algorithm algorithm, const char *password) {
+    struct message message = message_of(class, number);
+    stunp_writer writer = stunp_write_on(20, message.bytes, sizeof message.bytes);
+    if (name != NULL) stunp_write_text(&writer, STUNP_USERNAME, name);
+    stunp_write_integrity(&writer, algorithm, password, strlen(password));
+    want("signed", stunp_written(&writer), 0);
+    message.length = writer.length;
+    return message;
+}
+
+/* A server with short-term credentials, and the tables that it takes. */
+static void short_term_server(stunp_algorithm algorithm) {
+    stunp_endpoint_server_settings settings = settings_alone(STUNP_SHORT_TERM);
+    stunp_endpoint_server_settings of_realm = settings_of(NULL, 0);
+    struct realm other = realm_of(&of_realm), realm = other;
+    stunp_received received = STUNP_INIT(stunp_received);
+    const uint8_t key[32] = {1}, byte = 0xff;
+    realm.server = (stunp_endpoint_server){0}, realm.users = (stunp_endpoint_users){0};
+    want("short-term", stunp_endpoint_server_new(&realm.server, &settings), 0);
+    want("users", stunp_endpoint_users_new(&realm.users, &realm.server), 0);
+    struct message request = signed_by(STUNP_REQUEST, 1, "name", algorithm, "a password");
+    struct message plain = message_of(STUNP_REQUEST, 2);
+    const stunp_endpoint_users users = realm.users, of_other = other.users;
+    realm.users.is_full = false;
+    want("no users", judge(&realm, &request, 0, sizeof out, &received), STUNP_EMPTY_HANDLE);
+    realm.users = other.users;
+    want("of a realm", judge(&realm, &request, 0, sizeof out, &received), STUNP_WRONG_HANDLE);
+    realm.users = users, other.users.state = users.state;
+    want("in a realm", judge(&other, &request, 0, sizeof out, &received), STUNP_WRONG_HANDLE);
+    want("no look-ups", stunp_endpoint_server_identify(&realm.server, request.bytes, request.length,
+         &from, 0, out, sizeof out, &received), STUNP_WRONG_HANDLE);
+    want("no keys", stunp_endpoint_users_add_keys(&realm.users, &byte, 1, key, 16, key, 32),
+         STUNP_WRONG_HANDLE);
+    want("name", stunp_endpoint_users_add(&realm.users, &byte, 1, "", 0), STUNP_NOT_TEXT);
+    want("nobody", judge(&realm, &request, 0, sizeof out, &received), STUNP_ANSWER);
+    want("401", received.code, 401);
+    int64_t added = STUNP_OUT_OF_MEMORY;
+    for (size_t n = 1; added == STUNP_OUT_OF_MEMORY; n++) {
+        stunp_heap_refuse(n);
+        added = stunp_endpoint_users_add(&realm.users, "name", 4, "a password", 10);
+    }
+    stunp_heap_refuse(0);
+    want("added", added, 0);
+    want("not signed", judge(&realm, &plain, 0, sizeof out, &received), STUNP_ANSWER);
+    want("400", received.code, 400);
+    want("accepted", judge(&realm, &request, 0, sizeof out, &received), STUNP_IS_REQUEST);
+    want("name", (int64_t)received.name_length, 4);
+    want_same("name", received.name, "name", 5);
+    want("algorithm", received.algorithm, algorithm);
+    stunp_writer answer = stunp_reply_success(&received.reply, out, sizeof out);
+    int64_t length = stunp_reply_finish(&received.reply, &answer);
+    want("signed", stunp_verify(out, (size_t)length, "a password", 10), algorithm);
+    /* The user is looked up. */
+    stunp_found_user found = STUNP_INIT(stunp_found_user);
+    found.name = "name", found.name_length = 4, found.password = "a password";
+    want("resumed", stunp_endpoint_server_resume(&realm.server, &found, request.bytes,
+         request.length, &from, 0, out, sizeof out, &received), STUNP_IS_REQUEST);
+    found.password = NULL, found.sha1_key = key;
+    want("keys", stunp_endpoint_server_resume(&realm.server, &found, request.bytes, request.length,
+         &from, 0, out, sizeof out, &received), STUNP_WRONG_HANDLE);
+    /* Indications are signed too. */
+    struct message indication = signed_by(STUNP_INDICATION, 3, "name", algorithm, "a password");
+    want("heard", judge(&realm, &indication, 0, sizeof out, &received), STUNP_IS_INDICATION);
+    want("by", (int64_t)received.name_length, 4);
+    want_same("by", received.name, "name", 5);
+    want("algorithm", received.algorithm, algorithm);
+    indication = signed_by(STUNP_INDICATION, 4, "name", algorithm, "another");
+    want("forged", judge(&realm, &indication, 0, sizeof out, &received), STUNP_DROPPED);
+    want("why", received.why, STUNP_DROP_NOT_SIGNED);
+    want("code", received.code, 401);
+    want("text", strcmp(stunp_drop_text(received.why), "an indication is not signed by a user"), 0);
+    indication = signed_by(STUNP_INDICATION, 5, NULL, algorithm, "a password");
+    want("of nobody", judge(&realm, &indication, 0, sizeof out, &received), STUNP_DROPPED);
+    want("code", received.code, 400);
+    want("again", stunp_endpoint_users_add(&realm.users, "name", 4, "another", 7), 0);
+    want("the old one", judge(&realm, &request, 0, sizeof out, &received), STUNP_ANSWER);
+    want("code", received.code, 401);
+    want("removed", stunp_endpoint_users_remove(&realm.users, "name", 4), 0);
+    want("nobody", stunp_endpoint_users_remove(&realm.users, "name", 4), 0);
+    want("no name", stunp_endpoint_users_remove(&realm.users, &byte, 1), STUNP_NOT_TEXT);
+    request = signed_by(STUNP_REQUEST, 6, "name", algorithm, "another");
+    want("removed", judge(&realm, &request, 0, sizeof out, &received), STUNP_ANSWER);
+    want("code", received.code, 401);
+    other.users = of_other, realm.client = (stunp_client){0};
+    free_realm(&other);
+    free_realm(&realm);
+}
+
 /* The worked example: its one user is answered, and a method that it does not know is refused. */
 static void worked(void) {
     stunp_endpoint_server server = {0};
@@ -494,6 +700,11 @@ int main(void) {
     look_ups(false);
     look_ups(true);
     worked();
+    settings_without_realm(STUNP_SHORT_TERM);
+    settings_without_realm(STUNP_NO_CREDENTIALS);
+    open_server();
+    short_term_server(STUNP_SHA1);
+    short_term_server(STUNP_SHA256);
     each_allocation();
     want_no_blocks("in the end");
     puts("endpoint: passed");

@@ -463,7 +463,7 @@ static void clients(void) {
     stunp_client_free(&client);
     stunp_client_free(&client);
     want_no_blocks("clients");
-    for (int64_t answer = STUNP_TOO_MANY_ADDRESSES - 1; answer < 9; answer++)
+    for (int64_t answer = STUNP_WRONG_HANDLE - 1; answer < 9; answer++)
         want("is_resend", stunp_is_resend(answer), answer == STUNP_RESEND
              || answer == STUNP_RESEND_SHA1 || answer == STUNP_RESEND_SHA256);
     want("is_resend", stunp_is_resend(INT64_MIN) || stunp_is_resend(INT64_MAX), 0);

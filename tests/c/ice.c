@@ -100,19 +100,19 @@ static void plain_calls(void) {
     /* A handle of another kind has no agent, and that of an agent no server. */
     stunp_endpoint_server as_server = {agent.is_full, agent.state};
     stunp_endpoint_users users = {0};
-    want("of an agent", stunp_endpoint_users_new(&users, &as_server), STUNP_EMPTY_HANDLE);
+    want("of an agent", stunp_endpoint_users_new(&users, &as_server), STUNP_WRONG_HANDLE);
     stunp_endpoint_users as_users = {agent.is_full, agent.state};
-    want("of an agent", stunp_endpoint_users_add(&as_users, "a", 1, "b", 1), STUNP_EMPTY_HANDLE);
+    want("of an agent", stunp_endpoint_users_add(&as_users, "a", 1, "b", 1), STUNP_WRONG_HANDLE);
     stunp_endpoint_server_settings settings = STUNP_INIT(stunp_endpoint_server_settings);
     const uint8_t secret[32] = {7};
     settings.realm = "realm", settings.secret = secret;
     stunp_endpoint_server server = {0};
     want("server", stunp_endpoint_server_new(&server, &settings), 0);
     stunp_ice_checker as_agent = {server.is_full, server.state};
-    want("of a server", stunp_ice_checker_is_controlling(&as_agent), STUNP_EMPTY_HANDLE);
-    want("of a server", stunp_ice_checker_set_tie_breaker(&as_agent, 1), STUNP_EMPTY_HANDLE);
+    want("of a server", stunp_ice_checker_is_controlling(&as_agent), STUNP_WRONG_HANDLE);
+    want("of a server", stunp_ice_checker_set_tie_breaker(&as_agent, 1), STUNP_WRONG_HANDLE);
     want("of a server", stunp_ice_checker_receive(&as_agent, BYTES(request), &from, NULL, out,
-         sizeof out, NULL), STUNP_EMPTY_HANDLE);
+         sizeof out, NULL), STUNP_WRONG_HANDLE);
     stunp_endpoint_server_free(&server);
     stunp_ice_checker_free(&agent);
 }

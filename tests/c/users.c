@@ -62,13 +62,13 @@ static void users_elsewhere(bool is_hidden) {
     struct message left = answer;
     const size_t room = sizeof answer.bytes;
     want("without the user", stunp_server_sign(server, answer.bytes, room, 20, &from),
-         STUNP_INTEGRITY_FAILED);
+         STUNP_CANNOT_SIGN);
     want("no name", stunp_server_sign_of(server, answer.bytes, 20, 30, &nowhere, &byte, 1, "", 0),
          STUNP_NOT_TEXT);
     want("nowhere", stunp_server_sign_of(server, answer.bytes, 20, 30, &nowhere, "name", 4,
          "password", 8), STUNP_BAD_ARGUMENT);
     want("another user", stunp_server_sign_of(server, answer.bytes, room, 20, &from, "Name", 4,
-         "password", 8), STUNP_INTEGRITY_FAILED);
+         "password", 8), STUNP_CANNOT_SIGN);
     want("no room", stunp_server_sign_of(server, answer.bytes, 20, 20, &from, "name", 4,
          "password", 8), STUNP_BUFFER_TOO_SMALL);
     stunp_heap_bound(0);
@@ -198,7 +198,7 @@ static void users_by_keys(uint32_t algorithms) {
     struct message answer = message_of(STUNP_SUCCESS, 2), same = answer;
     const size_t room = sizeof answer.bytes;
     want("signs without a key", signs_by(server, &answer, room, &from, "name", 4, &none),
-         STUNP_INTEGRITY_FAILED);
+         STUNP_CANNOT_SIGN);
     stunp_writer writer = stunp_write_on(20, answer.bytes, room);
     stunp_write_server_sign_of_keys(&writer, server, &from, "name", 4, right.sha1,
                                     right.sha1_length, right.sha256, right.sha256_length);

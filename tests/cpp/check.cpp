@@ -1,5 +1,5 @@
-// The header for C++17, stunp.hpp: a check of ICE that is written, signed, read and verified, and
-// a server and a client that meet in memory. tests/examples.sh compares what it prints.
+// The header for C++17, stunp.hpp: a check of ICE that is written, signed, read and verified, a
+// server and a client that meet in memory, and the endpoints. tests/examples.sh compares what it prints.
 #include "stunp.hpp"
 #include <cstdio>
 
@@ -138,6 +138,111 @@ static void meet_from_a_database() {
     show("one more user", stunp::ask(stunp_server_add_user, server->get(), "bob", "word").text());
 }
 
+// ---- The endpoints.
+
+// What a datagram comes to, in a word and a number.
+static void say(const stunp::result<stunp::endpoint::received> &got) {
+    if (!got) return show("error", got.text());
+    if (got->answer()) std::printf("answer: %u\n", got->told().code);
+    if (got->request()) show("request of", std::string(got->user()).c_str());
+    if (got->indication()) show("indication of", std::string(got->user()).c_str());
+    if (got->response()) std::printf("response: %u\n", got->response()->method);
+    if (got->lookup())
+        show("look-up of", got->lookup()->is_hash ? "a hash" : std::string(got->user()).c_str());
+    if (got->dropped()) show("dropped", got->dropped());
+}
+
+// A request that a client signs by what it was told, or a plain one without a client.
+static stunp::bytes request_of(const stunp::client *client, uint32_t method) {
+    stunp::writer request(STUNP_REQUEST, method, first_id);
+    if (client != nullptr) request.sign(*client);
+    return request.finish()->copy();
+}
+
+static void long_term_server() {
+    static const uint8_t secret[32] = {1};
+    auto settings = STUNP_INIT(stunp::endpoint::settings);
+    settings.realm = "realm", settings.secret = secret, settings.answers_binding = true;
+    auto server = stunp::endpoint::server::make(settings);
+    if (!server) return show("no server", server.text());
+    auto users = stunp::endpoint::users::make(*server);
+    auto client = stunp::client::make("name", "password", stunp::both);
+    if (!users || !client || !users->add("name", "password")) return show("no", "memory");
+    auto got = server->receive(*users, request_of(nullptr, STUNP_BINDING), home, 1700000000);
+    say(got);
+    if (!client->validate(*got->answer()).is_resend()) return show("client", "is lost");
+    auto request = request_of(&*client, STUNP_BINDING);
+    got = server->receive(*users, request, home, 1700000000);
+    say(got);
+    show("the client", name_or_refusal(client->validate(*got->answer())));
+    say(server->identify(request, home, 1700000000));
+    auto found = STUNP_INIT(stunp_found_user);
+    found.name = "name", found.name_length = 4, found.password = "password";
+    say(server->resume(&found, request, home, 1700000000));
+    say(server->resume(nullptr, request, home, 1700000000));
+    got = server->receive(*users, request_of(&*client, STUNP_ALLOCATE), home, 1700000000);
+    say(got);
+    const stunp_reply &reply = *got->request();
+    auto answer = stunp::endpoint::success(reply).add_number(STUNP_LIFETIME, 600, 4).sign(reply)
+                      .finish();
+    show("the client", name_or_refusal(client->validate(*answer)));
+    show("a late error", stunp::endpoint::error(reply, 299, "").sign(reply).finish().text());
+    if (!users->remove("name")) return show("not", "removed");
+    say(server->receive(*users, request, home, 1700000000));
+    say(server->receive(request, home)); // no users
+}
+
+static void other_servers() {
+    auto settings = STUNP_INIT(stunp::endpoint::settings);
+    settings.credentials = STUNP_NO_CREDENTIALS;
+    auto open = stunp::endpoint::server::make(settings);
+    settings.credentials = STUNP_SHORT_TERM;
+    auto session = stunp::endpoint::server::make(settings);
+    if (!open || !session) return show("no", "memory");
+    say(open->receive(request_of(nullptr, STUNP_BINDING), home));
+    say(open->receive("no message", home));
+    // A 420 that lists many attributes wants more room than most answers.
+    stunp::writer many(STUNP_REQUEST, STUNP_BINDING, first_id, 8192);
+    for (uint32_t type = 0x4000; type < 0x4600; type++) many.add(type, {});
+    auto got = open->receive(*many.finish(), home);
+    std::printf("an answer of %zu bytes\n", got->answer()->size());
+    show("users of an open server", stunp::endpoint::users::make(*open).text());
+    auto users = stunp::endpoint::users::make(*session);
+    if (!users || !users->add("name", "password")) return show("no", "memory");
+    stunp::writer request(STUNP_REQUEST, STUNP_BINDING, second_id);
+    request.add(STUNP_USERNAME, "name").sign(STUNP_SHA256, "password");
+    say(session->receive(*users, *request.finish(), home, 0));
+    stunp::writer indication(STUNP_INDICATION, STUNP_BINDING, third_id);
+    say(session->receive(*users, *indication.finish(), home, 0));
+    auto moved = std::move(*session);
+    say(session->receive(*users, *request.finish(), home, 0));
+    say(moved.receive(*users, *request.finish(), home, 0));
+    static_assert(!std::is_copy_constructible_v<stunp::endpoint::server>);
+    static_assert(!std::is_copy_constructible_v<stunp::endpoint::users>);
+    static_assert(!std::is_copy_constructible_v<stunp::endpoint::received>);
+    static_assert(!std::is_copy_constructible_v<stunp::ice::checker>);
+}
+
+static void check_a_pair() {
+    auto settings = STUNP_INIT(stunp::ice::settings);
+    settings.name = "evtj", settings.peer_name = "h6vY";
+    settings.password = settings.peer_password = "VOkJxbRl1RmTxUk/WvJxBt";
+    settings.tie_breaker = 2, settings.is_controlling = true;
+    auto one = stunp::ice::checker::make(settings);
+    std::swap(settings.name, settings.peer_name);
+    settings.tie_breaker = 1, settings.is_controlling = false;
+    auto other = stunp::ice::checker::make(settings);
+    if (!one || !other) return show("no", "memory");
+    const auto check = one->write(first_id, home, 0x6e0001ff, true);
+    if (!check) return show("no check", check.text());
+    auto answered = other->receive(check->datagram, home, nullptr);
+    if (!answered) return show("no answer", answered.text());
+    std::printf("ICE: %u, nominated: %d\n", answered->told.outcome, answered->told.nominated);
+    auto ended = one->receive(answered->answer, home, &check->stored);
+    std::printf("ICE: %u, port %u\n", ended->told.outcome, ended->told.mapped.port);
+    show("controls", *one->is_controlling() && !*other->is_controlling() ? "one" : "both");
+}
+
 // ---- Handles.
 
 static void move_handles() {
@@ -160,5 +265,8 @@ int main() {
     meet("password");
     meet("guess");
     meet_from_a_database();
+    long_term_server();
+    other_servers();
+    check_a_pair();
     move_handles();
 }

@@ -66,7 +66,7 @@ static void require_rest(size_t from, const char *what) {
 
 /* An answer is a number of the header. */
 static int64_t named(int64_t answer) {
-    require(answer >= STUNP_TOO_MANY_ADDRESSES, "a refusal without a name");
+    require(answer >= STUNP_WRONG_HANDLE, "a refusal without a name");
     return answer;
 }
 

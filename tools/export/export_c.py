@@ -15,8 +15,9 @@ CRATES = ["stun_numbers", "stun_handles", "stun_c", "stun_state", "stun_c_endpoi
 PLACES = {crate: f"crate::calls::{crate}" for crate in CRATES}
 CALL = re.compile(r'((?:^///[^\n]*\n)+)^#\[unsafe\(no_mangle\)\]\npub extern "C" fn '
                   r'(\w+)\(([^)]*)\)(?: -> (\w+))?', re.M)
-# Sizes are those of 64 bits in the sources, and of the target here.
-SIZES = [("usize = 9_223_372_036_854_775_807;", "usize = isize::MAX as usize;"),
+# Sizes are those of 64 bits in the sources, and of the target here. What is exported is not proved.
+SIZES = [("IS_PROVED: bool = true;", "IS_PROVED: bool = false;"),
+         ("usize = 9_223_372_036_854_775_807;", "usize = isize::MAX as usize;"),
          (" RECEIVED_SIZE: usize = 640;", " RECEIVED_SIZE: usize = size_of::<Received>();"),
          ("ICE_RECEIVED_SIZE: usize = 64;", "ICE_RECEIVED_SIZE: usize = size_of::<IceReceived>();")]
 SLICES = {"&[u8]": ("*const u8", "read"), "&mut [u8]": ("*mut u8", "written"),

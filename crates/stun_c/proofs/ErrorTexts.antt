@@ -39,7 +39,9 @@ short_refusal n =
     either (n == 25) _ _ (omega arith) (
     either (n == 26) _ _ (omega arith) (
     either (n == 27) _ _ (omega arith) (
-    omega arith)))))))))))))))))))))))))))
+    either (n == 28) _ _ (omega arith) (
+    either (n == 29) _ _ (omega arith) (
+    omega arith)))))))))))))))))))))))))))))
 
 pub short_text : (answer : ℤ) → length (error_text answer) ≤ 64
 short_text answer =

@@ -59,6 +59,8 @@ refusal_text number =
     else if number == 25 then ended_text (codes "a required feature is not supported")
     else if number == 26 then ended_text (codes "a request would be sent again without a wait")
     else if number == 27 then ended_text (codes "as many addresses are kept as may be")
+    else if number == 28 then ended_text (codes "there is no key to sign with")
+    else if number == 29 then ended_text (codes "the handle has a value of another kind")
     else ended_text (codes "unknown refusal")
 
 -- what an answer says

@@ -6,7 +6,7 @@
 #![tactic(auto)]
 
 ghost use Rattle.std.specs.Prelude.{◌≡◌, ◌↔◌, ◌⊎◌, drop, length, pos};
-ghost use Rattle.std.specs.Prelude.{slice_get, IfNone, IfSome, Ok};
+ghost use Rattle.std.specs.Prelude.{slice_get, IfNone, IfSome, Ok, true};
 ghost use Rattle.stun_base.specs.Attributes.{XOR_MAPPED_ADDRESS};
 ghost use Rattle.stun_base.specs.Header.{header_refusal};
 ghost use Rattle.stun_types.specs.Integrity.{first_of};
@@ -139,6 +139,17 @@ pub extern "C" fn stunp_userhash(username: &[u8], realm: &[u8], out: &mut [u8]) 
         Ok(hash) => write(out, &hash),
         Err(refusal) => refusal.code(),
     }
+}
+
+/// Whether this is the proved library. The export has another value here.
+const IS_PROVED: bool = true;
+
+/// Returns whether this is the proved library. It is: the archive is made of what was proved.
+#[unsafe(no_mangle)]
+pub extern "C" fn stunp_is_proved() -> bool
+    ensures { result ≡ true }
+{
+    IS_PROVED
 }
 
 /// Returns the version of this library: 10000 times its first number, plus 100 times its second,

@@ -1,7 +1,7 @@
 -- The agent of ICE that a caller in C makes, and what simple calls on it return (RFC 8445, section
 -- 5.3).
 use Rattle.std.specs.Prelude.{◌≡◌, ℕ, ℤ, pos, List, Bool, true, false, ◌&&◌, MatchOption}
-use Rattle.std.specs.Prelude.{if◌then◌else◌, Option, Some, None}
+use Rattle.std.specs.Prelude.{if◌then◌else◌, Option, Some, None, Result, Ok, Err}
 use Rattle.std.specs.Option.{option_map}
 use Rattle.std.specs.Str.{is_utf8}
 use Rattle.stun_base.specs.Keys.{with_colon}
@@ -15,7 +15,7 @@ use Rattle.stun_ice.specs.declared.role.Role.TheVariants.{Controlling, Controlle
 use Rattle.stun_handles.specs.Numbers.{OrOutOfMemory}
 use Rattle.stun_numbers.specs.Refusals.{refusal_number}
 use Rattle.stun_numbers.specs.declared.refusal.Refusal.{Refusal}
-use Rattle.stun_numbers.specs.declared.refusal.Refusal.TheVariants.{BadArgument, EmptyHandle}
+use Rattle.stun_numbers.specs.declared.refusal.Refusal.TheVariants.{BadArgument}
 use Rattle.stun_numbers.specs.declared.refusal.Refusal.TheVariants.{NotText, OutOfMemory}
 use Rattle.stun_c_endpoint.specs.declared.handle.endpoint.Kept.{Kept}
 use Rattle.stun_c_endpoint.specs.declared.handle.endpoint.Kept.TheVariants.{Checker}
@@ -81,13 +81,13 @@ MakesAgent g result now =
 -- ---- simple calls
 
 -- 1 for an agent that controls, and 0 for one that does not
-abbrev pub controlling_answer : Option Agent → ℤ
-controlling_answer None = refusal_number EmptyHandle
-controlling_answer (Some a) = if is_controlling a.role then pos 1 else pos 0
+abbrev pub controlling_answer : Result Agent Refusal → ℤ
+controlling_answer (Err refusal) = refusal_number refusal
+controlling_answer (Ok a) = if is_controlling a.role then pos 1 else pos 0
 
 -- a call gives an agent another tie-breaker and returns 0, or there is no agent
-abbrev pub SetsTieBreaker : Option Agent → ℕ → ℤ → Option Kept → Option Kept → Type 0
-SetsTieBreaker None tie result before now =
-    (result ≡ refusal_number EmptyHandle) × (now ≡ before)
-SetsTieBreaker (Some a) tie result before now =
+abbrev pub SetsTieBreaker : Result Agent Refusal → ℕ → ℤ → Option Kept → Option Kept → Type 0
+SetsTieBreaker (Err refusal) tie result before now =
+    (result ≡ refusal_number refusal) × (now ≡ before)
+SetsTieBreaker (Ok a) tie result before now =
     (result ≡ pos 0) × (now ≡ Some (Checker (record a { tie_breaker = tie })))

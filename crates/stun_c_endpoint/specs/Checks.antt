@@ -13,7 +13,7 @@ use Rattle.stun_handles.specs.Numbers.{length_answer}
 use Rattle.stun_handles.specs.declared.address.Address.{Address}
 use Rattle.stun_numbers.specs.Refusals.{refusal_number}
 use Rattle.stun_numbers.specs.declared.refusal.Refusal.{Refusal}
-use Rattle.stun_numbers.specs.declared.refusal.Refusal.TheVariants.{BufferTooSmall, EmptyHandle}
+use Rattle.stun_numbers.specs.declared.refusal.Refusal.TheVariants.{BufferTooSmall}
 use Rattle.stun_numbers.specs.declared.refusal.Refusal.TheVariants.{OutOfMemory}
 use Rattle.stun_c_endpoint.specs.Agents.{is_controlling, role_if}
 use Rattle.stun_c_endpoint.specs.declared.ice.told.IceCheck.{IceCheck}
@@ -32,9 +32,10 @@ sent_check a id to priority nominate = record {
 
 -- the check that a caller asks for. An empty handle is refused first, and then an address that is
 -- none
-abbrev pub check_asked : Option Agent → List ℕ → Address → ℕ → Bool → Result SentCheck Refusal
-check_asked None id to priority nominate = Err EmptyHandle
-check_asked (Some a) id to priority nominate =
+abbrev pub check_asked : Result Agent Refusal → List ℕ → Address → ℕ → Bool
+    → Result SentCheck Refusal
+check_asked (Err refusal) id to priority nominate = Err refusal
+check_asked (Ok a) id to priority nominate =
     at_address (socket_address to)
     (λ to. Ok (sent_check a (big_number 12 id) to priority nominate))
 

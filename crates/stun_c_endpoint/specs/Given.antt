@@ -5,6 +5,7 @@ use Rattle.std.specs.Str.{is_utf8}
 use Rattle.stun_types.specs.Limits.{TEXT_LIMIT}
 use Rattle.stun_extra.specs.Unknown.{types_of}
 use Rattle.stun_endpoint.specs.Realm.{algorithms_for, feature_for}
+use Rattle.stun_endpoint.specs.Responding.{Responding}
 use Rattle.stun_endpoint.specs.Settings.{Settings}
 use Rattle.stun_endpoint.specs.declared.server.settings.TheConstants.{STUN_ATTRIBUTES}
 use Rattle.stun_handles.specs.Numbers.{OrOutOfMemory}
@@ -13,7 +14,7 @@ use Rattle.stun_numbers.specs.declared.refusal.Refusal.{Refusal}
 use Rattle.stun_numbers.specs.declared.refusal.Refusal.TheVariants.{BadArgument, NotText}
 use Rattle.stun_numbers.specs.declared.refusal.Refusal.TheVariants.{TextTooLong}
 use Rattle.stun_c_endpoint.specs.declared.handle.endpoint.Kept.{Kept}
-use Rattle.stun_c_endpoint.specs.declared.handle.endpoint.Kept.TheVariants.{Server}
+use Rattle.stun_c_endpoint.specs.declared.handle.endpoint.Kept.TheVariants.{Open, Server, ShortTerm}
 
 -- what a caller gives: texts and keys as bytes, and types, algorithms and the feature as numbers
 pub record Given : Type 0 where
@@ -71,10 +72,42 @@ server_given g = record {
   answers_binding = g.answers_binding;
 }
 
--- a call makes the server of what is given in an empty handle and returns 0, or returns the first
--- refusal; or an allocation failed
-abbrev pub MakesServer : Given → ℤ → Option Kept → Type 0
-MakesServer g result now =
-    MatchOption (given_refusal g)
-    (OrOutOfMemory result None now (pos 0) (Some (Server (server_given g))))
+-- what a caller gives of a server without a realm
+pub record GivenAlone : Type 0 where
+  pub software : List ℕ
+  pub understood : List ℕ
+  pub answers_binding : Bool
+
+-- why no such server is made, the first reason that holds
+abbrev pub alone_refusal : GivenAlone → Option Refusal
+alone_refusal g =
+    if not (is_utf8 g.software) then Some NotText
+    else if nat_lt TEXT_LIMIT (length g.software) then Some TextTooLong
+    else None
+
+-- the server of it, whether it has short-term credentials or none
+abbrev pub responding_given : GivenAlone → Responding
+responding_given g = record {
+  known = types_of g.understood ++ STUN_ATTRIBUTES;
+  software = if_any g.software;
+  answers_binding = g.answers_binding;
+}
+
+-- a call makes a server in an empty handle and returns 0, or returns the first refusal; or an
+-- allocation failed
+abbrev pub Makes : Option Refusal → Kept → ℤ → Option Kept → Type 0
+Makes refused made result now =
+    MatchOption refused (OrOutOfMemory result None now (pos 0) (Some made))
     (λ refusal. (result ≡ refusal_number refusal) × (now ≡ None))
+
+-- the same of a server with short-term credentials
+abbrev pub MakesShortTerm : GivenAlone → ℤ → Option Kept → Type 0
+MakesShortTerm g result now = Makes (alone_refusal g) (ShortTerm (responding_given g)) result now
+
+-- the same of one without credentials
+abbrev pub MakesOpen : GivenAlone → ℤ → Option Kept → Type 0
+MakesOpen g result now = Makes (alone_refusal g) (Open (responding_given g)) result now
+
+-- the same of one with long-term credentials
+abbrev pub MakesServer : Given → ℤ → Option Kept → Type 0
+MakesServer g result now = Makes (given_refusal g) (Server (server_given g)) result now

@@ -29,7 +29,7 @@ use Rattle.stun_handles.specs.declared.address.Address.{Address}
 use Rattle.stun_numbers.specs.Refusals.{refusal_number}
 use Rattle.stun_numbers.specs.declared.refusal.Refusal.{Refusal}
 use Rattle.stun_numbers.specs.declared.refusal.Refusal.TheVariants.{BadArgument, BufferTooSmall}
-use Rattle.stun_numbers.specs.declared.refusal.Refusal.TheVariants.{EmptyHandle, OutOfMemory}
+use Rattle.stun_numbers.specs.declared.refusal.Refusal.TheVariants.{OutOfMemory}
 use Rattle.stun_c_endpoint.specs.Checks.{check_given}
 use Rattle.stun_c_endpoint.specs.declared.handle.endpoint.Kept.{Kept}
 use Rattle.stun_c_endpoint.specs.declared.handle.endpoint.Kept.TheVariants.{Checker}
@@ -60,10 +60,10 @@ at_check (Some check) seen = Ok (seen check)
 
 -- what is judged: an empty handle, or one of another kind, is refused first, and then a result of
 -- another size, and an address that is none
-abbrev pub seen_at : Option Agent → Bool → IceCheck → Address → List ℕ → IceReceived
+abbrev pub seen_at : Result Agent Refusal → Bool → IceCheck → Address → List ℕ → IceReceived
     → Result Seen Refusal
-seen_at None has k from bytes r = Err EmptyHandle
-seen_at (Some a) has k from bytes r =
+seen_at (Err refusal) has k from bytes r = Err refusal
+seen_at (Ok a) has k from bytes r =
     if r.size == ICE_RECEIVED_SIZE
     then at_address (socket_address from)
     (λ from. at_check (check_given has k) (λ check. seen_by a check from bytes))

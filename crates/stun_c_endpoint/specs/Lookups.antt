@@ -1,7 +1,7 @@
 -- What a datagram comes to before its user is looked up, as a caller in C gets it (RFC 8489, section
 -- 9.2.4).
 use Rattle.std.specs.Prelude.{◌≡◌, ◌⊎◌, ℕ, ℤ, pos, List, ◌||◌, ◌==◌, true, not, length, nat_lt}
-use Rattle.std.specs.Prelude.{if◌then◌else◌, Option, Some, None, Result, Ok, Err}
+use Rattle.std.specs.Prelude.{if◌then◌else◌, Option, Result, Ok, Err}
 use Rattle.stun_auth.specs.Handed.{Named, by_hash, by_name}
 use Rattle.stun_base.specs.Header.{type_field}
 use Rattle.stun_base.specs.MessageType.{method_of}
@@ -11,18 +11,36 @@ use Rattle.stun_handles.specs.Addresses.{socket_address}
 use Rattle.stun_handles.specs.Answers.{at_address}
 use Rattle.stun_handles.specs.declared.address.Address.{Address}
 use Rattle.stun_numbers.specs.declared.refusal.Refusal.{Refusal}
-use Rattle.stun_numbers.specs.declared.refusal.Refusal.TheVariants.{BadArgument, EmptyHandle}
+use Rattle.stun_numbers.specs.declared.refusal.Refusal.TheVariants.{BadArgument, WrongHandle}
 use Rattle.stun_numbers.specs.declared.refusal.Refusal.TheVariants.{OutOfMemory}
 use Rattle.stun_c_endpoint.specs.Told.{IsTold, LAST_SECOND, LeavesAll, NAME_PLACE, NAME_ROOM}
-use Rattle.stun_c_endpoint.specs.Told.{RECEIVED_SIZE, at_front, blank}
+use Rattle.stun_c_endpoint.specs.Told.{RECEIVED_SIZE, at_front, blank, of_realm}
+use Rattle.stun_c_endpoint.specs.Kept.{at_handle}
+use Rattle.stun_c_endpoint.specs.declared.handle.endpoint.Kept.{Kept}
+use Rattle.stun_c_endpoint.specs.declared.handle.endpoint.Kept.TheVariants.{Checker, Server, Users}
+use Rattle.stun_c_endpoint.specs.declared.handle.endpoint.Kept.TheVariants.{Open, ShortTerm}
+use Rattle.stun_c_endpoint.specs.declared.handle.endpoint.Kept.TheVariants.{ShortTermUsers}
 use Rattle.stun_c_endpoint.specs.declared.received.Received.{Received}
 
--- what is judged without users: an empty handle, or one of another kind, is refused first, and then
--- a result of another size, a time that is none of seconds, and an address that is none
-abbrev pub identified_at : Option Settings → Address → ℕ → List ℕ → Received
+-- what is judged without users: one of another kind than a server with long-term credentials has no
+-- users to be looked up, and is refused
+abbrev pub long_term_of : Kept → Result Settings Refusal
+long_term_of (Server s) = Ok s
+long_term_of (Users t) = Err WrongHandle
+long_term_of (Open t) = Err WrongHandle
+long_term_of (ShortTerm t) = Err WrongHandle
+long_term_of (ShortTermUsers t) = Err WrongHandle
+long_term_of (Checker t) = Err WrongHandle
+
+abbrev pub long_term_in : Option Kept → Result Settings Refusal
+long_term_in handle = at_handle handle (λ kept. long_term_of kept)
+
+-- the refusals of the handle come first, and then a result of another size, a time that is none of
+-- seconds, and an address that is none
+abbrev pub identified_at : Result Settings Refusal → Address → ℕ → List ℕ → Received
     → Result Identification Refusal
-identified_at None from seconds bytes r = Err EmptyHandle
-identified_at (Some s) from seconds bytes r =
+identified_at (Err refusal) from seconds bytes r = Err refusal
+identified_at (Ok s) from seconds bytes r =
     if not (r.size == RECEIVED_SIZE) || nat_lt LAST_SECOND seconds then Err BadArgument
     else at_address (socket_address from) (λ from. Ok (identified_by s from seconds bytes))
 
@@ -44,7 +62,7 @@ lookup_told l r =
 -- a call returns the number of what a datagram comes to, or 5 of a request that waits, and writes
 -- what is told of it
 abbrev pub IsIdentified : Identification → ℤ → List ℕ → List ℕ → Received → Received → Type 0
-IsIdentified (done outcome) result out out' r r' = IsTold outcome result out out' r r'
+IsIdentified (done outcome) result out out' r r' = IsTold (of_realm outcome) result out out' r r'
 IsIdentified (looked_up l) result out out' r r' =
     (result ≡ pos 5) × (out' ≡ out) × (r' ≡ lookup_told l r)
 

@@ -4,22 +4,26 @@ use Rattle.std.specs.Prelude.{drop, take, nat_lt, if◌then◌else◌, Option, S
 use Rattle.std.specs.Prelude.{replicate}
 use Rattle.byteorder.specs.Endian.{big_bytes}
 use Rattle.std.specs.Option.{option_map, option_map_or}
-use Rattle.stun_auth.specs.Validation.{ServerSeen}
+use Rattle.stun_auth.specs.Seen.{ClientSeen}
 use Rattle.stun_base.specs.declared.keys.algorithm.IntegrityAlgorithm.{IntegrityAlgorithm}
 use Rattle.stun_base.specs.Header.{type_field}
 use Rattle.stun_base.specs.MessageType.{method_of}
 use Rattle.stun_endpoint.specs.Answers.{Signature}
 use Rattle.stun_endpoint.specs.Judged.{realm_of_table}
-use Rattle.stun_endpoint.specs.Received.{Outcome, answered, dropped, indicated, received_by}
-use Rattle.stun_endpoint.specs.Received.{requested, responded}
-use Rattle.stun_endpoint.specs.Received.{Reply as TheReply}
+use Rattle.stun_endpoint.specs.Open.{OpenOutcome, received_openly}
+use Rattle.stun_endpoint.specs.Open as plain
+use Rattle.stun_endpoint.specs.Received.{Outcome, received_by}
+use Rattle.stun_endpoint.specs.Received as realm
+use Rattle.stun_endpoint.specs.Responding.{Answer, Reply as TheReply}
+use Rattle.stun_endpoint.specs.ShortTerm.{ShortTermOutcome, received_signed}
+use Rattle.stun_endpoint.specs.ShortTerm as short
 use Rattle.stun_endpoint.specs.Refusals.{code_of}
-use Rattle.stun_endpoint.specs.Settings.{Settings}
 use Rattle.stun_endpoint.specs.declared.received.DropReason.{DropReason}
 use Rattle.stun_endpoint.specs.declared.received.DropReason.TheVariants.{NotStun, Malformed}
 use Rattle.stun_endpoint.specs.declared.received.DropReason.TheVariants.{WrongFingerprint}
 use Rattle.stun_endpoint.specs.declared.received.DropReason.TheVariants.{UnknownAttribute}
 use Rattle.stun_endpoint.specs.declared.received.Refusal.{Refusal as Refused}
+use Rattle.std.specs.declared.net.socket_addr.SocketAddr.{SocketAddr}
 use Rattle.stun_handles.specs.Addresses.{socket_address}
 use Rattle.stun_handles.specs.Answers.{at_address}
 use Rattle.stun_handles.specs.declared.address.Address.{Address}
@@ -27,11 +31,63 @@ use Rattle.stun_numbers.specs.Algorithms.{algorithm_number}
 use Rattle.stun_numbers.specs.Refusals.{refusal_number}
 use Rattle.stun_numbers.specs.declared.refusal.Refusal.{Refusal}
 use Rattle.stun_numbers.specs.declared.refusal.Refusal.TheVariants.{BadArgument, BufferTooSmall}
-use Rattle.stun_numbers.specs.declared.refusal.Refusal.TheVariants.{EmptyHandle, OutOfMemory}
-use Rattle.stun_c_endpoint.specs.Kept.{server_in, users_in}
-use Rattle.stun_c_endpoint.specs.declared.handle.endpoint.Kept.{Kept}
+use Rattle.stun_numbers.specs.declared.refusal.Refusal.TheVariants.{OutOfMemory}
+use Rattle.stun_c_endpoint.specs.Kept.{Judge, by_realm, by_users, openly}
 use Rattle.stun_c_endpoint.specs.declared.received.Received.{Received}
 use Rattle.stun_c_endpoint.specs.declared.received.Reply.{Reply}
+
+-- ---- what a datagram comes to
+
+-- at any server: a datagram that is dropped has the number of the reason, and the code by which a
+-- request like it would be refused, or 0; and whoever signed a message is the client of it
+pub data AnyOutcome : Type 0 where
+  answered : Answer → AnyOutcome
+  requested : Option ClientSeen → TheReply → AnyOutcome
+  indicated : Option ClientSeen → List ℕ → AnyOutcome
+  responded : List ℕ → AnyOutcome
+  dropped : ℕ → ℕ → AnyOutcome
+
+-- the numbers of the reasons to drop one
+abbrev pub drop_number : DropReason → ℕ
+drop_number NotStun = 1
+drop_number Malformed = 2
+drop_number WrongFingerprint = 3
+drop_number UnknownAttribute = 4
+
+-- the number of one more: an indication that no user has signed (section 9.1.3)
+abbrev pub NOT_SIGNED : ℕ
+NOT_SIGNED = 8
+
+-- with long-term credentials, where indications are not signed (section 9.2)
+abbrev pub of_realm : Outcome → AnyOutcome
+of_realm (realm.answered a) = answered a
+of_realm (realm.requested q) = requested (Some q.client) q.reply
+of_realm (realm.indicated m) = indicated None m
+of_realm (realm.responded m) = responded m
+of_realm (realm.dropped why) = dropped (drop_number why) 0
+
+-- with short-term credentials
+abbrev pub of_users : ShortTermOutcome → AnyOutcome
+of_users (short.answered a) = answered a
+of_users (short.requested q) = requested (Some q.client) q.reply
+of_users (short.indicated i) = indicated (Some i.client) i.message
+of_users (short.responded m) = responded m
+of_users (short.not_signed refusal) = dropped NOT_SIGNED (code_of refusal)
+of_users (short.dropped why) = dropped (drop_number why) 0
+
+-- without credentials
+abbrev pub of_open : OpenOutcome → AnyOutcome
+of_open (plain.answered a) = answered a
+of_open (plain.requested q) = requested None q.reply
+of_open (plain.indicated m) = indicated None m
+of_open (plain.responded m) = responded m
+of_open (plain.dropped why) = dropped (drop_number why) 0
+
+abbrev pub outcome_by : Judge → SocketAddr → ℕ → List ℕ → AnyOutcome
+outcome_by (by_realm s u) from seconds bytes =
+    of_realm (received_by s (realm_of_table u) from seconds bytes)
+outcome_by (by_users s u) from seconds bytes = of_users (received_signed s u from bytes)
+outcome_by (openly s) from seconds bytes = of_open (received_openly s from bytes)
 
 -- ---- why a datagram is not judged
 
@@ -43,43 +99,16 @@ RECEIVED_SIZE = 640
 abbrev pub LAST_SECOND : ℕ
 LAST_SECOND = 1099511627776
 
--- what is judged: an empty handle, or one of another kind, is refused first, and then a result of
+-- what a datagram comes to by what two handles have. Their refusals come first, and then a result of
 -- another size, a time that is none of seconds, and an address that is none
-abbrev pub with_users : Settings → Option ServerSeen → Address → ℕ → List ℕ → Received
-    → Result Outcome Refusal
-with_users s None from seconds bytes r = Err EmptyHandle
-with_users s (Some u) from seconds bytes r =
+abbrev pub outcome_at : Result Judge Refusal → Address → ℕ → List ℕ → Received
+    → Result AnyOutcome Refusal
+outcome_at (Err refusal) from seconds bytes r = Err refusal
+outcome_at (Ok judge) from seconds bytes r =
     if not (r.size == RECEIVED_SIZE) || nat_lt LAST_SECOND seconds then Err BadArgument
-    else at_address (socket_address from)
-    (λ from. Ok (received_by s (realm_of_table u) from seconds bytes))
-
-abbrev pub outcome_at : Option Settings → Option ServerSeen → Address → ℕ → List ℕ → Received
-    → Result Outcome Refusal
-outcome_at None u from seconds bytes r = Err EmptyHandle
-outcome_at (Some s) u from seconds bytes r = with_users s u from seconds bytes r
-
--- the same by what two handles have
-abbrev pub judged_outcome : Option Kept → Option Kept → Address → ℕ → List ℕ → Received
-    → Result Outcome Refusal
-judged_outcome server users from seconds bytes r =
-    outcome_at (server_in server) (users_in users) from seconds bytes r
+    else at_address (socket_address from) (λ from. Ok (outcome_by judge from seconds bytes))
 
 -- ---- what is told of it
-
--- the numbers of what a datagram comes to
-abbrev pub kind_number : Outcome → ℕ
-kind_number (dropped why) = 0
-kind_number (answered a) = 1
-kind_number (requested q) = 2
-kind_number (indicated m) = 3
-kind_number (responded m) = 4
-
--- the numbers of the reasons to drop one
-abbrev pub drop_number : DropReason → ℕ
-drop_number NotStun = 1
-drop_number Malformed = 2
-drop_number WrongFingerprint = 3
-drop_number UnknownAttribute = 4
 
 -- the code of an error response, and 0 of a success
 abbrev pub code_told : Option Refused → ℕ
@@ -138,60 +167,75 @@ blank kind r = record r {
   is_hash = false;
 }
 
+-- who signed a message: the name in full, and the algorithm
+abbrev pub signer_told : Option ClientSeen → Received → Received
+signer_told None r = record r { name = replicate NAME_PLACE 0 }
+signer_told (Some client) r = record r {
+  algorithm = algorithm_number client.algorithm;
+  name_length = length client.name;
+  name = at_front NAME_PLACE NAME_ROOM client.name;
+}
+
 -- what a caller gets of what a datagram comes to
-abbrev pub told_of : Outcome → Received → Received
-told_of (dropped why) r = record (blank 0 r) { why = drop_number why }
+abbrev pub told_of : AnyOutcome → Received → Received
+told_of (dropped why code) r = record (blank 0 r) { why = why; code = code }
 told_of (answered a) r =
     record (blank 1 r) { code = code_told a.refusal; length = length a.bytes }
-told_of (requested q) r = record (blank 2 r) {
-  method = q.reply.method;
-  algorithm = algorithm_number q.client.algorithm;
-  name_length = length q.client.name;
-  name = at_front NAME_PLACE NAME_ROOM q.client.name;
-  reply = reply_told q.reply;
-}
-told_of (indicated m) r = record (blank 3 r) { method = method_of (type_field m) }
+told_of (requested client reply) r = signer_told client (record (blank 2 r) {
+  method = reply.method;
+  reply = reply_told reply;
+})
+told_of (indicated client m) r =
+    signer_told client (record (blank 3 r) { method = method_of (type_field m) })
 told_of (responded m) r = record (blank 4 r) { method = method_of (type_field m) }
 
+-- the numbers of what a datagram comes to
+abbrev pub kind_number : AnyOutcome → ℕ
+kind_number (dropped why code) = 0
+kind_number (answered a) = 1
+kind_number (requested client reply) = 2
+kind_number (indicated client m) = 3
+kind_number (responded m) = 4
+
 -- a response that has no room is refused
-abbrev pub room_refusal : ℕ → Outcome → Option Refusal
-room_refusal room (dropped why) = None
+abbrev pub room_refusal : ℕ → AnyOutcome → Option Refusal
+room_refusal room (dropped why code) = None
 room_refusal room (answered a) = if nat_lt room (length a.bytes) then Some BufferTooSmall else None
-room_refusal room (requested q) = None
-room_refusal room (indicated m) = None
+room_refusal room (requested client reply) = None
+room_refusal room (indicated client m) = None
 room_refusal room (responded m) = None
 
 -- how many bytes a response has; then they are told, and nothing else
-abbrev pub length_told : Outcome → Received → Received
-length_told (dropped why) r = r
+abbrev pub length_told : AnyOutcome → Received → Received
+length_told (dropped why code) r = r
 length_told (answered a) r = record r { length = length a.bytes }
-length_told (requested q) r = r
-length_told (indicated m) r = r
+length_told (requested client reply) r = r
+length_told (indicated client m) r = r
 length_told (responded m) r = r
 
-abbrev pub told_unless : Option Refusal → Outcome → Received → Received
+abbrev pub told_unless : Option Refusal → AnyOutcome → Received → Received
 told_unless None outcome r = told_of outcome r
 told_unless (Some refusal) outcome r = length_told outcome r
 
 -- the response of what a datagram comes to
-abbrev pub response_of : Outcome → List ℕ → List ℕ
-response_of (dropped why) buffer = buffer
+abbrev pub response_of : AnyOutcome → List ℕ → List ℕ
+response_of (dropped why code) buffer = buffer
 response_of (answered a) buffer = a.bytes ++ drop (length a.bytes) buffer
-response_of (requested q) buffer = buffer
-response_of (indicated m) buffer = buffer
+response_of (requested client reply) buffer = buffer
+response_of (indicated client m) buffer = buffer
 response_of (responded m) buffer = buffer
 
-abbrev pub written_unless : Option Refusal → Outcome → List ℕ → List ℕ
+abbrev pub written_unless : Option Refusal → AnyOutcome → List ℕ → List ℕ
 written_unless None outcome buffer = response_of outcome buffer
 written_unless (Some refusal) outcome buffer = buffer
 
-abbrev pub number_unless : Option Refusal → Outcome → ℤ
+abbrev pub number_unless : Option Refusal → AnyOutcome → ℤ
 number_unless None outcome = pos (kind_number outcome)
 number_unless (Some refusal) outcome = refusal_number refusal
 
 -- a call returns the number of an outcome and writes what is told of it; or an allocation failed:
 -- it returns the number of that, and writes nothing
-pub record IsTold (outcome : Outcome) (result : ℤ) (out out' : List ℕ) (r r' : Received)
+pub record IsTold (outcome : AnyOutcome) (result : ℤ) (out out' : List ℕ) (r r' : Received)
     : Type 0 where
   pub number : result ≡ number_unless (room_refusal (length out) outcome) outcome
   pub written : out' ≡ written_unless (room_refusal (length out) outcome) outcome out
@@ -202,7 +246,7 @@ LeavesAll refusal result out out' r r' =
     (result ≡ refusal_number refusal) × (out' ≡ out) × (r' ≡ r)
 
 -- what a call that judges a datagram returns and writes
-abbrev pub ReceivesAs : Result Outcome Refusal → ℤ → List ℕ → List ℕ → Received → Received
+abbrev pub ReceivesAs : Result AnyOutcome Refusal → ℤ → List ℕ → List ℕ → Received → Received
     → Type 0
 ReceivesAs (Ok outcome) result out out' r r' =
     IsTold outcome result out out' r r' ⊎ LeavesAll OutOfMemory result out out' r r'

@@ -1,6 +1,8 @@
 -- What the calls on a table of users leave, and why they refuse (RFC 8489, section 9.2.2).
 use Rattle.std.specs.Prelude.{◌≡◌, ℕ, ℤ, pos, List, length, nat_lt, if◌then◌else◌, Option, Some, None}
 use Rattle.std.specs.Prelude.{Result, Ok, Err}
+use Rattle.std.specs.FinMap as map
+use Rattle.stun_endpoint.specs.Realm.{table_of}
 use Rattle.stun_auth.specs.Registered.{with_user, with_user_by_keys, without_user}
 use Rattle.stun_auth.specs.Validation.{ServerSeen}
 use Rattle.stun_auth.specs.declared.server.stored_keys.StoredKeys.{StoredKeys}
@@ -10,9 +12,11 @@ use Rattle.stun_handles.specs.Keys.{key_given, keys_given}
 use Rattle.stun_handles.specs.Numbers.{OrOutOfMemory}
 use Rattle.stun_numbers.specs.Refusals.{refusal_number, refusal_or}
 use Rattle.stun_numbers.specs.declared.refusal.Refusal.{Refusal}
-use Rattle.stun_numbers.specs.declared.refusal.Refusal.TheVariants.{TextTooLong, EmptyHandle}
+use Rattle.stun_numbers.specs.declared.refusal.Refusal.TheVariants.{TextTooLong, WrongHandle}
 use Rattle.stun_c_endpoint.specs.declared.handle.endpoint.Kept.{Kept}
-use Rattle.stun_c_endpoint.specs.declared.handle.endpoint.Kept.TheVariants.{Users}
+use Rattle.stun_c_endpoint.specs.declared.handle.endpoint.Kept.TheVariants.{Checker, Server, Users}
+use Rattle.stun_c_endpoint.specs.declared.handle.endpoint.Kept.TheVariants.{Open, ShortTerm}
+use Rattle.stun_c_endpoint.specs.declared.handle.endpoint.Kept.TheVariants.{ShortTermUsers}
 
 -- no USERNAME carries a longer name (section 14.3)
 abbrev pub name_refusal : List ℕ → Option Refusal
@@ -24,46 +28,72 @@ added u name password = record u {
   registered = with_user u.registered (record { username = name; password = password });
 }
 
--- what is left of a table to which a user of a password is added, or why it is refused
-abbrev pub adding : ServerSeen → List ℕ → List ℕ → Result ServerSeen Refusal
-adding u name password =
-    refusal_or (texts_refusal name password)
-    (refusal_or (name_refusal name) (Ok (added u name password)))
+-- what is left of a table to which a user is added, unless the texts are refused
+abbrev pub unless_refused : List ℕ → List ℕ → Kept → Result Kept Refusal
+unless_refused name password table =
+    refusal_or (texts_refusal name password) (refusal_or (name_refusal name) (Ok table))
+
+-- the same of each kind of table. With short-term credentials the key is the password (section 9.1.1)
+abbrev pub adding : List ℕ → List ℕ → Kept → Result Kept Refusal
+adding name password (Users u) = unless_refused name password (Users (added u name password))
+adding name password (ShortTermUsers u) =
+    unless_refused name password (ShortTermUsers (map.insert u name password))
+adding name password (Server s) = Err WrongHandle
+adding name password (Open s) = Err WrongHandle
+adding name password (ShortTerm s) = Err WrongHandle
+adding name password (Checker a) = Err WrongHandle
 
 -- a table with a user of stored keys
-abbrev pub with_keys : ServerSeen → List ℕ → Result StoredKeys Refusal → Result ServerSeen Refusal
-with_keys u name (Ok keys) = Ok (record u {
+abbrev pub keys_added : ServerSeen → List ℕ → Result StoredKeys Refusal → Result Kept Refusal
+keys_added u name (Ok keys) = Ok (Users (record u {
   registered = with_user_by_keys u.registered name keys;
-})
-with_keys u name (Err refusal) = Err refusal
+}))
+keys_added u name (Err refusal) = Err refusal
 
--- the same for stored keys: a name that is no text or is too long is refused, and then a key of
--- another length
-abbrev pub adding_keys : ServerSeen → List ℕ → List ℕ → List ℕ → Result ServerSeen Refusal
-adding_keys u name sha1 sha256 =
+-- what is left of a table to which a user of stored keys is added: a name that is no text or is too
+-- long is refused, and then a key of another length
+abbrev pub with_stored : ServerSeen → List ℕ → List ℕ → List ℕ → Result Kept Refusal
+with_stored u name sha1 sha256 =
     refusal_or (text_refusal name)
     (refusal_or (name_refusal name)
-    (with_keys u name (keys_given (key_given 16 sha1) (key_given 32 sha256))))
+    (keys_added u name (keys_given (key_given 16 sha1) (key_given 32 sha256))))
+
+-- only users of a realm have keys that are stored
+abbrev pub adding_keys : List ℕ → List ℕ → List ℕ → Kept → Result Kept Refusal
+adding_keys name sha1 sha256 (Users u) = with_stored u name sha1 sha256
+adding_keys name sha1 sha256 (Server s) = Err WrongHandle
+adding_keys name sha1 sha256 (Open s) = Err WrongHandle
+adding_keys name sha1 sha256 (ShortTerm s) = Err WrongHandle
+adding_keys name sha1 sha256 (ShortTermUsers u) = Err WrongHandle
+adding_keys name sha1 sha256 (Checker a) = Err WrongHandle
 
 -- what is left once a user is removed
-abbrev pub removing : ServerSeen → List ℕ → Result ServerSeen Refusal
-removing u name =
-    refusal_or (text_refusal name)
-    (Ok (record u { registered = without_user u.registered name }))
+abbrev pub removing : List ℕ → Kept → Result Kept Refusal
+removing name (Users u) = refusal_or (text_refusal name)
+    (Ok (Users (record u { registered = without_user u.registered name })))
+removing name (ShortTermUsers u) =
+    refusal_or (text_refusal name) (Ok (ShortTermUsers (map.remove u name)))
+removing name (Server s) = Err WrongHandle
+removing name (Open s) = Err WrongHandle
+removing name (ShortTerm s) = Err WrongHandle
+removing name (Checker a) = Err WrongHandle
 
--- what is left of the table of a handle. One that has none is refused
-abbrev pub at_table : Option ServerSeen → (ServerSeen → Result ServerSeen Refusal)
-    → Result ServerSeen Refusal
-at_table None left = Err EmptyHandle
-at_table (Some u) left = left u
+-- the empty table of a server's users. One without credentials has no users
+abbrev pub table_for : Kept → Result Kept Refusal
+table_for (Server s) = Ok (Users (table_of s))
+table_for (ShortTerm s) = Ok (ShortTermUsers map.empty)
+table_for (Open s) = Err WrongHandle
+table_for (Users u) = Err WrongHandle
+table_for (ShortTermUsers u) = Err WrongHandle
+table_for (Checker a) = Err WrongHandle
 
 -- a call leaves this table in its handle and returns 0, or it is refused and leaves what was there
-abbrev pub LeavesTable : Result ServerSeen Refusal → ℤ → Option Kept → Option Kept → Type 0
-LeavesTable (Ok left) result before now = (result ≡ pos 0) × (now ≡ Some (Users left))
+abbrev pub LeavesTable : Result Kept Refusal → ℤ → Option Kept → Option Kept → Type 0
+LeavesTable (Ok left) result before now = (result ≡ pos 0) × (now ≡ Some left)
 LeavesTable (Err refusal) result before now = (result ≡ refusal_number refusal) × (now ≡ before)
 
 -- the same of a call for which an allocation may fail
-abbrev pub LeavesTableOr : Result ServerSeen Refusal → ℤ → Option Kept → Option Kept → Type 0
+abbrev pub LeavesTableOr : Result Kept Refusal → ℤ → Option Kept → Option Kept → Type 0
 LeavesTableOr (Ok left) result before now =
-    OrOutOfMemory result before now (pos 0) (Some (Users left))
+    OrOutOfMemory result before now (pos 0) (Some left)
 LeavesTableOr (Err refusal) result before now = (result ≡ refusal_number refusal) × (now ≡ before)

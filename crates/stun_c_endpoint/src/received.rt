@@ -1,23 +1,29 @@
 //! What a datagram comes to, as a caller in C gets it.
 
-ghost use Rattle.std.specs.Prelude.{◌≡◌, ◌≤◌};
+ghost use Rattle.std.specs.Prelude.{◌≡◌, ◌≤◌, None, Some};
 ghost use Rattle.byteorder.specs.Endian.{big_bytes};
-ghost use Rattle.stun_endpoint.specs.Received.{dropped, indicated, requested, responded};
-ghost use Rattle.stun_c_endpoint.specs.Told.{at_front, blank, drop_number, integrity_number};
+ghost use Rattle.stun_endpoint.specs.Refusals.{code_of};
+ghost use Rattle.stun_c_endpoint.specs.Told.{NOT_SIGNED, at_front, blank, signer_told, drop_number};
+ghost use Rattle.stun_c_endpoint.specs.Told.{dropped, indicated, integrity_number, requested};
 ghost use Rattle.stun_c_endpoint.specs.Lookups.{lookup_told, named_told};
-ghost use Rattle.stun_c_endpoint.specs.Told.{reply_told, told_of};
+ghost use Rattle.stun_c_endpoint.specs.Told.{reply_told, responded, told_of};
 ghost use Rattle.stun_auth.specs.Handed.{named_seen};
 
 use byteorder::{BigEndian, ByteOrder};
 use std::alloc::Global;
 use stun_auth::auth::NamedUser;
 use stun_endpoint::lookup::Lookup;
-use stun_endpoint::received::{DropReason, Request};
+use stun_endpoint::open::OpenRequest;
+use stun_endpoint::received::{DropReason, Refusal as Refused, Request};
 use stun_endpoint::reply::Reply as EndpointReply;
+use stun_endpoint::short_term::ShortTermIndication;
 use stun_types::message::{IntegrityAlgorithm, Message, TransactionId};
 
 /// The longest key that a reply has room for.
 pub const KEY_ROOM: usize = 64;
+
+/// The reason of an indication that no user has signed.
+const NOT_SIGNED: u32 = 8;
 
 /// The longest name that is told.
 pub const NAME_ROOM: usize = 513;
@@ -149,7 +155,7 @@ impl Received {
 
     /// Tells of a datagram that is dropped.
     pub fn dropped(&mut self, why: DropReason)
-        ensures { self.new ≡ told_of (dropped why) self.old }
+        ensures { self.new ≡ told_of (dropped (drop_number why) 0) self.old }
     {
         self.begin(0);
         self.why = drop_number(why);
@@ -164,17 +170,51 @@ impl Received {
         self.length = length;
     }
 
+    /// Tells of an indication that no user has signed: the code that a request like it would get.
+    pub fn not_signed(&mut self, refusal: Refused)
+        ensures { self.new ≡ told_of (dropped NOT_SIGNED (code_of refusal)) self.old }
+    {
+        self.begin(0);
+        self.why = NOT_SIGNED;
+        self.code = u32::from(refusal.code());
+    }
+
+    /// Tells who has signed the message.
+    fn signed(&mut self, name: &str, algorithm: IntegrityAlgorithm)
+        ensures { self.new ≡ signer_told (Some (record { name = name.now; algorithm = algorithm }))
+            self.old }
+    {
+        self.algorithm = u16::from(integrity_number(Some(algorithm)));
+        self.name_length = name.len();
+        self.name = front(name.as_bytes(), NAME_ROOM);
+    }
+
+    /// Tells that nobody is known to have signed the message.
+    fn signed_by_nobody(&mut self)
+        ensures { self.new ≡ signer_told None self.old }
+    {
+        self.name = [0; 516];
+    }
+
     /// Tells of an accepted request.
     pub fn requested(&mut self, request: &Request<'_, Global>)
-        ensures { self.new ≡ told_of (requested request.now) self.old }
+        ensures { self.new ≡ told_of (requested (Some request.now.client) request.now.reply)
+            self.old }
     {
         self.begin(2);
-        let name = request.user().as_bytes();
         self.method = request.reply().method().value();
-        self.algorithm = u16::from(integrity_number(Some(request.algorithm())));
-        self.name_length = name.len();
-        self.name = front(name, NAME_ROOM);
         self.reply = Reply::of(request.reply());
+        self.signed(request.user(), request.algorithm());
+    }
+
+    /// Tells of a request that anybody may have sent.
+    pub fn requested_openly(&mut self, request: &OpenRequest<'_, Global>)
+        ensures { self.new ≡ told_of (requested None request.now.reply) self.old }
+    {
+        self.begin(2);
+        self.method = request.reply().method().value();
+        self.reply = Reply::of(request.reply());
+        self.signed_by_nobody();
     }
 
     /// Tells of a request that waits for its user.
@@ -203,12 +243,23 @@ impl Received {
         }
     }
 
-    /// Tells of an indication.
+    /// Tells of an indication that anybody may have sent.
     pub fn indicated(&mut self, message: &Message<'_>)
-        ensures { self.new ≡ told_of (indicated message.now) self.old }
+        ensures { self.new ≡ told_of (indicated None message.now) self.old }
     {
         self.begin(3);
         self.method = message.method().value();
+        self.signed_by_nobody();
+    }
+
+    /// Tells of an indication that a user has signed.
+    pub fn indicated_by(&mut self, indication: &ShortTermIndication<'_>)
+        ensures { self.new ≡ told_of (indicated (Some indication.now.client) indication.now.message)
+            self.old }
+    {
+        self.begin(3);
+        self.method = indication.message().method().value();
+        self.signed(indication.user(), indication.algorithm());
     }
 
     /// Tells of a response for a client.

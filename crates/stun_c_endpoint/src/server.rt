@@ -1,20 +1,23 @@
-//! What the call that judges a datagram does.
+//! What the calls that judge a datagram do.
 
-ghost use Rattle.std.specs.Prelude.{◌≡◌, Some};
+ghost use Rattle.std.specs.Prelude.{◌≡◌, None, Ok, Some};
 ghost use Rattle.stun_handles.specs.Numbers.{number_answer};
-ghost use Rattle.stun_c_endpoint.specs.Kept.{server_of};
-ghost use Rattle.stun_c_endpoint.specs.Lookups.{IdentifiesAs, identified_at};
+ghost use Rattle.stun_c_endpoint.specs.Kept.{by_realm, by_users, judge_with, openly};
+ghost use Rattle.stun_c_endpoint.specs.Lookups.{IdentifiesAs, identified_at, long_term_of};
+ghost use Rattle.stun_endpoint.specs.OpenOutcomes.{open_outcome_of};
 ghost use Rattle.stun_endpoint.specs.Outcomes.{outcome_of};
-ghost use Rattle.stun_endpoint.specs.Received.{answered};
-ghost use Rattle.stun_c_endpoint.specs.Told.{IsTold, ReceivesAs, code_told, judged_outcome};
-ghost use Rattle.stun_c_endpoint.specs.Told.{with_users};
+ghost use Rattle.stun_endpoint.specs.ShortTermOutcomes.{short_term_outcome_of};
+ghost use Rattle.stun_c_endpoint.specs.Told.{IsTold, ReceivesAs, answered, code_told, of_open};
+ghost use Rattle.stun_c_endpoint.specs.Told.{of_realm, of_users, outcome_at};
 
 use crate::handle::endpoint::Kept;
 use crate::received::{RECEIVED_SIZE, Received};
 use std::alloc::Global;
 use stun_endpoint::lookup::Identified;
+use stun_endpoint::open::{OpenReceived, OpenServer};
 use stun_endpoint::received::{Answer, Received as Outcome, Refusal as Refused};
 use stun_endpoint::server::Server;
+use stun_endpoint::short_term::{ShortTermReceived, ShortTermServer, ShortTermUsers};
 use stun_endpoint::unix_time::UnixTime;
 use stun_endpoint::users::Users;
 use stun_handles::address::Address;
@@ -54,14 +57,14 @@ fn answered(
     Ok(1)
 }
 
-/// Tells what a datagram comes to.
+/// Tells what a datagram comes to at a server with long-term credentials.
 fn tell(
     outcome: &Outcome<'_, Global>,
     out: &mut [u8],
     received: &mut Received,
 ) -> Result<u32, Refusal>
-    ensures { IsTold (outcome_of outcome.now) (number_answer result) out.old out.new received.old
-        received.new }
+    ensures { IsTold (of_realm (outcome_of outcome.now)) (number_answer result) out.old out.new
+        received.old received.new }
 {
     match outcome {
         Outcome::Answer(answer) => answered(answer, out, received),
@@ -86,6 +89,74 @@ fn tell(
     }
 }
 
+/// Tells what a datagram comes to at a server with short-term credentials.
+fn tell_short_term(
+    outcome: &ShortTermReceived<'_, Global>,
+    out: &mut [u8],
+    received: &mut Received,
+) -> Result<u32, Refusal>
+    ensures { IsTold (of_users (short_term_outcome_of outcome.now)) (number_answer result) out.old
+        out.new received.old received.new }
+{
+    match outcome {
+        ShortTermReceived::Answer(answer) => answered(answer, out, received),
+        ShortTermReceived::Request(request) => {
+            received.requested(request);
+            Ok(2)
+        }
+        ShortTermReceived::Indication(indication) => {
+            received.indicated_by(indication);
+            Ok(3)
+        }
+        ShortTermReceived::Response(message) => {
+            received.responded(message);
+            Ok(4)
+        }
+        ShortTermReceived::NotSigned(refusal) => {
+            received.not_signed(*refusal);
+            Ok(0)
+        }
+        ShortTermReceived::Dropped(why) => {
+            received.dropped(*why);
+            Ok(0)
+        }
+        // There is no other outcome in this release.
+        _ => Err(Refusal::BadArgument),
+    }
+}
+
+/// Tells what a datagram comes to at a server without credentials.
+fn tell_openly(
+    outcome: &OpenReceived<'_, Global>,
+    out: &mut [u8],
+    received: &mut Received,
+) -> Result<u32, Refusal>
+    ensures { IsTold (of_open (open_outcome_of outcome.now)) (number_answer result) out.old out.new
+        received.old received.new }
+{
+    match outcome {
+        OpenReceived::Answer(answer) => answered(answer, out, received),
+        OpenReceived::Request(request) => {
+            received.requested_openly(request);
+            Ok(2)
+        }
+        OpenReceived::Indication(message) => {
+            received.indicated(message);
+            Ok(3)
+        }
+        OpenReceived::Response(message) => {
+            received.responded(message);
+            Ok(4)
+        }
+        OpenReceived::Dropped(why) => {
+            received.dropped(*why);
+            Ok(0)
+        }
+        // There is no other outcome in this release.
+        _ => Err(Refusal::BadArgument),
+    }
+}
+
 /// Judges a datagram by a server and a table of users, and tells what it comes to.
 pub fn receive(
     server: &Kept,
@@ -96,7 +167,7 @@ pub fn receive(
     out: &mut [u8],
     received: &mut Received,
 ) -> Result<u32, Refusal>
-    ensures { ReceivesAs (judged_outcome (Some server.now) (Some users.now) from.now unix_seconds
+    ensures { ReceivesAs (outcome_at (judge_with (Some users.now) server.now) from.now unix_seconds
         message.now received.old) (number_answer result) out.old out.new received.old
         received.new }
 {
@@ -104,11 +175,37 @@ pub fn receive(
         (Kept::Server(server), Kept::Users(users)) => {
             judge(server, users, message, from, unix_seconds, out, received)
         }
-        _ => Err(Refusal::EmptyHandle),
+        (Kept::ShortTerm(server), Kept::ShortTermUsers(users)) => {
+            judge_short_term(server, users, message, from, unix_seconds, out, received)
+        }
+        (Kept::Open(server), _) => {
+            judge_openly(server, message, from, unix_seconds, out, received)
+        }
+        _ => Err(Refusal::WrongHandle),
     }
 }
 
-/// The same by the server and the table.
+/// The same without a table of users.
+pub fn receive_alone(
+    server: &Kept,
+    message: &[u8],
+    from: &Address,
+    unix_seconds: u64,
+    out: &mut [u8],
+    received: &mut Received,
+) -> Result<u32, Refusal>
+    ensures { ReceivesAs (outcome_at (judge_with None server.now) from.now unix_seconds message.now
+        received.old) (number_answer result) out.old out.new received.old received.new }
+{
+    match server {
+        Kept::Open(server) => judge_openly(server, message, from, unix_seconds, out, received),
+        Kept::Server(_) => Err(Refusal::EmptyHandle),
+        Kept::ShortTerm(_) => Err(Refusal::EmptyHandle),
+        _ => Err(Refusal::WrongHandle),
+    }
+}
+
+/// The same by a server with long-term credentials and its table.
 fn judge(
     server: &Server<Global>,
     users: &Users<Global>,
@@ -118,8 +215,9 @@ fn judge(
     out: &mut [u8],
     received: &mut Received,
 ) -> Result<u32, Refusal>
-    ensures { ReceivesAs (with_users server.now (Some users.now) from.now unix_seconds message.now
-        received.old) (number_answer result) out.old out.new received.old received.new }
+    ensures { ReceivesAs (outcome_at (Ok (by_realm server.now users.now)) from.now unix_seconds
+        message.now received.old) (number_answer result) out.old out.new received.old
+        received.new }
 {
     if received.size != RECEIVED_SIZE || unix_seconds > LAST_SECOND {
         return Err(Refusal::BadArgument);
@@ -127,6 +225,46 @@ fn judge(
     let from = from.socket()?;
     let outcome = server.receive(message, from, UnixTime::from_secs(unix_seconds), users)?;
     tell(&outcome, out, received)
+}
+
+/// The same by a server with short-term credentials and its table.
+fn judge_short_term(
+    server: &ShortTermServer<Global>,
+    users: &ShortTermUsers<Global>,
+    message: &[u8],
+    from: &Address,
+    unix_seconds: u64,
+    out: &mut [u8],
+    received: &mut Received,
+) -> Result<u32, Refusal>
+    ensures { ReceivesAs (outcome_at (Ok (by_users server.now users.now)) from.now unix_seconds
+        message.now received.old) (number_answer result) out.old out.new received.old
+        received.new }
+{
+    if received.size != RECEIVED_SIZE || unix_seconds > LAST_SECOND {
+        return Err(Refusal::BadArgument);
+    }
+    let outcome = server.receive(message, from.socket()?, users)?;
+    tell_short_term(&outcome, out, received)
+}
+
+/// The same by a server without credentials.
+fn judge_openly(
+    server: &OpenServer<Global>,
+    message: &[u8],
+    from: &Address,
+    unix_seconds: u64,
+    out: &mut [u8],
+    received: &mut Received,
+) -> Result<u32, Refusal>
+    ensures { ReceivesAs (outcome_at (Ok (openly server.now)) from.now unix_seconds message.now
+        received.old) (number_answer result) out.old out.new received.old received.new }
+{
+    if received.size != RECEIVED_SIZE || unix_seconds > LAST_SECOND {
+        return Err(Refusal::BadArgument);
+    }
+    let outcome = server.receive(message, from.socket()?)?;
+    tell_openly(&outcome, out, received)
 }
 
 /// Judges a datagram by a server as far as that is possible without its user, and tells what it comes
@@ -139,13 +277,12 @@ pub fn identify(
     out: &mut [u8],
     received: &mut Received,
 ) -> Result<u32, Refusal>
-    ensures { IdentifiesAs (identified_at (server_of server.now) from.now unix_seconds message.now
+    ensures { IdentifiesAs (identified_at (long_term_of server.now) from.now unix_seconds message.now
         received.old) (number_answer result) out.old out.new received.old received.new }
 {
     match server {
         Kept::Server(server) => identify_at(server, message, from, unix_seconds, out, received),
-        Kept::Users(_) => Err(Refusal::EmptyHandle),
-        Kept::Checker(_) => Err(Refusal::EmptyHandle),
+        _ => Err(Refusal::WrongHandle),
     }
 }
 
@@ -158,7 +295,7 @@ fn identify_at(
     out: &mut [u8],
     received: &mut Received,
 ) -> Result<u32, Refusal>
-    ensures { IdentifiesAs (identified_at (Some server.now) from.now unix_seconds message.now
+    ensures { IdentifiesAs (identified_at (Ok server.now) from.now unix_seconds message.now
         received.old) (number_answer result) out.old out.new received.old received.new }
 {
     if received.size != RECEIVED_SIZE || unix_seconds > LAST_SECOND {

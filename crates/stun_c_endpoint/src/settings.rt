@@ -1,20 +1,24 @@
 //! The settings of a server as a caller gives them.
 
 ghost use Rattle.std.specs.Option.{option_map};
-ghost use Rattle.std.specs.Prelude.{◌≡◌, ◌==◌, IfOk, IsOkUnless, MatchOption, None, Err, length};
-ghost use Rattle.std.specs.Prelude.{not};
+ghost use Rattle.std.specs.Prelude.{◌≡◌, ◌==◌, IfOk, IsOkUnless, MatchOption, None, Some, Err};
+ghost use Rattle.std.specs.Prelude.{length, not, pos};
 ghost use Rattle.std.specs.String.{string_bytes};
 ghost use Rattle.stun_extra.specs.Unknown.{types_of};
-ghost use Rattle.stun_c_endpoint.specs.Given.{MakesServer, given_refusal, has_sha1};
-ghost use Rattle.stun_c_endpoint.specs.Given.{has_sha256, if_any};
-ghost use Rattle.stun_c_endpoint.specs.Given.{is_out_of_range, nonce_seconds, server_given};
-ghost use Rattle.stun_c_endpoint.specs.declared.handle.endpoint.Kept.TheVariants as kind;
+ghost use Rattle.stun_handles.specs.Numbers.{OrOutOfMemory};
+ghost use Rattle.stun_c_endpoint.specs.Given.{MakesOpen, MakesServer, MakesShortTerm};
+ghost use Rattle.stun_c_endpoint.specs.Given.{alone_refusal, given_refusal, has_sha1, has_sha256};
+ghost use Rattle.stun_c_endpoint.specs.Given.{if_any, is_out_of_range, nonce_seconds};
+ghost use Rattle.stun_c_endpoint.specs.Given.{responding_given, server_given};
 
 use crate::handle::endpoint::{EndpointHandle, Kept};
 use std::alloc::{AllocError, Global};
 use std::marker::Model;
 use stun_base::attribute_type::AttributeType;
+use stun_endpoint::open::OpenServer;
+use stun_endpoint::responder::ResponseSettings;
 use stun_endpoint::server::{DEFAULT_NONCE_LIFETIME, LongTerm, SHORTEST_NONCE_LIFETIME, Server};
+use stun_endpoint::short_term::ShortTermServer;
 use stun_handles::text::copied;
 use stun_numbers::refusal::Refusal;
 use stun_numbers::text::text;
@@ -104,13 +108,17 @@ fn text_if_any(alloc: Global, text: &str) -> Result<Option<String<Global>>, Allo
     Ok(Some(copied(alloc, text)?))
 }
 
-/// A server, on the heap.
-fn boxed(alloc: Global, server: Server<Global>) -> Result<Box<Kept, Global>, AllocError>
-    ensures { IfOk result (λ made. made.value ≡ kind.Server server) }
+/// Puts a server into an empty handle, or returns the number of the refusal.
+fn placed(alloc: Global, handle: &mut EndpointHandle, server: Kept) -> i64
+    requires { handle.old.kept ≡ None }
+    ensures { OrOutOfMemory result None handle.new.kept (pos 0) (Some server) }
 {
-    match Box::new(alloc, Kept::Server(server)) {
-        Ok(made) => Ok(made),
-        Err(_) => Err(AllocError),
+    match Box::new(alloc, server) {
+        Ok(made) => {
+            handle.put(alloc, made);
+            0
+        }
+        Err(_) => Refusal::OutOfMemory.code(),
     }
 }
 
@@ -170,13 +178,7 @@ impl<'a> Given<'a> {
         ensures { MakesServer self.now result handle.new.kept }
     {
         match self.server(alloc) {
-            Ok(server) => match boxed(alloc, server) {
-                Ok(made) => {
-                    handle.put(alloc, made);
-                    0
-                }
-                Err(_) => Refusal::OutOfMemory.code(),
-            },
+            Ok(server) => placed(alloc, handle, Kept::Server(server)),
             Err(refusal) => refusal.code(),
         }
     }
@@ -197,6 +199,100 @@ impl<'a> Given<'a> {
         }
         let settings = self.long_term(alloc, realm, software)?;
         match Server::new(alloc, settings) {
+            Ok(server) => Ok(server),
+            // What is wrong with settings is found above, so that an allocation failed.
+            Err(_) => Err(Refusal::OutOfMemory),
+        }
+    }
+}
+
+/// What a caller gives of a server without a realm. Contracts see bytes and numbers.
+#[derive(Drop)]
+pub struct GivenAlone<'a> {
+    pub software: &'a [u8],
+    pub understood: &'a [u16],
+    pub answers_binding: bool,
+}
+
+impl<'a> Model for GivenAlone<'a> {
+    ghost use Rattle.stun_c_endpoint.specs.Given.{GivenAlone as GivenSeen};
+
+    ghost Value = { GivenSeen };
+
+    ghost view = { λ given. record {
+      software = given.software.now;
+      understood = given.understood.now;
+      answers_binding = given.answers_binding;
+    } };
+}
+
+impl<'a> GivenAlone<'a> {
+    /// Builds a server with short-term credentials in an empty handle, and returns 0 or the number of
+    /// the refusal.
+    pub fn place_short_term(&self, alloc: Global, handle: &mut EndpointHandle) -> i64
+        requires { handle.old.kept ≡ None }
+        ensures { MakesShortTerm self.now result handle.new.kept }
+    {
+        match self.short_term(alloc) {
+            Ok(server) => placed(alloc, handle, Kept::ShortTerm(server)),
+            Err(refusal) => refusal.code(),
+        }
+    }
+
+    /// Builds a server without credentials in an empty handle, and returns 0 or the number of the
+    /// refusal.
+    pub fn place_open(&self, alloc: Global, handle: &mut EndpointHandle) -> i64
+        requires { handle.old.kept ≡ None }
+        ensures { MakesOpen self.now result handle.new.kept }
+    {
+        match self.without_credentials(alloc) {
+            Ok(server) => placed(alloc, handle, Kept::Open(server)),
+            Err(refusal) => refusal.code(),
+        }
+    }
+
+    /// The settings that are given.
+    fn settings(&self, alloc: Global) -> Result<ResponseSettings<Global>, Refusal>
+        ensures refused { MatchOption (alone_refusal self.now)
+            (IsOkUnless result Refusal.OutOfMemory) (λ refusal. result ≡ Err refusal) }
+        ensures software { IfOk result (λ made. option_map string_bytes made.software
+            ≡ if_any self.now.software) }
+        ensures understood { IfOk result (λ made. made.understood.items
+            ≡ types_of self.now.understood) }
+        ensures binding { IfOk result (λ made. made.answers_binding ≡ self.now.answers_binding) }
+    {
+        let software = text(self.software)?;
+        if software.len() > TEXT_LIMIT {
+            return Err(Refusal::TextTooLong);
+        }
+        let software = text_if_any(alloc, software)?;
+        Ok(ResponseSettings {
+            understood: types(alloc, self.understood)?,
+            software,
+            answers_binding: self.answers_binding,
+        })
+    }
+
+    /// Builds a server with short-term credentials.
+    fn short_term(&self, alloc: Global) -> Result<ShortTermServer<Global>, Refusal>
+        ensures refused { MatchOption (alone_refusal self.now)
+            (IsOkUnless result Refusal.OutOfMemory) (λ refusal. result ≡ Err refusal) }
+        ensures built { IfOk result (λ server. server ≡ responding_given self.now) }
+    {
+        match ShortTermServer::new(alloc, self.settings(alloc)?) {
+            Ok(server) => Ok(server),
+            // What is wrong with settings is found above, so that an allocation failed.
+            Err(_) => Err(Refusal::OutOfMemory),
+        }
+    }
+
+    /// Builds a server without credentials.
+    fn without_credentials(&self, alloc: Global) -> Result<OpenServer<Global>, Refusal>
+        ensures refused { MatchOption (alone_refusal self.now)
+            (IsOkUnless result Refusal.OutOfMemory) (λ refusal. result ≡ Err refusal) }
+        ensures built { IfOk result (λ server. server ≡ responding_given self.now) }
+    {
+        match OpenServer::new(alloc, self.settings(alloc)?) {
             Ok(server) => Ok(server),
             // What is wrong with settings is found above, so that an allocation failed.
             Err(_) => Err(Refusal::OutOfMemory),

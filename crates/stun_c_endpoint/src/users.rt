@@ -1,17 +1,16 @@
 //! What the calls on a table of users do.
 
-ghost use Rattle.std.specs.Prelude.{◌≡◌, IfNone, IfSome, MatchResult, Ok, Err, Some};
+ghost use Rattle.std.specs.Prelude.{◌≡◌, IfErr, IfOk, MatchResult, Ok, Err, Some};
 ghost use Rattle.stun_handles.specs.Numbers.{done_answer};
 ghost use Rattle.stun_numbers.specs.Refusals.{refusal_or};
-ghost use Rattle.stun_endpoint.specs.Realm.{table_of};
-ghost use Rattle.stun_c_endpoint.specs.Kept.{server_of, users_of};
 ghost use Rattle.stun_c_endpoint.specs.Users.{LeavesTable, LeavesTableOr, adding, adding_keys};
-ghost use Rattle.stun_c_endpoint.specs.Users.{at_table, name_refusal, removing};
+ghost use Rattle.stun_c_endpoint.specs.Users.{name_refusal, removing, table_for, with_stored};
 ghost use Rattle.stun_c_endpoint.specs.declared.handle.endpoint.Kept.TheVariants as kind;
 
 use crate::handle::endpoint::Kept;
 use std::alloc::Global;
-use stun_base::credentials::LongTermCredentials;
+use stun_base::credentials::{LongTermCredentials, ShortTermCredentials};
+use stun_endpoint::short_term::ShortTermUsers;
 use stun_endpoint::users::Users;
 use stun_handles::keys::keys_of;
 use stun_handles::text::copied;
@@ -31,32 +30,40 @@ fn check_name(name: &str) -> Result<(), Refusal>
 
 /// An empty table for the server of a handle.
 pub fn table(alloc: Global, server: &Kept) -> Result<Box<Kept, Global>, Refusal>
-    ensures none { IfNone (server_of server.now) (result ≡ Err Refusal.EmptyHandle) }
-    ensures made { IfSome (server_of server.now) (λ s. MatchResult result
-        (λ made. made.value ≡ kind.Users (table_of s)) (λ refusal. refusal ≡ Refusal.OutOfMemory)) }
+    ensures none { IfErr (table_for server.now) (λ refusal. result ≡ Err refusal) }
+    ensures made { IfOk (table_for server.now) (λ table. MatchResult result
+        (λ made. made.value ≡ table) (λ refusal. refusal ≡ Refusal.OutOfMemory)) }
 {
     match server {
         Kept::Server(server) => {
             let users = server.users()?;
-            match Box::new(alloc, Kept::Users(users)) {
-                Ok(made) => Ok(made),
-                Err(_) => Err(Refusal::OutOfMemory),
-            }
+            boxed(alloc, Kept::Users(users))
         }
-        Kept::Users(_) => Err(Refusal::EmptyHandle),
-        Kept::Checker(_) => Err(Refusal::EmptyHandle),
+        Kept::ShortTerm(_) => boxed(alloc, Kept::ShortTermUsers(ShortTermUsers::new(alloc))),
+        _ => Err(Refusal::WrongHandle),
     }
 }
 
-/// Adds a user with a password.
+/// A table, on the heap.
+fn boxed(alloc: Global, table: Kept) -> Result<Box<Kept, Global>, Refusal>
+    ensures { MatchResult result (λ made. made.value ≡ table)
+        (λ refusal. refusal ≡ Refusal.OutOfMemory) }
+{
+    match Box::new(alloc, table) {
+        Ok(made) => Ok(made),
+        Err(_) => Err(Refusal::OutOfMemory),
+    }
+}
+
+/// Adds a user with a password to the users of a realm.
 fn add(
     alloc: Global,
     users: &mut Users<Global>,
     name: &[u8],
     password: &[u8],
 ) -> Result<(), Refusal>
-    ensures { LeavesTableOr (adding users.old name.now password.now) (done_answer result)
-        (Some (kind.Users users.old)) (Some (kind.Users users.new)) }
+    ensures { LeavesTableOr (adding name.now password.now (kind.Users users.old))
+        (done_answer result) (Some (kind.Users users.old)) (Some (kind.Users users.new)) }
 {
     let name = text(name)?;
     let password = text(password)?;
@@ -64,6 +71,24 @@ fn add(
     let name = copied(alloc, name)?;
     let credentials = LongTermCredentials::new(name, copied(alloc, password)?);
     Ok(users.add(credentials)?)
+}
+
+/// Adds a user with a password to users with short-term credentials.
+fn add_short_term(
+    alloc: Global,
+    users: &mut ShortTermUsers<Global>,
+    name: &[u8],
+    password: &[u8],
+) -> Result<(), Refusal>
+    ensures { LeavesTableOr (adding name.now password.now (kind.ShortTermUsers users.old))
+        (done_answer result) (Some (kind.ShortTermUsers users.old))
+        (Some (kind.ShortTermUsers users.new)) }
+{
+    let name = text(name)?;
+    let password = text(password)?;
+    check_name(name)?;
+    let credentials = ShortTermCredentials::new(copied(alloc, password)?);
+    Ok(users.add(copied(alloc, name)?, credentials)?)
 }
 
 /// Adds a user with stored keys.
@@ -74,7 +99,7 @@ fn add_keys(
     sha1: &[u8],
     sha256: &[u8],
 ) -> Result<(), Refusal>
-    ensures { LeavesTableOr (adding_keys users.old name.now sha1.now sha256.now)
+    ensures { LeavesTableOr (with_stored users.old name.now sha1.now sha256.now)
         (done_answer result) (Some (kind.Users users.old)) (Some (kind.Users users.new)) }
 {
     let name = text(name)?;
@@ -83,10 +108,20 @@ fn add_keys(
     Ok(users.add_with_keys(copied(alloc, name)?, keys)?)
 }
 
-/// Removes a user.
+/// Removes a user of a realm.
 fn remove(users: &mut Users<Global>, name: &[u8]) -> Result<(), Refusal>
-    ensures { LeavesTable (removing users.old name.now) (done_answer result)
+    ensures { LeavesTable (removing name.now (kind.Users users.old)) (done_answer result)
         (Some (kind.Users users.old)) (Some (kind.Users users.new)) }
+{
+    let name = text(name)?;
+    users.remove(name);
+    Ok(())
+}
+
+/// Removes a user with short-term credentials.
+fn remove_short_term(users: &mut ShortTermUsers<Global>, name: &[u8]) -> Result<(), Refusal>
+    ensures { LeavesTable (removing name.now (kind.ShortTermUsers users.old)) (done_answer result)
+        (Some (kind.ShortTermUsers users.old)) (Some (kind.ShortTermUsers users.new)) }
 {
     let name = text(name)?;
     users.remove(name);
@@ -95,13 +130,13 @@ fn remove(users: &mut Users<Global>, name: &[u8]) -> Result<(), Refusal>
 
 /// Adds a user with a password to the table of a handle.
 pub fn add_to(alloc: Global, kept: &mut Kept, name: &[u8], password: &[u8]) -> Result<(), Refusal>
-    ensures { LeavesTableOr (at_table (users_of kept.old) (λ u. adding u name.now password.now))
-        (done_answer result) (Some kept.old) (Some kept.new) }
+    ensures { LeavesTableOr (adding name.now password.now kept.old) (done_answer result)
+        (Some kept.old) (Some kept.new) }
 {
     match kept {
         Kept::Users(users) => add(alloc, users, name, password),
-        Kept::Server(_) => Err(Refusal::EmptyHandle),
-        Kept::Checker(_) => Err(Refusal::EmptyHandle),
+        Kept::ShortTermUsers(users) => add_short_term(alloc, users, name, password),
+        _ => Err(Refusal::WrongHandle),
     }
 }
 
@@ -113,25 +148,23 @@ pub fn add_keys_to(
     sha1: &[u8],
     sha256: &[u8],
 ) -> Result<(), Refusal>
-    ensures { LeavesTableOr (at_table (users_of kept.old)
-        (λ u. adding_keys u name.now sha1.now sha256.now)) (done_answer result) (Some kept.old)
-        (Some kept.new) }
+    ensures { LeavesTableOr (adding_keys name.now sha1.now sha256.now kept.old)
+        (done_answer result) (Some kept.old) (Some kept.new) }
 {
     match kept {
         Kept::Users(users) => add_keys(alloc, users, name, sha1, sha256),
-        Kept::Server(_) => Err(Refusal::EmptyHandle),
-        Kept::Checker(_) => Err(Refusal::EmptyHandle),
+        _ => Err(Refusal::WrongHandle),
     }
 }
 
 /// Removes a user from the table of a handle.
 pub fn remove_from(kept: &mut Kept, name: &[u8]) -> Result<(), Refusal>
-    ensures { LeavesTable (at_table (users_of kept.old) (λ u. removing u name.now))
-        (done_answer result) (Some kept.old) (Some kept.new) }
+    ensures { LeavesTable (removing name.now kept.old) (done_answer result) (Some kept.old)
+        (Some kept.new) }
 {
     match kept {
         Kept::Users(users) => remove(users, name),
-        Kept::Server(_) => Err(Refusal::EmptyHandle),
-        Kept::Checker(_) => Err(Refusal::EmptyHandle),
+        Kept::ShortTermUsers(users) => remove_short_term(users, name),
+        _ => Err(Refusal::WrongHandle),
     }
 }

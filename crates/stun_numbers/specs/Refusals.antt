@@ -19,7 +19,7 @@ use Rattle.stun_numbers.specs.declared.refusal.Refusal.TheVariants.{AlreadyInPro
 use Rattle.stun_numbers.specs.declared.refusal.Refusal.TheVariants.{ProtocolViolation, Unauthorized}
 use Rattle.stun_numbers.specs.declared.refusal.Refusal.TheVariants.{BadRequest, StaleNonce}
 use Rattle.stun_numbers.specs.declared.refusal.Refusal.TheVariants.{UnsupportedFeature, NoWait}
-use Rattle.stun_numbers.specs.declared.refusal.Refusal.TheVariants.{TooManyAddresses}
+use Rattle.stun_numbers.specs.declared.refusal.Refusal.TheVariants.{TooManyAddresses, CannotSign, WrongHandle}
 
 -- the number of a refusal
 abbrev pub refusal_number : Refusal → ℤ
@@ -50,6 +50,8 @@ refusal_number StaleNonce = neg_ℤ (pos 24)
 refusal_number UnsupportedFeature = neg_ℤ (pos 25)
 refusal_number NoWait = neg_ℤ (pos 26)
 refusal_number TooManyAddresses = neg_ℤ (pos 27)
+refusal_number CannotSign = neg_ℤ (pos 28)
+refusal_number WrongHandle = neg_ℤ (pos 29)
 
 -- the refusal for an error of reading
 abbrev pub refusal_of_parse : StunParseError → Refusal
@@ -67,7 +69,7 @@ refusal_of_write long Write.MessageIntegrityExists = Closed
 refusal_of_write long (Write.AttributeExists _) = AttributeExists
 refusal_of_write long Write.TooLarge = if long then MessageTooLong else TextTooLong
 refusal_of_write long Write.TooSmall = BufferTooSmall
-refusal_of_write long Write.IntegrityFailed = IntegrityFailed
+refusal_of_write long Write.IntegrityFailed = CannotSign
 refusal_of_write long Write.OutOfMemory = OutOfMemory
 
 -- the refusal for an error of reading, where there is one

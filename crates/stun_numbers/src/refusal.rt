@@ -19,7 +19,7 @@ pub enum Refusal {
     NoIntegrity,
     /// -5: the integrity attribute that decides has a length that its type does not allow.
     MalformedIntegrity,
-    /// -6: the signature is invalid, or the server no longer has a key to sign with.
+    /// -6: the signature is invalid.
     IntegrityFailed,
     /// -7: an argument is out of range.
     BadArgument,
@@ -65,6 +65,10 @@ pub enum Refusal {
     NoWait,
     /// -27: the limit on the number of addresses is reached, and this address has no record.
     TooManyAddresses,
+    /// -28: there is no key to sign with: the user was removed, or has none for the algorithm.
+    CannotSign,
+    /// -29: the handle has a value of another kind.
+    WrongHandle,
 }
 
 impl Refusal {
@@ -100,6 +104,8 @@ impl Refusal {
             Refusal::UnsupportedFeature => -25,
             Refusal::NoWait => -26,
             Refusal::TooManyAddresses => -27,
+            Refusal::CannotSign => -28,
+            Refusal::WrongHandle => -29,
         }
     }
 
@@ -120,7 +126,7 @@ impl Refusal {
                 }
             }
             StunWriteError::TooSmall => Refusal::BufferTooSmall,
-            StunWriteError::IntegrityFailed => Refusal::IntegrityFailed,
+            StunWriteError::IntegrityFailed => Refusal::CannotSign,
             StunWriteError::OutOfMemory => Refusal::OutOfMemory,
         }
     }

@@ -23,7 +23,7 @@ use Rattle.stun_numbers.specs.declared.refusal.Refusal.TheVariants.{AlreadyInPro
 use Rattle.stun_numbers.specs.declared.refusal.Refusal.TheVariants.{ProtocolViolation, Unauthorized}
 use Rattle.stun_numbers.specs.declared.refusal.Refusal.TheVariants.{BadRequest, StaleNonce}
 use Rattle.stun_numbers.specs.declared.refusal.Refusal.TheVariants.{UnsupportedFeature, NoWait}
-use Rattle.stun_numbers.specs.declared.refusal.Refusal.TheVariants.{TooManyAddresses}
+use Rattle.stun_numbers.specs.declared.refusal.Refusal.TheVariants.{TooManyAddresses, CannotSign, WrongHandle}
 
 -- what is so of the value that is there
 pub some_is : {T : Type 0} (o : Option T) (x : T) (F : T → Type 0) → o ≡ Some x → F x → IfSome o F
@@ -90,6 +90,10 @@ unless_memory Q number NoWait expected told before now after memory is p q =
     inl (is ∙ ap number p, q)
 unless_memory Q number TooManyAddresses expected told before now after memory is p q =
     inl (is ∙ ap number p, q)
+unless_memory Q number CannotSign expected told before now after memory is p q =
+    inl (is ∙ ap number p, q)
+unless_memory Q number WrongHandle expected told before now after memory is p q =
+    inl (is ∙ ap number p, q)
 
 pub or_memory : {V S : Type 0} (Q : Type 0) (number : Result V Refusal → ℤ)
     (answer expected : Result V Refusal) (told : ℤ) (before now after : S)
@@ -134,6 +138,8 @@ below StaleNonce = refl
 below UnsupportedFeature = refl
 below NoWait = refl
 below TooManyAddresses = refl
+below CannotSign = refl
+below WrongHandle = refl
 
 -- what is kept after a call that answers a length, where a refusal leaves all
 pub left_length : {S H : Type 0} (E : Type 0) (wrap : S → H) (answer : Result ℕ Refusal) (told : ℤ)
@@ -210,6 +216,10 @@ unwritten_by UnsupportedFeature signed before after is written =
 unwritten_by NoWait signed before after is written = unwritten NoWait signed before after is written
 unwritten_by TooManyAddresses signed before after is written =
     unwritten TooManyAddresses signed before after is written
+unwritten_by CannotSign signed before after is written =
+    unwritten CannotSign signed before after is written
+unwritten_by WrongHandle signed before after is written =
+    unwritten WrongHandle signed before after is written
 
 -- what is in the buffer after a call that signs, where an allocation may fail
 pub left_buffer : (answer : Result ℕ Refusal) (signed : Result (List ℕ) Refusal) (told : ℤ)

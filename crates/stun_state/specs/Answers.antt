@@ -18,7 +18,7 @@ use Rattle.stun_numbers.specs.declared.refusal.Refusal.TheVariants.{AlreadyInPro
 use Rattle.stun_numbers.specs.declared.refusal.Refusal.TheVariants.{ProtocolViolation, Unauthorized}
 use Rattle.stun_numbers.specs.declared.refusal.Refusal.TheVariants.{BadRequest, StaleNonce}
 use Rattle.stun_numbers.specs.declared.refusal.Refusal.TheVariants.{UnsupportedFeature, NoWait}
-use Rattle.stun_numbers.specs.declared.refusal.Refusal.TheVariants.{TooManyAddresses}
+use Rattle.stun_numbers.specs.declared.refusal.Refusal.TheVariants.{TooManyAddresses, CannotSign, WrongHandle}
 
 -- the first fact holds, or the second where the refusal is that an allocation failed
 abbrev pub ForRefusal : Refusal → Type 0 → Type 0 → Type 0
@@ -49,6 +49,8 @@ ForRefusal StaleNonce P Q = P
 ForRefusal UnsupportedFeature P Q = P
 ForRefusal NoWait P Q = P
 ForRefusal TooManyAddresses P Q = P
+ForRefusal CannotSign P Q = P
+ForRefusal WrongHandle P Q = P
 
 -- the first fact holds, or the second where an allocation failed
 abbrev pub CallUnlessMemory : {V : Type 0} → Result V Refusal → Type 0 → Type 0 → Type 0

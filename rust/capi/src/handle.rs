@@ -81,7 +81,9 @@ pub mod client {
 pub mod endpoint {
     //! The handle of a server or of a table of users, of the endpoint, or of an agent of ICE.
 
+    use crate::exported::stun_endpoint::open::OpenServer;
     use crate::exported::stun_endpoint::server::Server;
+    use crate::exported::stun_endpoint::short_term::{ShortTermServer, ShortTermUsers};
     use crate::exported::stun_endpoint::users::Users;
     use crate::exported::stun_ice::checker::Checker;
 
@@ -90,6 +92,9 @@ pub mod endpoint {
     pub enum Kept {
         Server(Server),
         Users(Users),
+        ShortTerm(ShortTermServer),
+        ShortTermUsers(ShortTermUsers),
+        Open(OpenServer),
         Checker(Checker),
     }
 

@@ -25,10 +25,3 @@ mod panic;
 mod passed;
 
 pub use calls::border::*;
-
-/// Returns whether this library is the proved one. It is not: it was exported from the proved
-/// sources, and is tested.
-#[unsafe(no_mangle)]
-pub extern "C" fn stunp_is_proved() -> bool {
-    false
-}

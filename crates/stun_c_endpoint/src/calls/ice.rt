@@ -1,6 +1,7 @@
 //! The calls on an agent of ICE (RFC 8445, sections 7.2 and 7.3).
 //!
-//! A call fails first with `EmptyHandle` if its handle is empty or has no agent.
+//! A call fails first with `EmptyHandle` if its handle is empty, and with `WrongHandle` if it has no
+//! agent.
 
 ghost use Rattle.std.specs.Prelude.{◌≡◌, Some, None, IfNone, IfSome};
 ghost use Rattle.stun_numbers.specs.Refusals.{refusal_number};

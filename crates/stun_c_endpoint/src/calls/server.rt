@@ -2,15 +2,15 @@
 
 ghost use Rattle.std.specs.Prelude.{◌≡◌, Some, None, IfNone, IfSome, if◌then◌else◌};
 ghost use Rattle.stun_numbers.specs.Refusals.{refusal_number};
-ghost use Rattle.stun_c_endpoint.specs.Given.{MakesServer};
-ghost use Rattle.stun_c_endpoint.specs.Kept.{server_in};
-ghost use Rattle.stun_c_endpoint.specs.Lookups.{IdentifiesAs, identified_at};
-ghost use Rattle.stun_c_endpoint.specs.Told.{ReceivesAs, judged_outcome};
+ghost use Rattle.stun_c_endpoint.specs.Given.{MakesOpen, MakesServer, MakesShortTerm};
+ghost use Rattle.stun_c_endpoint.specs.Kept.{judge_of};
+ghost use Rattle.stun_c_endpoint.specs.Lookups.{IdentifiesAs, identified_at, long_term_in};
+ghost use Rattle.stun_c_endpoint.specs.Told.{ReceivesAs, outcome_at};
 
 use crate::handle::endpoint::EndpointHandle;
 use crate::received::Received;
 use crate::server;
-use crate::settings::Given;
+use crate::settings::{Given, GivenAlone};
 use std::alloc::Global;
 use stun_handles::address::Address;
 use stun_handles::answers;
@@ -79,6 +79,72 @@ fn previous(secret: &[u8; 32], is_there: bool) -> Option<[u8; 32]>
     None
 }
 
+/// Creates a server with short-term credentials (RFC 8489, section 9.1). A text of SOFTWARE without
+/// bytes is none.
+///
+/// Fails with `FullHandle`, then with `NotText` for SOFTWARE, then with `TextTooLong` for more than
+/// 763 bytes of it, then with `OutOfMemory`.
+#[unsafe(no_mangle)]
+pub extern "C" fn stunp_endpoint_server_new_short_term(
+    alloc: Global,
+    server: &mut EndpointHandle,
+    software: &[u8],
+    understood: &[u16],
+    answers_binding: bool,
+) -> i64
+    ensures full { IfSome server.old.kept (λ kept. (result ≡ refusal_number Refusal.FullHandle)
+        × (server.new.kept ≡ Some kept)) }
+    ensures made { IfNone server.old.kept (MakesShortTerm (record {
+      software = software.now;
+      understood = understood.now;
+      answers_binding = answers_binding;
+    }) result server.new.kept) }
+{
+    if let Some(kept) = server.take(alloc) {
+        server.put(alloc, kept);
+        return Refusal::FullHandle.code();
+    }
+    let given = GivenAlone {
+        software,
+        understood,
+        answers_binding,
+    };
+    given.place_short_term(alloc, server)
+}
+
+/// Creates a server without credentials, which answers everybody. A text of SOFTWARE without bytes is
+/// none.
+///
+/// Fails with `FullHandle`, then with `NotText` for SOFTWARE, then with `TextTooLong` for more than
+/// 763 bytes of it, then with `OutOfMemory`.
+#[unsafe(no_mangle)]
+pub extern "C" fn stunp_endpoint_server_new_open(
+    alloc: Global,
+    server: &mut EndpointHandle,
+    software: &[u8],
+    understood: &[u16],
+    answers_binding: bool,
+) -> i64
+    ensures full { IfSome server.old.kept (λ kept. (result ≡ refusal_number Refusal.FullHandle)
+        × (server.new.kept ≡ Some kept)) }
+    ensures made { IfNone server.old.kept (MakesOpen (record {
+      software = software.now;
+      understood = understood.now;
+      answers_binding = answers_binding;
+    }) result server.new.kept) }
+{
+    if let Some(kept) = server.take(alloc) {
+        server.put(alloc, kept);
+        return Refusal::FullHandle.code();
+    }
+    let given = GivenAlone {
+        software,
+        understood,
+        answers_binding,
+    };
+    given.place_open(alloc, server)
+}
+
 /// Frees the server, and makes the handle empty.
 #[unsafe(no_mangle)]
 pub extern "C" fn stunp_endpoint_server_clear(alloc: Global, server: &mut EndpointHandle)
@@ -89,11 +155,12 @@ pub extern "C" fn stunp_endpoint_server_clear(alloc: Global, server: &mut Endpoi
 
 /// Judges a datagram that came from an address, and returns the number of what it comes to. A
 /// response that it gets at once is written to the front of `out`. `unix_seconds` is the time of the
-/// wall clock.
+/// wall clock. A server without credentials looks at no users.
 ///
-/// Fails with `EmptyHandle` if a handle is empty or has a value of another kind, then with
-/// `BadArgument` for the size of what is told, for the time or for the address. Then come
-/// `OutOfMemory`, and `BufferTooSmall`: the length of the response is told then, and nothing else.
+/// Fails with `EmptyHandle` or `WrongHandle` for the server's handle, then for that of the users.
+/// A `WrongHandle` has a value of another kind, or users of another kind of credentials. Then come
+/// `BadArgument` for the size of what is told, for the time or for the address, `OutOfMemory`, and
+/// `BufferTooSmall`: the length of the response is told then, and nothing else.
 #[unsafe(no_mangle)]
 pub extern "C" fn stunp_endpoint_server_receive_own(
     alloc: Global,
@@ -105,8 +172,8 @@ pub extern "C" fn stunp_endpoint_server_receive_own(
     out: &mut [u8],
     received: &mut Received,
 ) -> i64
-    ensures answer { ReceivesAs (judged_outcome server.old.kept users.old.kept from.now unix_seconds
-        message.now received.old) result out.old out.new received.old received.new }
+    ensures answer { ReceivesAs (outcome_at (judge_of server.old.kept users.old.kept) from.now
+        unix_seconds message.now received.old) result out.old out.new received.old received.new }
     ensures server { server.new.kept ≡ server.old.kept }
     ensures users { users.new.kept ≡ users.old.kept }
 {
@@ -114,8 +181,9 @@ pub extern "C" fn stunp_endpoint_server_receive_own(
         return Refusal::EmptyHandle.code();
     };
     let Some(table) = users.take(alloc) else {
+        let told = server::receive_alone(&kept, message, from, unix_seconds, out, received);
         server.put(alloc, kept);
-        return Refusal::EmptyHandle.code();
+        return answers::number(told);
     };
     let told = server::receive(&kept, &table, message, from, unix_seconds, out, received);
     let answer = answers::number(told);
@@ -127,9 +195,10 @@ pub extern "C" fn stunp_endpoint_server_receive_own(
 /// Judges a datagram as far as that is possible without its user, and returns the number of what it
 /// comes to, or 5 if it is a request that waits for its user.
 ///
-/// Fails with `EmptyHandle` if the handle is empty or has a value of another kind, then with
-/// `BadArgument` for the size of what is told, for the time or for the address. Then come
-/// `OutOfMemory`, and `BufferTooSmall`: the length of the response is told then, and nothing else.
+/// Fails with `EmptyHandle`, or with `WrongHandle` for anything but a server with long-term
+/// credentials. Then come `BadArgument` for the size of what is told, for the time or for the
+/// address, `OutOfMemory`, and `BufferTooSmall`: the length of the response is told then, and nothing
+/// else.
 #[unsafe(no_mangle)]
 pub extern "C" fn stunp_endpoint_server_identify_own(
     alloc: Global,
@@ -140,7 +209,7 @@ pub extern "C" fn stunp_endpoint_server_identify_own(
     out: &mut [u8],
     received: &mut Received,
 ) -> i64
-    ensures answer { IdentifiesAs (identified_at (server_in server.old.kept) from.now unix_seconds
+    ensures answer { IdentifiesAs (identified_at (long_term_in server.old.kept) from.now unix_seconds
         message.now received.old) result out.old out.new received.old received.new }
     ensures server { server.new.kept ≡ server.old.kept }
 {

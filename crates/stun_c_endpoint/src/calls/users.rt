@@ -1,24 +1,25 @@
 //! The calls on a table of users (RFC 8489, section 9.2.2).
 //!
-//! A call fails first with `EmptyHandle` if its handle is empty or has no table of users.
+//! A call fails first with `EmptyHandle` if its handle is empty, and with `WrongHandle` if it has no
+//! table of users.
 
-ghost use Rattle.std.specs.Prelude.{◌≡◌, pos, Some, None, IfNone, IfSome};
+ghost use Rattle.std.specs.Prelude.{◌≡◌, pos, Some, None, IfErr, IfNone, IfOk, IfSome};
 ghost use Rattle.stun_handles.specs.Numbers.{OrOutOfMemory};
 ghost use Rattle.stun_numbers.specs.Refusals.{refusal_number};
-ghost use Rattle.stun_endpoint.specs.Realm.{table_of};
-ghost use Rattle.stun_c_endpoint.specs.Kept.{server_in, users_in};
+ghost use Rattle.stun_c_endpoint.specs.Kept.{at_handle};
 ghost use Rattle.stun_c_endpoint.specs.Users.{LeavesTable, LeavesTableOr, adding, adding_keys};
-ghost use Rattle.stun_c_endpoint.specs.Users.{at_table, removing};
-ghost use Rattle.stun_c_endpoint.specs.declared.handle.endpoint.Kept.TheVariants as kind;
+ghost use Rattle.stun_c_endpoint.specs.Users.{removing, table_for};
 
-use crate::handle::endpoint::{EndpointHandle, Kept};
+use crate::handle::endpoint::EndpointHandle;
 use crate::users;
 use std::alloc::Global;
 use stun_handles::answers;
 use stun_numbers::refusal::Refusal;
 
-/// Creates an empty table of users for a server's realm and algorithms. Fails with `FullHandle`,
-/// then with `EmptyHandle` for the server's handle, then with `OutOfMemory`.
+/// Creates an empty table of users for a server: for its realm and algorithms, or of users with
+/// short-term credentials. Fails with `FullHandle`, then with `EmptyHandle` for the server's handle,
+/// or with `WrongHandle` if that has no server, or one without credentials. Then comes
+/// `OutOfMemory`.
 #[unsafe(no_mangle)]
 pub extern "C" fn stunp_endpoint_users_new_own(
     alloc: Global,
@@ -27,10 +28,10 @@ pub extern "C" fn stunp_endpoint_users_new_own(
 ) -> i64
     ensures full { IfSome users.old.kept (λ kept. (result ≡ refusal_number Refusal.FullHandle)
         × (users.new.kept ≡ Some kept)) }
-    ensures none { IfNone users.old.kept (IfNone (server_in server.old.kept)
-        ((result ≡ refusal_number Refusal.EmptyHandle) × (users.new.kept ≡ None))) }
-    ensures made { IfNone users.old.kept (IfSome (server_in server.old.kept)
-        (λ s. OrOutOfMemory result None users.new.kept (pos 0) (Some (kind.Users (table_of s))))) }
+    ensures none { IfNone users.old.kept (IfErr (at_handle server.old.kept (λ s. table_for s))
+        (λ refusal. (result ≡ refusal_number refusal) × (users.new.kept ≡ None))) }
+    ensures made { IfNone users.old.kept (IfOk (at_handle server.old.kept (λ s. table_for s))
+        (λ table. OrOutOfMemory result None users.new.kept (pos 0) (Some table))) }
     ensures server { server.new.kept ≡ server.old.kept }
 {
     if let Some(kept) = users.take(alloc) {
@@ -68,8 +69,8 @@ pub extern "C" fn stunp_endpoint_users_add(
     name: &[u8],
     password: &[u8],
 ) -> i64
-    ensures { LeavesTableOr (at_table (users_in users.old.kept) (λ u. adding u name.now password.now))
-        result users.old.kept users.new.kept }
+    ensures { LeavesTableOr (at_handle users.old.kept (λ u. adding name.now password.now u)) result
+        users.old.kept users.new.kept }
 {
     let Some(mut kept) = users.take(alloc) else {
         return Refusal::EmptyHandle.code();
@@ -80,7 +81,8 @@ pub extern "C" fn stunp_endpoint_users_add(
 }
 
 /// Adds a user with stored keys, of 16 bytes for HMAC-SHA1 and of 32 for HMAC-SHA256, or replaces
-/// what the table has of this user. A key of no bytes is none.
+/// what the table has of this user. A key of no bytes is none. Users with short-term credentials
+/// have no keys: such a table is a `WrongHandle`.
 ///
 /// Fails with `NotText`, then with `TextTooLong` for a name of more than 513 bytes, then with
 /// `BadArgument` for the length of a key, then with `OutOfMemory`.
@@ -92,7 +94,7 @@ pub extern "C" fn stunp_endpoint_users_add_keys(
     sha1: &[u8],
     sha256: &[u8],
 ) -> i64
-    ensures { LeavesTableOr (at_table (users_in users.old.kept) (λ u. adding_keys u name.now sha1.now sha256.now))
+    ensures { LeavesTableOr (at_handle users.old.kept (λ u. adding_keys name.now sha1.now sha256.now u))
         result users.old.kept users.new.kept }
 {
     let Some(mut kept) = users.take(alloc) else {
@@ -110,8 +112,8 @@ pub extern "C" fn stunp_endpoint_users_remove(
     users: &mut EndpointHandle,
     name: &[u8],
 ) -> i64
-    ensures { LeavesTable (at_table (users_in users.old.kept) (λ u. removing u name.now))
-        result users.old.kept users.new.kept }
+    ensures { LeavesTable (at_handle users.old.kept (λ u. removing name.now u)) result
+        users.old.kept users.new.kept }
 {
     let Some(mut kept) = users.take(alloc) else {
         return Refusal::EmptyHandle.code();

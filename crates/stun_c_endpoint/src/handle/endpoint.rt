@@ -7,7 +7,9 @@ ghost use Rattle.stun_c_endpoint.specs.code.Handle.{kept_row, kept_coded};
 use std::alloc::Global;
 use std::marker::Model;
 use std::mem::replace;
+use stun_endpoint::open::OpenServer;
 use stun_endpoint::server::Server;
+use stun_endpoint::short_term::{ShortTermServer, ShortTermUsers};
 use stun_endpoint::users::Users;
 use stun_handles::handle::Loose;
 use stun_ice::checker::Checker;
@@ -17,6 +19,9 @@ use stun_ice::checker::Checker;
 pub enum Kept {
     Server(Server<Global>),
     Users(Users<Global>),
+    ShortTerm(ShortTermServer<Global>),
+    ShortTermUsers(ShortTermUsers<Global>),
+    Open(OpenServer<Global>),
     Checker(Checker<Global>),
 }
 

@@ -139,8 +139,7 @@ pub fn controlling(kept: &Kept) -> Result<u32, Refusal>
 {
     match kept {
         Kept::Checker(checker) => Ok(u32::from(is_controlling(checker.role()))),
-        Kept::Server(_) => Err(Refusal::EmptyHandle),
-        Kept::Users(_) => Err(Refusal::EmptyHandle),
+        _ => Err(Refusal::WrongHandle),
     }
 }
 
@@ -154,7 +153,6 @@ pub fn set_tie_breaker(kept: &mut Kept, tie_breaker: u64) -> Result<(), Refusal>
             checker.set_tie_breaker(tie_breaker);
             Ok(())
         }
-        Kept::Server(_) => Err(Refusal::EmptyHandle),
-        Kept::Users(_) => Err(Refusal::EmptyHandle),
+        _ => Err(Refusal::WrongHandle),
     }
 }

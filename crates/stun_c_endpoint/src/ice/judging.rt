@@ -1,6 +1,6 @@
 //! What the call that judges a datagram at an agent of ICE does.
 
-ghost use Rattle.std.specs.Prelude.{◌≡◌, IfOk, IfErr, None, Some, length};
+ghost use Rattle.std.specs.Prelude.{◌≡◌, IfOk, IfErr, None, Ok, Some, length};
 ghost use Rattle.stun_ice.specs.Received.{checked, responded};
 ghost use Rattle.stun_handles.specs.Numbers.{number_answer};
 ghost use Rattle.stun_c_endpoint.specs.Checks.{check_given};
@@ -60,8 +60,7 @@ pub fn judge_at(
         Kept::Checker(checker) => judge(
             alloc, checker, message, from, has_check, check, out, received,
         ),
-        Kept::Server(_) => Err(Refusal::EmptyHandle),
-        Kept::Users(_) => Err(Refusal::EmptyHandle),
+        _ => Err(Refusal::WrongHandle),
     }
 }
 
@@ -76,7 +75,7 @@ fn judge(
     out: &mut [u8],
     received: &mut IceReceived,
 ) -> Result<u32, Refusal>
-    ensures { SeesAs (seen_at (Some checker.old) has_check check.now from.now message.now
+    ensures { SeesAs (seen_at (Ok checker.old) has_check check.now from.now message.now
         received.old) (number_answer result) out.old out.new received.old received.new
         (Some (kind.Checker checker.old)) (Some (kind.Checker checker.new)) }
 {

@@ -1,6 +1,6 @@
 //! What the call that writes a check does.
 
-ghost use Rattle.std.specs.Prelude.{Some};
+ghost use Rattle.std.specs.Prelude.{Ok};
 ghost use Rattle.stun_handles.specs.Numbers.{length_answer};
 ghost use Rattle.stun_c_endpoint.specs.Checks.{WritesCheck, check_asked};
 ghost use Rattle.stun_c_endpoint.specs.Kept.{agent_of};
@@ -29,8 +29,7 @@ pub fn write_of(
 {
     match kept {
         Kept::Checker(checker) => write(checker, id, to, priority, nominate, out, check),
-        Kept::Server(_) => Err(Refusal::EmptyHandle),
-        Kept::Users(_) => Err(Refusal::EmptyHandle),
+        _ => Err(Refusal::WrongHandle),
     }
 }
 
@@ -44,7 +43,7 @@ fn write(
     out: &mut [u8],
     check: &mut IceCheck,
 ) -> Result<usize, Refusal>
-    ensures { WritesCheck (check_asked (Some checker.now) id.now to.now priority nominate)
+    ensures { WritesCheck (check_asked (Ok checker.now) id.now to.now priority nominate)
         (length_answer result) out.old out.new check.old check.new }
 {
     let to = to.socket()?;

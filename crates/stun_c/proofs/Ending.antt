@@ -1,11 +1,11 @@
 -- A FINGERPRINT that a message has is visible, since no other type hides it, and one that is added
 -- takes 8 bytes.
 use Rattle.std.proofs.Common.{◌≡◌, ◌≤◌, ℕ, ◌+◌, Bool, true, false, cond, List, [], ◌∷◌, ◌++◌}
-use Rattle.std.proofs.Common.{length, take, drop, append_assoc, refl, sym, ◌∙◌, ap, arith}
+use Rattle.std.proofs.Common.{length, take, drop, append_assoc, refl, sym, ◌∙◌, ap}
 use Rattle.std.specs.Option.{option_map}
-use Rattle.std.specs.Prelude.{Some, None, is_some, find, max, nat_lt, ◌==◌, ◌||◌}
+use Rattle.std.specs.Prelude.{Some, None, is_some, find, nat_lt, ◌==◌, ◌||◌}
 use Rattle.std.proofs.lemmas.List.{drop-drop}
-use Rattle.stun_base.specs.Attributes.{FINGERPRINT}
+use Rattle.stun_base.specs.Attributes.{FINGERPRINT, MESSAGE_INTEGRITY, MESSAGE_INTEGRITY_SHA256}
 use Rattle.stun_base.specs.declared.wire.error.StunWriteError.TheVariants.{
   AttributeExists as WriteAttributeExists,
   TooLarge,
@@ -16,14 +16,20 @@ use Rattle.stun_types.specs.Writing.{length_with, max_length, size_refusal}
 use Rattle.stun_extra.specs.Fingerprint.{fingerprint_attribute}
 use Rattle.stun_extra.specs.Fingerprint.{fingerprint_refusal, with_fingerprint}
 use Rattle.stun_types.specs.Message.{with_length}
-use Rattle.stun_types.specs.Visible.{has_kind, visible}
+use Rattle.stun_types.specs.Visible.{after, has_kind, shows, visibility_of, visible}
+use Rattle.stun_types.specs.Visible.{visible_after}
 use Rattle.stun_types.specs.Walk.{Member, walk}
+use Rattle.stun_types.specs.declared.message.visibility.Visibility.{Visibility}
+use Rattle.stun_types.specs.declared.message.visibility.Visibility.TheVariants.{Everything, Nothing}
+use Rattle.stun_types.specs.declared.message.visibility.Visibility.TheVariants.{AfterIntegrity}
+use Rattle.stun_types.specs.declared.message.visibility.Visibility.TheVariants.{
+  AfterIntegritySha256,
+}
 use Rattle.stun_numbers.specs.declared.refusal.Refusal.TheVariants.{AttributeExists, BufferTooSmall}
 use Rattle.stun_numbers.specs.declared.refusal.Refusal.TheVariants.{MessageTooLong}
 use Rattle.stun_numbers.specs.Refusals.{refusal_of_write}
 use Rattle.stun_c.proofs.Lengths.{length-with_attribute}
 use Rattle.stun_c.specs.code.Ended.{ended_message, fingerprint_after, fingerprint_value}
-use Rattle.stun_c.specs.Walking.{is_shown, rank, visible_after}
 use Rattle.stun_c.specs.Writing.{fit_refusal, shows_kind}
 use Rattle.stun_c.proofs.Walking.{shown_visible}
 
@@ -40,36 +46,59 @@ found kind (m ∷ members) =
       | false ↦ rest
     ]
 
--- it is shown, and others leave it so
-shows : (hidden kind : ℕ) → nat_lt hidden 3 ≡ true → (kind == FINGERPRINT) ≡ true
-    → is_shown hidden kind ≡ true
-shows hidden kind low is = grind arith
+-- it is visible unless another one came before
+shows-fingerprint : (visibility : Visibility) (kind : ℕ) → shows visibility FINGERPRINT ≡ true
+    → (kind == FINGERPRINT) ≡ true → shows visibility kind ≡ true
+shows-fingerprint Everything kind unhidden is = refl
+shows-fingerprint AfterIntegrity kind unhidden is =
+    elim (kind == MESSAGE_INTEGRITY_SHA256) as (λ other. (other || (kind == FINGERPRINT)) ≡ true)
+    [ true ↦ refl | false ↦ is ]
+shows-fingerprint AfterIntegritySha256 kind unhidden is = is
+shows-fingerprint Nothing kind unhidden is = cc
 
-leaves : (hidden kind : ℕ) → nat_lt hidden 3 ≡ true → (kind == FINGERPRINT) ≡ false
-    → nat_lt (max hidden (rank kind)) 3 ≡ true
-leaves hidden kind low other = grind arith
+-- after the others it is visible
+open_after : (integrity integrity_sha256 : Bool)
+    → shows (visibility_of integrity integrity_sha256 false) FINGERPRINT ≡ true
+open_after true true = refl
+open_after true false = refl
+open_after false true = refl
+open_after false false = refl
 
--- one is shown where there is one
-visible_after-fingerprint : (hidden : ℕ) (members : List Member) → nat_lt hidden 3 ≡ true
-    → has_kind FINGERPRINT (visible_after hidden members) ≡ has_kind FINGERPRINT members
+leaves : (visibility : Visibility) (kind : ℕ) → shows visibility FINGERPRINT ≡ true
+    → (kind == FINGERPRINT) ≡ false → shows (after visibility kind) FINGERPRINT ≡ true
+leaves Everything kind unhidden other =
+    ap (λ is. shows (visibility_of (kind == MESSAGE_INTEGRITY) (kind == MESSAGE_INTEGRITY_SHA256)
+    is) FINGERPRINT) other
+    ∙ open_after (kind == MESSAGE_INTEGRITY) (kind == MESSAGE_INTEGRITY_SHA256)
+leaves AfterIntegrity kind unhidden other =
+    ap (λ is. shows (visibility_of true (kind == MESSAGE_INTEGRITY_SHA256) is) FINGERPRINT) other
+    ∙ open_after true (kind == MESSAGE_INTEGRITY_SHA256)
+leaves AfterIntegritySha256 kind unhidden other =
+    ap (λ is. shows (visibility_of true true is) FINGERPRINT) other ∙ open_after true true
+leaves Nothing kind unhidden other = cc
+
+-- one is visible where there is one
+visible_after-fingerprint : (visibility : Visibility) (members : List Member)
+    → shows visibility FINGERPRINT ≡ true
+    → has_kind FINGERPRINT (visible_after visibility members) ≡ has_kind FINGERPRINT members
 unfolding visible_after
-visible_after-fingerprint hidden [] low = refl
-visible_after-fingerprint hidden (m ∷ members) low =
-    by (λ low'. visible_after-fingerprint (max hidden (rank m.1.kind)) members low')
+visible_after-fingerprint visibility [] unhidden = refl
+visible_after-fingerprint visibility (m ∷ members) unhidden =
+    by (λ unhidden'. visible_after-fingerprint (after visibility m.1.kind) members unhidden')
     (m.1.kind == FINGERPRINT) refl
   where
     rest : List Member
-    rest = visible_after (max hidden (rank m.1.kind)) members
+    rest = visible_after (after visibility m.1.kind) members
 
-    by : (nat_lt (max hidden (rank m.1.kind)) 3 ≡ true
+    by : (shows (after visibility m.1.kind) FINGERPRINT ≡ true
         → has_kind FINGERPRINT rest ≡ has_kind FINGERPRINT members)
         → (is : Bool) → (m.1.kind == FINGERPRINT) ≡ is
-        → has_kind FINGERPRINT (cond (is_shown hidden m.1.kind) (m ∷ rest) rest)
+        → has_kind FINGERPRINT (cond (shows visibility m.1.kind) (m ∷ rest) rest)
         ≡ ((m.1.kind == FINGERPRINT) || has_kind FINGERPRINT members)
-    by others true is = rw (shows hidden m.1.kind low is, is) refl
+    by others true is = rw (shows-fingerprint visibility m.1.kind unhidden is, is) refl
     by others false is =
-        let same = others (leaves hidden m.1.kind low is) in
-        elim (is_shown hidden m.1.kind) as (λ shown.
+        let same = others (leaves visibility m.1.kind unhidden is) in
+        elim (shows visibility m.1.kind) as (λ shown.
         has_kind FINGERPRINT (cond shown (m ∷ rest) rest)
         ≡ ((m.1.kind == FINGERPRINT) || has_kind FINGERPRINT members)) [
           | true ↦ ap (λ b. (m.1.kind == FINGERPRINT) || b) same
@@ -81,7 +110,7 @@ shows_fingerprint : (bytes : List ℕ)
 shows_fingerprint bytes =
     found FINGERPRINT (visible bytes)
     ∙ (ap (has_kind FINGERPRINT) (sym (shown_visible bytes))
-    ∙ visible_after-fingerprint 0 (walk bytes) refl)
+    ∙ visible_after-fingerprint Everything (walk bytes) refl)
 
 -- what is written is the message with its FINGERPRINT, which takes 8 bytes
 pub ended_fingerprint : (message : List ℕ) → ended_message message ≡ with_fingerprint message

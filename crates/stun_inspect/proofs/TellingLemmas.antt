@@ -6,8 +6,8 @@ use Rattle.std.proofs.lemmas.List.{map-append}
 use Rattle.stun_base.specs.Attributes.{MESSAGE_INTEGRITY, MESSAGE_INTEGRITY_SHA256, FINGERPRINT}
 use Rattle.stun_types.specs.Attribute.{TypedValue, first_attribute}
 use Rattle.stun_types.specs.Walk.{Member, walk, walk_from}
-use Rattle.stun_types.specs.Visible.{after, before, has_kind, hider, is_visible, shows}
-use Rattle.stun_types.specs.Visible.{visibility_at, visibility_of, visible}
+use Rattle.stun_types.specs.Visible.{after, before, has_kind, hider, hiding_type, is_visible}
+use Rattle.stun_types.specs.Visible.{shows, visibility_at, visibility_of, visible}
 use Rattle.stun_types.specs.declared.message.visibility.Visibility.{Visibility}
 use Rattle.stun_types.specs.declared.message.visibility.Visibility.TheVariants.{Everything, Nothing}
 use Rattle.stun_types.specs.declared.message.visibility.Visibility.TheVariants.{AfterIntegrity}
@@ -24,10 +24,12 @@ hider-none : (visibility : Visibility) (kind : ℕ) → is_none (hider visibilit
     ≡ shows visibility kind
 hider-none Everything kind = refl
 hider-none AfterIntegrity kind =
-    elim (shows AfterIntegrity kind) as (λ is. is_none (cond is None (Some _)) ≡ is)
+    elim (shows AfterIntegrity kind)
+    as (λ is. is_none (cond is None (hiding_type AfterIntegrity)) ≡ is)
     [ true ↦ refl | false ↦ refl ]
 hider-none AfterIntegritySha256 kind =
-    elim (shows AfterIntegritySha256 kind) as (λ is. is_none (cond is None (Some _)) ≡ is)
+    elim (shows AfterIntegritySha256 kind)
+    as (λ is. is_none (cond is None (hiding_type AfterIntegritySha256)) ≡ is)
     [ true ↦ refl | false ↦ refl ]
 hider-none Nothing kind = refl
 

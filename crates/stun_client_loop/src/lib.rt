@@ -2,8 +2,10 @@
 //! value. A response, a cancellation and a timeout end a request in both (RFC 8489, sections 6.2 and
 //! 6.3).
 //!
-//! Not proved here: that each outstanding request has a transaction of the agent, what the bytes of a
-//! request are, and laws over several calls. No loop is built over it yet.
+//! `seatcrane_stun::endpoint::Client` is built over it.
+//!
+//! Contracts: they do not say that each outstanding request has a transaction of the agent, what the
+//! bytes of a request are, or what several calls come to.
 #![tactic(auto)]
 
 pub mod client_loop;

@@ -6,13 +6,15 @@ use super::client_outcomes::{
 use super::client_settings::{ClientBuilder, Kind};
 use super::{Body, DropReason};
 use crate::Instant;
-use crate::agent::{StunAgent, StunAgentPollRet, StunError};
+use crate::agent::StunError;
 use crate::copies::{granted, text};
 use crate::exported::stun_client::challenge::Challenge;
+use crate::exported::stun_agent::agent::StunAgent;
 use crate::exported::stun_client::client::{Client as Core, Heard};
 use crate::exported::stun_client::credentials::{Credentials, LongTerm, ShortTerm};
 use crate::exported::stun_client::ids::id_of;
 use crate::exported::stun_client::judged::{Distrust, Judged, Outcome};
+use crate::exported::stun_client_loop::client_loop::{ClientLoop, Timed};
 use crate::exported::stun_extra::attribute::{AlternateDomain, AlternateServer, Software};
 use crate::exported::stun_types::message::{
     IntegrityAlgorithm, IntegrityKey, MessageClass, MessageType, Method, PreparedKey,
@@ -24,6 +26,7 @@ use crate::kit::alloc::Global;
 use crate::kit::collections::BTreeMap;
 use crate::message::Message;
 use crate::stats::StunAgentStats;
+use crate::trace::event;
 use crate::transaction::TransactionId;
 use crate::write::{MessageWriteExt, MessageWriteVec};
 use alloc::collections::VecDeque;
@@ -89,8 +92,8 @@ struct Sent {
 /// ```
 pub struct Client {
     settings: ClientBuilder,
-    core: Core<Global>,
-    agent: StunAgent,
+    // The requests, their challenges and their timers.
+    state: ClientLoop<Global>,
     seed: PreparedKey<Global>,
     next_id: u64,
     requests: BTreeMap<RequestId, Sent>,
@@ -106,15 +109,18 @@ impl fmt::Debug for Client {
 }
 
 impl Client {
-    pub(super) fn new(mut settings: ClientBuilder, mut agent: StunAgent, seed: [u8; 32]) -> Client {
+    pub(super) fn new(
+        mut settings: ClientBuilder,
+        mut agent: StunAgent<Global>,
+        seed: [u8; 32],
+    ) -> Client {
         let credentials = credentials_of(&mut settings);
         let (server, challenges) = (settings.server, settings.challenges);
         // A peer that the agent knows takes no memory when it answers.
-        agent.validated_peer(server);
+        granted(agent.validated_peer(server));
         Client {
             settings,
-            core: Core::new(Global, server, credentials, challenges),
-            agent,
+            state: ClientLoop::new(Global, agent, server, credentials, challenges),
             seed: prepared(&seed, IntegrityAlgorithm::Sha1),
             next_id: 0,
             requests: BTreeMap::new(Global),
@@ -145,17 +151,16 @@ impl Client {
         now: Instant,
     ) -> Result<RequestId, RequestError> {
         let (id, next_id) = self.new_id()?;
-        let bytes = self.written(method, &body, id, self.core.challenge().as_ref())?;
+        let bytes = self.written(method, &body, id, self.core().challenge().as_ref())?;
         self.reserve(bytes.len())?;
         self.send(&bytes, now)?;
-        let Ok(number) = self.core.start(method, id.0) else {
-            self.withdraw(id);
+        let Ok(number) = self.state.start(method, id.0) else {
+            self.state.cancel(id.0);
             return Err(RequestError::OutOfMemory);
         };
         let (request, drops) = (RequestId(number), Drops::default());
         if self.requests.insert(request, Sent { body, id, drops }).is_err() {
-            self.core.cancel(id.0);
-            self.withdraw(id);
+            self.state.cancel(id.0);
             return Err(RequestError::OutOfMemory);
         }
         self.next_id = next_id;
@@ -167,7 +172,7 @@ impl Client {
     /// datagram to the next client on the socket. If it is [`Input::Consumed`], `poll` returns what
     /// comes of it.
     pub fn receive<'a>(&mut self, bytes: &'a [u8], from: SocketAddr, now: Instant) -> Input<'a> {
-        match self.core.receive(bytes, from) {
+        match self.state.receive(bytes, from) {
             Ok(Heard::NotOurs) => Input::NotOurs,
             Ok(Heard::Indication(message)) => Input::Indication(Message(message)),
             Ok(Heard::Response(message, number, judged)) => {
@@ -186,14 +191,15 @@ impl Client {
     /// `receive` and `cancel`, and when the wait is over.
     pub fn poll(&mut self, now: Instant) -> Output<'_> {
         while let Some((id, bytes)) = self.unsent.pop_front() {
-            if self.core.get(id.0).is_some() {
+            if self.state.client().get(id.0).is_some() {
                 self.lent.clear();
                 self.lent.extend_from_slice(&bytes);
                 return Output::Transmit(&self.lent);
             }
         }
         // `reserve` has made room for each request.
-        if let Some(again) = self.agent.poll_transmit(now) {
+        if let Some(again) = self.state.poll_transmit(now) {
+            event!(to = %again.to, bytes = again.data.len(), "sent a request again");
             self.lent.clear();
             self.lent.extend_from_slice(again.data);
             return Output::Transmit(&self.lent);
@@ -202,13 +208,13 @@ impl Client {
             if let Some((request, result)) = self.ended.pop_front() {
                 return Output::Ended(request, result);
             }
-            match self.agent.poll(now) {
-                StunAgentPollRet::WaitUntil(until) => {
+            match self.state.poll_timers(now) {
+                Timed::WaitUntil(until) => {
                     return Output::Wait((!self.requests.is_empty()).then_some(until));
                 }
-                StunAgentPollRet::TransactionTimedOut(id) => self.timed_out(id),
+                Timed::TimedOut(number) => self.timed_out(RequestId(number)),
                 // Its request ended before.
-                StunAgentPollRet::TransactionCancelled(_) => {}
+                Timed::Forgotten => {}
             }
         }
     }
@@ -220,8 +226,7 @@ impl Client {
             return false;
         };
         let id = sent.id;
-        self.withdraw(id);
-        self.core.cancel(id.0);
+        self.state.cancel(id.0);
         self.end(request, Err(RequestError::Cancelled));
         true
     }
@@ -239,7 +244,12 @@ impl Client {
     /// Returns what was sent and received, in numbers.
     #[expect(clippy::missing_panics_doc, reason = "`build` has them kept")]
     pub fn stats(&self) -> &StunAgentStats {
-        self.agent.stats().expect("the agent was built with them")
+        let agent = self.state.agent();
+        agent.stats().expect("the agent was built with them")
+    }
+
+    fn core(&self) -> &Core<Global> {
+        self.state.client()
     }
 
     // ---- What comes of a response
@@ -249,7 +259,7 @@ impl Client {
         let Ok(message) = Message::from_bytes(bytes) else {
             return Input::NotOurs;
         };
-        match self.core.get(message.transaction_id().0) {
+        match self.core().get(message.transaction_id().0) {
             Some(asked) => {
                 let request = RequestId(asked.number());
                 self.dropped_for(request, DropReason::OutOfMemory, &message)
@@ -286,18 +296,12 @@ impl Client {
         let Some(result) = self.result_of(message, Response { bytes, signed_by }) else {
             return self.dropped_for(request, DropReason::OutOfMemory, message);
         };
-        self.forget_sent(message, now);
-        let is_success = message.has_class(MessageClass::Success);
-        self.core.end(message.transaction_id().0, is_success);
+        if self.state.answer(&message.0, now).is_err() {
+            return self.dropped_for(request, DropReason::OutOfMemory, message);
+        }
+        event!(id = %message.transaction_id(), "got a response");
         self.end(request, result);
         Input::Consumed
-    }
-
-    /// Passes a response to the agent, which then sends its request no more.
-    fn forget_sent(&mut self, message: &Message<'_>, now: Instant) {
-        let server = self.settings.server;
-        let agent = &mut self.agent;
-        let _ = agent.handle_stun_message_with_time(message, server, now);
     }
 
     /// Returns what a response ends its request with, or `None` if there is no memory for it.
@@ -326,10 +330,10 @@ impl Client {
     ) -> Input<'static> {
         let id = message.transaction_id();
         match self.send_again(request, id, challenge, now) {
-            Ok(()) => self.forget_sent(message, now),
+            Ok(()) => self.state.forget(&message.0, now),
             Err(RequestError::Unauthorized) => {
-                self.forget_sent(message, now);
-                self.core.cancel(id.0);
+                self.state.forget(&message.0, now);
+                self.state.cancel(id.0);
                 self.end(request, Err(RequestError::Unauthorized));
             }
             // The request stays as it was.
@@ -341,14 +345,11 @@ impl Client {
         Input::Consumed
     }
 
-    /// Ends a request that was not answered in time. Its challenge may be forged, so the next
-    /// request is signed for the one that was confirmed last, or not at all.
-    fn timed_out(&mut self, id: TransactionId) {
-        if let Some(number) = self.core.time_out(id.0) {
-            let request = RequestId(number);
-            let drops = self.dropped(request).unwrap_or_default();
-            self.end(request, Err(RequestError::TimedOut(drops)));
-        }
+    /// Ends a request that was not answered in time.
+    fn timed_out(&mut self, request: RequestId) {
+        event!(?request, "a request timed out");
+        let drops = self.dropped(request).unwrap_or_default();
+        self.end(request, Err(RequestError::TimedOut(drops)));
     }
 
     fn end(&mut self, request: RequestId, result: Result<Response, RequestError>) {
@@ -378,7 +379,7 @@ impl Client {
         loop {
             let id = TransactionId(id_of(&self.seed, number));
             number = number.checked_add(1).ok_or(RequestError::NoId)?;
-            if self.agent.request_transaction(id).is_none() {
+            if self.state.agent().request_transaction(id.0).is_none() {
                 return Ok((id, number));
             }
         }
@@ -386,18 +387,13 @@ impl Client {
 
     /// Has the agent send a request.
     fn send(&mut self, bytes: &[u8], now: Instant) -> Result<(), RequestError> {
-        let server = self.settings.server;
-        match self.agent.send_request(bytes, server, now) {
-            Ok(_) => Ok(()),
+        match self.state.send(bytes, now) {
+            Ok(()) => {
+                event!(to = %self.settings.server, bytes = bytes.len(), "sent a request");
+                Ok(())
+            }
             Err(StunError::OutOfMemory) => Err(RequestError::OutOfMemory),
             Err(_) => Err(RequestError::NoId),
-        }
-    }
-
-    /// Has the agent send a request no more.
-    fn withdraw(&mut self, id: TransactionId) {
-        if let Some(mut sent) = self.agent.mut_request_transaction(id) {
-            sent.cancel();
         }
     }
 
@@ -409,7 +405,7 @@ impl Client {
         challenge: Option<Challenge<Global>>,
         now: Instant,
     ) -> Result<(), RequestError> {
-        let (Some(asked), Some(sent)) = (self.core.get(id.0), self.requests.get(&request)) else {
+        let (Some(asked), Some(sent)) = (self.core().get(id.0), self.requests.get(&request)) else {
             return Err(RequestError::NoId);
         };
         if asked.challenges() >= self.settings.challenges {
@@ -419,8 +415,8 @@ impl Client {
         let bytes = self.written(asked.method(), &sent.body, new_id, challenge.as_ref())?;
         self.reserve(bytes.len())?;
         self.send(&bytes, now)?;
-        if self.core.renew(id.0, new_id.0, challenge).is_err() {
-            self.withdraw(new_id);
+        if self.state.renew(id.0, new_id.0, challenge).is_err() {
+            self.state.cancel(new_id.0);
             return Err(RequestError::OutOfMemory);
         }
         self.next_id = next_id;
@@ -446,7 +442,7 @@ impl Client {
             if let Some(software) = &self.settings.software {
                 page.add_attribute(&Software::new(software)?)?;
             }
-            let page = self.core.credentials().sign(signed_for, page)?;
+            let page = self.core().credentials().sign(signed_for, page)?;
             if self.settings.has_fingerprint {
                 finish_with_fingerprint(page)
             } else {

@@ -1,7 +1,8 @@
 //! The settings of a client.
 
 use super::client::Client;
-use crate::agent::StunAgent;
+use crate::exported::stun_agent::agent::StunAgent;
+use crate::kit::alloc::Global;
 use crate::credentials::{LongTermCredentials, ShortTermCredentials};
 use crate::exported::stun_auth::auth::Feature;
 use crate::exported::stun_client::preferences::Preferences;
@@ -274,7 +275,7 @@ impl ClientBuilder {
             last,
         } = self.plan;
         // The agent tells this address alone, so that any will do.
-        let agent = StunAgent::builder(transport, self.server)
+        let agent = StunAgent::builder(Global, transport, self.server)
             .request_retransmits(first, most, sends, last)
             .stats(true)
             .build();

@@ -1,6 +1,6 @@
 -- The first bytes of an input tell whether it is raw.
 use Rattle.std.proofs.Common.{◌≡◌, ◌≤◌, ◌⊎◌, ℕ, List, [], ◌++◌, length, drop, true, false, Option}
-use Rattle.std.proofs.Common.{Some, None, Result, Ok, Err, IfSome, IfOk, refl, sym, ◌∙◌, ap, arith}
+use Rattle.std.proofs.Common.{Some, None, Result, Ok, Err, IfSome, IfOk, sym, ◌∙◌, ap, arith}
 use Rattle.std.proofs.Common.{append-nil, length-append, length-drop, inl, inr}
 use Rattle.std.specs.Prelude.{nat_le, nat_lt, ◌==◌, ◌&&◌}
 use Rattle.std.specs.Io.KnownBytes.{IsAtEnd}

@@ -1,7 +1,7 @@
 -- What is told of a message, and which of it nothing hides.
 use Rattle.std.proofs.Common.{◌≡◌, ℕ, true, false, cond, List, [], ◌∷◌, ◌++◌, drop, refl, sym, ap}
 use Rattle.std.proofs.Common.{◌∙◌}
-use Rattle.std.specs.Prelude.{is_none, map, filter, Some, None}
+use Rattle.std.specs.Prelude.{is_none, map, filter, None}
 use Rattle.std.proofs.lemmas.List.{map-append}
 use Rattle.stun_base.specs.Attributes.{MESSAGE_INTEGRITY, MESSAGE_INTEGRITY_SHA256, FINGERPRINT}
 use Rattle.stun_types.specs.Attribute.{TypedValue, first_attribute}

@@ -1,14 +1,17 @@
 //! A client of one server with its timers.
 ghost use Rattle.std.specs.Borrow.{sem};
 ghost use Rattle.std.specs.Option.{IfSome, option_map};
-ghost use Rattle.std.specs.Prelude.{◌≡◌, ◌⊎◌, ℕ, IfOk, IsOk, OnErr, OnOk, false};
-ghost use Rattle.stun_agent.specs.Agent.{after_send_request, datagram_of, poll_answer, sent_by_poll};
+ghost use Rattle.std.specs.Prelude.{◌≡◌, ◌⊎◌, ℕ, Err, IfOk, IsErrOf, IsOk, IsOkUnless, MatchOption};
+ghost use Rattle.std.specs.Prelude.{OnErr, OnOk, false};
+ghost use Rattle.stun_agent.specs.Agent.{after_send_request, datagram_of, poll_answer};
+ghost use Rattle.stun_agent.specs.Agent.{request_refusal, sent_by_poll};
 ghost use Rattle.stun_agent.specs.Datagrams.{lent_datagram};
 ghost use Rattle.stun_base.specs.Header.{transaction_id_field};
 ghost use Rattle.stun_client.specs.Clients.{after_renewing, after_starting};
 ghost use Rattle.stun_client.specs.Clients.{heard, heard_of, needs_memory_for, not_ours};
 ghost use Rattle.stun_client.specs.Judging.{identity_of};
 ghost use Rattle.stun_client.specs.Requests.{IsOver, answered, at, new_requests};
+ghost use Rattle.stun_client.specs.Requests.{renewal_refusal, start_refusal};
 ghost use Rattle.stun_client.specs.Standing.{new_standing};
 ghost use Rattle.stun_client_loop.specs.Loops.{after_answer, after_cancel, after_timers, timed_of};
 ghost use Rattle.stun_client_loop.specs.Loops.{withdrawn};
@@ -118,6 +121,8 @@ impl<A: Allocator + Copy> ClientLoop<A> {
     /// Has the agent send a request to the server (see `StunAgent::send_request`). After an error
     /// nothing has changed.
     pub fn send(&mut self, request: &[u8], now: Instant) -> Result<(), StunError>
+        ensures refused { MatchOption (request_refusal self.old.agent request.now self.old.server)
+            (IsOkUnless result StunError.OutOfMemory) (IsErrOf result) }
         ensures after { OnOk result (self.new ≡ record self.old {
           agent = after_send_request self.old.agent request.now self.old.server now;
         }) }
@@ -128,11 +133,15 @@ impl<A: Allocator + Copy> ClientLoop<A> {
 
     /// Starts a request that was sent (see `Client::start`). After an error nothing has changed.
     pub fn start(&mut self, method: Method, id: TransactionId) -> Result<u64, RequestRefusal>
+        ensures refused { MatchOption (start_refusal self.old.client.requests id)
+            (IsOkUnless result RequestRefusal.OutOfMemory) (λ refusal. result ≡ Err refusal) }
         ensures number { IfOk result (λ number. number ≡ self.old.client.requests.next) }
         ensures after { OnOk result (self.new ≡ record self.old {
           client = after_starting self.old.client method id;
         }) }
         ensures same { OnErr result (self.new ≡ self.old) }
+        ensures over { (number : ℕ) → IsOver number self.old.client.requests
+            → IsOver number self.new.client.requests }
     {
         self.client.start(method, id)
     }
@@ -145,10 +154,14 @@ impl<A: Allocator + Copy> ClientLoop<A> {
         new_id: TransactionId,
         challenge: Option<Challenge<A>>,
     ) -> Result<(), RequestRefusal>
+        ensures refused { MatchOption (renewal_refusal self.old.client.requests id new_id)
+            (IsOkUnless result RequestRefusal.OutOfMemory) (λ refusal. result ≡ Err refusal) }
         ensures after { OnOk result (self.new ≡ record self.old {
           client = after_renewing self.old.client id new_id challenge;
         }) }
         ensures same { OnErr result (self.new ≡ self.old) }
+        ensures over { (number : ℕ) → IsOver number self.old.client.requests
+            → IsOver number self.new.client.requests }
     {
         self.client.renew(id, new_id, challenge)
     }
@@ -243,6 +256,8 @@ fn send<A: Allocator + Copy>(
     to: SocketAddr,
     now: Instant,
 ) -> Result<(), StunError>
+    ensures refused { MatchOption (request_refusal agent.old request.now to)
+        (IsOkUnless result StunError.OutOfMemory) (IsErrOf result) }
     ensures after { OnOk result (agent.new ≡ after_send_request agent.old request.now to now) }
     ensures same { OnErr result (agent.new ≡ agent.old) }
 {

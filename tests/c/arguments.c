@@ -254,7 +254,7 @@ static void tells_the_same(int64_t answer) {
 
 /* Each refusal has a text of its own, and no other number has one of these. */
 static void tells(void) {
-    const int64_t last = STUNP_TOO_MANY_ADDRESSES;
+    const int64_t last = STUNP_WRONG_HANDLE;
     for (int64_t i = last; i < 0; i++) {
         CHECK(strcmp(stunp_strerror(i), "no error") == 0, 0);
         CHECK(strcmp(stunp_strerror(i), "unknown refusal") == 0, 0);
@@ -264,7 +264,9 @@ static void tells(void) {
     CHECK(strcmp(stunp_strerror(STUNP_TRUNCATED), "bytes are missing at the end"), 0);
     CHECK(strcmp(stunp_strerror(STUNP_UNSUPPORTED_FEATURE), "a required feature is not supported"),
           0);
-    CHECK(strcmp(stunp_strerror(last), "as many addresses are kept as may be"), 0);
+    CHECK(strcmp(stunp_strerror(STUNP_TOO_MANY_ADDRESSES), "as many addresses are kept as may be"),
+          0);
+    CHECK(strcmp(stunp_strerror(last), "the handle has a value of another kind"), 0);
     CHECK(strcmp(stunp_strerror(last - 1), "unknown refusal"), 0);
     CHECK(strcmp(stunp_strerror(0), "no error"), 0);
     for (int64_t i = -1000; i < 1000; i++) tells_the_same(i);

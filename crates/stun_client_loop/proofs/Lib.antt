@@ -1,0 +1,5 @@
+-- Lemmas of the crate.
+pub mod CallLemmas
+pub mod DueLemmas
+pub mod NumberLemmas
+pub mod TimedLemmas

@@ -2,4 +2,5 @@
 pub mod CallLemmas
 pub mod DueLemmas
 pub mod NumberLemmas
+pub mod SendingLemmas
 pub mod TimedLemmas

@@ -202,8 +202,8 @@ impl<A: Allocator + Copy> ClientLoop<A> {
         ensures over { (number : ℕ) → IsOver number self.old.client.requests
             → IsOver number self.new.client.requests }
     {
-        let new_id = match asked_in(&self.agent, request, self.server) {
-            Ok((_method, id)) => id,
+        let (_method, new_id) = match asked_in(&self.agent, request, self.server) {
+            Ok(asked) => asked,
             Err(error) => return Err(LoopRefusal::NotSent(error)),
         };
         let (server, id) = (self.server, response.transaction_id());

@@ -184,7 +184,7 @@ fn ending_agent(size: usize, table: &mut Table) {
     let (remote, local) = (REMOTE.into(), LOCAL.into());
     let mut agent = StunAgent::builder(TransportType::Udp, local).build();
     for i in 0..size {
-        agent.send_request(&request(i), remote, at(0)).unwrap();
+        agent.send_request(request(i), remote, at(0)).unwrap();
         agent.mut_request_transaction(id(i)).unwrap().cancel();
     }
     for i in 0..size {

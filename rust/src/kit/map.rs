@@ -86,12 +86,12 @@ impl<K: Ord, V, A: Allocator> BTreeMap<K, V, A> {
         let (mut known, mut way) = (*self.recent.get_mut(), Way::ROOT);
         let mut node = &mut self.root;
         loop {
-            let place = if !is_recent {
-                node.search(key)
-            } else {
+            let place = if is_recent {
                 let (at, next) = Way::first(known);
                 known = next;
                 if node.is_leaf() { Ok(at) } else { Err(at) }
+            } else {
+                node.search(key)
             };
             way.push(place.unwrap_or_else(|at| at));
             match place {

@@ -25,6 +25,10 @@ impl<'a, K: Ord, V> Entries<'a, K, V> {
     }
 
     /// Goes down to a child.
+    #[allow(
+        clippy::cast_possible_truncation,
+        reason = "an index is at most that of the last child"
+    )]
     fn enter(&mut self, node: &'a Node<K, V>, at: usize) -> &'a Node<K, V> {
         self.way[self.above] = at as u8;
         self.above += 1;

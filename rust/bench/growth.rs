@@ -7,8 +7,8 @@
 //!
 //! Each call is timed in several rounds that do the same, and the least time of each call counts,
 //! so that other work of the machine does not. A row has the median of the calls, the time that
-//! one call in a thousand exceeds, and the longest, in nanoseconds. Rows of a plain agent are of one
-//! that has the standard library's maps alone ([plain_agent.rs](plain_agent.rs)).
+//! one call in a thousand exceeds, and the longest, in nanoseconds. The plain agent has the standard
+//! library's maps alone ([plain_agent.rs](plain_agent.rs)).
 //!
 //! On Linux, `growth memory 100000` prints the resident bytes of an outstanding request, a user and
 //! an address with a nonce, if there are that many.
@@ -178,8 +178,8 @@ fn plain_agent(size: usize, table: &mut Table) {
     }
 }
 
-/// Lets all requests end at once, and sends as many again. With glibc, a call may stop to gather the
-/// small blocks that were freed before it.
+/// Lets all requests end at once, and sends as many again. With glibc, a call may stop to gather
+/// the small blocks that were freed before it.
 fn ending_agent(size: usize, table: &mut Table) {
     let (remote, local) = (REMOTE.into(), LOCAL.into());
     let mut agent = StunAgent::builder(TransportType::Udp, local).build();

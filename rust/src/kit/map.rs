@@ -128,8 +128,9 @@ impl<K: Ord, V, A: Allocator> BTreeMap<K, V, A> {
         }
     }
 
-    /// Finds the node and the index of a key, or those where it can be inserted. If there is no room
-    /// for it, the nodes on the way that are full are split, so that there is room at each.
+    /// Finds the node and the index of a key, or those where it can be inserted. If there is no
+    /// room for it, each node on the way that is full is split, so that there is room at each. A
+    /// full leaf whose neighbor has room gives it entries instead.
     fn place(&mut self, key: &K) -> Result<Place<'_, K, V>, AllocError> {
         if self.root.keys.capacity() == 0 {
             self.root = Node::new(true, &self.alloc)?;

@@ -145,8 +145,8 @@ impl<K: Ord, V> Node<K, V> {
         }
     }
 
-    /// Returns `true` if the key is in this node or below, or if the leaf where it would be has room.
-    /// Then no node has to be split for it.
+    /// Returns `true` if the key is in this node or below, or if the leaf where it would be has
+    /// room. Then no node has to be split for it.
     pub(super) fn has_room(&self, key: &K) -> bool {
         let mut node = self;
         loop {

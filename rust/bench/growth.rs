@@ -7,8 +7,8 @@
 //!
 //! Each call is timed in several rounds that do the same, and the least time of each call counts,
 //! so that other work of the machine does not. A row has the median of the calls, the time that
-//! one call in a thousand exceeds, and the longest, in nanoseconds. The plain agent has the standard
-//! library's maps alone ([plain_agent.rs](plain_agent.rs)).
+//! one call in a thousand exceeds, and the longest, in nanoseconds. The plain agent has the maps of
+//! the standard library alone ([plain_agent.rs](plain_agent.rs)).
 //!
 //! On Linux, `growth memory 100000` prints the resident bytes of an outstanding request, a user and
 //! an address with a nonce, if there are that many.

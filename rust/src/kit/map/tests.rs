@@ -42,6 +42,8 @@ fn a_walk_by_single_keys_is_as_the_standard_one() {
                 }
                 assert_eq!(ours.get(&key), other.get(&key));
                 assert_eq!(ours.get_mut(&key), other.get_mut(&key));
+                let from = (Bound::Included(key), Bound::Unbounded);
+                assert!(ours.range(from).take(2).eq(other.range(from).take(2)));
                 start = Bound::Excluded(key);
             }
             seen.iter().for_each(|key| assert!(keys.contains(key)));

@@ -21,7 +21,7 @@ use thiserror::Error;
 
 /// An outstanding request.
 ///
-/// Contracts: they see all of it.
+/// Contracts see all of it.
 #[derive(Drop)]
 pub struct Asked<A: Allocator = Global> {
     number: u64,
@@ -97,7 +97,7 @@ pub enum RequestRefusal {
 /// The outstanding requests of a client, each under the transaction ID that it has now. A request
 /// has one number for its whole life, and a new transaction ID each time that it is challenged.
 ///
-/// Contracts: they see all of it.
+/// Contracts see all of it.
 #[derive(Drop)]
 pub struct Requests<A: Allocator = Global> {
     most: u32,
@@ -117,7 +117,7 @@ impl<A: Allocator> Model for Requests<A> {
 }
 
 impl<A: Allocator + Copy> Requests<A> {
-    /// Returns that no request is outstanding. Each request may be sent again for `most` challenges.
+    /// Creates an empty set of requests. Each request may be sent again for `most` challenges.
     pub fn new(alloc: A, most: u32) -> Self
         ensures { result ≡ new_requests most }
     {
@@ -278,8 +278,8 @@ impl<A: Allocator + Copy> Requests<A> {
         }
     }
 
-    /// Returns number and method of the request that gets a new transaction ID, and how often it was
-    /// challenged then.
+    /// Returns the number and the method of the request to renew, and how many challenges it will
+    /// have had.
     fn renewal_of(
         &self,
         id: TransactionId,
@@ -296,7 +296,7 @@ impl<A: Allocator + Copy> Requests<A> {
         }
     }
 
-    /// Returns the same of a request that is outstanding.
+    /// Returns these parts for an outstanding request.
     fn renewal_of_asked(
         &self,
         asked: &Asked<A>,

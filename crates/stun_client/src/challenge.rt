@@ -51,7 +51,7 @@ use stun_types::message::{IntegrityAlgorithm, LongTermCredentials, Message, Prep
 ///
 /// `Debug` shows nothing of the contents.
 ///
-/// Contracts see the preferences and the challenge.
+/// Contracts: they see the preferences and the challenge.
 #[derive(Drop)]
 pub struct Challenge<A: Allocator = Global> {
     preferences: Preferences,

@@ -38,7 +38,7 @@ pub enum Heard<'a, A: Allocator = Global> {
 /// A client of one server: its credentials, its outstanding requests, and the challenge that new
 /// ones are signed for. It sends nothing and has no timers: those are an agent's.
 ///
-/// Contracts see all of it. There is a password in it, so it has no `Debug`.
+/// Contracts: they see all of it. There is a password in it, so it has no `Debug`.
 #[derive(Drop)]
 pub struct Client<A: Allocator = Global> {
     alloc: A,

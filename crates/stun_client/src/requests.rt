@@ -21,7 +21,7 @@ use thiserror::Error;
 
 /// An outstanding request.
 ///
-/// Contracts see all of it.
+/// Contracts: they see all of it.
 #[derive(Drop)]
 pub struct Asked<A: Allocator = Global> {
     number: u64,
@@ -97,7 +97,7 @@ pub enum RequestRefusal {
 /// The outstanding requests of a client, each under the transaction ID that it has now. A request
 /// has one number for its whole life, and a new transaction ID each time that it is challenged.
 ///
-/// Contracts see all of it.
+/// Contracts: they see all of it.
 #[derive(Drop)]
 pub struct Requests<A: Allocator = Global> {
     most: u32,

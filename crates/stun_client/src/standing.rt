@@ -16,7 +16,7 @@ use std::mem;
 /// success until a request under the confirmed challenge times out, a challenge that is weaker than
 /// the confirmed one is ignored.
 ///
-/// Contracts see the two challenges.
+/// Contracts: they see the two challenges.
 #[derive(Drop)]
 pub struct Standing<A: Allocator> {
     current: Option<Challenge<A>>,

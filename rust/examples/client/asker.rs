@@ -22,7 +22,7 @@ const OLDER: [AttributeType; 3] = [
     AttributeType(0x0010),
 ];
 
-/// The arguments of a command line. What follows `--` is no option.
+/// The arguments of a command line. What follows `--` is not an option.
 pub struct Arguments {
     pub left: Vec<String>,
     pub file: Option<String>,
@@ -90,7 +90,7 @@ pub fn find(host: &str, port: &str) -> Result<SocketAddr, Box<dyn Error>> {
 }
 
 impl Asker {
-    /// Opens a socket to a server, which it asks for so long.
+    /// Opens a socket to a server. Requests that have no response `within` this time fail.
     ///
     /// The socket is connected, so that it hears if the port is closed. It keeps the address that
     /// it has now, so open another one after this machine has moved to another network.

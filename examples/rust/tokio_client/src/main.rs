@@ -4,7 +4,7 @@
 //!
 //! One task owns the socket and the client, and waits for three things: a request of another task,
 //! a datagram, and a time. The other tasks share a `Front`, whose `ask` returns the response. Here
-//! so many tasks ask once each. Status 0 if all were answered.
+//! each of many tasks makes one request. Status 0 if all were answered.
 
 use seatcrane_stun::endpoint::{Body, Client, Clock, Credentials, Output};
 use seatcrane_stun::endpoint::{RequestError, RequestId, Response};

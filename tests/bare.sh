@@ -1,15 +1,15 @@
 #!/bin/sh
 # Runs the commands of README.md that need no `rt` on a minimal Debian, which has cargo, a C
-# compiler, make, Python and git, and nothing of this machine: `make export`, the sample request, the
-# public address from a server beside it, the jobs in Rust as a program of another folder, both
+# compiler, make, Python and git, and nothing of this machine: `make export`, the sample request,
+# the public address from a server beside it, the jobs in Rust as a program of another folder, both
 # commands of stun_inspect, `make lib` and the program in C, and `make install`. Others are left to
 # other tests: `make rust` (tests/export/least.sh runs its tests by Debian's Rust 1.85), `make dist`
 # (tests/package.sh) and a release (tests/release.sh).
 #
 #     tests/bare.sh [SUITE ..]     trixie, unless a word names another release of Debian
 #
-# Each Debian is made by debootstrap and kept in ~/.cache/stunp-bare-SUITE. It is left out where there
-# is no debootstrap, root or network to make it. In bookworm, Rust is Debian's rustc-web.
+# Each Debian is made by debootstrap and kept in ~/.cache/stunp-bare-SUITE. It is left out where
+# there is no debootstrap, root or network to make it. In bookworm, Rust is Debian's rustc-web.
 set -eu
 top=$(cd "$(dirname "$0")/.." && pwd)
 cache=${XDG_CACHE_HOME:-$HOME/.cache}

@@ -13,7 +13,7 @@ fail() {
     exit 1
 }
 
-# quiet COMMAND..: its output is told only where it fails.
+# quiet COMMAND..: prints the output of the command only if it fails.
 quiet() { "$@" >"$here/output" 2>&1 || { cat "$here/output" >&2 && fail "$* failed"; }; }
 
 # prints WANTED COMMAND..

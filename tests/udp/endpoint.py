@@ -1,5 +1,5 @@
-"""Cases of a server that keeps nothing of an address: its nonces are a function of a secret, the
-address and the time (examples/c/udp_server.c, rust/examples/udp_server.rs)."""
+"""Cases of a server that stores nothing about an address: its nonces are a function of a secret,
+the address and the time (examples/c/udp_server.c, rust/examples/udp_server.rs)."""
 import contextlib
 import hashlib
 import os

@@ -72,7 +72,7 @@ cp -r target/export/.cargo /tmp/mine
 python3 tools/transcripts.py --jobs /tmp/mine/src/main.rs
 printf '%s\n' '[package]' 'name = "mine"' 'version = "0.1.0"' 'edition = "2021"' '[dependencies]' \
     'seatcrane-stun = { path = "/stun_proto/target/export" }' >/tmp/mine/Cargo.toml
-expect 401 sh -c 'cd /tmp/mine && cargo run --quiet'
+expect 401 sh -c 'cd /tmp/mine && RUSTFLAGS="-A dead_code" cargo run --quiet'
 inspect=target/export/target/debug/stun_inspect
 sed -n '/^sample = bytes /{s/.*bytes //p;q}' crates/transcripts/data/message.rfc8489-b1.txt >/tmp/sample
 expect 'class                        request' sh -c "$inspect decode /tmp/sample | head -n 1"

@@ -138,7 +138,7 @@ impl Asker {
         }
     }
 
-    /// Waits for a datagram until this time, and returns it if it is no response to a request.
+    /// Waits for a datagram until this time, and returns it if it is not a response to a request.
     pub fn receive(&mut self, until: Instant) -> Result<Option<&[u8]>, Box<dyn Error>> {
         let until = until.min(self.give_up);
         self.socket
@@ -157,7 +157,7 @@ impl Asker {
         }
     }
 
-    /// Sends bytes that are no request.
+    /// Sends bytes that are not a request.
     pub fn send(&self, bytes: &[u8]) {
         let _ = self.socket.send(bytes);
     }
@@ -166,12 +166,12 @@ impl Asker {
         self.clock.now()
     }
 
-    /// Returns whether the time to ask is over.
+    /// Returns whether the time for requests is over.
     pub fn is_late(&self) -> bool {
         self.now() >= self.give_up
     }
 
-    /// Gives it more time, such as for a last request.
+    /// Extends the time for requests, such as for a last one.
     pub fn extend(&mut self, more: Duration) {
         self.give_up = self.give_up.max(self.now()) + more;
     }

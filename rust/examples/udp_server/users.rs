@@ -38,7 +38,7 @@ pub fn table(
     filled
 }
 
-/// Adds the user of each line. Each line that is none is reported by its number.
+/// Adds the user of each line. Each bad line is reported by its number.
 fn fill(mut users: Users, path: &str, bytes: &[u8]) -> Result<Users, String> {
     let mut bad = 0;
     for (number, line) in (1..).zip(bytes.split(|byte| *byte == b'\n')) {

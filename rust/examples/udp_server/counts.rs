@@ -12,7 +12,7 @@ pub enum Outcome {
     /// another socket than the one that the datagram arrived at, it has the number of that socket.
     Answer(u16, Vec<u8>, SocketAddr, Option<usize>),
     Dropped(DropReason),
-    /// A request with another method than Binding.
+    /// An accepted message that is not a Binding request.
     Other,
 }
 

@@ -1,6 +1,6 @@
-/* Addresses, numbers and texts, and a writer: what the calls read of the samples of RFC 5769, what
- * they write, and what they refuse. What is wanted is counted, spelled or summed here, and does not
- * come from the library. */
+/* Addresses, numbers and texts, and a writer: what the calls read in the samples of RFC 5769, what
+ * they write, and what they refuse. The expected values are counted, spelled or computed here, and
+ * do not come from the library. */
 #include "samples.h"
 
 /* ---- Addresses. */

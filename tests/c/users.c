@@ -1,5 +1,5 @@
-/* A server that is handed each user, by a password and by keys: in whom a message names, what it
- * then answers, and what only C can pass. */
+/* A server to which each user is passed, with a password or with keys: whom a message names, how
+ * the server then answers, and arguments that only C can pass. */
 #include "refusals.h"
 
 /* A server without users, to which its caller hands the user in whom a message names: as one that

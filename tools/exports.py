@@ -25,6 +25,7 @@ PASSED = {
     "i64": "int64_t", "bool": "bool", "&[u32; 16]": "const uint32_t *",
     "&[u16]": "const uint16_t *, size_t", "&mut [u16]": "uint16_t *, size_t",
     "AgentHandle": "stunp_agent", "ServerHandle": "stunp_server", "ClientHandle": "stunp_client",
+    "UserHandle": "stunp_user",
     "Address": "stunp_address", "Timeouts": "stunp_timeouts", "Statistics": "stunp_statistics",
     "Header": "stunp_header", "Cursor": "stunp_cursor", "&[u8; 32]": "const uint8_t *",
     "Received": "stunp_received", "Reply": "stunp_reply",
@@ -64,7 +65,7 @@ LENGTHS = {
     "MOST_KNOWN": ("stun_c/src/unknown.rt", "MOST_KNOWN"),
     "NAME_MAX": ("stun_c_endpoint/src/received.rt", "NAME_ROOM"),
 }
-HANDLES = ("stunp_agent *", "stunp_server *", "stunp_client *")
+HANDLES = ("stunp_agent *", "stunp_server *", "stunp_client *", "stunp_user *")
 wrong, compared, were_read = [], 0, {}
 
 def read(*paths):
@@ -117,10 +118,14 @@ def functions_of_rust(text, before, enums):
 
 def with_constants(text, functions):
     """The same, where the handle that a call leaves, by its clause `same`, is const in C."""
-    clauses = dict(re.findall(r'extern "C" fn (\w+)\([^)]*\)[^\n]*\n(.*?)\n\{\n', text, re.DOTALL))
-    left = {name for name, clause in clauses.items() if "ensures same {" in clause}
-    return {name: [f"const {kind}" if name in left and kind in HANDLES else kind for kind in kinds]
-            for name, kinds in functions.items()}
+    found = re.findall(r'extern "C" fn (\w+)\(([^)]*)\)[^\n]*\n(.*?)\n\{\n', text, re.DOTALL)
+    left = {}
+    for name, listed, clauses in found:
+        for label in re.findall(r"ensures same \{ (\w+)\.new", clauses):
+            kind = re.search(rf"\b{label}: &mut (\w+)", listed)[1]
+            left[name] = PASSED.get(kind, "") + " *"
+    return {name: [f"const {kind}" if kind in HANDLES and kind == left.get(name) else kind
+                   for kind in kinds] for name, kinds in functions.items()}
 
 def functions_of_header(text):
     """Bytes that are read may have any type in C."""
@@ -132,8 +137,8 @@ def functions_of_header(text):
 
 # Calls whose result may be ignored: what they do, they do as far as they can, or they cannot fail.
 MAY_IGNORE = re.compile(
-    r"stunp_((agent|server|client)_(new(_with)?|set_\w+|add_user|remove_\w+|forget\w*|cancel\w*|"
-    r"configure|statistics|validated_peer|send)|read_header|id|error_text|"
+    r"stunp_((agent|server|client|user)_(new(_with|_of_keys)?|set_\w+|add_user|remove_\w+|"
+    r"forget\w*|cancel\w*|configure|statistics|validated_peer|send)|read_header|id|error_text|"
     r"endpoint_(server_new_(with|short_term|open)|users_(new_own|add(_keys)?|remove))|"
     r"ice_checker_(new_with|set_tie_breaker)|"
     r"(state_|endpoint_)?(version|release_\w+))")
@@ -247,7 +252,8 @@ def main():
     header = read("include/stunp.h", "include/stunp_state.h", "include/stunp_endpoint.h")
     crates = read(*(f"crates/stun_c/src/{name}.rt" for name in ("lib", "header", "walk")),
                   *(f"crates/stun_state/src/{name}.rt"
-                    for name in ("calls/agent", "calls/server", "calls/handed", "calls/client",
+                    for name in ("calls/agent", "calls/server", "calls/handed", "calls/user",
+                                 "calls/client",
                                  "calls/release", "address", "agent")),
                   "crates/stun_handles/src/address.rt",
                   *(f"crates/stun_c_endpoint/src/{name}.rt"

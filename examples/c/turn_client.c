@@ -79,7 +79,7 @@ static bool is_indication(const stunp_address *peer, const char *text, const str
     return stunp_read_header(got->bytes, got->length, &header) == 0
            && header.message_class == STUNP_INDICATION && header.method == STUNP_DATA_METHOD
            && find_address(got, STUNP_XOR_PEER_ADDRESS, &from) && is_same(&from, peer)
-           && at > 0 && length == strlen(text) && memcmp(got->bytes + at, text, length) == 0;
+           && at > 0 && length == strlen(text) && memcmp(got->bytes + at + 4, text, length) == 0;
 }
 
 /* Writes ChannelData (section 12.4): the number of the channel, a length, and the data. It is not a

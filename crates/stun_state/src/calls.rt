@@ -5,3 +5,4 @@ mod client;
 mod handed;
 mod release;
 mod server;
+mod user;

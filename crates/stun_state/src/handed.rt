@@ -2,7 +2,7 @@
 //! section 9.2.4).
 
 ghost use Rattle.std.specs.Prelude.{◌≡◌, ⊤, length, take};
-ghost use Rattle.std.specs.Prelude.{Some, None, Ok, Err, IfOk, IfErr, OnErr, OnOk};
+ghost use Rattle.std.specs.Prelude.{Some, None, Ok, Err, IfOk, IfErr, IsOk, OnErr, OnOk};
 ghost use Rattle.stun_auth.specs.Handed.{with_users};
 ghost use Rattle.stun_auth.specs.ServerSigning.{after_signing};
 ghost use Rattle.stun_base.specs.MessageType.{class_in, is_response};
@@ -103,7 +103,7 @@ fn keys_of(sha1: &[u8], sha256: &[u8]) -> Result<StoredKeys, Refusal>
 }
 
 /// The user of a name who is known by what a caller gives, with keys for the server.
-fn prepared(
+pub(crate) fn prepared(
     alloc: Global,
     server: &LongTermServerAuth<Global>,
     name: &[u8],
@@ -113,7 +113,8 @@ fn prepared(
         (user_given name.now given.entry)
         ≡ Ok user) }
     ensures err { IfErr result (λ refusal. CallUnlessMemory result
-        (just_given server.now.registered (user_given name.now given.entry) ≡ Err refusal) ⊤) }
+        (just_given server.now.registered (user_given name.now given.entry) ≡ Err refusal)
+        (IsOk (just_given server.now.registered (user_given name.now given.entry)))) }
 {
     let name = text(name)?;
     match given {
@@ -186,7 +187,7 @@ pub(crate) fn sign(
 }
 
 /// The same with a user who is prepared. It does not allocate.
-fn sign_with(
+pub(crate) fn sign_with(
     server: &mut LongTermServerAuth<Global>,
     buffer: &mut [u8],
     length: usize,
@@ -203,6 +204,7 @@ fn sign_with(
         (λ to. with_users (after_signing (with_users server.old user.old) to
         (is_response (class_in (take length buffer.old)))) server.old.registered)) }
     ensures refused { OnErr result (server.new ≡ server.old) }
+    ensures user { user.new ≡ user.old }
 {
     let to = to.socket()?;
     let message = base_message(buffer, length)?;

@@ -10,6 +10,7 @@ pub mod agent;
 pub mod client;
 mod parts;
 pub mod server;
+pub mod user;
 
 use parts::Parts;
 use std::alloc::Global;

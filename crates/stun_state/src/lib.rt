@@ -14,6 +14,7 @@ mod codes;
 mod desk;
 mod handed;
 mod handle;
+mod prepared;
 mod server;
 mod signing;
 mod text;

@@ -172,8 +172,8 @@ kept_after_handed_signing s buffer count to user =
 -- ---- a user who is prepared
 
 -- such a user can be passed to a server: it was prepared at the server's realm, and for the
--- algorithms that the server supports now. It is then the one who would be prepared now, of the same
--- name and secret
+-- algorithms that the server supports now. It is then the one who would be prepared now, of the
+-- same name and secret
 abbrev pub IsUserOf : ServerSeen → Registered → Type 0
 IsUserOf s user = (user.realm ≡ s.registered.realm) × (user.algorithms ≡ s.registered.algorithms)
 
@@ -187,7 +187,8 @@ abbrev pub kept_after_prepared_validation : Kept → List ℕ → Address → �
 kept_after_prepared_validation k bytes from now words user =
     with_users (kept_after_validating (with_only k user) bytes from now words) k.server.registered
 
--- the server that is kept once a message in the first bytes of a buffer is signed, with its own users
+-- the server that is kept once a message in the first bytes of a buffer is signed, with its own
+-- users
 abbrev pub kept_after_prepared_signing : ServerSeen → List ℕ → ℕ → Address → Registered → ServerSeen
 kept_after_prepared_signing s buffer count to user =
     with_users (kept_after_signing (with_users s user) buffer count to) s.registered

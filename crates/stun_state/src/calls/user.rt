@@ -1,7 +1,8 @@
 //! The calls of a user who is prepared once, and passed along with each message: for a server whose
 //! users are looked up elsewhere, and for whom a user is worth keeping.
 //!
-//! A call fails first with `EmptyHandle` if the server's handle is empty, and then if the user's is.
+//! A call on a server fails first with `EmptyHandle` if the server's handle is empty, then if the
+//! user's is.
 
 ghost use Rattle.std.specs.Prelude.{◌≡◌, pos, Some, None, IfNone, IfSome, MatchResult};
 ghost use Rattle.stun_auth.specs.Handed.{with_users};

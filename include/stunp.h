@@ -369,8 +369,8 @@ typedef enum stunp_refusal {
     STUNP_TOO_MANY_ADDRESSES = -27,  /* server: the limit on the number of addresses is reached */
     STUNP_CANNOT_SIGN = -28,         /* server: it has no key to sign with. The user was removed, or
                                       * has no key for the client's algorithm */
-    STUNP_WRONG_HANDLE = -29         /* the handle has a value of another kind, or a user who was made
-                                      * for another realm or for other algorithms */
+    STUNP_WRONG_HANDLE = -29         /* the handle has a value of another kind, or a user who was
+                                      * made for another realm or for other algorithms */
 } stunp_refusal;
 
 /* Lengths in bytes. */
@@ -559,8 +559,8 @@ int64_t stunp_next(const uint8_t *message, size_t length, size_t place, uint16_t
 /* Finds the text in an attribute such as USERNAME, REALM, NONCE or SOFTWARE (sections 14.3, 14.9,
  * 14.10 and 14.14). The text is not copied, and no zero byte ends it.
  *
- * Returns the offset of the text in the message, which is `place + 4`, and writes its length in bytes
- * to `*text_length`. Errors:
+ * Returns the offset of the text in the message, which is `place + 4`, and writes its length in
+ * bytes to `*text_length`. Errors:
  *   STUNP_BAD_ARGUMENT  `place` is below 20, or no whole attribute starts there
  *   STUNP_NOT_TEXT      the value is not UTF-8 */
 STUNP_USE_RESULT STUNP_READS(1, 2) STUNP_NOT_NULL(4)

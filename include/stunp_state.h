@@ -1152,8 +1152,9 @@ int64_t stunp_user_new(stunp_user *user, const stunp_server *server, const void 
 
 /* Like stunp_user_new, with stored keys in place of the password: those that stunp_long_term_key
  * makes of the name, the server's realm and the password. `sha1` is for STUNP_SHA1, with
- * STUNP_SHA1_KEY_LENGTH bytes, and `sha256` for STUNP_SHA256, with STUNP_SHA256_KEY_LENGTH bytes. If
- * you have not stored one of them, pass the length 0: the user then has no key for that algorithm.
+ * STUNP_SHA1_KEY_LENGTH bytes, and `sha256` for STUNP_SHA256, with STUNP_SHA256_KEY_LENGTH bytes.
+ * If you have not stored one of them, pass the length 0: the user then has no key for that
+ * algorithm.
  *
  * Returns 0. Errors:
  *   STUNP_FULL_HANDLE    the handle of the user is full

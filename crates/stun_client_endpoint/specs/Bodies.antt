@@ -6,6 +6,7 @@ use Rattle.std.specs.Net.Socket.{socket_ip, socket_port}
 use Rattle.std.specs.declared.net.socket_addr.SocketAddr.{SocketAddr}
 use Rattle.stun_types.specs.Attribute.{TypedValue, attribute_length}
 use Rattle.stun_types.specs.XorMappedAddress.{xored_address, xored_value}
+use Rattle.stun_extra.specs.AttributeTypes.{XOR_PEER_ADDRESS}
 use Rattle.stun_client_endpoint.specs.declared.body.BodyError.{BodyError}
 use Rattle.stun_client_endpoint.specs.declared.body.BodyError.TheVariants.{NotAllowed, TooLarge}
 
@@ -17,9 +18,6 @@ pub data Piece : Type 0 where
 
 abbrev pub Body : Type 0
 Body = List Piece
-
-abbrev pub XOR_PEER_ADDRESS : ℕ
-XOR_PEER_ADDRESS = 0x0012
 
 -- the types that a client writes itself, those whose values depend on the transaction ID, and
 -- ERROR-CODE, which no request has
@@ -48,11 +46,11 @@ abbrev pub fits : Body → ℕ → Bool
 fits body n = nat_le (body_length body + attribute_length n) BODY_LIMIT
 
 -- why an attribute is not added, the first reason that holds
-abbrev pub size_refusal : Body → ℕ → Option BodyError
-size_refusal body n = if fits body n then None else Some TooLarge
+abbrev pub body_size_refusal : Body → ℕ → Option BodyError
+body_size_refusal body n = if fits body n then None else Some TooLarge
 
 abbrev pub body_refusal : Body → ℕ → ℕ → Option BodyError
-body_refusal body kind n = if is_reserved kind then Some NotAllowed else size_refusal body n
+body_refusal body kind n = if is_reserved kind then Some NotAllowed else body_size_refusal body n
 
 -- the attribute of a message with this transaction ID
 abbrev pub attribute_for : ℕ → Piece → TypedValue

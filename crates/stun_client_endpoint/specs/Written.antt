@@ -36,13 +36,14 @@ unless None page = Ok page
 unless (Some why) page = Err why
 
 -- the room after a message in a writer that grows to the longest message
-abbrev pub room_after : List ℕ → ℕ
-room_after page = LENGTH_LIMIT - length page
+abbrev pub room_left : List ℕ → ℕ
+room_left page = LENGTH_LIMIT - length page
 
 -- an attribute whose type may be in the message already
 abbrev pub with_another : TypedValue → List ℕ → Page?
 with_another a page =
-    unless (another_refusal page (room_after page) a.kind (length a.value)) (with_attribute page a)
+    unless (another_refusal page (room_left page) a.kind (length a.value))
+    (with_attribute page a)
 
 -- the attributes of a body, in their order
 abbrev pub with_body : ℕ → Body → List ℕ → Page?
@@ -53,45 +54,47 @@ with_body id (piece ∷ others) page =
 -- an attribute whose type is not in the message yet
 abbrev pub with_one : TypedValue → List ℕ → Page?
 with_one a page =
-    unless (attribute_refusal page (room_after page) a.kind (length a.value)) (with_attribute page a)
+    unless (attribute_refusal page (room_left page) a.kind (length a.value))
+    (with_attribute page a)
 
 -- SOFTWARE with a text of at most 763 bytes (section 14.14)
-abbrev pub with_text : List ℕ → List ℕ → Page?
-with_text text page =
+abbrev pub with_software_text : List ℕ → List ℕ → Page?
+with_software_text text page =
     if nat_lt TEXT_LIMIT (length text) then Err TooLarge
     else with_one (record { kind = SOFTWARE; value = text }) page
 
-abbrev pub with_software : Option (List ℕ) → List ℕ → Page?
-with_software None page = Ok page
-with_software (Some text) page = with_text text page
+abbrev pub with_own_software : Option (List ℕ) → List ℕ → Page?
+with_own_software None page = Ok page
+with_own_software (Some text) page = with_software_text text page
 
 -- what signs a request: nothing, what short-term credentials add, or what a challenge asks for
 abbrev pub page_bytes : Result Page StunWriteError → Page?
 page_bytes (Err why) = Err why
 page_bytes (Ok page) = Ok page.bytes
 
-abbrev pub signed : Identity → Option Answered → List ℕ → Page?
-signed identity challenge page =
+abbrev pub with_credentials : Identity → Option Answered → List ℕ → Page?
+with_credentials identity challenge page =
     page_bytes (added_all (additions_of identity challenge) (page_of page))
 
 -- FINGERPRINT, which is the last attribute (section 14.7)
-abbrev pub with_last : Bool → List ℕ → Page?
-with_last true page = unless (fingerprint_refusal page (room_after page)) (with_fingerprint page)
-with_last false page = Ok page
+abbrev pub with_own_end : Bool → List ℕ → Page?
+with_own_end true page =
+    unless (fingerprint_refusal page (room_left page)) (with_fingerprint page)
+with_own_end false page = Ok page
 
 -- the signature for a challenge, and FINGERPRINT
-abbrev pub closed : Form → Identity → Option Answered → List ℕ → Page?
-closed form identity challenge page =
-    and_then (signed identity challenge page) (with_last form.has_fingerprint)
+abbrev pub closed_request : Form → Identity → Option Answered → List ℕ → Page?
+closed_request form identity challenge page =
+    and_then (with_credentials identity challenge page) (with_own_end form.has_fingerprint)
 
 -- SOFTWARE, and then these
-abbrev pub completed : Form → Identity → Option Answered → List ℕ → Page?
-completed form identity challenge page =
-    and_then (with_software form.software page) (closed form identity challenge)
+abbrev pub completed_request : Form → Identity → Option Answered → List ℕ → Page?
+completed_request form identity challenge page =
+    and_then (with_own_software form.software page) (closed_request form identity challenge)
 
 -- a request: the header with its method and its ID, the body, SOFTWARE, the signature for a
 -- challenge, and FINGERPRINT
-unfoldable pub written : Form → Identity → Option Answered → ℕ → ℕ → Body → Page?
-written form identity challenge method id body =
+unfoldable pub request_bytes : Form → Identity → Option Answered → ℕ → ℕ → Body → Page?
+request_bytes form identity challenge method id body =
     and_then (with_body id body (empty_message Request method id))
-    (completed form identity challenge)
+    (completed_request form identity challenge)

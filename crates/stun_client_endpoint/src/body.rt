@@ -3,7 +3,7 @@ ghost use Rattle.std.specs.Prelude.{◌≡◌, ◌≤◌, ◌++◌, ◌∷◌, �
 ghost use Rattle.std.specs.Prelude.{MatchOption, Ok, OnErr, OnOk, length, true};
 ghost use Rattle.stun_types.specs.Attribute.{attribute_length};
 ghost use Rattle.stun_client_endpoint.specs.Bodies.{body_refusal, fits, is_reserved, of_peer};
-ghost use Rattle.stun_client_endpoint.specs.Bodies.{piece_length, size_refusal, with_value};
+ghost use Rattle.stun_client_endpoint.specs.Bodies.{body_size_refusal, piece_length, with_value};
 ghost use Rattle.stun_client_endpoint.specs.Written.{with_body};
 
 use crate::piece::Piece;
@@ -42,8 +42,8 @@ const RESERVED: [u16; 14] = [
     0x8028, 0x0009,
 ];
 
-/// Returns whether a body cannot have attributes of this type: the client writes it itself, its value
-/// depends on the transaction ID, or it is ERROR-CODE, which no request has.
+/// Returns whether a body cannot have attributes of this type: the client writes it itself, its
+/// value depends on the transaction ID, or it is ERROR-CODE, which no request has.
 pub fn is_reserved(kind: AttributeType) -> bool
     ensures { result ≡ is_reserved kind.0 }
 {
@@ -121,7 +121,7 @@ impl<A: Allocator + Copy> Body<A> {
     ///
     /// Those of `add`, but not `NotAllowed`.
     pub fn add_xor_peer_address(&mut self, address: SocketAddr) -> Result<(), BodyError>
-        ensures refused { MatchOption (size_refusal self.old 20)
+        ensures refused { MatchOption (body_size_refusal self.old 20)
             (IsOkUnless result BodyError.OutOfMemory) (λ why. result ≡ Err why) }
         ensures after { OnOk result (self.new ≡ self.old ++ of_peer address ∷ []) }
         ensures same { OnErr result (self.new ≡ self.old) }

@@ -4,9 +4,10 @@ ghost use Rattle.std.specs.Prelude.{◌≡◌, ◌≤◌, ◌⊎◌, Err, IfErr,
 ghost use Rattle.std.specs.String.{string_bytes};
 ghost use Rattle.stun_types.specs.Writing.{empty_message};
 ghost use Rattle.stun_client.specs.Judging.{identity_of};
-ghost use Rattle.stun_client_endpoint.specs.Written.{closed, completed, signed, with_body};
-ghost use Rattle.stun_client_endpoint.specs.Written.{with_last, with_one, with_software, with_text};
-ghost use Rattle.stun_client_endpoint.specs.Written.{written};
+ghost use Rattle.stun_client_endpoint.specs.Written.{closed_request, completed_request};
+ghost use Rattle.stun_client_endpoint.specs.Written.{request_bytes, with_body, with_credentials};
+ghost use Rattle.stun_client_endpoint.specs.Written.{with_one, with_own_end, with_own_software};
+ghost use Rattle.stun_client_endpoint.specs.Written.{with_software_text};
 
 use crate::body::Body;
 use std::alloc::{AllocError, Allocator, Global};
@@ -64,7 +65,7 @@ impl<A: Allocator + Copy> Form<A> {
     ///
     /// The first reason why one of these cannot be added, such as `TooLarge`, or `OutOfMemory` if an
     /// allocation fails.
-    #[tactic(auto, unfolding(crate::specs::Written::written))]
+    #[tactic(auto, unfolding(crate::specs::Written::request_bytes))]
     pub fn written(
         &self,
         alloc: A,
@@ -74,10 +75,10 @@ impl<A: Allocator + Copy> Form<A> {
         id: TransactionId,
         body: &Body<A>,
     ) -> Result<Vec<u8, A>, StunWriteError>
-        ensures ok { IfOk result (λ bytes. written self.now (identity_of credentials.now)
-            (option_copied signed_for.entry) method id body.now ≡ Ok bytes.items) }
+        ensures ok { IfOk result (λ bytes.
+            request_bytes self.now (identity_of credentials.now) (option_copied signed_for.entry) method id body.now ≡ Ok bytes.items) }
         ensures refused { IfErr result (λ why. (why ≡ StunWriteError.OutOfMemory)
-            ⊎ (written self.now (identity_of credentials.now)
+            ⊎ (request_bytes self.now (identity_of credentials.now)
             (option_copied signed_for.entry) method id body.now ≡ Err why)) }
     {
         let page = begun_with(alloc, method, id, body)?;
@@ -92,10 +93,11 @@ impl<A: Allocator + Copy> Form<A> {
         page: MessageWriteVec<A>,
     ) -> Result<Vec<u8, A>, StunWriteError>
         requires { 20 ≤ length page.bytes }
-        ensures ok { IfOk result (λ bytes. completed self.now (identity_of credentials.now)
+        ensures ok { IfOk result (λ bytes.
+            completed_request self.now (identity_of credentials.now)
             (option_copied signed_for.entry) page.bytes ≡ Ok bytes.items) }
         ensures refused { IfErr result (λ why. (why ≡ StunWriteError.OutOfMemory)
-            ⊎ (completed self.now (identity_of credentials.now)
+            ⊎ (completed_request self.now (identity_of credentials.now)
             (option_copied signed_for.entry) page.bytes ≡ Err why)) }
     {
         let mut page = page;
@@ -111,10 +113,10 @@ impl<A: Allocator + Copy> Form<A> {
         page: MessageWriteVec<A>,
     ) -> Result<Vec<u8, A>, StunWriteError>
         requires { 20 ≤ length page.bytes }
-        ensures ok { IfOk result (λ bytes. closed self.now (identity_of credentials.now)
+        ensures ok { IfOk result (λ bytes. closed_request self.now (identity_of credentials.now)
             (option_copied signed_for.entry) page.bytes ≡ Ok bytes.items) }
         ensures refused { IfErr result (λ why. (why ≡ StunWriteError.OutOfMemory)
-            ⊎ (closed self.now (identity_of credentials.now)
+            ⊎ (closed_request self.now (identity_of credentials.now)
             (option_copied signed_for.entry) page.bytes ≡ Err why)) }
     {
         let page = signed(credentials, signed_for, page)?;
@@ -125,10 +127,10 @@ impl<A: Allocator + Copy> Form<A> {
     fn add_software(&self, page: &mut MessageWriteVec<A>) -> Result<(), StunWriteError>
         requires { 20 ≤ length page.old.bytes }
         ensures header { OnOk result (20 ≤ length page.new.bytes) }
-        ensures ok { OnOk result (with_software self.now.software page.old.bytes
+        ensures ok { OnOk result (with_own_software self.now.software page.old.bytes
             ≡ Ok page.new.bytes) }
         ensures refused { IfErr result (λ why. (why ≡ StunWriteError.OutOfMemory)
-            ⊎ (with_software self.now.software page.old.bytes ≡ Err why)) }
+            ⊎ (with_own_software self.now.software page.old.bytes ≡ Err why)) }
     {
         match &self.software {
             Some(text) => add_text(page, text.as_str()),
@@ -141,9 +143,9 @@ impl<A: Allocator + Copy> Form<A> {
 fn add_text<A: Allocator>(page: &mut MessageWriteVec<A>, text: &str) -> Result<(), StunWriteError>
     requires { 20 ≤ length page.old.bytes }
     ensures header { OnOk result (20 ≤ length page.new.bytes) }
-    ensures ok { OnOk result (with_text text.now page.old.bytes ≡ Ok page.new.bytes) }
+    ensures ok { OnOk result (with_software_text text.now page.old.bytes ≡ Ok page.new.bytes) }
     ensures refused { IfErr result (λ why. (why ≡ StunWriteError.OutOfMemory)
-        ⊎ (with_text text.now page.old.bytes ≡ Err why)) }
+        ⊎ (with_software_text text.now page.old.bytes ≡ Err why)) }
 {
     match Software::new(text) {
         Ok(software) => add(page, &software),
@@ -175,9 +177,9 @@ fn finished<A: Allocator>(
     has_fingerprint: bool,
 ) -> Result<Vec<u8, A>, StunWriteError>
     requires { 20 ≤ length page.bytes }
-    ensures ok { IfOk result (λ bytes. with_last has_fingerprint page.bytes ≡ Ok bytes.items) }
+    ensures ok { IfOk result (λ bytes. with_own_end has_fingerprint page.bytes ≡ Ok bytes.items) }
     ensures refused { IfErr result (λ why. (why ≡ StunWriteError.OutOfMemory)
-        ⊎ (with_last has_fingerprint page.bytes ≡ Err why)) }
+        ⊎ (with_own_end has_fingerprint page.bytes ≡ Err why)) }
 {
     if has_fingerprint {
         fingerprinted(page)
@@ -189,9 +191,9 @@ fn finished<A: Allocator>(
 /// Ends a request by FINGERPRINT.
 fn fingerprinted<A: Allocator>(page: MessageWriteVec<A>) -> Result<Vec<u8, A>, StunWriteError>
     requires { 20 ≤ length page.bytes }
-    ensures ok { IfOk result (λ bytes. with_last true page.bytes ≡ Ok bytes.items) }
+    ensures ok { IfOk result (λ bytes. with_own_end true page.bytes ≡ Ok bytes.items) }
     ensures refused { IfErr result (λ why. (why ≡ StunWriteError.OutOfMemory)
-        ⊎ (with_last true page.bytes ≡ Err why)) }
+        ⊎ (with_own_end true page.bytes ≡ Err why)) }
 {
     finish_with_fingerprint(page)
 }
@@ -238,10 +240,10 @@ fn signed<A: Allocator + Copy>(
 ) -> Result<MessageWriteVec<A>, StunWriteError>
     requires { 20 ≤ length page.bytes }
     ensures header { IfOk result (λ page. 20 ≤ length page.bytes) }
-    ensures ok { IfOk result (λ signed_page. signed (identity_of credentials.now)
+    ensures ok { IfOk result (λ signed_page. with_credentials (identity_of credentials.now)
         (option_copied signed_for.entry) page.bytes ≡ Ok signed_page.bytes) }
     ensures refused { IfErr result (λ why. (why ≡ StunWriteError.OutOfMemory)
-        ⊎ (signed (identity_of credentials.now)
+        ⊎ (with_credentials (identity_of credentials.now)
         (option_copied signed_for.entry) page.bytes ≡ Err why)) }
 {
     credentials.sign(signed_for, page)

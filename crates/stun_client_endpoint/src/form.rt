@@ -63,8 +63,8 @@ impl<A: Allocator + Copy> Form<A> {
     ///
     /// # Errors
     ///
-    /// The first reason why one of these cannot be added, such as `TooLarge`, or `OutOfMemory` if an
-    /// allocation fails.
+    /// The first reason why one of these cannot be added, such as `TooLarge`, or `OutOfMemory` if
+    /// an allocation fails.
     #[tactic(auto, unfolding(crate::specs::Written::request_bytes))]
     pub fn written(
         &self,
@@ -76,7 +76,8 @@ impl<A: Allocator + Copy> Form<A> {
         body: &Body<A>,
     ) -> Result<Vec<u8, A>, StunWriteError>
         ensures ok { IfOk result (λ bytes.
-            request_bytes self.now (identity_of credentials.now) (option_copied signed_for.entry) method id body.now ≡ Ok bytes.items) }
+            request_bytes self.now (identity_of credentials.now) (option_copied signed_for.entry)
+            method id body.now ≡ Ok bytes.items) }
         ensures refused { IfErr result (λ why. (why ≡ StunWriteError.OutOfMemory)
             ⊎ (request_bytes self.now (identity_of credentials.now)
             (option_copied signed_for.entry) method id body.now ≡ Err why)) }

@@ -378,8 +378,7 @@ impl Client {
     /// 96 bits of HMAC-SHA1(seed, n).
     fn new_id(&self) -> Result<(TransactionId, u64), RequestError> {
         let agent = self.state.agent();
-        let number =
-            free_number(&self.seed, agent, self.next_id).ok_or(RequestError::NoId)?;
+        let number = free_number(&self.seed, agent, self.next_id).ok_or(RequestError::NoId)?;
         let next = number.checked_add(1).ok_or(RequestError::NoId)?;
         Ok((TransactionId(id_of(&self.seed, number)), next))
     }
@@ -435,13 +434,14 @@ impl Client {
         signed_for: Option<&Challenge<Global>>,
     ) -> Result<Vec<u8>, RequestError> {
         let credentials = self.core().credentials();
-        self.form
-            .written(Global, credentials, signed_for, method, id.0, &body.core)
-            .map(|bytes| bytes.into_std())
-            .map_err(|error| match error {
-                StunWriteError::OutOfMemory => RequestError::OutOfMemory,
-                _ => RequestError::TooLarge,
-            })
+        let written = self
+            .form
+            .written(Global, credentials, signed_for, method, id.0, &body.core);
+        match written {
+            Ok(bytes) => Ok(bytes.into_std()),
+            Err(StunWriteError::OutOfMemory) => Err(RequestError::OutOfMemory),
+            Err(_) => Err(RequestError::TooLarge),
+        }
     }
 }
 

@@ -43,6 +43,7 @@ NUMBERS = {
     "stunp_feature": ("stun_state/src/codes.rt", r"(\d+) => Ok\(Feature::(\w+)\)"),
     "fingerprint": ("stun_c/src/fingerprint.rt", r"Fingerprint::(\w+) => (\d+)"),
     "stunp_drop": ("stun_c_endpoint/src/received.rt", r"DropReason::(\w+) => (\d+)"),
+    "stunp_cause": ("stun_c_endpoint/src/server.rt", r"Cause::(\w+)\) => (\d+)"),
     "stunp_drop of ICE": ("stun_c_endpoint/src/ice/told.rt", r"DropReason::(\w+) => (\d+)"),
 }
 # Names of the header that are other ones in the sources, and the enums of which they are.
@@ -51,8 +52,12 @@ RENAMED = {"NO_FINGERPRINT": "ABSENT", "RIGHT_FINGERPRINT": "RIGHT", "WRONG_FING
            "DROP_NOT_STUN": "NOTSTUN", "DROP_MALFORMED": "MALFORMED",
            "DROP_WRONG_FINGERPRINT": "WRONGFINGERPRINT",
            "DROP_UNKNOWN_ATTRIBUTE": "UNKNOWNATTRIBUTE", "DROP_OTHER_METHOD": "OTHERMETHOD",
-           "DROP_NOT_ASKED": "NOTASKED", "DROP_WRONG_SIGNATURE": "WRONGSIGNATURE"}
-RENAMING = ("fingerprint", "stunp_drop", "stunp_drop of ICE")
+           "DROP_NOT_ASKED": "NOTASKED", "DROP_WRONG_SIGNATURE": "WRONGSIGNATURE",
+           "CAUSE_NO_SIGNATURE": "NOSIGNATURE", "CAUSE_INCOMPLETE": "INCOMPLETE",
+           "CAUSE_OTHER_ALGORITHMS": "OTHERALGORITHMS", "CAUSE_OTHER_FEATURES": "OTHERFEATURES",
+           "CAUSE_STALE_NONCE": "STALENONCE", "CAUSE_WRONG_CREDENTIALS": "WRONGCREDENTIALS",
+           "CAUSE_UNKNOWN_ATTRIBUTE": "UNKNOWNATTRIBUTE"}
+RENAMING = ("fingerprint", "stunp_drop", "stunp_cause", "stunp_drop of ICE")
 # Lengths of the header, each with the constant of the sources that it is.
 LENGTHS = {
     "ID_LENGTH": ("stun_numbers/src/id.rt", "ID_LENGTH"),
@@ -216,7 +221,8 @@ def compare_numbers(header):
                  for pair in re.findall(pattern, read(f"crates/{path}"))]
         found = {name.upper(): int(value) for name, value in pairs}
         names = [name for name in declared if RENAMED.get(name, name) in found
-                 and (name in RENAMED) == (enum in RENAMING)]
+                 and (name in RENAMED) == (enum in RENAMING)
+                 and name.startswith("CAUSE_") == (enum == "stunp_cause")]
         compare(enum, {RENAMED.get(name, name): declared[name] for name in names}, found)
         compare(f"{enum} of the sources", found,
                 {RENAMED.get(name, name): declared[name] for name in names})

@@ -1,7 +1,9 @@
 //! What the calls that judge a datagram do.
 
-ghost use Rattle.std.specs.Prelude.{◌≡◌, None, Ok, Some};
+ghost use Rattle.std.specs.Prelude.{◌≡◌, Err, None, Ok, Some};
 ghost use Rattle.stun_handles.specs.Numbers.{number_answer};
+ghost use Rattle.stun_c_endpoint.specs.Causes.{CausedAs, cause_number, caused_at};
+ghost use Rattle.stun_c_endpoint.specs.Causes.{long_term_with};
 ghost use Rattle.stun_c_endpoint.specs.Kept.{by_realm, by_users, judge_with, openly};
 ghost use Rattle.stun_c_endpoint.specs.Lookups.{IdentifiesAs, identified_at, long_term_of};
 ghost use Rattle.stun_endpoint.specs.OpenOutcomes.{open_outcome_of};
@@ -16,7 +18,7 @@ use std::alloc::Global;
 use stun_endpoint::lookup::Identified;
 use stun_endpoint::open::{OpenReceived, OpenServer};
 use stun_endpoint::received::{Answer, Received as Outcome, Refusal as Refused};
-use stun_endpoint::server::Server;
+use stun_endpoint::server::{Cause, Server};
 use stun_endpoint::short_term::{ShortTermReceived, ShortTermServer, ShortTermUsers};
 use stun_endpoint::unix_time::UnixTime;
 use stun_endpoint::users::Users;
@@ -311,4 +313,70 @@ fn identify_at(
         // There is no other one in this release.
         _ => Err(Refusal::BadArgument),
     }
+}
+
+/// The number of a cause, and 0 of none.
+fn cause_number(cause: Option<Cause>) -> u32
+    ensures { result ≡ cause_number cause }
+{
+    match cause {
+        None => 0,
+        Some(Cause::NoSignature) => 1,
+        Some(Cause::Incomplete) => 2,
+        Some(Cause::OtherAlgorithms) => 3,
+        Some(Cause::OtherFeatures) => 4,
+        Some(Cause::StaleNonce) => 5,
+        Some(Cause::WrongCredentials) => 6,
+        Some(Cause::UnknownAttribute) => 7,
+        // There is no other one in this release.
+        Some(_) => 0,
+    }
+}
+
+/// Returns why a datagram is refused by a server and its table of users.
+pub fn cause(
+    server: &Kept,
+    users: &Kept,
+    message: &[u8],
+    from: &Address,
+    unix_seconds: u64,
+) -> Result<u32, Refusal>
+    ensures { CausedAs (caused_at (long_term_with (Some users.now) server.now) from.now unix_seconds
+        message.now) (number_answer result) }
+{
+    match (server, users) {
+        (Kept::Server(server), Kept::Users(users)) => {
+            cause_at(server, users, message, from, unix_seconds)
+        }
+        _ => Err(Refusal::WrongHandle),
+    }
+}
+
+/// The same without a table of users.
+pub fn cause_alone(server: &Kept) -> Refusal
+    ensures { long_term_with None server.now ≡ Err result }
+{
+    match server {
+        Kept::Server(_) => Refusal::EmptyHandle,
+        _ => Refusal::WrongHandle,
+    }
+}
+
+/// The same by the server and its table.
+fn cause_at(
+    server: &Server<Global>,
+    users: &Users<Global>,
+    message: &[u8],
+    from: &Address,
+    unix_seconds: u64,
+) -> Result<u32, Refusal>
+    ensures { CausedAs (caused_at (Ok (record { settings = server.now; users = users.now }))
+        from.now unix_seconds message.now) (number_answer result) }
+{
+    if unix_seconds > LAST_SECOND {
+        return Err(Refusal::BadArgument);
+    }
+    let from = from.socket()?;
+    let cause = server.cause(message, from, UnixTime::from_secs(unix_seconds), users)?;
+    Ok(cause_number(cause))
 }

@@ -1,6 +1,7 @@
 //! Laws over the definitions that the contracts of this crate cite. They do nothing when they run.
 ghost use Rattle.std.specs.FinMap as fin;
 ghost use Rattle.std.specs.Prelude.{◌≡◌, ◌↔◌, ◌⊎◌, ◌≤◌, ℕ, List, None, Ok, Option, Some, map, true};
+ghost use Rattle.std.specs.Option.{option_map};
 ghost use Rattle.std.specs.Str.{bytes_eq};
 ghost use Rattle.std.specs.declared.net.socket_addr.SocketAddr.{SocketAddr};
 ghost use Rattle.stun_auth.specs.declared.server.reason.LongTermServerValidation.TheVariants.{Validated};
@@ -11,6 +12,7 @@ ghost use Rattle.stun_auth.specs.Registered.{Registered, UserSecret, name_cmp};
 ghost use Rattle.stun_auth.specs.Seen.{ClientSeen};
 ghost use Rattle.stun_auth.specs.Server.{their_nonce};
 ghost use Rattle.stun_auth.specs.Validation.{is_malformed};
+ghost use Rattle.stun_endpoint.specs.Causes.{cause_of, code_of_cause, refused_code};
 ghost use Rattle.stun_endpoint.specs.Judged.{IsAcceptedAt, Realm, judged, key_of_client};
 ghost use Rattle.stun_endpoint.specs.Judged.{realm_of_table, realm_of_user};
 ghost use Rattle.stun_endpoint.specs.Lookups.{LookupSeen, WaitsUnderItsNonce, done};
@@ -76,6 +78,14 @@ pub fn outcomes_are_of_accepted_clients()
         → answer.refusal ≡ Some refused.BadRequest
         → (is_malformed (reading_of bytes) ≡ true)
         ⊎ (bytes_eq (their_nonce (reading_of bytes)) (current_nonce s from now) ≡ true) }
+{}
+
+/// The cause of a refusal tells what `received_by` does: there is a cause if and only if the datagram
+/// comes to a response that refuses it, and the code of the cause is that of the response.
+pub fn causes_have_their_codes()
+    ensures { (s : Settings) (realm : Realm) (from : SocketAddr) (now : ℕ) (bytes : List ℕ)
+        → option_map code_of_cause (cause_of s realm from now bytes)
+        ≡ refused_code (received_by s realm from now bytes) }
 {}
 
 /// What `identify` says without the user is what the datagram comes to, whoever the user is.

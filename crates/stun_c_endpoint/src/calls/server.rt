@@ -2,6 +2,7 @@
 
 ghost use Rattle.std.specs.Prelude.{◌≡◌, Some, None, IfNone, IfSome, if◌then◌else◌};
 ghost use Rattle.stun_numbers.specs.Refusals.{refusal_number};
+ghost use Rattle.stun_c_endpoint.specs.Causes.{CausedAs, caused_at, long_term_and_users};
 ghost use Rattle.stun_c_endpoint.specs.Given.{MakesOpen, MakesServer, MakesShortTerm};
 ghost use Rattle.stun_c_endpoint.specs.Kept.{judge_of};
 ghost use Rattle.stun_c_endpoint.specs.Lookups.{IdentifiesAs, identified_at, long_term_in};
@@ -218,6 +219,42 @@ pub extern "C" fn stunp_endpoint_server_identify_own(
     };
     let told = server::identify(&kept, message, from, unix_seconds, out, received);
     let answer = answers::number(told);
+    server.put(alloc, kept);
+    answer
+}
+
+/// Returns the number of the cause for which a server with long-term credentials refuses a datagram,
+/// or 0 if it does not.
+///
+/// Fails with `EmptyHandle` for the server's handle, or with `WrongHandle` if it has anything but a
+/// server with long-term credentials. The users' handle is next: `EmptyHandle`, and `WrongHandle` if
+/// it has anything but users of a realm. Then come `BadArgument` for the time or for the address, and
+/// `OutOfMemory`.
+#[unsafe(no_mangle)]
+pub extern "C" fn stunp_endpoint_server_cause_own(
+    alloc: Global,
+    server: &mut EndpointHandle,
+    users: &mut EndpointHandle,
+    message: &[u8],
+    from: &Address,
+    unix_seconds: u64,
+) -> i64
+    ensures answer { CausedAs (caused_at (long_term_and_users server.old.kept users.old.kept) from.now
+        unix_seconds message.now) result }
+    ensures server { server.new.kept ≡ server.old.kept }
+    ensures users { users.new.kept ≡ users.old.kept }
+{
+    let Some(kept) = server.take(alloc) else {
+        return Refusal::EmptyHandle.code();
+    };
+    let Some(table) = users.take(alloc) else {
+        let refusal = server::cause_alone(&kept);
+        server.put(alloc, kept);
+        return refusal.code();
+    };
+    let caused = server::cause(&kept, &table, message, from, unix_seconds);
+    let answer = answers::number(caused);
+    users.put(alloc, table);
     server.put(alloc, kept);
     answer
 }

@@ -1,4 +1,4 @@
-//! What the calls that judge a datagram do.
+//! The calls that judge a datagram, without handles.
 
 ghost use Rattle.std.specs.Prelude.{◌≡◌, Err, None, Ok, Some};
 ghost use Rattle.stun_handles.specs.Numbers.{number_answer};
@@ -26,10 +26,10 @@ use stun_handles::address::Address;
 use stun_numbers::buffer::put;
 use stun_numbers::refusal::Refusal;
 
-/// The greatest time, in seconds. A greater number is one of nanoseconds.
+/// The greatest time, in seconds. A greater number must be one of nanoseconds.
 const LAST_SECOND: u64 = 1_099_511_627_776;
 
-/// The code of a response, and 0 of a success.
+/// Returns the code of a response, or 0 for a success.
 fn code(refusal: Option<Refused>) -> u16
     ensures { result ≡ code_told refusal }
 {
@@ -39,8 +39,8 @@ fn code(refusal: Option<Refused>) -> u16
     }
 }
 
-/// Writes a response to the front of the buffer, and tells of it. If it has no room, its length is
-/// told.
+/// Writes a response to the front of the buffer, and its length to the result. If the buffer has no
+/// room for it, only the length is written.
 fn answered(
     answer: &Answer<Global>,
     out: &mut [u8],
@@ -59,7 +59,7 @@ fn answered(
     Ok(1)
 }
 
-/// Tells what a datagram comes to at a server with long-term credentials.
+/// Writes the result of a server with long-term credentials.
 fn tell(
     outcome: &Outcome<'_, Global>,
     out: &mut [u8],
@@ -91,7 +91,7 @@ fn tell(
     }
 }
 
-/// Tells what a datagram comes to at a server with short-term credentials.
+/// Writes the result of a server with short-term credentials.
 fn tell_short_term(
     outcome: &ShortTermReceived<'_, Global>,
     out: &mut [u8],
@@ -127,7 +127,7 @@ fn tell_short_term(
     }
 }
 
-/// Tells what a datagram comes to at a server without credentials.
+/// Writes the result of a server without credentials.
 fn tell_openly(
     outcome: &OpenReceived<'_, Global>,
     out: &mut [u8],
@@ -159,7 +159,7 @@ fn tell_openly(
     }
 }
 
-/// Judges a datagram by a server and a table of users, and tells what it comes to.
+/// Judges a datagram with a server and a table of users, and writes the result.
 pub fn receive(
     server: &Kept,
     users: &Kept,
@@ -187,7 +187,7 @@ pub fn receive(
     }
 }
 
-/// The same without a table of users.
+/// Judges a datagram with a server without credentials, and writes the result.
 pub fn receive_alone(
     server: &Kept,
     message: &[u8],
@@ -207,7 +207,7 @@ pub fn receive_alone(
     }
 }
 
-/// The same by a server with long-term credentials and its table.
+/// Judges a datagram with a server with long-term credentials and its table, and writes the result.
 fn judge(
     server: &Server<Global>,
     users: &Users<Global>,
@@ -229,7 +229,8 @@ fn judge(
     tell(&outcome, out, received)
 }
 
-/// The same by a server with short-term credentials and its table.
+/// Judges a datagram with a server with short-term credentials and its table, and writes the
+/// result.
 fn judge_short_term(
     server: &ShortTermServer<Global>,
     users: &ShortTermUsers<Global>,
@@ -250,7 +251,7 @@ fn judge_short_term(
     tell_short_term(&outcome, out, received)
 }
 
-/// The same by a server without credentials.
+/// Judges a datagram with a server without credentials, and writes the result.
 fn judge_openly(
     server: &OpenServer<Global>,
     message: &[u8],
@@ -269,8 +270,8 @@ fn judge_openly(
     tell_openly(&outcome, out, received)
 }
 
-/// Judges a datagram by a server as far as that is possible without its user, and tells what it comes
-/// to.
+/// Judges a datagram with a server as far as that is possible without its user, and writes the
+/// result.
 pub fn identify(
     server: &Kept,
     message: &[u8],
@@ -288,7 +289,7 @@ pub fn identify(
     }
 }
 
-/// The same by the server.
+/// Judges a datagram with this server as far as that is possible without its user.
 fn identify_at(
     server: &Server<Global>,
     message: &[u8],

@@ -110,9 +110,9 @@ pub fn resume_is_receive_with_all_users()
     stun_auth::laws::the_named_user_is_enough_to_judge();
 }
 
-/// Whom `identify` has looked up is named by a request that is signed, and that has a nonce which
-/// the server accepts for its source at the time at which the request arrived: that of the epoch or
-/// of the epoch before, of the secret or of the previous secret.
+/// A look-up of `identify` comes from a signed request with a nonce that the server accepts for its
+/// source at the time at which the request arrived: a nonce of that epoch or of the one before,
+/// under the secret or the previous secret.
 pub fn lookups_have_accepted_nonces()
     ensures { (s : Settings) (from : SocketAddr) (now : ℕ) (bytes : List ℕ) (lookup : LookupSeen)
         → identified_by s from now bytes ≡ looked_up lookup
@@ -141,7 +141,7 @@ pub fn datagrams_are_a_run_of_calls()
         → verdict_on s d ≡ Some (Ok (Validated request.client.algorithm)) }
 {}
 
-/// A server with short-term credentials takes a message for a user's if and only if `IsSignedBy`
+/// A server with short-term credentials regards a message as a user's if and only if `IsSignedBy`
 /// holds: the first USERNAME before the signature is the name of the user, and the signature is the
 /// digest under the user's key (`signer`). No earlier datagram is looked at.
 ///

@@ -1,4 +1,4 @@
-//! The users with whom a server judges and signs: its own, or one whom the caller hands in (RFC
+//! The users with whom a server validates and signs: its own, or one whom the caller passes (RFC
 //! 8489, section 9.2.4).
 
 ghost use Rattle.std.specs.Prelude.{◌≡◌, ◌≤◌, ◌+◌, ◌-◌, ⊤, length, take, Ok, Err};
@@ -41,7 +41,7 @@ use stun_types::limits::LENGTH_LIMIT;
 use stun_types::message::Message;
 use stun_types::prelude::*;
 
-/// The users of a server while it judges or signs.
+/// The users of a server while it validates or signs.
 pub(crate) trait Users {
     // The server that has them.
     ghost server_with: { Self → ServerSeen → ServerSeen };
@@ -97,7 +97,7 @@ pub(crate) trait Users {
         ensures users { self.new ≡ self.old };
 }
 
-/// The users that a server has.
+/// The server's own users.
 #[derive(Clone, Copy)]
 pub(crate) struct OwnUsers;
 
@@ -182,7 +182,7 @@ pub(crate) fn validate_message<U: Users>(
     }
 }
 
-/// Signs a message that has no more than `SHORT` bytes then.
+/// Signs a message that then has at most `SHORT` bytes.
 #[inline(never)]
 pub(crate) fn sign_short<U: Users>(
     server: &mut LongTermServerAuth<Global>,
@@ -245,7 +245,7 @@ pub(crate) fn sign_long<U: Users>(
     Ok(signed.len())
 }
 
-/// The signed message, in memory that is enough.
+/// Signs the message in memory that is large enough.
 fn sign_in<'m, U: Users>(
     server: &mut LongTermServerAuth<Global>,
     message: &[u8],

@@ -14,7 +14,7 @@ use core::time::Duration;
 use std::borrow::ToOwned;
 use std::{collections, format, string, vec};
 
-/// Refuses one allocation in so many, and knows the sizes of those that were granted.
+/// Refuses every n-th allocation, and records the sizes of those that were granted.
 #[derive(Debug, Default)]
 pub(super) struct Sparse {
     every: u64,

@@ -13,22 +13,20 @@ use crate::exported::stun_client::client::{Client as Core, Heard};
 use crate::exported::stun_client::credentials::{Credentials, LongTerm, ShortTerm};
 use crate::exported::stun_client::ids::id_of;
 use crate::exported::stun_client::judged::{Distrust, Judged, Outcome};
+use crate::exported::stun_client_endpoint::form::Form;
+use crate::exported::stun_client_endpoint::numbers::free_number;
 use crate::exported::stun_client_loop::client_loop::{ClientLoop, Timed};
 use crate::exported::stun_client_loop::refusal::LoopRefusal;
-use crate::exported::stun_extra::attribute::{AlternateDomain, AlternateServer, Software};
+use crate::exported::stun_extra::attribute::{AlternateDomain, AlternateServer};
 use crate::exported::stun_types::message::{
-    IntegrityAlgorithm, IntegrityKey, MessageClass, MessageType, Method, PreparedKey,
-    StunWriteError,
+    IntegrityAlgorithm, IntegrityKey, MessageClass, Method, PreparedKey, StunWriteError,
 };
-use crate::exported::stun_types::prelude::MessageWrite;
-use crate::extra::finish_with_fingerprint;
 use crate::kit::alloc::Global;
 use crate::kit::collections::BTreeMap;
 use crate::message::Message;
 use crate::stats::StunAgentStats;
 use crate::trace::event;
 use crate::transaction::TransactionId;
-use crate::write::{MessageWriteExt, MessageWriteVec};
 use alloc::collections::VecDeque;
 use alloc::string::String;
 use alloc::vec::Vec;
@@ -92,6 +90,8 @@ struct Sent {
 /// ```
 pub struct Client {
     settings: ClientBuilder,
+    // What each request has beside its body and its signature.
+    form: Form<Global>,
     // The requests, their challenges and their timers.
     state: ClientLoop<Global>,
     seed: PreparedKey<Global>,
@@ -116,10 +116,12 @@ impl Client {
     ) -> Client {
         let credentials = credentials_of(&mut settings);
         let (server, challenges) = (settings.server, settings.challenges);
+        let form = Form::new(settings.software.take().map(text), settings.has_fingerprint);
         // A peer that the agent knows takes no memory when it answers.
         granted(agent.validated_peer(server));
         Client {
             settings,
+            form,
             state: ClientLoop::new(Global, agent, server, credentials, challenges),
             seed: prepared(&seed, IntegrityAlgorithm::Sha1),
             next_id: 0,
@@ -372,14 +374,10 @@ impl Client {
     /// Returns the next ID that is not outstanding, and the number after it. The n-th ID is the first
     /// 96 bits of HMAC-SHA1(seed, n).
     fn new_id(&self) -> Result<(TransactionId, u64), RequestError> {
-        let mut number = self.next_id;
-        loop {
-            let id = TransactionId(id_of(&self.seed, number));
-            number = number.checked_add(1).ok_or(RequestError::NoId)?;
-            if self.state.agent().request_transaction(id.0).is_none() {
-                return Ok((id, number));
-            }
-        }
+        let agent = self.state.agent();
+        let number = free_number(&self.seed, agent, self.next_id).ok_or(RequestError::NoId)?;
+        let next = number.checked_add(1).ok_or(RequestError::NoId)?;
+        Ok((TransactionId(id_of(&self.seed, number)), next))
     }
 
     /// Sends the request that a message answers again under another ID, signed for this challenge or
@@ -420,24 +418,15 @@ impl Client {
         id: TransactionId,
         signed_for: Option<&Challenge<Global>>,
     ) -> Result<Vec<u8>, RequestError> {
-        let write = || -> Result<Vec<u8>, StunWriteError> {
-            let kind = MessageType::from_class_method(MessageClass::Request, method);
-            let mut page = Message::try_builder(kind, id, MessageWriteVec::new())?;
-            body.write(&mut page)?;
-            if let Some(software) = &self.settings.software {
-                page.add_attribute(&Software::new(software)?)?;
-            }
-            let page = self.core().credentials().sign(signed_for, page)?;
-            if self.settings.has_fingerprint {
-                finish_with_fingerprint(page)
-            } else {
-                Ok(page.finish())
-            }
-        };
-        write().map_err(|error| match error {
-            StunWriteError::OutOfMemory => RequestError::OutOfMemory,
-            _ => RequestError::TooLarge,
-        })
+        let credentials = self.core().credentials();
+        let written = self
+            .form
+            .written(Global, credentials, signed_for, method, id.0, &body.core);
+        match written {
+            Ok(bytes) => Ok(bytes.into_std()),
+            Err(StunWriteError::OutOfMemory) => Err(RequestError::OutOfMemory),
+            Err(_) => Err(RequestError::TooLarge),
+        }
     }
 }
 

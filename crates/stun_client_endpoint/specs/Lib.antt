@@ -1,0 +1,10 @@
+-- What the contracts of this crate say, in the order to read it.
+
+-- the body of a request
+pub mod Bodies
+-- the bytes of a request
+pub mod Written
+-- the transaction ID of the next request
+pub mod Numbers
+-- what no clause of a public call cites: views of the code's own structs
+pub mod code

@@ -1,0 +1,2 @@
+-- Definitions that no clause of a public call cites: views of the code's own structs.
+pub mod Pieces

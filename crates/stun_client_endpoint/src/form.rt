@@ -1,0 +1,251 @@
+//! The bytes of a request.
+ghost use Rattle.std.specs.Option.{option_copied, option_map};
+ghost use Rattle.std.specs.Prelude.{◌≡◌, ◌≤◌, ◌⊎◌, Err, IfErr, IfOk, Ok, OnOk, length, true};
+ghost use Rattle.std.specs.String.{string_bytes};
+ghost use Rattle.stun_types.specs.Writing.{empty_message};
+ghost use Rattle.stun_client.specs.Judging.{identity_of};
+ghost use Rattle.stun_client_endpoint.specs.Written.{closed_request, completed_request};
+ghost use Rattle.stun_client_endpoint.specs.Written.{request_bytes, with_body, with_credentials};
+ghost use Rattle.stun_client_endpoint.specs.Written.{with_one, with_own_end, with_own_software};
+ghost use Rattle.stun_client_endpoint.specs.Written.{with_software_text};
+
+use crate::body::Body;
+use std::alloc::{AllocError, Allocator, Global};
+use std::marker::Model;
+use stun_client::challenge::Challenge;
+use stun_client::credentials::Credentials;
+use stun_extra::attribute::Software;
+use stun_extra::fingerprint::finish_with_fingerprint;
+use stun_types::message::{
+    Message, MessageClass, MessageWriteVec, Method, StunWriteError, TransactionId,
+};
+use stun_types::prelude::*;
+
+/// What each request of a client has beside its body and its signature.
+///
+/// Contracts: they see all of it.
+#[derive(Drop)]
+pub struct Form<A: Allocator = Global> {
+    software: Option<String<A>>,
+    has_fingerprint: bool,
+}
+
+impl<A: Allocator> Model for Form<A> {
+    ghost use Rattle.std.specs.Option.{option_map};
+    ghost use Rattle.std.specs.String.{string_bytes};
+    ghost use Rattle.stun_client_endpoint.specs.Written.{Form as FormSeen};
+
+    ghost Value = { FormSeen };
+
+    ghost view = { λ f. record {
+      software = option_map string_bytes f.software;
+      has_fingerprint = f.has_fingerprint;
+    } };
+}
+
+impl<A: Allocator + Copy> Form<A> {
+    /// Has each request contain SOFTWARE with this text, if there is one, and FINGERPRINT, if you
+    /// want it. A request is refused as `TooLarge` if the text has more than 763 bytes.
+    pub fn new(software: Option<String<A>>, has_fingerprint: bool) -> Form<A>
+        ensures { result ≡ record {
+          software = option_map string_bytes software;
+          has_fingerprint = has_fingerprint;
+        } }
+    {
+        Form {
+            software,
+            has_fingerprint,
+        }
+    }
+
+    /// Writes a request: the header with its method and its ID, the body, SOFTWARE, what the
+    /// credentials add to sign it for this challenge (see `Credentials::sign`), and FINGERPRINT.
+    ///
+    /// # Errors
+    ///
+    /// The first reason why one of these cannot be added, such as `TooLarge`, or `OutOfMemory` if
+    /// an allocation fails.
+    #[tactic(auto, unfolding(crate::specs::Written::request_bytes))]
+    pub fn written(
+        &self,
+        alloc: A,
+        credentials: &Credentials<A>,
+        signed_for: Option<&Challenge<A>>,
+        method: Method,
+        id: TransactionId,
+        body: &Body<A>,
+    ) -> Result<Vec<u8, A>, StunWriteError>
+        ensures ok { IfOk result (λ bytes.
+            request_bytes self.now (identity_of credentials.now) (option_copied signed_for.entry)
+            method id body.now ≡ Ok bytes.items) }
+        ensures refused { IfErr result (λ why. (why ≡ StunWriteError.OutOfMemory)
+            ⊎ (request_bytes self.now (identity_of credentials.now)
+            (option_copied signed_for.entry) method id body.now ≡ Err why)) }
+    {
+        let page = begun_with(alloc, method, id, body)?;
+        self.completed(credentials, signed_for, page)
+    }
+
+    /// Completes a request: adds SOFTWARE, the signature and FINGERPRINT.
+    fn completed(
+        &self,
+        credentials: &Credentials<A>,
+        signed_for: Option<&Challenge<A>>,
+        page: MessageWriteVec<A>,
+    ) -> Result<Vec<u8, A>, StunWriteError>
+        requires { 20 ≤ length page.bytes }
+        ensures ok { IfOk result (λ bytes.
+            completed_request self.now (identity_of credentials.now)
+            (option_copied signed_for.entry) page.bytes ≡ Ok bytes.items) }
+        ensures refused { IfErr result (λ why. (why ≡ StunWriteError.OutOfMemory)
+            ⊎ (completed_request self.now (identity_of credentials.now)
+            (option_copied signed_for.entry) page.bytes ≡ Err why)) }
+    {
+        let mut page = page;
+        self.add_software(&mut page)?;
+        self.closed(credentials, signed_for, page)
+    }
+
+    /// Closes a request: adds the signature and FINGERPRINT.
+    fn closed(
+        &self,
+        credentials: &Credentials<A>,
+        signed_for: Option<&Challenge<A>>,
+        page: MessageWriteVec<A>,
+    ) -> Result<Vec<u8, A>, StunWriteError>
+        requires { 20 ≤ length page.bytes }
+        ensures ok { IfOk result (λ bytes. closed_request self.now (identity_of credentials.now)
+            (option_copied signed_for.entry) page.bytes ≡ Ok bytes.items) }
+        ensures refused { IfErr result (λ why. (why ≡ StunWriteError.OutOfMemory)
+            ⊎ (closed_request self.now (identity_of credentials.now)
+            (option_copied signed_for.entry) page.bytes ≡ Err why)) }
+    {
+        let page = signed(credentials, signed_for, page)?;
+        finished(page, self.has_fingerprint)
+    }
+
+    /// Adds SOFTWARE, if there is one.
+    fn add_software(&self, page: &mut MessageWriteVec<A>) -> Result<(), StunWriteError>
+        requires { 20 ≤ length page.old.bytes }
+        ensures header { OnOk result (20 ≤ length page.new.bytes) }
+        ensures ok { OnOk result (with_own_software self.now.software page.old.bytes
+            ≡ Ok page.new.bytes) }
+        ensures refused { IfErr result (λ why. (why ≡ StunWriteError.OutOfMemory)
+            ⊎ (with_own_software self.now.software page.old.bytes ≡ Err why)) }
+    {
+        match &self.software {
+            Some(text) => add_text(page, text.as_str()),
+            None => Ok(()),
+        }
+    }
+}
+
+/// Adds SOFTWARE with this text.
+fn add_text<A: Allocator>(page: &mut MessageWriteVec<A>, text: &str) -> Result<(), StunWriteError>
+    requires { 20 ≤ length page.old.bytes }
+    ensures header { OnOk result (20 ≤ length page.new.bytes) }
+    ensures ok { OnOk result (with_software_text text.now page.old.bytes ≡ Ok page.new.bytes) }
+    ensures refused { IfErr result (λ why. (why ≡ StunWriteError.OutOfMemory)
+        ⊎ (with_software_text text.now page.old.bytes ≡ Err why)) }
+{
+    match Software::new(text) {
+        Ok(software) => add(page, &software),
+        Err(_) => Err(StunWriteError::TooLarge),
+    }
+}
+
+/// Adds an attribute.
+fn add<A: Allocator, M: Attribute>(
+    page: &mut MessageWriteVec<A>,
+    attribute: &M,
+) -> Result<(), StunWriteError>
+    requires { 20 ≤ length page.old.bytes }
+    ensures header { OnOk result (20 ≤ length page.new.bytes) }
+    ensures ok { OnOk result (with_one
+        (record { kind = M.kind attribute.now; value = M.value attribute.now }) page.old.bytes
+        ≡ Ok page.new.bytes) }
+    ensures refused { IfErr result (λ why. (why ≡ StunWriteError.OutOfMemory)
+        ⊎ (with_one
+        (record { kind = M.kind attribute.now; value = M.value attribute.now }) page.old.bytes
+        ≡ Err why)) }
+{
+    page.add_attribute(attribute)
+}
+
+/// Ends a request, by FINGERPRINT if it gets one.
+fn finished<A: Allocator>(
+    page: MessageWriteVec<A>,
+    has_fingerprint: bool,
+) -> Result<Vec<u8, A>, StunWriteError>
+    requires { 20 ≤ length page.bytes }
+    ensures ok { IfOk result (λ bytes. with_own_end has_fingerprint page.bytes ≡ Ok bytes.items) }
+    ensures refused { IfErr result (λ why. (why ≡ StunWriteError.OutOfMemory)
+        ⊎ (with_own_end has_fingerprint page.bytes ≡ Err why)) }
+{
+    if has_fingerprint {
+        fingerprinted(page)
+    } else {
+        Ok(page.finish())
+    }
+}
+
+/// Ends a request by FINGERPRINT.
+fn fingerprinted<A: Allocator>(page: MessageWriteVec<A>) -> Result<Vec<u8, A>, StunWriteError>
+    requires { 20 ≤ length page.bytes }
+    ensures ok { IfOk result (λ bytes. with_own_end true page.bytes ≡ Ok bytes.items) }
+    ensures refused { IfErr result (λ why. (why ≡ StunWriteError.OutOfMemory)
+        ⊎ (with_own_end true page.bytes ≡ Err why)) }
+{
+    finish_with_fingerprint(page)
+}
+
+/// Begins a request, with its body.
+fn begun_with<A: Allocator + Copy>(
+    alloc: A,
+    method: Method,
+    id: TransactionId,
+    body: &Body<A>,
+) -> Result<MessageWriteVec<A>, StunWriteError>
+    ensures header { IfOk result (λ page. 20 ≤ length page.bytes) }
+    ensures ok { IfOk result (λ page.
+        with_body id body.now (empty_message MessageClass.Request method id) ≡ Ok page.bytes) }
+    ensures refused { IfErr result (λ why. (why ≡ StunWriteError.OutOfMemory)
+        ⊎ (with_body id body.now (empty_message MessageClass.Request method id) ≡ Err why)) }
+{
+    let mut page = begun(alloc, method, id)?;
+    body.write(id, &mut page)?;
+    Ok(page)
+}
+
+/// Begins a request.
+fn begun<A: Allocator + Copy>(
+    alloc: A,
+    method: Method,
+    id: TransactionId,
+) -> Result<MessageWriteVec<A>, AllocError>
+    ensures bytes { IfOk result (λ page. page.bytes
+        ≡ empty_message MessageClass.Request method id) }
+    ensures header { IfOk result (λ page. 20 ≤ length page.bytes) }
+{
+    match Message::builder_request(method, id, MessageWriteVec::new(alloc)) {
+        Ok(page) => Ok(page),
+        Err(_) => Err(AllocError),
+    }
+}
+
+/// Signs a request.
+fn signed<A: Allocator + Copy>(
+    credentials: &Credentials<A>,
+    signed_for: Option<&Challenge<A>>,
+    page: MessageWriteVec<A>,
+) -> Result<MessageWriteVec<A>, StunWriteError>
+    requires { 20 ≤ length page.bytes }
+    ensures header { IfOk result (λ page. 20 ≤ length page.bytes) }
+    ensures ok { IfOk result (λ signed_page. with_credentials (identity_of credentials.now)
+        (option_copied signed_for.entry) page.bytes ≡ Ok signed_page.bytes) }
+    ensures refused { IfErr result (λ why. (why ≡ StunWriteError.OutOfMemory)
+        ⊎ (with_credentials (identity_of credentials.now)
+        (option_copied signed_for.entry) page.bytes ≡ Err why)) }
+{
+    credentials.sign(signed_for, page)
+}

@@ -1,0 +1,10 @@
+//! The requests of a client: their bodies, their bytes, and their transaction IDs (RFC 8489,
+//! sections 5, 6.1, 9.1.2 and 9.2.5).
+//!
+//! `seatcrane_stun::endpoint::Client` writes its requests by it.
+#![tactic(auto)]
+
+pub mod body;
+pub mod form;
+pub mod numbers;
+mod piece;

@@ -64,7 +64,8 @@ impl<A: Allocator> Model for Client<A> {
 }
 
 impl<A: Allocator + Copy> Client<A> {
-    /// Creates a client without requests. A request is sent again for at most `challenges` challenges.
+    /// Creates a client without requests. A request is sent again for at most `challenges`
+    /// challenges.
     pub fn new(
         alloc: A,
         server: SocketAddr,

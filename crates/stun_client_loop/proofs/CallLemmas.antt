@@ -1,8 +1,7 @@
 -- What each call makes of a loop, and of a request.
-use Rattle.std.proofs.Common.{◌≡◌, ◌⊎◌, ◌∙◌, ◌+◌, ◌<◌, ◌≤◌, ◌∷◌, [], ℕ, Bool, true, false, List, Option}
+use Rattle.std.proofs.Common.{◌≡◌, ◌⊎◌, ◌∙◌, ◌+◌, ◌∷◌, [], ℕ, Bool, true, false, List, Option}
 use Rattle.std.proofs.Common.{None, Some, ap, arith, cond, inl, inr, refl, subst, sym}
 use Rattle.std.specs.Option.{is_some, option_map, option_map_or, option_or}
-use Rattle.std.specs.Prelude.{nat_le}
 use Rattle.stun_base.specs.Header.{transaction_id_field, type_field}
 use Rattle.stun_base.specs.MessageType.{method_of}
 use Rattle.std.specs.declared.net.socket_addr.SocketAddr.{SocketAddr}
@@ -23,7 +22,7 @@ use Rattle.stun_client.specs.declared.requests.RequestRefusal.{RequestRefusal}
 use Rattle.stun_client.specs.declared.requests.RequestRefusal.TheVariants as Requests
 use Rattle.stun_client.proofs.RequestLemmas.{renewal_is_free, start_is_free}
 use Rattle.stun_client_loop.specs.Calls.{IsOutstanding, LoopCall, after_call, after_calls, again}
-use Rattle.stun_client_loop.specs.Calls.{answer, cancel, count_ends, ended_by, ends, number_at}
+use Rattle.stun_client_loop.specs.Calls.{answer, cancel, count_ends, ends, number_at}
 use Rattle.stun_client_loop.specs.Calls.{poll_timers, poll_transmit, request, timed_out_in}
 use Rattle.stun_client_loop.specs.Loops.{LoopSeen, after_again, after_hearing, after_request}
 use Rattle.stun_client_loop.specs.Loops.{again_refused, of_client, request_refused, timed_of}
@@ -35,7 +34,7 @@ use Rattle.stun_client_loop.proofs.NumberLemmas.{IsStep, end_step, has_number, n
 use Rattle.stun_client_loop.proofs.NumberLemmas.{numbered_ended, numbered_moved, numbered_started}
 use Rattle.stun_client_loop.proofs.NumberLemmas.{on_moved, on_started, over_silent, over_step}
 use Rattle.stun_client_loop.proofs.NumberLemmas.{step_ended, step_moved, step_started}
-use Rattle.stun_client_loop.proofs.TimedLemmas.{KeysAscend, timed_again, timed_answer, timed_cancel}
+use Rattle.stun_client_loop.proofs.TimedLemmas.{timed_again, timed_answer, timed_cancel}
 use Rattle.stun_client_loop.proofs.TimedLemmas.{timed_request, timed_timers, timed_transmit}
 
 -- ---- refusals

@@ -1,16 +1,15 @@
 -- Polls of the timers end what is due, and then say to wait.
 use Rattle.std.proofs.Common.{◌≡◌, ◌⊎◌, ◌∙◌, ◌+◌, ◌<◌, ◌≤◌, ℕ, Bool, true, false, Option, None, Some}
-use Rattle.std.proofs.Common.{[], ◌∷◌, ap, arith, cond, inl, inr, refl, subst, sym, zero, suc}
+use Rattle.std.proofs.Common.{ap, arith, cond, inl, inr, refl, subst, sym, zero, suc}
 use Rattle.std.specs.BTreeMap.{is_at}
 use Rattle.std.specs.Option.{option_map_or}
 use Rattle.std.specs.Ordering.{nat_cmp}
 use Rattle.std.specs.Prelude.{◌&&◌, ◌||◌, length, nat_le, not}
 use Rattle.std.proofs.lemmas.Bool.{le-leb}
 use Rattle.std.proofs.lemmas.Bool.Decides.{leb_tells}
-use Rattle.stun_base.specs.declared.wire.transport.TransportType.{TransportType}
-use Rattle.stun_agent.specs.Agent.{Agent, after_poll, end_of, ended_by_poll, poll_answer}
+use Rattle.stun_agent.specs.Agent.{Agent, end_of, ended_by_poll, poll_answer}
 use Rattle.stun_agent.specs.Agent.{sent_by_poll, tally_of_end, with_tally, with_transactions}
-use Rattle.stun_agent.specs.Transactions.{Transaction, Transactions, awaited_moment, has_slots}
+use Rattle.stun_agent.specs.Transactions.{Transaction, awaited_moment, has_slots}
 use Rattle.stun_agent.specs.Transactions.{is_cancelled, is_due, is_over, repeats, without, wake_up}
 use Rattle.stun_agent.specs.Transactions.{at as transaction_at}
 use Rattle.stun_agent.specs.declared.agent.StunAgentPollRet.TheVariants.{WaitUntil}
@@ -23,7 +22,7 @@ use Rattle.stun_agent.proofs.Ascending.{find-none, lookup-remove_other}
 use Rattle.stun_agent.proofs.EntryLemmas.{lookup_found, same_key}
 use Rattle.stun_agent.proofs.LookupLemmas.{found_there, length-without}
 use Rattle.stun_client.specs.Requests.{AskedSeen, IsOver, after_end, at}
-use Rattle.stun_client_loop.specs.Calls.{IsOutstanding, after_polls, poll_timers}
+use Rattle.stun_client_loop.specs.Calls.{after_polls, poll_timers}
 use Rattle.stun_client_loop.specs.Laws.{AwaitsLater, EndsSoon, IsDue}
 use Rattle.stun_client_loop.specs.Loops.{LoopSeen, after_hearing, after_timers}
 use Rattle.stun_client_loop.specs.Timed.{IsLoop}

@@ -5,13 +5,15 @@ use Rattle.std.specs.Option.{option_map, option_or}
 use Rattle.std.specs.declared.net.socket_addr.SocketAddr.{SocketAddr}
 use Rattle.stun_base.specs.Header.{transaction_id_field, type_field}
 use Rattle.stun_base.specs.MessageType.{method_of}
-use Rattle.stun_agent.specs.Agent.{Agent, after_message, after_send_request}
+use Rattle.stun_agent.specs.Agent.{Agent, after_message, after_send_request, request_refusal}
 use Rattle.stun_agent.specs.declared.error.StunError.{StunError}
 use Rattle.stun_client.specs.Challenges.{Answered}
 use Rattle.stun_client.specs.Clients.{EndpointClient, after_renewing, after_starting}
 use Rattle.stun_client.specs.declared.requests.RequestRefusal.{RequestRefusal}
 use Rattle.stun_client.specs.declared.requests.RequestRefusal.TheVariants as Requests
-use Rattle.stun_client_loop.specs.Loops.{LoopSeen, after_again, after_request, of_client, withdrawn}
+use Rattle.stun_client.specs.Requests.{renewal_refusal, start_refusal}
+use Rattle.stun_client_loop.specs.Loops.{LoopSeen, after_again, after_request, again_refused}
+use Rattle.stun_client_loop.specs.Loops.{of_client, request_refused, withdrawn}
 use Rattle.stun_client_loop.specs.Timed.{IsLoop}
 use Rattle.stun_client_loop.specs.declared.refusal.LoopRefusal.{LoopRefusal}
 use Rattle.stun_client_loop.specs.declared.refusal.LoopRefusal.TheVariants.{NotSent, OutOfMemory}
@@ -23,16 +25,29 @@ use Rattle.stun_client_loop.proofs.CallLemmas.{loop_again, loop_request}
 abbrev pub asked_of : List ℕ → ℕ × ℕ
 asked_of bytes = (method_of (type_field bytes), transaction_id_field bytes)
 
--- the agent sends the bytes of which it returns what they ask
-pub asked_ok : {X : Type 0} (o : Option StunError) (r : Result X StunError) (asked x : X) → r ≡ Ok asked
-    → MatchOption o (r ≡ Ok x) (λ e. r ≡ Err e) → (o ≡ None) × (asked ≡ x)
-asked_ok None r asked x is h = (refl, cc)
-asked_ok (Some e) r asked x is h = cc
+-- the agent may send the bytes, and what they ask is read of them
+pub asked_ok : (agent : Agent) (bytes : List ℕ) (to : SocketAddr) (r : Result (ℕ × ℕ) StunError)
+    (asked : ℕ × ℕ) → r ≡ Ok asked
+    → MatchOption (request_refusal agent bytes to) (r ≡ Ok (asked_of bytes)) (λ e. r ≡ Err e)
+    → (request_refusal agent bytes to ≡ None) × (asked ≡ asked_of bytes)
+asked_ok agent bytes to r asked is h = by (request_refusal agent bytes to) h
+  where
+    by : (o : Option StunError) → MatchOption o (r ≡ Ok (asked_of bytes)) (λ e. r ≡ Err e)
+        → (o ≡ None) × (asked ≡ asked_of bytes)
+    by None h = (refl, cc)
+    by (Some e) h = cc
 
-pub asked_err : {X : Type 0} (o : Option StunError) (r : Result X StunError) (error : StunError) (x : X)
-    → r ≡ Err error → MatchOption o (r ≡ Ok x) (λ e. r ≡ Err e) → o ≡ Some error
-asked_err None r error x is h = cc
-asked_err (Some e) r error x is h = cc
+-- or it may not
+pub asked_err : (agent : Agent) (bytes : List ℕ) (to : SocketAddr) (r : Result (ℕ × ℕ) StunError)
+    (error : StunError) → r ≡ Err error
+    → MatchOption (request_refusal agent bytes to) (r ≡ Ok (asked_of bytes)) (λ e. r ≡ Err e)
+    → request_refusal agent bytes to ≡ Some error
+asked_err agent bytes to r error is h = by (request_refusal agent bytes to) h
+  where
+    by : (o : Option StunError) → MatchOption o (r ≡ Ok (asked_of bytes)) (λ e. r ≡ Err e)
+        → o ≡ Some error
+    by None h = cc
+    by (Some e) h = cc
 
 -- an answer of the client, as the loop returns it
 abbrev pub told : {T : Type 0} → Result T RequestRefusal → Result T LoopRefusal
@@ -57,8 +72,8 @@ client_refused None (Ok x) h = tt
 client_refused None (Err e) h = ap of_client h
 client_refused (Some e) r h = ap told h
 
--- the agent sends the bytes, and the client refuses or not
-pub refused_by_client : {T : Type 0} (one : Option StunError) (other : Option RequestRefusal)
+-- the agent may send the bytes, and the client refuses or not
+refused_by_client : {T : Type 0} (one : Option StunError) (other : Option RequestRefusal)
     (r : Result T RequestRefusal) (s : Result T LoopRefusal) → one ≡ None → s ≡ told r
     → MatchOption other (IsOkUnless r Requests.OutOfMemory) (λ e. r ≡ Err e)
     → MatchOption (option_or (option_map NotSent one) (option_map of_client other))
@@ -69,14 +84,44 @@ refused_by_client one other r s none is h =
     (subst (λ x. MatchOption (option_map of_client other) (IsOkUnless x OutOfMemory) (λ e. x ≡ Err e))
     (sym is) (client_refused other r h))
 
--- the agent does not send the bytes
-pub refused_by_agent : {T : Type 0} (one : Option StunError) (other : Option LoopRefusal)
-    (error : StunError) (s : Result T LoopRefusal) → one ≡ Some error → s ≡ Err (NotSent error)
-    → MatchOption (option_or (option_map NotSent one) other) (IsOkUnless s OutOfMemory)
-    (λ e. s ≡ Err e)
-refused_by_agent one other error s some is =
-    subst (λ o. MatchOption (option_or (option_map NotSent o) other) (IsOkUnless s OutOfMemory)
-    (λ e. s ≡ Err e)) (sym some) is
+pub request_by_client : (l : LoopSeen) (bytes : List ℕ) (id : ℕ) (r : Result ℕ RequestRefusal)
+    (s : Result ℕ LoopRefusal) → request_refusal l.agent bytes l.server ≡ None
+    → id ≡ transaction_id_field bytes → s ≡ told r
+    → MatchOption (start_refusal l.client.requests id) (IsOkUnless r Requests.OutOfMemory)
+    (λ e. r ≡ Err e)
+    → MatchOption (request_refused l bytes) (IsOkUnless s OutOfMemory) (λ e. s ≡ Err e)
+request_by_client l bytes id r s none is same h =
+    refused_by_client (request_refusal l.agent bytes l.server)
+    (start_refusal l.client.requests (transaction_id_field bytes)) r s none same
+    (subst (λ x. MatchOption (start_refusal l.client.requests x) (IsOkUnless r Requests.OutOfMemory)
+    (λ e. r ≡ Err e)) is h)
+
+pub again_by_client : {T : Type 0} (l : LoopSeen) (response bytes : List ℕ) (id new_id : ℕ)
+    (r : Result T RequestRefusal) (s : Result T LoopRefusal)
+    → request_refusal l.agent bytes l.server ≡ None → id ≡ transaction_id_field response
+    → new_id ≡ transaction_id_field bytes → s ≡ told r
+    → MatchOption (renewal_refusal l.client.requests id new_id) (IsOkUnless r Requests.OutOfMemory)
+    (λ e. r ≡ Err e)
+    → MatchOption (again_refused l response bytes) (IsOkUnless s OutOfMemory) (λ e. s ≡ Err e)
+again_by_client l response bytes id new_id r s none is new_is same h =
+    refused_by_client (request_refusal l.agent bytes l.server)
+    (renewal_refusal l.client.requests (transaction_id_field response) (transaction_id_field bytes)) r
+    s none same
+    (subst (λ x. MatchOption (renewal_refusal l.client.requests (transaction_id_field response) x)
+    (IsOkUnless r Requests.OutOfMemory) (λ e. r ≡ Err e)) new_is
+    (subst (λ x. MatchOption (renewal_refusal l.client.requests x new_id)
+    (IsOkUnless r Requests.OutOfMemory) (λ e. r ≡ Err e)) is h))
+
+-- the agent may not send the bytes
+pub again_by_agent : {T : Type 0} (l : LoopSeen) (response bytes : List ℕ) (error : StunError)
+    (s : Result T LoopRefusal) → request_refusal l.agent bytes l.server ≡ Some error
+    → s ≡ Err (NotSent error)
+    → MatchOption (again_refused l response bytes) (IsOkUnless s OutOfMemory) (λ e. s ≡ Err e)
+again_by_agent l response bytes error s some is =
+    subst (λ o. MatchOption (option_or (option_map NotSent o)
+    (option_map of_client (renewal_refusal l.client.requests (transaction_id_field response)
+    (transaction_id_field bytes))))
+    (IsOkUnless s OutOfMemory) (λ e. s ≡ Err e)) (sym some) is
 
 -- ---- loops
 

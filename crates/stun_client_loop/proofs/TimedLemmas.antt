@@ -17,29 +17,28 @@ use Rattle.stun_base.specs.declared.wire.message_type.MessageClass.{MessageClass
 use Rattle.stun_base.specs.declared.wire.message_type.MessageClass.TheVariants.{Request, Indication}
 use Rattle.stun_base.specs.declared.wire.message_type.MessageClass.TheVariants.{Success, Error}
 use Rattle.stun_base.specs.declared.wire.transport.TransportType.{TransportType}
-use Rattle.stun_agent.specs.Agent.{Agent, after_class, after_message, after_poll}
-use Rattle.stun_agent.specs.Agent.{after_poll_transmit, after_response, after_send_request}
-use Rattle.stun_agent.specs.Agent.{answered_request, end_of, ended_by_poll, poll_answer, request_of}
+use Rattle.stun_agent.specs.Agent.{Agent, after_class, after_message}
+use Rattle.stun_agent.specs.Agent.{after_send_request}
+use Rattle.stun_agent.specs.Agent.{answered_request, end_of, ended_by_poll, request_of}
 use Rattle.stun_agent.specs.Agent.{sent_by_poll, tally_of_end, tally_of_sent, with_tally}
 use Rattle.stun_agent.specs.Agent.{with_transactions, with_validated}
-use Rattle.stun_agent.specs.Calls.{cancel, poll, poll_transmit, receive}
+use Rattle.stun_agent.specs.Calls.{cancel, poll_transmit, receive}
 use Rattle.stun_agent.specs.Statistics.{response_received}
 use Rattle.stun_agent.specs.Transactions.{IsAscending, Transaction, Transactions, after_slot}
 use Rattle.stun_agent.specs.Transactions.{after_slots, is_due, is_over, is_reached, repeats}
 use Rattle.stun_agent.specs.Transactions.{round_trip, slot_passed, with, with_cancellation}
-use Rattle.stun_agent.specs.Transactions.{with_change_at, without, wake_up}
+use Rattle.stun_agent.specs.Transactions.{without, wake_up}
 use Rattle.stun_agent.specs.Transactions.{at as transaction_at}
 use Rattle.stun_agent.specs.declared.agent.StunAgentPollRet.TheVariants.{WaitUntil}
 use Rattle.stun_agent.specs.declared.agent.StunAgentPollRet.TheVariants.{TransactionTimedOut}
 use Rattle.stun_agent.specs.declared.agent.StunAgentPollRet.TheVariants.{TransactionCancelled}
 use Rattle.stun_agent.proofs.Ascending.{IsAscending-insert, IsAscending-remove}
 use Rattle.stun_agent.proofs.Ascending.{lookup-insert_other, lookup-insert_same, lookup-remove_other}
-use Rattle.stun_agent.proofs.EntryLemmas.{lookup_found, own_key, same_key}
+use Rattle.stun_agent.proofs.EntryLemmas.{lookup_found, same_key}
 use Rattle.stun_agent.proofs.LookupLemmas.{at-changed_other, lookup-map, none_above}
 use Rattle.stun_agent.proofs.OnceLemmas.{ascending_call}
 use Rattle.stun_client.specs.Challenges.{Answered}
-use Rattle.stun_client.specs.Clients.{EndpointClient, after_renewing}
-use Rattle.stun_client.specs.Requests.{AllAsked, AskedSeen, RequestsSeen, after_renewal}
+use Rattle.stun_client.specs.Requests.{AllAsked, AskedSeen}
 use Rattle.stun_client.specs.Requests.{after_replacing, asked_first, at, renewed}
 use Rattle.stun_client_loop.specs.Loops.{LoopSeen, after_again, after_answer, after_cancel}
 use Rattle.stun_client_loop.specs.Loops.{after_hearing, after_hearing_of, after_request}

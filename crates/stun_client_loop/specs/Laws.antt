@@ -1,5 +1,5 @@
 -- Laws of a loop over any calls. Their times may go back (RFC 8489, section 6.2).
-use Rattle.std.specs.Prelude.{◌≡◌, ◌≤◌, ◌<◌, ◌⊎◌, ◌+◌, ℕ, false, List, None, Some, length}
+use Rattle.std.specs.Prelude.{◌≡◌, ◌≤◌, ◌<◌, ◌⊎◌, ℕ, false, List, None, Some, length}
 use Rattle.stun_agent.specs.Agent.{poll_answer, sent_by_poll}
 use Rattle.stun_agent.specs.Transactions.{Transaction, awaited_moment, has_slots}
 use Rattle.stun_agent.specs.Transactions.{at as transaction_at}

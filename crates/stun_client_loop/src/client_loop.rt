@@ -74,8 +74,8 @@ impl<A: Allocator + Copy> ClientLoop<A> {
     ghost use Rattle.stun_client_loop.specs.LoopLends.{ends_as};
     ghost use Rattle.stun_client_loop.specs.Loops.{after_transmit};
 
-    /// Creates a client of this server that has asked nothing, over an agent. A request is sent
-    /// again for at most so many challenges.
+    /// Creates a client of this server without requests, over an agent. A request is sent again for
+    /// at most `challenges` challenges.
     pub fn new(
         alloc: A,
         agent: StunAgent<A>,

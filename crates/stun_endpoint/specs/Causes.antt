@@ -1,6 +1,7 @@
 -- Why a server with long-term credentials refuses a request: the first check that the request fails,
--- in the order of the RFC (RFC 8489, sections 9.2.4 and 6.3.1), except that the nonce is checked
--- before the user.
+-- in the order of the RFC (RFC 8489, sections 9.2.4 and 6.3.1), with two exceptions. The nonce is
+-- checked before the user. Algorithms that do not agree under another nonce than the current one
+-- count as a stale nonce, because the response is then a 438.
 use Rattle.std.specs.Prelude.{ℕ, List, Bool, not, ◌&&◌, ◌||◌, if◌then◌else◌, Option, Some, None}
 use Rattle.std.specs.Option.{is_none, is_some, option_map}
 use Rattle.std.specs.Str.{bytes_eq}

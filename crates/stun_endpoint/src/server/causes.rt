@@ -24,7 +24,7 @@ use stun_auth::auth::{LongTermServerUser, VerdictRefusal, has_nonce, told_refusa
 use stun_types::message::{Message, MessageClass};
 
 /// Why a server with long-term credentials refuses a request: the first check that the request
-/// fails.
+/// fails. The nonce is checked before the user.
 #[derive(Clone, Copy, Debug, PartialEq, Eq)]
 #[non_exhaustive]
 pub enum Cause {
@@ -38,13 +38,15 @@ pub enum Cause {
     /// PASSWORD-ALGORITHMS is another list, PASSWORD-ALGORITHM is not in it, or one of the two is
     /// missing. An attacker in between may have changed the list.
     OtherAlgorithms,
-    /// 401: the security bits of the nonce are not those of the server's nonces (RFC 8489, section
-    /// 9.2). An attacker may have changed them, or the nonce was sent before a change of settings.
+    /// 401: the nonce has other security bits than the server's nonces (RFC 8489, section 9.2), and
+    /// the algorithms agree. An attacker may have changed the bits, or the nonce was sent before a
+    /// change of settings. A nonce without such bits counts as `StaleNonce`, so this does not count
+    /// each attempt to bid a client down.
     OtherFeatures,
-    /// 438: the nonce is not valid any more, was sent to another address, or is of another secret or
-    /// other settings. If the nonce is of the period before, or of the previous secret, this is also
-    /// the cause if the credentials are wrong. The client continues with the nonce of the 438, so
-    /// another cause follows if it has wrong credentials.
+    /// 438: the nonce is not valid any more, was sent to another address, is of another secret or
+    /// other settings, or was never made by this server. If the nonce is of the period before, or of
+    /// the previous secret, this is also the cause if the algorithms or the credentials are wrong.
+    /// The client continues with the nonce of the 438, so another cause follows if they still are.
     StaleNonce,
     /// 401: the nonce is the current one, but the request names no registered user, the user has no
     /// key for the algorithm, or the signature is not valid under the user's key.

@@ -31,19 +31,20 @@
  *
  * Releases
  *
- * Before 1.0, releases are compatible if their first two numbers are equal, and from 1.0 on if their
- * first number is. The shared library has these numbers in its name for the loader
- * (libstunp.so.0.2), so the loader never combines incompatible releases. Symbols have no versions, so
- * a package must depend on the release that it was built with, or on a later one. To have the linker
- * check the release of an archive, see stunp_release_0_2.
+ * Before 1.0, releases are compatible if their first two numbers are equal, and from 1.0 on if
+ * their first number is. The shared library has these numbers in its name for the loader
+ * (libstunp.so.0.2), so the loader never combines incompatible releases. Symbols have no versions,
+ * so a package must depend on the release that it was built with, or on a later one. To have the
+ * linker check the release of an archive, see stunp_release_0_2.
  *
- * The size of a struct that you own is the same in all compatible releases. A later release that
- * needs more room uses what is reserved for it, or adds a struct and calls that take it:
+ * Which of the structs that you own may change their size in a compatible release:
  *
- * - Structs that begin with their size may grow: stunp_timeouts, stunp_statistics, and those of
- *   stunp_endpoint.h that STUNP_INIT initializes. From 1.0 on, a library accepts each size that a
- *   compatible release had.
- * - stunp_writer has a reserved field.
+ * - Structs that begin with their size may grow from 1.0 on: stunp_timeouts, stunp_statistics, and
+ *   those of stunp_endpoint.h that STUNP_INIT initializes. The library then accepts each size that
+ *   a compatible release had. Before 1.0 it accepts only its own.
+ * - All others keep their size. A later release that needs more room adds a struct, and calls that
+ *   take it.
+ * - stunp_writer has a reserved field for later releases.
  * - stunp_header, stunp_cursor and stunp_address are final, and have all that the calls need: the
  *   header of a message has no other fields, and only stunp_walk reads a cursor. stunp_address has
  *   no scope of an IPv6 address and will get none. The scope says by which interface an address is
@@ -305,8 +306,8 @@ typedef enum stunp_algorithm {
     STUNP_SHA256 = 2 /* HMAC-SHA256, in MESSAGE-INTEGRITY-SHA256 (section 14.6) */
 } stunp_algorithm;
 
-/* How a client or a server of stunp_state.h or stunp_endpoint.h treats user names that are sent as a
- * hash (USERHASH, section 9.2). */
+/* How a client or a server of stunp_state.h or stunp_endpoint.h treats user names that are sent as
+ * a hash (USERHASH, section 9.2). */
 typedef enum stunp_feature {
     STUNP_AUTO = 0,     /* client: sends the hash if the server accepts it, otherwise the name.
                          * Server: accepts both */
@@ -419,16 +420,16 @@ typedef struct {
  * address, in network order, and `length` is 4 or 16. `port` is in the processor's order.
  *
  * The last 12 octets of an IPv4 address are ignored in an argument, and are 0 in a result. The
- * calls of stunp_state.h treat an IPv4 address and the same address mapped into IPv6 as two addresses,
- * and those of stunp_endpoint.h treat them as one. The scope of an IPv6
- * address is not stored: a link-local address counts as the same on every interface, and you have
- * to give your socket the scope again. A program that has the same link-local address on two
- * interfaces needs an agent or a server for each interface.
+ * calls of stunp_state.h treat an IPv4 address and the same address mapped into IPv6 as two
+ * addresses, and those of stunp_endpoint.h treat them as one. The scope of an IPv6 address is not
+ * stored: a link-local address counts as the same on every interface, and you have to give your
+ * socket the scope again. A program that has the same link-local address on two interfaces needs an
+ * agent or a server for each interface.
  *
  * The calls of stunp_state.h and stunp_endpoint.h take it. A call that takes an address fails with
  * STUNP_BAD_ARGUMENT if `length` is neither 4 nor 16, unless its comment gives a meaning to length
- * 0. The calls of stunp_state.h test this right after the handle; only stunp_server_sign_of and
- * stunp_server_sign_of_keys test the user first. */
+ * 0. The calls of stunp_state.h test this right after the handles; only stunp_server_sign_of and
+ * stunp_server_sign_of_keys test the name and the password or the keys before. */
 typedef struct {
     uint8_t octets[16];
     uint16_t port;
@@ -628,7 +629,7 @@ int64_t stunp_read_types(const uint8_t *message, size_t length, size_t place, ui
  *     if (place > 0) printf("%.*s\n", (int)text_length, (const char *)message + place + 4);
  *
  * Returns the offset of the attribute, as stunp_find does, and writes the length of the text to
- * `*text_length`. The text starts at `message + offset + 4`. Errors:
+ * `*text_length`. The text starts 4 bytes after that, where stunp_read_text finds it. Errors:
  *   STUNP_BAD_ARGUMENT       `type` is 65536 or more
  *   STUNP_TRUNCATED, STUNP_NOT_STUN, STUNP_TOO_LARGE
  *                            the bytes are not one whole message (stunp_parse)

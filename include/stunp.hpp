@@ -127,7 +127,9 @@ struct stored_user { view name, sha1, sha256; };
 // How a message names its user: `text` is the name, or the hash of it.
 struct naming { stunp_naming by; std::string text; };
 
-// ---- Handles. They move and are not copied. Every call fails on a handle that was not made.
+// ---- Handles. They move and are not copied. Every call fails on a handle that was not made. Do
+// not declare a handle of stunp_state.h const, nor the `result` that has it: even the calls that
+// leave it as it was write to it meanwhile. A server and users of stunp::endpoint may be const.
 
 template <class H, void (*Clear)(H *)> class handle {
     H handle_{};
@@ -141,7 +143,8 @@ template <class H, void (*Clear)(H *)> class handle {
     const H *get() const { return &handle_; }
 };
 
-// A user of a database, prepared once for the realm and the algorithms of a server.
+// A user of a database, prepared once for the realm and the algorithms of a server, and used by one
+// thread at a time. It has the keys that it was made with: make it again when the password changes.
 struct prepared_user : handle<stunp_user, stunp_user_clear> {
     static result<prepared_user> make(const stunp_server *of, const user &by) {
         prepared_user made;

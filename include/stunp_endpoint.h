@@ -344,27 +344,31 @@ typedef enum stunp_drop {
 } stunp_drop;
 
 /* Why a server with long-term credentials refuses a request: the first check that the request fails
- * (section 9.2.4). */
+ * (section 9.2.4, but the nonce is checked before the user). More causes may be added later. */
 typedef enum stunp_cause {
     STUNP_CAUSE_NO_SIGNATURE = 1,      /* 401: it has no well-formed MESSAGE-INTEGRITY or
-                                        * MESSAGE-INTEGRITY-SHA256, as the first request of a client */
+                                        * MESSAGE-INTEGRITY-SHA256, like the first request of each
+                                        * client */
     STUNP_CAUSE_INCOMPLETE = 2,        /* 400: it is signed, but has no well-formed REALM, NONCE, or
                                         * name of a user */
     STUNP_CAUSE_OTHER_ALGORITHMS = 3,  /* 400: it has the current nonce, but not the password
-                                        * algorithms that were offered with it. An attacker in between
-                                        * may have changed the list */
-    STUNP_CAUSE_OTHER_FEATURES = 4,    /* 401: the security bits of its nonce are not those of the
-                                        * server's nonces. An attacker may have changed them, or the
-                                        * nonce was sent before a change of settings */
+                                        * algorithms that were offered with it. An attacker in
+                                        * between may have changed the list */
+    STUNP_CAUSE_OTHER_FEATURES = 4,    /* 401: its nonce has other security bits than the server's
+                                        * nonces, and its algorithms agree with these bits. An
+                                        * attacker may have changed them, or the nonce was sent
+                                        * before a change of settings. A nonce that does not begin
+                                        * with the nonce cookie has no such bits: it is stale */
     STUNP_CAUSE_STALE_NONCE = 5,       /* 438: its nonce is not valid any more, was sent to another
-                                        * address, or is of another secret or other settings. Of a
-                                        * nonce of the period before, or of the previous secret, also
-                                        * if the credentials are wrong */
+                                        * address, is of another secret or other settings, or was
+                                        * never made by this server. If the nonce is of the period
+                                        * before, or of the previous secret, this is also the cause
+                                        * if the algorithms or the credentials are wrong */
     STUNP_CAUSE_WRONG_CREDENTIALS = 6, /* 401: its nonce is the current one, but it names no user of
                                         * the table, the user has no key for the algorithm, or the
                                         * signature is not valid under the user's key */
-    STUNP_CAUSE_UNKNOWN_ATTRIBUTE = 7  /* 420: a user has signed it, but it has an attribute that must
-                                        * be understood and is not */
+    STUNP_CAUSE_UNKNOWN_ATTRIBUTE = 7  /* 420: a user has signed it, but it has an attribute that
+                                        * must be understood and is not */
 } stunp_cause;
 
 /* What a check of the peer, or the answer to a check of yours, comes to. */
@@ -633,8 +637,10 @@ STUNP_INLINED void stunp_endpoint_server_free(stunp_endpoint_server *server) {
 /* ---- Users
  *
  * Keys depend on the realm and the algorithms, so a table is made for a server, and serves every
- * server of the same realm and algorithms. With short-term credentials the key is the password, and a
- * table serves every server with short-term credentials. */
+ * server of the same realm and algorithms. No call notices a table that was made for another realm
+ * or for other algorithms: requests of its users may then be refused although they are signed with
+ * the right password. With short-term credentials the key is the password, and a table serves every
+ * server with short-term credentials. */
 
 /* Creates an empty table, like stunp_endpoint_users_new, with a handle of the server that nothing
  * else uses during the call. It stays as it is.
@@ -722,18 +728,19 @@ int64_t stunp_endpoint_server_receive_own(stunp_endpoint_server *server,
                                           uint64_t unix_seconds, uint8_t *out, size_t room,
                                           stunp_received *received);
 
-/* Judges the datagram of `length` bytes that arrived from the address `from`, and writes the result to
- * `*received`. If it gets an answer at once, that is written to the front of `out`.
+/* Judges the datagram of `length` bytes that arrived from the address `from`, and writes the result
+ * to `*received`. If it gets an answer at once, that is written to the front of `out`.
  *
  *   - A datagram is dropped if it is not a STUN message, or if its FINGERPRINT is wrong.
- *   - With long-term credentials a request is answered 401 if it is not signed, or not by one of these users; 438 if its nonce
- *     is not accepted; 400 if it is malformed, or its algorithms are not those that were offered with
- *     the current nonce.
- *   - With short-term credentials a request is answered 400 if it is not signed or has no USERNAME, and
- *     401 if USERNAME is not the name of one of these users, or the signature is not made with the
- *     user's password. An indication like that is dropped.
- *   - A request is answered 420 if it has an attribute that must be understood and is not. A Binding
- *     request is answered if the settings say so. All others are yours.
+ *   - With long-term credentials a request is answered 401 if it is not signed, or not by one of
+ *     these users, or if its nonce has other security bits than the server's; 438 if its nonce is
+ *     not accepted; and 400 if it is signed and incomplete, or its algorithms are not those that
+ *     were offered with the current nonce (stunp_cause has the order).
+ *   - With short-term credentials a request is answered 400 if it is not signed or has no USERNAME,
+ *     and 401 if USERNAME is not the name of one of these users, or the signature is not made with
+ *     the user's password. An indication like that is dropped.
+ *   - A request is answered 420 if it has an attribute that must be understood and is not. A
+ *     Binding request is answered if the settings say so. All others are yours.
  *   - An indication with an attribute that must be understood and is not is dropped. Others are
  *     yours, and so are responses.
  *
@@ -787,8 +794,8 @@ STUNP_INLINED const char *stunp_drop_text(uint32_t why) {
     }
 }
 
-/* Returns why a datagram is refused, like stunp_endpoint_server_cause, with handles that nothing else
- * uses during the call. They stay as they are.
+/* Returns why a datagram is refused, like stunp_endpoint_server_cause, with handles that nothing
+ * else uses during the call. They stay as they are.
  *
  * Returns and fails as stunp_endpoint_server_cause does. */
 STUNP_USE_RESULT STUNP_READS(3, 4) STUNP_NOT_NULL(1, 2, 5)
@@ -796,10 +803,21 @@ int64_t stunp_endpoint_server_cause_own(stunp_endpoint_server *server, stunp_end
                                         const uint8_t *message, size_t message_length,
                                         const stunp_address *from, uint64_t unix_seconds);
 
-/* Returns why stunp_endpoint_server_receive refuses a datagram, to count or to log it. Pass what you
- * passed to that call, with the same time and the same users; after stunp_endpoint_server_resume, a
- * table with the user that you found. It judges the request again, so call it only for an answer
- * whose `code` is not 0. The client never learns the cause, but only the code.
+/* Returns why stunp_endpoint_server_receive refuses a datagram, to count or to log it. Pass what
+ * you passed to that call, with the same time and the same users. It judges the request again, so
+ * call it only for an answer whose `code` is not 0. The client never learns the cause, but only the
+ * code.
+ *
+ *     static uint64_t refused[STUNP_CAUSE_UNKNOWN_ATTRIBUTE + 1];
+ *     if (kind == STUNP_ANSWER && received.code != 0) {
+ *         int64_t cause = stunp_endpoint_server_cause(server, users, bytes, length, from, time);
+ *         if (cause > 0 && cause <= STUNP_CAUSE_UNKNOWN_ATTRIBUTE) refused[cause]++;
+ *         if (cause > 0) printf("%u: %s\n", received.code, stunp_cause_text(cause));
+ *     }
+ *
+ * With users in a database, pass a table without users after stunp_endpoint_server_identify, whose
+ * answers do not depend on the users, and a table with the user that you found, if there is one,
+ * after stunp_endpoint_server_resume.
  *
  * Only a server with long-term credentials has causes: the codes of others tell as much.
  *
@@ -807,8 +825,8 @@ int64_t stunp_endpoint_server_cause_own(stunp_endpoint_server *server, stunp_end
  * accepted. Errors:
  *   STUNP_EMPTY_HANDLE, STUNP_WRONG_HANDLE
  *                        the server's handle is empty or null, or has no server with long-term
- *                        credentials; and then the users' is empty or null, or has no table, or one of
- *                        users with short-term credentials
+ *                        credentials; and then the users' is empty or null, or has no table, or one
+ *                        of users with short-term credentials
  *   STUNP_BAD_ARGUMENT   `unix_seconds` is above 2 to the power of 40, or `from` is not an IPv4 or
  *                        IPv6 address
  *   STUNP_OUT_OF_MEMORY  an allocation failed */
@@ -824,7 +842,8 @@ stunp_endpoint_server_cause(const stunp_endpoint_server *server, const stunp_end
     return stunp_endpoint_server_cause_own(&own, &own_users, bytes, length, from, unix_seconds);
 }
 
-/* Returns a text for a stunp_cause, as stunp_strerror does for an error. */
+/* Returns a text for a stunp_cause, as stunp_strerror does for an error. For any other number, and
+ * so also for an error of stunp_endpoint_server_cause, the text is "it is not refused". */
 STUNP_INLINED const char *stunp_cause_text(int64_t cause) {
     switch (cause) {
     case STUNP_CAUSE_NO_SIGNATURE: return "the request is not signed";
@@ -854,12 +873,12 @@ int64_t stunp_endpoint_server_identify_own(stunp_endpoint_server *server, const 
                                            stunp_received *received);
 
 /* Judges the datagram of `length` bytes that arrived from the address `from`, as far as that is
- * possible without its user. It comes to STUNP_LOOKUP if it is a signed request that names a user, and whose nonce this
- * server accepts for its address now: look `received->name` up, and call
+ * possible without its user. It comes to STUNP_LOOKUP if it is a signed request that names a user,
+ * and whose nonce this server accepts for its address now: look `received->name` up, and call
  * stunp_endpoint_server_resume. Every other datagram gets the result that
- * stunp_endpoint_server_receive would return, whatever the users are. A client that sends its request
- * again causes another look-up: merge look-ups with the same source address and transaction ID, which
- * is in the 12 bytes from `bytes + 8` on.
+ * stunp_endpoint_server_receive would return, whatever the users are. A client that sends its
+ * request again causes another look-up: merge look-ups with the same source address and transaction
+ * ID, which is in the 12 bytes from `bytes + 8` on.
  *
  * This is for servers with long-term credentials. With short-term credentials look the user of
  * USERNAME up (stunp_find_text), and call stunp_endpoint_server_resume.

@@ -15,7 +15,8 @@
  *
  * The functions at the end of this comment are a complete client (`ask`) and a complete server
  * (`judge` and `serve`). To begin, copy one of them. examples/c/udp_client.c is a client with its
- * socket. For a server that stores nothing about its clients, see stunp_endpoint.h. Sections without an RFC are those of RFC 8489.
+ * socket. For a server that stores nothing about its clients, see stunp_endpoint.h. Sections
+ * without an RFC are those of RFC 8489.
  *
  *
  * Linking
@@ -1127,15 +1128,24 @@ STUNP_INLINED void stunp_write_server_sign_of_keys(stunp_writer *writer, stunp_s
  * much as one of a user whom the server has itself. Keep it for as long as the user is likely to
  * send messages, for example with the user's allocation of a TURN server.
  *
- *     if (!user->prepared.is_full &&
+ *     // `user` is whom stunp_server_named_user named, or null if your database has no such user.
+ *     if (user != NULL && !user->prepared.is_full &&
  *         stunp_user_new(&user->prepared, server, user->name, user->name_length, user->password,
  *                        user->password_length) < 0)
  *         return;
- *     int64_t verdict = stunp_server_validate_user(server, bytes, received, from, now, words,
- *                                                  &user->prepared);
+ *     int64_t verdict = user != NULL
+ *         ? stunp_server_validate_user(server, bytes, received, from, now, words, &user->prepared)
+ *         : stunp_server_validate(server, bytes, received, from, now, words); // without users
  *
- * A user belongs to the realm and the algorithms that the server had when the user was made. Any
- * server with the same realm and algorithms may use it, one thread at a time. */
+ * Sign the response with the same user (stunp_server_sign_user), or by stunp_server_sign if there
+ * is none.
+ *
+ * A user belongs to the realm and the algorithms that the server had when the user was made, so
+ * call stunp_server_set_algorithms before. Any server with the same realm and algorithms may use
+ * it, one thread at a time, also after the server that made it was freed.
+ *
+ * A user keeps the keys of the password that it was made from. So free it when the password changes
+ * or the account ends: until then, requests that are signed with the old password are accepted. */
 
 /* Prepares a user of a server from a name and a password: makes the keys for the server's realm and
  * for each algorithm that the server supports. The handle of the user must be empty. The server is
@@ -1154,7 +1164,7 @@ int64_t stunp_user_new(stunp_user *user, const stunp_server *server, const void 
  * makes of the name, the server's realm and the password. `sha1` is for STUNP_SHA1, with
  * STUNP_SHA1_KEY_LENGTH bytes, and `sha256` for STUNP_SHA256, with STUNP_SHA256_KEY_LENGTH bytes.
  * If you have not stored one of them, pass the length 0: the user then has no key for that
- * algorithm.
+ * algorithm. A key for an algorithm that the server does not support is not used.
  *
  * Returns 0. Errors:
  *   STUNP_FULL_HANDLE    the handle of the user is full
@@ -1179,13 +1189,14 @@ STUNP_INLINED void stunp_user_free(stunp_user *user) {
 }
 
 /* Authenticates a message like stunp_server_validate, as a server whose only user is this one. Pass
- * the user whom stunp_server_named_user returns. The user is left as it was.
+ * the user whom stunp_server_named_user returns: the users that were added to the server are
+ * ignored. The user is left as it was.
  *
  * Returns what stunp_server_validate returns, STUNP_SHA1 or STUNP_SHA256 if the message is
  * authentic. Errors:
  *   STUNP_EMPTY_HANDLE         the handle of the server or that of the user is empty
  *   STUNP_WRONG_HANDLE         the user was made for another realm, or for other algorithms than
- *                              the server supports now: make it again
+ *                              the server supports now: free it, and make it again
  *   STUNP_BAD_ARGUMENT         `from` is not an IPv4 or IPv6 address
  *   STUNP_TRUNCATED, STUNP_NOT_STUN, STUNP_TOO_LARGE
  *                              the bytes are not one whole message (stunp_parse): drop them
@@ -1208,7 +1219,7 @@ int64_t stunp_server_validate_user(stunp_server *server, const uint8_t *message,
  * Returns the new length of the message. Errors:
  *   STUNP_EMPTY_HANDLE       the handle of the server or that of the user is empty
  *   STUNP_WRONG_HANDLE       the user was made for another realm, or for other algorithms than the
- *                            server supports now: make it again
+ *                            server supports now: free it, and make it again
  *   STUNP_BAD_ARGUMENT       `to` is not an IPv4 or IPv6 address, or `length` exceeds `room`
  *   STUNP_TRUNCATED, STUNP_NOT_STUN, STUNP_TOO_LARGE
  *                            the buffer does not hold one whole message (stunp_parse)

@@ -106,20 +106,24 @@ static uint64_t now(void) {
 /* ---- Counters, of each process in memory that all share */
 
 /* What they count, with what is printed before each. The reasons for a drop are in the order of
- * stunp_drop; OTHER is what no reason is told of. */
+ * stunp_drop; OTHER is what no reason is told of. The causes of refusals are in the order of
+ * stunp_cause. */
 enum number { ANSWERED, REFUSED_400, REFUSED_401, REFUSED_420, REFUSED_438, NOT_STUN, MALFORMED,
-              WRONG_FINGERPRINT, UNKNOWN_ATTRIBUTE, OUT_OF_MEMORY, OTHER, NO_BINDING, NUMBERS };
+              WRONG_FINGERPRINT, UNKNOWN_ATTRIBUTE, OUT_OF_MEMORY, OTHER, NO_SIGNATURE, INCOMPLETE,
+              OTHER_ALGORITHMS, OTHER_FEATURES, STALE_NONCE, WRONG_CREDENTIALS, NOT_UNDERSTOOD,
+              NO_BINDING, NUMBERS };
 static const char *const labels[NUMBERS] = {
     "answered ", "; refused 400: ", " 401: ", " 420: ", " 438: ", "; dropped NotStun: ",
     " Malformed: ", " WrongFingerprint: ", " UnknownAttribute: ", " OutOfMemory: ", " Other: ",
-    "; no Binding request: ",
+    "; causes NoSignature: ", " Incomplete: ", " OtherAlgorithms: ", " OtherFeatures: ",
+    " StaleNonce: ", " WrongCredentials: ", " UnknownAttribute: ", "; no Binding request: ",
 };
 static uint64_t (*all_counts)[NUMBERS], *counts;
 
 static void count(enum number what) { __atomic_fetch_add(&counts[what], 1, __ATOMIC_RELAXED); }
 
 static void tell_counts(void) {
-    char line[512];
+    char line[1000];
     int end = 0;
     for (int what = 0; what < NUMBERS; what++) {
         uint64_t sum = 0;
@@ -198,14 +202,23 @@ static uint32_t reply(const struct datagram *got, const stunp_received *received
     return code;
 }
 
+/* Counts why the server of users refused a request at this time. */
+static void count_cause(const struct datagram *got, uint64_t time) {
+    int64_t cause = stunp_endpoint_server_cause(&server, &users, got->bytes, got->length,
+                                                &got->from, time);
+    if (cause > 0) count(NO_SIGNATURE + (uint32_t)cause - STUNP_CAUSE_NO_SIGNATURE);
+}
+
 /* Judges a datagram at a server of users, and answers it. */
 static void answer_user(const struct datagram *got, struct answer *answer) {
     static stunp_received received = STUNP_INIT(stunp_received);
+    const uint64_t time = now();
     int64_t kind = stunp_endpoint_server_receive(&server, &users, got->bytes, got->length,
-                                                 &got->from, now(), answer->bytes,
+                                                 &got->from, time, answer->bytes,
                                                  sizeof answer->bytes, &received);
     if (kind == STUNP_ANSWER) {
         answer->length = received.length;
+        if (received.code != 0) count_cause(got, time);
         tell(&got->from, received.code, &received);
     } else if (kind == STUNP_IS_REQUEST) {
         tell(&got->from, reply(got, &received, answer), &received);

@@ -148,8 +148,15 @@ impl Service<'_> {
             };
         };
         let users = users.read().unwrap_or_else(PoisonError::into_inner);
-        match server.receive(bytes, from, UnixTime::now(), &users) {
-            Received::Answer(answer) => Outcome::from(answer),
+        let now = UnixTime::now();
+        match server.receive(bytes, from, now, &users) {
+            Received::Answer(answer) => {
+                let refusal = answer.refusal();
+                if let Some(cause) = refusal.and_then(|_| server.cause(bytes, from, now, &users)) {
+                    self.counts.note_cause(cause);
+                }
+                Outcome::from(answer)
+            }
             Received::Request(request) => self.respond(request.message(), request.reply(), at),
             Received::Dropped(why) => Outcome::Dropped(why),
             _ => Outcome::Other,

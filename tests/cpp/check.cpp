@@ -128,7 +128,7 @@ static void meet_from_a_database() {
     show("another password",
          name_or_refusal(server->validate(*request, home, 0, words, other)));
     show("the stored keys", name_or_refusal(server->validate(*request, home, 0, words, user)));
-    const auto prepared = server->prepare(user);
+    auto prepared = server->prepare(user);
     if (!prepared) return show("no user", prepared.text());
     show("the same, prepared",
          name_or_refusal(server->validate(*request, home, 0, words, *prepared)));

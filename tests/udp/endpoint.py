@@ -132,9 +132,14 @@ def counters(server):
     with Server(server, *USER, "--counts", "1") as running, Peer(running.port) as peer:
         challenge = peer.ask(stun.message(stun.REQUEST))
         assert stun.code_of(peer.ask(answering(challenge))) == 200
+        assert stun.code_of(peer.ask(answering(challenge, password="wrong"))) == 401
+        assert stun.code_of(peer.ask(answering(challenge, extra=[(0x7777, b"")]))) == 420
+        with Peer(running.port) as other:
+            assert stun.code_of(other.ask(answering(challenge))) == 438
         peer.is_dropped(b"none", stun.message(stun.INDICATION), stun.message(0x0003))
-        wanted = ("answered 1; refused 400: 0 401: 2 420: 0 438: 0; dropped NotStun: 1 .*; "
-                  "no Binding request: 2$")
+        wanted = ("answered 1; refused 400: 0 401: 3 420: 1 438: 1; dropped NotStun: 1 .*; "
+                  "causes NoSignature: 2 Incomplete: 0 OtherAlgorithms: 0 OtherFeatures: 0 "
+                  "StaleNonce: 1 WrongCredentials: 1 UnknownAttribute: 1; no Binding request: 2$")
         assert until(running, wanted), running.lines
 
 

@@ -1,6 +1,6 @@
 //! The outcomes of datagrams, and counters of them.
 
-use seatcrane_stun::endpoint::{Answer, DropReason, Refusal};
+use seatcrane_stun::endpoint::{Answer, Cause, DropReason, Refusal};
 use std::fmt;
 use std::net::SocketAddr;
 use std::sync::atomic::{AtomicU64, Ordering::Relaxed};
@@ -38,6 +38,7 @@ pub struct Counts {
     answered: AtomicU64,
     refused: [AtomicU64; CODES.len()],
     dropped: [AtomicU64; DropReason::COUNT],
+    causes: [AtomicU64; Cause::COUNT],
     others: AtomicU64,
 }
 
@@ -53,6 +54,11 @@ impl Counts {
         };
         count.fetch_add(1, Relaxed);
     }
+
+    /// Counts why a request was refused.
+    pub fn note_cause(&self, cause: Cause) {
+        self.causes[cause.index()].fetch_add(1, Relaxed);
+    }
 }
 
 impl fmt::Display for Counts {
@@ -64,6 +70,10 @@ impl fmt::Display for Counts {
         f.write_str("; dropped")?;
         for (why, count) in DropReason::ALL.iter().zip(&self.dropped) {
             write!(f, " {}: {}", why.name(), count.load(Relaxed))?;
+        }
+        f.write_str("; causes")?;
+        for (cause, count) in Cause::ALL.iter().zip(&self.causes) {
+            write!(f, " {}: {}", cause.name(), count.load(Relaxed))?;
         }
         let others = self.others.load(Relaxed);
         write!(f, "; no Binding request: {others}")

@@ -59,6 +59,10 @@ ALONE = [
     ("answers_sha256", "success of 20 bytes signed, SHA-256"),
     ("asks_sha1", "request of 20 bytes signed, SHA-1"),
     ("asks_sha256", "request of 20 bytes signed, SHA-256 and USERHASH"),
+]
+
+# The same of a server that looks its users up elsewhere.
+LOOKED_UP = [
     ("serves_own_sha1", "request of a new client and its success, SHA-1: a user of the server"),
     ("serves_user_sha1", "the same with a prepared user"),
     ("serves_keys_sha1", "the same with stored keys at each call"),
@@ -168,7 +172,7 @@ def fill(program, size):
 
 def alone(program, size):
     print("| Call, through C | instructions | allocations |\n|---|---|---|")
-    for call, title in ALONE:
+    for call, title in ALONE + LOOKED_UP:
         print(f"| {title} | {cost(program, call, size):,.0f} | "
               f"{allocations(program, call, size):g} |", flush=True)
 

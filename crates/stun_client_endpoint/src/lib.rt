@@ -5,6 +5,11 @@
 #![tactic(auto)]
 
 pub mod body;
+pub mod ended;
+pub mod endpoint;
 pub mod form;
 pub mod numbers;
+mod pending;
 mod piece;
+mod reading;
+pub mod told;

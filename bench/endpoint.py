@@ -6,7 +6,7 @@
 Each row is counted at `endpoint::Server` and at a loop of calls by hand with its table of addresses
 (rust/bench/endpoint_cost): 1,000 and 3,000 datagrams each, and the difference through 2,000 is
 one: instructions by callgrind. The rows of the client (rust/bench/client_cost.rs) are counted at
-`endpoint::Client` and at the calls of the agent and of the authenticator in a row. It wants
+`endpoint::Client` and at the calls of the agent and of the authenticator in a row. It needs
 `make rust` before, cargo and valgrind. It prints the tables of README.md; status 1 if a bar of the
 server is missed.
 """

@@ -1,8 +1,8 @@
 #!/bin/sh
-# Runs a library on what a hostile peer may send, with an address sanitizer round the driver. Then
-# it tells how the calls on messages grow with the number of attributes. The library is the archive,
-# which it proves and builds. With the word `exported` it is that of the exported crate, which is
-# not proved (`make rust` and `make rust-c` build it).
+# Runs a library on messages that a hostile peer may send, with an address sanitizer around the
+# driver. Then it prints how the time of the calls on messages grows with the number of attributes.
+# The library is the archive, which it proves and builds. With the argument `exported` it is that of
+# the exported crate, which is not proved (`make lib` builds it).
 set -eu
 cd "$(dirname "$0")"
 if [ "${1-}" = exported ]; then

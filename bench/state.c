@@ -20,12 +20,14 @@ enum { MOST_TIMES = 100, ID = STUNP_ID_LENGTH };
 enum call {
     POLL, POLL_TRANSMIT, TRANSMITS_ONE, ENDS_ONE, SENDS_LAST, RESPONDS, CANCELS, FINDS,
     VALIDATES_SHA1, VALIDATES_SHA256, PARSES_SHA1, PARSES_SHA256, ANSWERS_SHA1, ANSWERS_SHA256,
-    ASKS_SHA1, ASKS_SHA256, VERIFIES, CALLS
+    ASKS_SHA1, ASKS_SHA256, SERVES_OWN_SHA1, SERVES_OWN_SHA256, SERVES_USER_SHA1,
+    SERVES_USER_SHA256, SERVES_KEYS_SHA1, SERVES_KEYS_SHA256, VERIFIES, CALLS
 };
 static const char *const names[CALLS] = {
     "poll", "poll_transmit", "transmits_one", "ends_one", "sends_last", "responds", "cancels",
     "finds", "validates_sha1", "validates_sha256", "parses_sha1", "parses_sha256", "answers_sha1",
-    "answers_sha256", "asks_sha1", "asks_sha256", "verifies",
+    "answers_sha256", "asks_sha1", "asks_sha256", "serves_own_sha1", "serves_own_sha256",
+    "serves_user_sha1", "serves_user_sha256", "serves_keys_sha1", "serves_keys_sha256", "verifies",
 };
 
 static const uint64_t SECOND = 1000000000;
@@ -194,6 +196,55 @@ static bool asks(void) {
         > STUNP_HEADER_LENGTH;
 }
 
+/* ---- A signed request of a client who is new at its address, and its signed success: with a user
+ * whom the server has, with a prepared one, and with stored keys at each call. */
+
+static stunp_user user;
+static uint8_t sha1[STUNP_SHA1_KEY_LENGTH], sha256[STUNP_SHA256_KEY_LENGTH];
+
+static void prepare_user(void) {
+    if (stunp_user_new(&user, &server, "user0", 5, "pass", 4) < 0
+        || stunp_long_term_key(STUNP_SHA1, "user0", 5, "realm", 5, "pass", 4, sha1, sizeof sha1) < 0
+        || stunp_long_term_key(STUNP_SHA256, "user0", 5, "realm", 5, "pass", 4, sha256,
+                               sizeof sha256) < 0)
+        fail("no user");
+}
+
+static int64_t verdict_of(enum call call, const stunp_address *from) {
+    const struct message *request = &signed_request;
+    switch (call) {
+    case SERVES_OWN_SHA1: case SERVES_OWN_SHA256:
+        return stunp_server_validate(&server, request->bytes, request->length, from, 0, words);
+    case SERVES_USER_SHA1: case SERVES_USER_SHA256:
+        return stunp_server_validate_user(&server, request->bytes, request->length, from, 0, words,
+                                          &user);
+    default:
+        return stunp_server_validate_of_keys(&server, request->bytes, request->length, from, 0,
+                                             words, "user0", 5, sha1, sizeof sha1, sha256,
+                                             sizeof sha256);
+    }
+}
+
+static int64_t signed_by(enum call call, struct message *success, const stunp_address *to) {
+    const size_t room = sizeof success->bytes;
+    switch (call) {
+    case SERVES_OWN_SHA1: case SERVES_OWN_SHA256:
+        return stunp_server_sign(&server, success->bytes, room, success->length, to);
+    case SERVES_USER_SHA1: case SERVES_USER_SHA256:
+        return stunp_server_sign_user(&server, success->bytes, room, success->length, to, &user);
+    default:
+        return stunp_server_sign_of_keys(&server, success->bytes, room, success->length, to,
+                                         "user0", 5, sha1, sizeof sha1, sha256, sizeof sha256);
+    }
+}
+
+static bool serves(enum call call) {
+    struct message success = message_of(STUNP_SUCCESS, 2);
+    stunp_address from = address_of(0);
+    return verdict_of(call, &from) > 0 && signed_by(call, &success, &from) > STUNP_HEADER_LENGTH
+        && stunp_server_remove_client(&server, &from) == 0;
+}
+
 /* ---- A message of 44 bytes under a key of four. */
 
 static bool verifies(void) {
@@ -268,11 +319,18 @@ static enum call named(const char *name) {
 }
 
 static void prepare(enum call call, uint32_t size) {
+    stunp_address first = address_of(0);
     switch (call) {
     case VALIDATES_SHA1: case PARSES_SHA1: case ANSWERS_SHA1: case ASKS_SHA1:
         prepare_server(size, false); break;
     case VALIDATES_SHA256: case PARSES_SHA256: case ANSWERS_SHA256: case ASKS_SHA256:
         prepare_server(size, true); break;
+    case SERVES_OWN_SHA1: case SERVES_USER_SHA1: case SERVES_KEYS_SHA1:
+        prepare_server(size, false); prepare_user(); stunp_server_remove_client(&server, &first);
+        break;
+    case SERVES_OWN_SHA256: case SERVES_USER_SHA256: case SERVES_KEYS_SHA256:
+        prepare_server(size, true); prepare_user(); stunp_server_remove_client(&server, &first);
+        break;
     case VERIFIES:
         signed_request = message_of(STUNP_REQUEST, 2);
         signed_request.length = (size_t)stunp_sign(signed_request.bytes, 512, 20, STUNP_SHA1,
@@ -291,6 +349,8 @@ static bool is_done(enum call call, uint32_t size, uint32_t turn) {
     case VALIDATES_SHA1: case VALIDATES_SHA256: return is_validated(0);
     case ANSWERS_SHA1: case ANSWERS_SHA256: return answers();
     case ASKS_SHA1: case ASKS_SHA256: return asks();
+    case SERVES_OWN_SHA1: case SERVES_OWN_SHA256: case SERVES_USER_SHA1: case SERVES_USER_SHA256:
+    case SERVES_KEYS_SHA1: case SERVES_KEYS_SHA256: return serves(call);
     case VERIFIES: return verifies();
     default: return agent_does(call, size, turn);
     }
@@ -313,5 +373,6 @@ int main(int count, char **arguments) {
     stunp_agent_free(&agent);
     stunp_server_free(&server);
     stunp_client_free(&client);
+    stunp_user_free(&user);
     return 0;
 }

@@ -59,6 +59,12 @@ ALONE = [
     ("answers_sha256", "success of 20 bytes signed, SHA-256"),
     ("asks_sha1", "request of 20 bytes signed, SHA-1"),
     ("asks_sha256", "request of 20 bytes signed, SHA-256 and USERHASH"),
+    ("serves_own_sha1", "request of a new client and its success, SHA-1: a user of the server"),
+    ("serves_user_sha1", "the same with a prepared user"),
+    ("serves_keys_sha1", "the same with stored keys at each call"),
+    ("serves_own_sha256", "the same, SHA-256 and USERHASH: a user of the server"),
+    ("serves_user_sha256", "the same with a prepared user, SHA-256 and USERHASH"),
+    ("serves_keys_sha256", "the same with stored keys at each call, SHA-256 and USERHASH"),
 ]
 
 # Pauses of a server of so many records, which looks at so many at once; and their rows.

@@ -40,11 +40,17 @@
  * The size of a struct that you own is the same in all compatible releases. A later release that
  * needs more room uses what is reserved for it, or adds a struct and calls that take it:
  *
- * - Structs that begin with their size may grow. From 1.0 on, a library accepts each size that a
+ * - Structs that begin with their size may grow: stunp_timeouts, stunp_statistics, and those of
+ *   stunp_endpoint.h that STUNP_INIT initializes. From 1.0 on, a library accepts each size that a
  *   compatible release had.
  * - stunp_writer has a reserved field.
- * - stunp_header, stunp_cursor, stunp_address and the handles keep the size that they have in 1.0.
- *   If stunp_address is to get a field for the scope of an IPv6 address, it does so before.
+ * - stunp_header, stunp_cursor and stunp_address are final, and have all that the calls need: the
+ *   header of a message has no other fields, and only stunp_walk reads a cursor. stunp_address has
+ *   no scope of an IPv6 address and will get none. The scope says by which interface an address is
+ *   reached and not whose address it is, so it stays in the socket address to which you send.
+ * - stunp_reply and stunp_ice_check of stunp_endpoint.h are final too. Another kind of reply would
+ *   be a struct of its own.
+ * - The handles are final. What they refer to is the library's.
  *
  *
  * The calls, in the order of this file
@@ -363,7 +369,8 @@ typedef enum stunp_refusal {
     STUNP_TOO_MANY_ADDRESSES = -27,  /* server: the limit on the number of addresses is reached */
     STUNP_CANNOT_SIGN = -28,         /* server: it has no key to sign with. The user was removed, or
                                       * has no key for the client's algorithm */
-    STUNP_WRONG_HANDLE = -29         /* the handle has a value of another kind */
+    STUNP_WRONG_HANDLE = -29         /* the handle has a value of another kind, or a user who was
+                                      * made for another realm or for other algorithms */
 } stunp_refusal;
 
 /* Lengths in bytes. */
@@ -415,7 +422,8 @@ typedef struct {
  * calls of stunp_state.h treat an IPv4 address and the same address mapped into IPv6 as two addresses,
  * and those of stunp_endpoint.h treat them as one. The scope of an IPv6
  * address is not stored: a link-local address counts as the same on every interface, and you have
- * to give your socket the scope again.
+ * to give your socket the scope again. A program that has the same link-local address on two
+ * interfaces needs an agent or a server for each interface.
  *
  * The calls of stunp_state.h and stunp_endpoint.h take it. A call that takes an address fails with
  * STUNP_BAD_ARGUMENT if `length` is neither 4 nor 16, unless its comment gives a meaning to length
@@ -551,8 +559,8 @@ int64_t stunp_next(const uint8_t *message, size_t length, size_t place, uint16_t
 /* Finds the text in an attribute such as USERNAME, REALM, NONCE or SOFTWARE (sections 14.3, 14.9,
  * 14.10 and 14.14). The text is not copied, and no zero byte ends it.
  *
- * Returns the offset of the text in the message, 24 or more, and writes its length in bytes to
- * `*text_length`. Errors:
+ * Returns the offset of the text in the message, which is `place + 4`, and writes its length in
+ * bytes to `*text_length`. Errors:
  *   STUNP_BAD_ARGUMENT  `place` is below 20, or no whole attribute starts there
  *   STUNP_NOT_TEXT      the value is not UTF-8 */
 STUNP_USE_RESULT STUNP_READS(1, 2) STUNP_NOT_NULL(4)
@@ -613,13 +621,14 @@ int64_t stunp_read_types(const uint8_t *message, size_t length, size_t place, ui
  * Each call reads the first visible attribute of a type: it calls stunp_find, and then one of the
  * calls above. */
 
-/* Finds the text in the first visible attribute of a type (stunp_read_text).
+/* Finds the first visible attribute of a type, if its value is a text (stunp_read_text).
  *
  *     size_t text_length;
- *     int64_t text = stunp_find_text(message, length, STUNP_SOFTWARE, &text_length);
- *     if (text > 0) printf("%.*s\n", (int)text_length, (const char *)message + text);
+ *     int64_t place = stunp_find_text(message, length, STUNP_SOFTWARE, &text_length);
+ *     if (place > 0) printf("%.*s\n", (int)text_length, (const char *)message + place + 4);
  *
- * Returns the offset of the text in the message, and writes its length to `*text_length`. Errors:
+ * Returns the offset of the attribute, as stunp_find does, and writes the length of the text to
+ * `*text_length`. The text starts at `message + offset + 4`. Errors:
  *   STUNP_BAD_ARGUMENT       `type` is 65536 or more
  *   STUNP_TRUNCATED, STUNP_NOT_STUN, STUNP_TOO_LARGE
  *                            the bytes are not one whole message (stunp_parse)
@@ -629,7 +638,9 @@ STUNP_INLINED int64_t stunp_find_text(const uint8_t *message, size_t length, uin
                                       size_t *text_length) {
     size_t value_length;
     int64_t place = stunp_find(message, length, type, &value_length);
-    return place < 0 ? place : stunp_read_text(message, length, (size_t)place, text_length);
+    if (place < 0) return place;
+    int64_t text = stunp_read_text(message, length, (size_t)place, text_length);
+    return text < 0 ? text : place;
 }
 
 /* Reads the number in the first visible attribute of a type (stunp_read_number).

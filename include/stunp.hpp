@@ -141,6 +141,21 @@ template <class H, void (*Clear)(H *)> class handle {
     const H *get() const { return &handle_; }
 };
 
+// A user of a database, prepared once for the realm and the algorithms of a server.
+struct prepared_user : handle<stunp_user, stunp_user_clear> {
+    static result<prepared_user> make(const stunp_server *of, const user &by) {
+        prepared_user made;
+        int64_t answer = call(stunp_user_new, made.get(), of, by.name, by.password);
+        return result<prepared_user>(answer, std::move(made));
+    }
+    static result<prepared_user> make(const stunp_server *of, const stored_user &by) {
+        prepared_user made;
+        int64_t answer =
+            call(stunp_user_new_of_keys, made.get(), of, by.name, by.sha1, by.sha256);
+        return result<prepared_user>(answer, std::move(made));
+    }
+};
+
 struct server : handle<stunp_server, stunp_server_clear> {
     using words = std::array<uint32_t, 16>; // random numbers, new ones for each call
 
@@ -164,6 +179,15 @@ struct server : handle<stunp_server, stunp_server_clear> {
                      const stored_user &by) {
         return verdict(call(stunp_server_validate_of_keys, get(), message, &from, now,
                             random.data(), by.name, by.sha1, by.sha256));
+    }
+    result<prepared_user> prepare(const user &by) const { return prepared_user::make(get(), by); }
+    result<prepared_user> prepare(const stored_user &by) const {
+        return prepared_user::make(get(), by);
+    }
+    verdict validate(view message, const address &from, uint64_t now, const words &random,
+                     const prepared_user &by) {
+        return verdict(call(stunp_server_validate_user, get(), message, &from, now, random.data(),
+                            by.get()));
     }
     // The user whom a message names, to look up (stunp_server_named_user).
     result<naming> named_user(view message, const address &from, size_t room = 513) const {
@@ -253,6 +277,9 @@ class writer {
     }
     writer &sign(server &by, const address &to, const stored_user &of) & {
         return then(stunp_write_server_sign_of_keys, by.get(), &to, of.name, of.sha1, of.sha256);
+    }
+    writer &sign(server &by, const address &to, const prepared_user &of) & {
+        return then(stunp_write_server_sign_user, by.get(), &to, of.get());
     }
     // Ends the answer to an accepted request (stunp_reply_finish), which may get FINGERPRINT too.
     writer &sign(const stunp_reply &by) & {

@@ -58,7 +58,8 @@
  *         return written < 0 ? 0 : (size_t)written;
  *     }
  *
- * examples/c/endpoint_server.c is this server with a socket.
+ * examples/c/endpoint_server.c is this server with a socket. To count or to log why requests are
+ * refused, call stunp_endpoint_server_cause for each answer whose `code` is not 0.
  *
  *
  * Servers with short-term credentials, or with none
@@ -180,7 +181,8 @@
  *   users: stunp_endpoint_users_new_own, stunp_endpoint_users_new, stunp_endpoint_users_add,
  *    stunp_endpoint_users_add_keys, stunp_endpoint_users_remove, stunp_endpoint_users_clear,
  *    stunp_endpoint_users_free
- *   datagrams: stunp_endpoint_server_receive_own, stunp_endpoint_server_receive, stunp_drop_text
+ *   datagrams: stunp_endpoint_server_receive_own, stunp_endpoint_server_receive, stunp_drop_text,
+ *    stunp_endpoint_server_cause_own, stunp_endpoint_server_cause, stunp_cause_text
  *   look-ups: stunp_endpoint_server_identify_own, stunp_endpoint_server_identify,
  *    stunp_endpoint_server_resume
  *   replies: stunp_reply_success, stunp_reply_error, stunp_reply_finish, stunp_reply_wipe
@@ -340,6 +342,30 @@ typedef enum stunp_drop {
                                        * 400 or 401 is not signed, so such a check ends by its
                                        * timeout */
 } stunp_drop;
+
+/* Why a server with long-term credentials refuses a request: the first check that the request fails
+ * (section 9.2.4). */
+typedef enum stunp_cause {
+    STUNP_CAUSE_NO_SIGNATURE = 1,      /* 401: it has no well-formed MESSAGE-INTEGRITY or
+                                        * MESSAGE-INTEGRITY-SHA256, as the first request of a client */
+    STUNP_CAUSE_INCOMPLETE = 2,        /* 400: it is signed, but has no well-formed REALM, NONCE, or
+                                        * name of a user */
+    STUNP_CAUSE_OTHER_ALGORITHMS = 3,  /* 400: it has the current nonce, but not the password
+                                        * algorithms that were offered with it. An attacker in between
+                                        * may have changed the list */
+    STUNP_CAUSE_OTHER_FEATURES = 4,    /* 401: the security bits of its nonce are not those of the
+                                        * server's nonces. An attacker may have changed them, or the
+                                        * nonce was sent before a change of settings */
+    STUNP_CAUSE_STALE_NONCE = 5,       /* 438: its nonce is not valid any more, was sent to another
+                                        * address, or is of another secret or other settings. Of a
+                                        * nonce of the period before, or of the previous secret, also
+                                        * if the credentials are wrong */
+    STUNP_CAUSE_WRONG_CREDENTIALS = 6, /* 401: its nonce is the current one, but it names no user of
+                                        * the table, the user has no key for the algorithm, or the
+                                        * signature is not valid under the user's key */
+    STUNP_CAUSE_UNKNOWN_ATTRIBUTE = 7  /* 420: a user has signed it, but it has an attribute that must
+                                        * be understood and is not */
+} stunp_cause;
 
 /* What a check of the peer, or the answer to a check of yours, comes to. */
 typedef enum stunp_ice_outcome {
@@ -758,6 +784,60 @@ STUNP_INLINED const char *stunp_drop_text(uint32_t why) {
     case STUNP_DROP_NOT_ASKED: return "it is a response to no check";
     case STUNP_DROP_WRONG_SIGNATURE: return "a response is not signed by the peer";
     default: return "it is not dropped";
+    }
+}
+
+/* Returns why a datagram is refused, like stunp_endpoint_server_cause, with handles that nothing else
+ * uses during the call. They stay as they are.
+ *
+ * Returns and fails as stunp_endpoint_server_cause does. */
+STUNP_USE_RESULT STUNP_READS(3, 4) STUNP_NOT_NULL(1, 2, 5)
+int64_t stunp_endpoint_server_cause_own(stunp_endpoint_server *server, stunp_endpoint_users *users,
+                                        const uint8_t *message, size_t message_length,
+                                        const stunp_address *from, uint64_t unix_seconds);
+
+/* Returns why stunp_endpoint_server_receive refuses a datagram, to count or to log it. Pass what you
+ * passed to that call, with the same time and the same users; after stunp_endpoint_server_resume, a
+ * table with the user that you found. It judges the request again, so call it only for an answer
+ * whose `code` is not 0. The client never learns the cause, but only the code.
+ *
+ * Only a server with long-term credentials has causes: the codes of others tell as much.
+ *
+ * Returns a stunp_cause, or 0 if the datagram is not refused: it is dropped, is not a request, or is
+ * accepted. Errors:
+ *   STUNP_EMPTY_HANDLE, STUNP_WRONG_HANDLE
+ *                        the server's handle is empty or null, or has no server with long-term
+ *                        credentials; and then the users' is empty or null, or has no table, or one of
+ *                        users with short-term credentials
+ *   STUNP_BAD_ARGUMENT   `unix_seconds` is above 2 to the power of 40, or `from` is not an IPv4 or
+ *                        IPv6 address
+ *   STUNP_OUT_OF_MEMORY  an allocation failed */
+STUNP_USE_RESULT
+STUNP_INLINED int64_t
+stunp_endpoint_server_cause(const stunp_endpoint_server *server, const stunp_endpoint_users *users,
+                            const uint8_t *bytes, size_t length, const stunp_address *from,
+                            uint64_t unix_seconds) {
+    stunp_endpoint_server own = {false, NULL};
+    stunp_endpoint_users own_users = {false, NULL};
+    if (server != NULL) own = *server;
+    if (users != NULL) own_users = *users;
+    return stunp_endpoint_server_cause_own(&own, &own_users, bytes, length, from, unix_seconds);
+}
+
+/* Returns a text for a stunp_cause, as stunp_strerror does for an error. */
+STUNP_INLINED const char *stunp_cause_text(int64_t cause) {
+    switch (cause) {
+    case STUNP_CAUSE_NO_SIGNATURE: return "the request is not signed";
+    case STUNP_CAUSE_INCOMPLETE: return "the realm, the nonce or the user name is missing";
+    case STUNP_CAUSE_OTHER_ALGORITHMS:
+        return "the password algorithms are not those that were offered";
+    case STUNP_CAUSE_OTHER_FEATURES: return "the security bits of the nonce are not the server's";
+    case STUNP_CAUSE_STALE_NONCE: return "the nonce is not valid any more";
+    case STUNP_CAUSE_WRONG_CREDENTIALS:
+        return "the user is unknown, or the signature is not the user's";
+    case STUNP_CAUSE_UNKNOWN_ATTRIBUTE:
+        return "the request has an attribute that is not understood";
+    default: return "it is not refused";
     }
 }
 

@@ -1,10 +1,11 @@
 /* stunp_state.h: STUN (RFC 8489) with state, for C, C++ and Rust
  *
  * stunp.h reads and writes single messages. This header adds what must be remembered between
- * messages, in three objects:
+ * messages, in four objects:
  *
  *   stunp_agent   sends requests, retransmits them, and reports when they time out
  *   stunp_server  authenticates clients by user name and password (long-term credentials)
+ *   stunp_user    has the keys of a user whom the server does not have itself
  *   stunp_client  answers a server's challenges and verifies its responses
  *
  * None of them performs I/O. You own the sockets, the clock and the random numbers: you pass in
@@ -49,6 +50,9 @@
  *   server, messages with users in a database: stunp_server_named_user, stunp_server_validate_of,
  *    stunp_server_validate_of_keys, stunp_server_sign_of, stunp_server_sign_of_keys,
  *    stunp_write_server_sign_of, stunp_write_server_sign_of_keys
+ *   server, messages with prepared users: stunp_user_new, stunp_user_new_of_keys, stunp_user_clear,
+ *    stunp_user_free, stunp_server_validate_user, stunp_server_sign_user,
+ *    stunp_write_server_sign_user
  *   server, records of addresses: stunp_server_address_count, stunp_server_nonce,
  *    stunp_server_remove_client, stunp_server_forget, stunp_server_forget_expired,
  *    stunp_server_forget_expired_within
@@ -347,6 +351,7 @@ void rattle_dealloc(void *at);
 typedef struct stunp_agent { bool is_full; void *state; } stunp_agent;
 typedef struct stunp_server { bool is_full; void *state; } stunp_server;
 typedef struct stunp_client { bool is_full; void *state; } stunp_client;
+typedef struct stunp_user { bool is_full; void *state; } stunp_user;
 
 /* The transport of an agent. */
 typedef enum stunp_transport {
@@ -861,8 +866,8 @@ int64_t stunp_server_validate(stunp_server *server, const uint8_t *message, size
                               const stunp_address *from, uint64_t now, const uint32_t words[16]);
 
 /* Returns whether a verdict of stunp_server_validate, stunp_server_validate_of,
- * stunp_server_validate_of_keys or stunp_client_validate is that the message is authentic: whether
- * it is STUNP_SHA1 or STUNP_SHA256. */
+ * stunp_server_validate_of_keys, stunp_server_validate_user or stunp_client_validate is that the
+ * message is authentic: whether it is STUNP_SHA1 or STUNP_SHA256. */
 STUNP_USE_RESULT
 STUNP_INLINED bool stunp_is_authentic(int64_t verdict) {
     return verdict == STUNP_SHA1 || verdict == STUNP_SHA256;
@@ -950,7 +955,10 @@ STUNP_INLINED void stunp_write_server_sign(stunp_writer *writer, stunp_server *s
  * If the user is the one that the message names, the verdict is that of a server that has all
  * users. If your database has no such user, or the message names nobody, stunp_server_validate of a
  * server without users gives that verdict, as above. Sign the response with the same user
- * (stunp_server_sign_of, stunp_server_sign_of_keys). */
+ * (stunp_server_sign_of, stunp_server_sign_of_keys).
+ *
+ * These calls make the keys of the user again each time. If one user sends many messages, as a TURN
+ * client does, prepare the user once (stunp_user_new below). */
 
 /* Determines with which user's key a message that arrived from `from` will be verified, so that you
  * can look that user up:
@@ -1110,6 +1118,121 @@ STUNP_INLINED void stunp_write_server_sign_of_keys(stunp_writer *writer, stunp_s
                                                         writer->length, to, name, name_length,
                                                         sha1, sha1_length, sha256,
                                                         sha256_length));
+}
+
+/* ---- Servers: messages with prepared users
+ *
+ * A stunp_user has the keys of one user at a server's realm. It is made once, from a password or
+ * from stored keys, and passed along with each message of that user: with it, a message costs as
+ * much as one of a user whom the server has itself. Keep it for as long as the user is likely to
+ * send messages, for example with the user's allocation of a TURN server.
+ *
+ *     if (!user->prepared.is_full &&
+ *         stunp_user_new(&user->prepared, server, user->name, user->name_length, user->password,
+ *                        user->password_length) < 0)
+ *         return;
+ *     int64_t verdict = stunp_server_validate_user(server, bytes, received, from, now, words,
+ *                                                  &user->prepared);
+ *
+ * A user belongs to the realm and the algorithms that the server had when the user was made. Any
+ * server with the same realm and algorithms may use it, one thread at a time. */
+
+/* Prepares a user of a server from a name and a password: makes the keys for the server's realm and
+ * for each algorithm that the server supports. The handle of the user must be empty. The server is
+ * left as it was, and does not add the user.
+ *
+ * Returns 0. Errors:
+ *   STUNP_FULL_HANDLE    the handle of the user is full
+ *   STUNP_EMPTY_HANDLE   the handle of the server is empty
+ *   STUNP_NOT_TEXT       the name or the password is not UTF-8
+ *   STUNP_OUT_OF_MEMORY  the user could not be stored */
+STUNP_READS(3, 4) STUNP_READS(5, 6) STUNP_NOT_NULL(1, 2)
+int64_t stunp_user_new(stunp_user *user, const stunp_server *server, const void *name,
+                       size_t name_length, const void *password, size_t password_length);
+
+/* Like stunp_user_new, with stored keys in place of the password: those that stunp_long_term_key
+ * makes of the name, the server's realm and the password. `sha1` is for STUNP_SHA1, with
+ * STUNP_SHA1_KEY_LENGTH bytes, and `sha256` for STUNP_SHA256, with STUNP_SHA256_KEY_LENGTH bytes.
+ * If you have not stored one of them, pass the length 0: the user then has no key for that
+ * algorithm.
+ *
+ * Returns 0. Errors:
+ *   STUNP_FULL_HANDLE    the handle of the user is full
+ *   STUNP_EMPTY_HANDLE   the handle of the server is empty
+ *   STUNP_NOT_TEXT       the name is not UTF-8
+ *   STUNP_BAD_ARGUMENT   a key has a length that is neither 0 nor that of its algorithm
+ *   STUNP_OUT_OF_MEMORY  the user could not be stored */
+STUNP_READS(3, 4) STUNP_READS(5, 6) STUNP_READS(7, 8) STUNP_NOT_NULL(1, 2)
+int64_t stunp_user_new_of_keys(stunp_user *user, const stunp_server *server, const void *name,
+                               size_t name_length, const uint8_t *sha1, size_t sha1_length,
+                               const uint8_t *sha256, size_t sha256_length);
+
+/* Frees a user and makes its handle empty. The pointer must not be null. This call is for callers
+ * that have the symbols of the archive and not this header; in C and C++ use stunp_user_free. */
+STUNP_NOT_NULL(1)
+void stunp_user_clear(stunp_user *user);
+
+/* Frees a user and makes its handle empty. Does nothing if the handle is empty or the pointer is
+ * null. */
+STUNP_INLINED void stunp_user_free(stunp_user *user) {
+    if (user != NULL) stunp_user_clear(user);
+}
+
+/* Authenticates a message like stunp_server_validate, as a server whose only user is this one. Pass
+ * the user whom stunp_server_named_user returns. The user is left as it was.
+ *
+ * Returns what stunp_server_validate returns, STUNP_SHA1 or STUNP_SHA256 if the message is
+ * authentic. Errors:
+ *   STUNP_EMPTY_HANDLE         the handle of the server or that of the user is empty
+ *   STUNP_WRONG_HANDLE         the user was made for another realm, or for other algorithms than
+ *                              the server supports now: make it again
+ *   STUNP_BAD_ARGUMENT         `from` is not an IPv4 or IPv6 address
+ *   STUNP_TRUNCATED, STUNP_NOT_STUN, STUNP_TOO_LARGE
+ *                              the bytes are not one whole message (stunp_parse): drop them
+ *   STUNP_TOO_MANY_ADDRESSES   this address has no record, and the limit is reached: drop it
+ * For a response:
+ *   STUNP_INTEGRITY_FAILED     it is not signed by the client of this address, or that client is
+ *                              not this user: drop it
+ * For a request or an indication, with the causes and in the order of stunp_server_validate:
+ *   STUNP_UNAUTHORIZED (answer 401), STUNP_BAD_REQUEST (400 or 438), STUNP_STALE_NONCE (438)
+ *   STUNP_OUT_OF_MEMORY        in place of any of these verdicts, if a nonce or a client could not
+ *                              be stored: drop the message */
+STUNP_USE_RESULT STUNP_READS(2, 3) STUNP_NOT_NULL(1, 4, 6, 7)
+int64_t stunp_server_validate_user(stunp_server *server, const uint8_t *message, size_t length,
+                                   const stunp_address *from, uint64_t now,
+                                   const uint32_t words[16], const stunp_user *user);
+
+/* Signs a message like stunp_server_sign, as a server whose only user is this one. Pass the user
+ * with whom the request was validated. Does not allocate. The user is left as it was.
+ *
+ * Returns the new length of the message. Errors:
+ *   STUNP_EMPTY_HANDLE       the handle of the server or that of the user is empty
+ *   STUNP_WRONG_HANDLE       the user was made for another realm, or for other algorithms than the
+ *                            server supports now: make it again
+ *   STUNP_BAD_ARGUMENT       `to` is not an IPv4 or IPv6 address, or `length` exceeds `room`
+ *   STUNP_TRUNCATED, STUNP_NOT_STUN, STUNP_TOO_LARGE
+ *                            the buffer does not hold one whole message (stunp_parse)
+ *   STUNP_CLOSED             the message is signed or has FINGERPRINT already, even if nothing
+ *                            would be added
+ *   STUNP_BUFFER_TOO_SMALL   the signed message would not fit into `room` bytes
+ * and then, for the first attribute that cannot be added:
+ *   STUNP_TEXT_TOO_LONG      the realm has more than 763 bytes. STUNP_MESSAGE_TOO_LONG instead, if
+ *                            the message would be too long with everything that is added
+ *   STUNP_ATTRIBUTE_EXISTS   the message has this attribute already
+ *   STUNP_MESSAGE_TOO_LONG   the message would be longer than a STUN message may be
+ *   STUNP_CANNOT_SIGN        this user is not the client of the address, or has no key for the
+ *                            client's algorithm */
+STUNP_USE_RESULT STUNP_CHANGES(2, 3) STUNP_NOT_NULL(1, 5, 6)
+int64_t stunp_server_sign_user(stunp_server *server, uint8_t *buffer, size_t room, size_t length,
+                               const stunp_address *to, const stunp_user *user);
+
+/* Signs the message of a writer (stunp_server_sign_user), which keeps the new length or the error.
+ * Does nothing if an earlier call with this writer has failed. */
+STUNP_INLINED void stunp_write_server_sign_user(stunp_writer *writer, stunp_server *server,
+                                                const stunp_address *to, const stunp_user *user) {
+    if (writer->refusal < 0) return;
+    stunp_writer_took(writer, stunp_server_sign_user(server, writer->bytes, writer->room,
+                                                     writer->length, to, user));
 }
 
 /* ---- Servers: records of addresses

@@ -1,12 +1,15 @@
 #!/bin/sh
-# Runs what README.md shows of the first minute on a minimal Debian, which has cargo, a C compiler,
-# make, Python and git, and nothing of this machine: `make export`, the sample request, the public
-# address from a server beside it, `make lib` and the program in C.
+# Runs the commands of README.md that need no `rt` on a minimal Debian, which has cargo, a C
+# compiler, make, Python and git, and nothing of this machine: `make export`, the sample request,
+# the public address from a server beside it, the jobs in Rust as a program of another folder, both
+# commands of stun_inspect, `make lib` and the program in C, and `make install`. Others are left to
+# other tests: `make rust` (tests/export/least.sh runs its tests by Debian's Rust 1.85), `make dist`
+# (tests/package.sh) and a release (tests/release.sh).
 #
 #     tests/bare.sh [SUITE ..]     trixie, unless a word names another release of Debian
 #
-# Each Debian is made by debootstrap and kept in ~/.cache/stunp-bare-SUITE. It is left out where there
-# is no debootstrap, root or network to make it. In bookworm, Rust is Debian's rustc-web.
+# Each Debian is made by debootstrap and kept in ~/.cache/stunp-bare-SUITE. It is left out where
+# there is no debootstrap, root or network to make it. In bookworm, Rust is Debian's rustc-web.
 set -eu
 top=$(cd "$(dirname "$0")/.." && pwd)
 cache=${XDG_CACHE_HOME:-$HOME/.cache}
@@ -64,18 +67,36 @@ trap 'kill $server' EXIT
 sleep 1
 address=$(target/export/target/debug/examples/udp_client 127.0.0.1 34780)
 echo "$address" | grep -qE '^127\.0\.0\.1:[0-9]+$' || { echo "bare: my address: $address" >&2; exit 1; }
+mkdir -p /tmp/mine/src
+cp -r target/export/.cargo /tmp/mine
+python3 tools/transcripts.py --jobs /tmp/mine/src/main.rs
+printf '%s\n' '[package]' 'name = "mine"' 'version = "0.1.0"' 'edition = "2021"' '[dependencies]' \
+    'seatcrane-stun = { path = "/stun_proto/target/export" }' >/tmp/mine/Cargo.toml
+expect 401 sh -c 'cd /tmp/mine && RUSTFLAGS="-A dead_code" cargo run --quiet'
+inspect=target/export/target/debug/stun_inspect
+sed -n '/^sample = bytes /{s/.*bytes //p;q}' crates/transcripts/data/message.rfc8489-b1.txt >/tmp/sample
+expect 'class                        request' sh -c "$inspect decode /tmp/sample | head -n 1"
+expect 'valid MESSAGE-INTEGRITY-SHA256' \
+    sh -c "$inspect verify マトリックス example.org TheMatrIX /tmp/sample | head -n 1"
 make lib >/tmp/lib 2>&1 || { cat /tmp/lib >&2; exit 1; }
 sed -n '/^    #include <stdio.h>/,/^    }/s/^    //p' README.md >/tmp/check.c
 cc -Iinclude /tmp/check.c target/c/libstunp.a -o /tmp/check
 python3 -c 'import sys; sys.stdout.buffer.write(bytes.fromhex(sys.stdin.read()))' \
     <crates/stun_tool/stdin >/tmp/sample
 expect 'valid' /tmp/check </tmp/sample
+make install DESTDIR=/tmp/root >/tmp/install 2>&1 || { cat /tmp/install >&2; exit 1; }
+expect 'installed: the exported libraries: tested, not proved' tail -n 1 /tmp/install
+cc -I/tmp/root/usr/local/include /tmp/check.c -L/tmp/root/usr/local/lib -lstunp -o /tmp/check
+LD_LIBRARY_PATH=/tmp/root/usr/local/lib expect 'valid' /tmp/check </tmp/sample
+[ -s /tmp/root/usr/local/share/man/man3/stunp_verify.3 ] || { echo 'bare: no manual' >&2; exit 1; }
 INSIDE
 }
 
 shown 'make export'
 shown "target/export/target/debug/stun_tool check 'VOkJxbRl1RmTxUk/WvJxBt'"
 shown 'target/export/target/debug/examples/udp_client HOST 3478'
+shown 'stun_inspect decode FILE'
+shown 'stun_inspect verify NAME REALM PASSWORD FILE'
 for suite in "${@:-trixie}"; do
     root=$cache/stunp-bare-$suite
     if ! based "$suite" "$root"; then
@@ -96,5 +117,5 @@ for suite in "${@:-trixie}"; do
         unshare -m sh -c \
             'mount -t proc proc "$ROOT/proc" && exec chroot "$ROOT" sh /stun_proto.sh' || exit 1
     rm -rf "$root/stun_proto" "$root/stun_proto.sh"
-    echo "bare: a minimal Debian ($suite): the first minute of README.md is as it says"
+    echo "bare: a minimal Debian ($suite): the commands of README.md do what it says"
 done

@@ -1,9 +1,10 @@
 #!/bin/sh
-# Builds the archives, and tests them: by the transcripts (play.py), and by what only C can pass.
-# Where STUN_C, STUN_STATE and STUN_ENDPOINT name other archives, as the libstunp.a of tools/rust_c.sh
-# for all, nothing is proved; without STUN_ENDPOINT, that is STUN_STATE. LIBRARIES tells what those want beside. Sanitizers watch
-# where the compiler has them. Without a C compiler it checks nothing. The last line says what was
-# checked.
+# Builds the archives, and tests them: by the transcripts (play.py), and by programs in C that pass
+# what only C can pass. STUN_C, STUN_STATE and STUN_ENDPOINT may name other archives, such as the
+# libstunp.a of tools/rust_c.sh for all three; then nothing is proved. Without STUN_ENDPOINT, that
+# is STUN_STATE. LIBRARIES has what these archives need in addition. The programs are built with
+# sanitizers if the compiler has them. Without a C compiler nothing is tested. The last line says
+# what was tested.
 set -eu
 cd "$(dirname "$0")"
 cc=${CC:-cc} plus=${CXX:-c++}
@@ -15,10 +16,10 @@ fi
 scratch=$(mktemp -d)
 trap 'rm -rf "$scratch"' EXIT
 
-# quiet COMMAND..: its output is told only where it fails.
+# quiet COMMAND..: prints the output of the command only if it fails.
 quiet() { "$@" >"$scratch/output" 2>&1 || { cat "$scratch/output" >&2 && exit 1; }; }
 
-# passes NAME COMMAND..: the command prints `NAME: passed` and no more, with status 0.
+# passes NAME COMMAND..: the command prints only `NAME: passed`, and ends with status 0.
 passes() {
     wanted="$1: passed"
     shift

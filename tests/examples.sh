@@ -1,9 +1,10 @@
 #!/bin/sh
-# Builds the archives and the examples against them, and compares what they print. It installs the
-# archives into a scratch folder and builds over that (tests/install.sh). What the archives answer
-# tests/check.sh tests. Where STUN_C and STUN_STATE name other archives, as the libstunp.a
-# of tools/rust_c.sh for all, nothing is proved; STUN_ENDPOINT is that of STUN_STATE if it is not set. LIBRARIES tells what those want beside.
-# Without a C compiler and make it checks nothing. The last line says what was checked.
+# Builds the archives and the examples over them, and compares what the examples print. It installs
+# the archives into a scratch folder and builds over that, too (tests/install.sh). What the archives
+# return is tested by tests/check.sh. STUN_C, STUN_STATE and STUN_ENDPOINT may name other archives,
+# such as the libstunp.a of tools/rust_c.sh for all three; then nothing is proved. Without
+# STUN_ENDPOINT, that is STUN_STATE. LIBRARIES has what these archives need in addition. Without a C
+# compiler and make nothing is tested. The last line says what was tested.
 set -eu
 cd "$(dirname "$0")"
 python3 ../bench/bars.py >/dev/null # the tables of bench/README.md have the bars of the programs

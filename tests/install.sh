@@ -1,11 +1,10 @@
 #!/bin/sh
-# Installs the archives that STUN_C, STUN_STATE and STUN_ENDPOINT (without it, that of STUN_STATE)
-# name, by absolute paths, or those of `rt lib`,
-# into a scratch folder, builds programs over it, by pkg-config and by CMake where they are there,
-# and takes all of it out again. If STUN_STATE is the exported archive, that is installed with the
-# shared library beside it. Where an archive is
-# missing, make says what to run, and proves nothing. Without a C compiler and make this checks
-# nothing. The last line says what was checked.
+# Installs archives into a scratch folder, builds programs over it, by pkg-config and by CMake if
+# they are installed, and uninstalls all of it. STUN_C, STUN_STATE and STUN_ENDPOINT name the
+# archives by absolute paths; without them they are those of `rt lib`, and without STUN_ENDPOINT
+# alone it is STUN_STATE. If STUN_STATE is the exported archive, the shared library beside it is
+# installed too. If an archive is missing, make says what to run, and nothing is proved. Without a C
+# compiler and make nothing is tested. The last line says what was tested.
 set -eu
 cd "$(dirname "$0")"
 cc=${CC:-cc}

@@ -1,7 +1,8 @@
 #!/bin/sh
-# Makes the manual pages of the headers (include/manual.py) and reads each as `man -l` does, where
-# it is there: a warning is a failure, and so is a page that whatis could not list. Each call that the
-# headers declare has a page, which shows the declaration and names the errors in their order.
+# Makes the manual pages of the headers (include/manual.py), and reads each as `man -l` does, if
+# that is installed. A warning is a failure, and so is a page that whatis could not list. Each call
+# that the headers declare must have a page, which shows the declaration and names the errors in
+# order.
 set -eu
 cd "$(dirname "$0")/.."
 scratch=$(mktemp -d)

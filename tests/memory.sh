@@ -1,10 +1,10 @@
 #!/bin/sh
-# Whose memory the exported library has, in each way in which a program may be linked: the
-# program's three functions wherever they stand, and malloc where it has not all of them.
+# Tests which memory the exported library uses, for each way in which a program may be linked: the
+# program's three functions, wherever they are, and malloc if the program does not have all three.
 #
-#     tests/memory.sh FOLDER      libstunp.a and libstunp.so of tools/rust_c.sh are there
+#     tests/memory.sh FOLDER      with libstunp.a and libstunp.so of tools/rust_c.sh
 #
-# LIBRARIES tells what the archive wants beside. The last line says what was checked.
+# LIBRARIES has what the archive needs in addition. The last line says what was tested.
 set -eu
 folder=$(cd "$1" && pwd)
 cd "$(dirname "$0")"

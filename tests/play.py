@@ -3,13 +3,14 @@
 C, by the program tests/c/play.c.
 
 Messages and their digests are spelled here (spelling.py), so they come from outside the library.
-Each answer is compared with the one that is written. Then each allocation of each line is refused,
-as crates/transcripts/src/refusing.rt does, and the call says so. Where it is made again all goes on
-as written, and where it is not, as in a play without its line. Each play gives back all blocks.
+Each answer is compared with that of the transcript. Then each allocation of each line is refused in
+turn, as crates/transcripts/src/refusing.rt does: the call must say so. If the call is made again,
+everything goes on as the transcript says, and if it is not, as in a transcript without its line.
+Each play frees all blocks.
 
-What the archives lack is left out, and counted. A call that only tells something is left out alone,
-one that changes something with the rest of its paragraph. The last lines are these counts. The
-status is 1 where an answer is wrong."""
+Calls that the archives do not have are left out, and counted: a call that only reads something
+alone, and one that changes something together with the rest of its paragraph. The last lines are
+these counts. The status is 1 if an answer is wrong."""
 
 import collections
 import sys

@@ -1,10 +1,10 @@
 #!/bin/sh
-# What the headers have a compiler and a linker refuse: exchanged arguments, a verdict that nobody
-# looks at, a null output, a length that is not that of the array, and a program that was compiled
-# against another release. STUN_C is the archive of stunp.h, STUN_STATE that of
-# stunp_state.h, STUN_ENDPOINT that of stunp_endpoint.h (without it, that of STUN_STATE), LIBRARIES
-# what they need beside. Without a C compiler nothing is tried, and without
-# an archive nothing is linked to it.
+# Tests what the headers make a compiler and a linker refuse: exchanged arguments, a result that
+# nobody looks at, a null output, a length that is not that of the array, and a program that was
+# compiled against another release. STUN_C is the archive of stunp.h, STUN_STATE that of
+# stunp_state.h, and STUN_ENDPOINT that of stunp_endpoint.h (without it, STUN_STATE). LIBRARIES has
+# what they need in addition. Without a C compiler nothing is tested, and without an archive nothing
+# is linked.
 set -eu
 cd "$(dirname "$0")"
 cc=${CC:-cc}
@@ -17,7 +17,7 @@ scratch=$(mktemp -d)
 trap 'rm -rf "$scratch"' EXIT
 strict='-std=c99 -Wall -Wextra -Werror -Wenum-conversion -I../include'
 
-# wants WORD COMMAND..: the command fails, and tells this word.
+# wants WORD COMMAND..: the command fails, and prints this word.
 wants() {
     word=$1
     shift

@@ -13,7 +13,7 @@ fail() {
     exit 1
 }
 
-# quiet COMMAND..: its output is told only where it fails.
+# quiet COMMAND..: prints the output of the command only if it fails.
 quiet() { "$@" >"$here/output" 2>&1 || { cat "$here/output" >&2 && fail "$* failed"; }; }
 
 # prints WANTED COMMAND..
@@ -32,6 +32,7 @@ version=$(cat "$folder/VERSION")
 [ "$(cd "$folder" && find . -type f ! -name SHA256SUMS | wc -l)" = \
     "$(wc -l <"$folder/SHA256SUMS")" ] || fail 'SHA256SUMS does not name each file'
 for file in README.md SECURITY.md CHANGELOG.md CONTENTS.md docs/README.md transcripts/README.md \
+    transcripts/server.refusals.txt transcripts/endpoints/client.requests.txt \
     crate/seatcrane-stun/src/lib.rs; do
     [ -s "$folder/$file" ] || fail "no $file"
 done

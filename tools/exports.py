@@ -25,6 +25,7 @@ PASSED = {
     "i64": "int64_t", "bool": "bool", "&[u32; 16]": "const uint32_t *",
     "&[u16]": "const uint16_t *, size_t", "&mut [u16]": "uint16_t *, size_t",
     "AgentHandle": "stunp_agent", "ServerHandle": "stunp_server", "ClientHandle": "stunp_client",
+    "UserHandle": "stunp_user",
     "Address": "stunp_address", "Timeouts": "stunp_timeouts", "Statistics": "stunp_statistics",
     "Header": "stunp_header", "Cursor": "stunp_cursor", "&[u8; 32]": "const uint8_t *",
     "Received": "stunp_received", "Reply": "stunp_reply",
@@ -42,6 +43,7 @@ NUMBERS = {
     "stunp_feature": ("stun_state/src/codes.rt", r"(\d+) => Ok\(Feature::(\w+)\)"),
     "fingerprint": ("stun_c/src/fingerprint.rt", r"Fingerprint::(\w+) => (\d+)"),
     "stunp_drop": ("stun_c_endpoint/src/received.rt", r"DropReason::(\w+) => (\d+)"),
+    "stunp_cause": ("stun_c_endpoint/src/server.rt", r"Cause::(\w+)\) => (\d+)"),
     "stunp_drop of ICE": ("stun_c_endpoint/src/ice/told.rt", r"DropReason::(\w+) => (\d+)"),
 }
 # Names of the header that are other ones in the sources, and the enums of which they are.
@@ -50,8 +52,12 @@ RENAMED = {"NO_FINGERPRINT": "ABSENT", "RIGHT_FINGERPRINT": "RIGHT", "WRONG_FING
            "DROP_NOT_STUN": "NOTSTUN", "DROP_MALFORMED": "MALFORMED",
            "DROP_WRONG_FINGERPRINT": "WRONGFINGERPRINT",
            "DROP_UNKNOWN_ATTRIBUTE": "UNKNOWNATTRIBUTE", "DROP_OTHER_METHOD": "OTHERMETHOD",
-           "DROP_NOT_ASKED": "NOTASKED", "DROP_WRONG_SIGNATURE": "WRONGSIGNATURE"}
-RENAMING = ("fingerprint", "stunp_drop", "stunp_drop of ICE")
+           "DROP_NOT_ASKED": "NOTASKED", "DROP_WRONG_SIGNATURE": "WRONGSIGNATURE",
+           "CAUSE_NO_SIGNATURE": "NOSIGNATURE", "CAUSE_INCOMPLETE": "INCOMPLETE",
+           "CAUSE_OTHER_ALGORITHMS": "OTHERALGORITHMS", "CAUSE_OTHER_FEATURES": "OTHERFEATURES",
+           "CAUSE_STALE_NONCE": "STALENONCE", "CAUSE_WRONG_CREDENTIALS": "WRONGCREDENTIALS",
+           "CAUSE_UNKNOWN_ATTRIBUTE": "UNKNOWNATTRIBUTE"}
+RENAMING = ("fingerprint", "stunp_drop", "stunp_cause", "stunp_drop of ICE")
 # Lengths of the header, each with the constant of the sources that it is.
 LENGTHS = {
     "ID_LENGTH": ("stun_numbers/src/id.rt", "ID_LENGTH"),
@@ -64,7 +70,7 @@ LENGTHS = {
     "MOST_KNOWN": ("stun_c/src/unknown.rt", "MOST_KNOWN"),
     "NAME_MAX": ("stun_c_endpoint/src/received.rt", "NAME_ROOM"),
 }
-HANDLES = ("stunp_agent *", "stunp_server *", "stunp_client *")
+HANDLES = ("stunp_agent *", "stunp_server *", "stunp_client *", "stunp_user *")
 wrong, compared, were_read = [], 0, {}
 
 def read(*paths):
@@ -117,10 +123,14 @@ def functions_of_rust(text, before, enums):
 
 def with_constants(text, functions):
     """The same, where the handle that a call leaves, by its clause `same`, is const in C."""
-    clauses = dict(re.findall(r'extern "C" fn (\w+)\([^)]*\)[^\n]*\n(.*?)\n\{\n', text, re.DOTALL))
-    left = {name for name, clause in clauses.items() if "ensures same {" in clause}
-    return {name: [f"const {kind}" if name in left and kind in HANDLES else kind for kind in kinds]
-            for name, kinds in functions.items()}
+    found = re.findall(r'extern "C" fn (\w+)\(([^)]*)\)[^\n]*\n(.*?)\n\{\n', text, re.DOTALL)
+    left = {}
+    for name, listed, clauses in found:
+        for label in re.findall(r"ensures same \{ (\w+)\.new", clauses):
+            kind = re.search(rf"\b{label}: &mut (\w+)", listed)[1]
+            left[name] = PASSED.get(kind, "") + " *"
+    return {name: [f"const {kind}" if kind in HANDLES and kind == left.get(name) else kind
+                   for kind in kinds] for name, kinds in functions.items()}
 
 def functions_of_header(text):
     """Bytes that are read may have any type in C."""
@@ -132,8 +142,8 @@ def functions_of_header(text):
 
 # Calls whose result may be ignored: what they do, they do as far as they can, or they cannot fail.
 MAY_IGNORE = re.compile(
-    r"stunp_((agent|server|client)_(new(_with)?|set_\w+|add_user|remove_\w+|forget\w*|cancel\w*|"
-    r"configure|statistics|validated_peer|send)|read_header|id|error_text|"
+    r"stunp_((agent|server|client|user)_(new(_with|_of_keys)?|set_\w+|add_user|remove_\w+|"
+    r"forget\w*|cancel\w*|configure|statistics|validated_peer|send)|read_header|id|error_text|"
     r"endpoint_(server_new_(with|short_term|open)|users_(new_own|add(_keys)?|remove))|"
     r"ice_checker_(new_with|set_tie_breaker)|"
     r"(state_|endpoint_)?(version|release_\w+))")
@@ -211,7 +221,8 @@ def compare_numbers(header):
                  for pair in re.findall(pattern, read(f"crates/{path}"))]
         found = {name.upper(): int(value) for name, value in pairs}
         names = [name for name in declared if RENAMED.get(name, name) in found
-                 and (name in RENAMED) == (enum in RENAMING)]
+                 and (name in RENAMED) == (enum in RENAMING)
+                 and name.startswith("CAUSE_") == (enum == "stunp_cause")]
         compare(enum, {RENAMED.get(name, name): declared[name] for name in names}, found)
         compare(f"{enum} of the sources", found,
                 {RENAMED.get(name, name): declared[name] for name in names})
@@ -247,7 +258,8 @@ def main():
     header = read("include/stunp.h", "include/stunp_state.h", "include/stunp_endpoint.h")
     crates = read(*(f"crates/stun_c/src/{name}.rt" for name in ("lib", "header", "walk")),
                   *(f"crates/stun_state/src/{name}.rt"
-                    for name in ("calls/agent", "calls/server", "calls/handed", "calls/client",
+                    for name in ("calls/agent", "calls/server", "calls/handed", "calls/user",
+                                 "calls/client",
                                  "calls/release", "address", "agent")),
                   "crates/stun_handles/src/address.rt",
                   *(f"crates/stun_c_endpoint/src/{name}.rt"

@@ -38,6 +38,7 @@ BUILT = (*BUILT_ARCHIVES, *BUILT_PROGRAMS, "target/export/Cargo.toml")
 # What is copied, and to where.
 KEPT = (
     ("crates/transcripts/data", "transcripts"),
+    ("rust/tests/transcripts/data", "transcripts/endpoints"),
     ("docs/maintainers/TRANSCRIPTS.md", "transcripts/README.md"),
     ("docs", "docs"),
     ("CHANGELOG.md", "CHANGELOG.md"),
@@ -79,6 +80,7 @@ This folder is a prefix. Use it where it lies, or copy it by `make install PREFI
 | `share/stunp` | the source of `libstunp_heap.a` |
 | `crate` | the exported crate: as `.crate`, and its workspace as source |
 | `transcripts` | calls with their answers; [README.md](transcripts/README.md) is their language |
+| `transcripts/endpoints` | those of look-ups, servers without a realm, ICE and clients |
 | `docs`, the pages beside this one | those of the repository; links to other folders lead there |
 | `PROOF` | the commit, the toolchain, and what was said of each proof |
 | `SHA256SUMS` | of all other files: `sha256sum -c SHA256SUMS` |

@@ -2,9 +2,9 @@
 # Exports the library as plain Rust to target/export, and tries what comes out: warnings, pages,
 # tests, transcripts. It needs cargo, the Rust of rust/Cargo.toml and Python 3.9. Cargo takes its
 # crates from vendor/ if that is there, as in the release of the sources, or else those of Debian if
-# they are installed (or can be, by root): then it needs no network. --build exports, builds and tests
-# nothing; --export only exports, and installs nothing; --can tells by its status whether all that it
-# needs is there, with the crates.
+# they are installed (or can be, by root): then it needs no network. --build exports and builds, and
+# tests nothing; --export only exports, and installs nothing; --can only tests, by its status, whether
+# all that it needs is installed, the crates included.
 set -eu
 cd "$(dirname "$0")/.."
 out=target/export
@@ -25,17 +25,18 @@ has_rust "$least" || missing="cargo and rustc $least"
 python3 -c 'import sys; sys.exit(sys.version_info < (3, 9))' 2> /dev/null ||
     missing="$missing${missing:+, }Python 3.9"
 if [ -n "$missing" ]; then
-    echo "The exported crate wants what is not there: $missing." >&2
+    echo "The exported crate needs $missing, which cannot be found. On Debian 13 install the packages" \
+        "rustc, cargo and python3, and on Debian 12 rustc-web, cargo-web and python3." >&2
     exit 1
 fi
 if [ "${1:-}" != --export ] && ! has_crates && command -v apt-get > /dev/null && [ "$(id -u)" = 0 ]; then
     { apt-get update -qq &&
         apt-get install -qq -y --no-install-recommends $packages; } > /dev/null ||
-        echo "The crates of Debian cannot be installed: cargo fetches them." >&2
+        echo "Debian's packages of crates cannot be installed, so cargo fetches the crates." >&2
 fi
 if [ "${1:-}" = --can ]; then
     has_crates && exit
-    echo "The crates of Debian are not there: $packages." >&2
+    echo "Debian's packages of crates are not installed: $packages." >&2
     exit 1
 fi
 [ -n "${1:-}" ] || python3 tests/export/export_test.py
@@ -66,7 +67,7 @@ if cargo clippy --version > /dev/null 2>&1; then
     cargo clippy --quiet --no-default-features
     python3 ../../tests/export/argued.py .
 else
-    echo "No clippy is there: its warnings are left out." >&2
+    echo "clippy is not installed: its warnings are left out." >&2
 fi
 cargo doc --quiet --no-deps
 # The tests of the calls for C are in C (rust_c.sh).

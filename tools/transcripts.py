@@ -10,6 +10,8 @@
                                           commands of examples/README.md
     tools/transcripts.py --rust FOLDER    the command of README.md after `make export`, and its
                                           lines of Rust, with the exported crate of that folder
+    tools/transcripts.py --jobs FILE      writes the jobs in Rust of README.md as one program, which
+                                          prints 401
     tools/transcripts.py --write FOLDER   each transcript as two files, .command and .wanted, beside
                                           request.bin, to be run elsewhere
 
@@ -206,22 +208,28 @@ def in_c(archives):
         return True
 
 
+def write_jobs(path):
+    """The jobs in Rust of README.md as one program. Returns their number."""
+    jobs = text_of("README.md").split("## Everyday jobs")[1].split("\n## ")[0]
+    jobs = [job for job in re.findall(r"\n\n((?:    .*\n|\n(?=    ))+)", jobs) if "pub fn" in job]
+    lines = ["mod job%d {\n%s}\n" % job for job in enumerate(jobs)]
+    with open(path, "w") as opened:
+        opened.write("".join(lines) + text_of("tests/export/readme_main.rs"))
+    return len(jobs)
+
+
 def in_rust(folder):
     command = block_after(text_of("README.md"), "section 2.1.")
     if not prints("valid MESSAGE-INTEGRITY\n", ["sh", "-ec", command], cwd=TOP):
         return False
     source = os.path.join(folder, "examples", "readme.rs")
-    jobs = text_of("README.md").split("## Everyday jobs")[1].split("\n## ")[0]
-    jobs = [job for job in re.findall(r"\n\n((?:    .*\n|\n(?=    ))+)", jobs) if "pub fn" in job]
-    lines = ["mod job%d {\n%s}\n" % job for job in enumerate(jobs)]
     try:
-        with open(source, "w") as opened:
-            opened.write("".join(lines) + text_of("tests/export/readme_main.rs"))
+        count = write_jobs(source)
         if not prints("401\n", ["cargo", "run", "--quiet", "--example", "readme"], cwd=folder):
             return False
     finally:
         os.remove(source)
-    print("transcripts: the command and the %d jobs in Rust of README.md do what it says" % len(jobs))
+    print("transcripts: the command and the %d jobs in Rust of README.md do what it says" % count)
     return True
 
 
@@ -230,6 +238,7 @@ if __name__ == "__main__":
         sys.exit(__doc__)
     modes = {"--first-minute": lambda _: in_clone(first_minute), "--c": in_c,
              "--rust": lambda words: in_rust(words[0]),
+             "--jobs": lambda words: write_jobs(words[0]),
              "--write": lambda words: write_all(words[0])}
     mode = modes.get(sys.argv[1])
     sys.exit(0 if (mode(sys.argv[2:]) if mode else run_all(sys.argv[1:])) else 1)

@@ -18,8 +18,8 @@ struct asker {
     int64_t dropped_code; /* the error code of the last of them, or below 0 */
 };
 
-/* Finds a server, opens a socket to it, and gives it so many nanoseconds to answer all requests.
- * Returns false after it printed the reason on standard error. Close it after that too. */
+/* Finds a server, opens a socket to it, and gives it `within` nanoseconds to answer all requests.
+ * Returns false after it printed the reason on standard error; call close_asker even then. */
 bool open_asker(struct asker *asker, const char *host, const char *port, uint64_t within);
 void close_asker(struct asker *asker);
 
@@ -34,7 +34,8 @@ typedef void fill_request(stunp_writer *request, const void *what);
 bool ask(struct asker *asker, uint32_t method, fill_request *fill, const void *what,
          struct datagram *got);
 
-/* Sends bytes that are no request to the server, and waits for a datagram from it until a time. */
+/* Sends bytes that are not a request to the server, and waits for a datagram from it until a
+ * time. */
 void send_data(const struct asker *asker, const stunp_writer *data);
 bool receive_data(const struct asker *asker, uint64_t until, struct datagram *got);
 

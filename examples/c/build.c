@@ -1,4 +1,4 @@
-/* A signed Binding request: writes one to standard output.
+/* Writes a signed Binding request to standard output.
  *
  *     build 1|2 USERNAME PASSWORD > MESSAGE
  *

@@ -22,8 +22,8 @@ static size_t bound = SIZE_MAX, blocks, bytes, asked, refused;
 
 static const rattle_allocation none = {false, NULL};
 
-/* Counts so many bytes more, or answers false above the bound or at the allocation that is to be
- * refused. */
+/* Counts `length` more bytes. Returns false if they exceed the bound, or if this is the allocation
+ * to refuse. */
 static bool take(size_t length) {
     size_t number = __atomic_add_fetch(&asked, 1, __ATOMIC_SEQ_CST);
     if (number == __atomic_load_n(&refused, __ATOMIC_SEQ_CST)) return false;

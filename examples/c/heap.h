@@ -8,20 +8,21 @@
 extern "C" {
 #endif
 
-/* The three functions are those of stunp_state.h. An allocation is refused where malloc refuses it,
- * above the bound, at an alignment beyond that of malloc, and where stunp_heap_refuse said so; the
- * call of the library then fails with STUNP_OUT_OF_MEMORY. */
+/* The three functions are those of stunp_state.h. An allocation is refused if malloc refuses it, if
+ * it exceeds the bound, if its alignment is wider than that of malloc, or if you asked for that
+ * with stunp_heap_refuse. The call of the library then fails with STUNP_OUT_OF_MEMORY. */
 
-/* From now on no more than so many bytes are held at once. SIZE_MAX at first. */
+/* Limits how many bytes may be allocated at the same time. The limit is SIZE_MAX until you call
+ * this. */
 void stunp_heap_bound(size_t bytes);
 
-/* The blocks and the bytes that are held, without malloc's own, and how many allocations were asked
- * for so far. */
+/* Return how many blocks and bytes are allocated now, without those that malloc needs for itself,
+ * and how many allocations were requested so far. */
 size_t stunp_heap_blocks(void);
 size_t stunp_heap_bytes(void);
 size_t stunp_heap_asked(void);
 
-/* For tests: the n-th allocation from now on is refused, and no other; 0 for none. */
+/* Refuses only the n-th allocation from now on, or none if n is 0. This is for tests. */
 void stunp_heap_refuse(size_t n);
 
 #ifdef __cplusplus

@@ -4,10 +4,10 @@
  *     ice_check controlling|controlled [OPTION]..
  *
  * --at HOST           the address of the candidates: 127.0.0.1
- * --candidates N      so many of them, each a port: 1. With 71 on both sides there are 5041 pairs
+ * --candidates N      the number of candidates, each a port: 1. 71 on both sides are 5041 pairs
  * --pace SECONDS      from one check to the next (section 14.2): 0.05
  * --tie-breaker N     in place of a random one
- * --within SECONDS    gives up after so long: 30
+ * --within SECONDS    gives up after SECONDS: 30
  *
  * Its first line is `HOST PORT[,PORT].. UFRAG PASSWORD`, and it reads such a line of the other
  * program from standard input: to bring them across, as SDP does, is the caller's part.

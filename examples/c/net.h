@@ -76,7 +76,7 @@ int open_own(const struct peer *at, stunp_address *own);
  * printed the reason on standard error. */
 int open_client(const char *host, const char *port, struct peer *server, stunp_address *own);
 
-/* What arrives at a socket within so many nanoseconds: a datagram, or an error report about one
+/* What arrives at a socket within this many nanoseconds: a datagram, or an error report about one
  * that was sent. */
 enum arrival { NOTHING, DATAGRAM, ERROR_REPORT };
 enum arrival wait_for(int socket, uint64_t nanoseconds);

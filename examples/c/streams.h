@@ -7,7 +7,7 @@
 
 #include "net.h"
 
-/* So many at a time; one more ends the connection that has been silent for longest. */
+/* The most connections at a time; one more ends the connection that has been silent for longest. */
 enum { MOST_CONNECTIONS = 256 };
 
 /* Has an epoll report this number as `data.fd` whenever a socket can be read. */
@@ -19,11 +19,11 @@ void accept_stream(int listening, int queue, int first);
 /* Writes the answer to a message, with length 0 if it gets none. */
 typedef void answer_message(const struct datagram *message, struct answer *answer);
 
-/* Reads what came on the connection with this number, and answers each message that is whole. */
+/* Reads what has arrived on the connection with this number, and answers each whole message. */
 void read_stream(int number, answer_message *answer);
 
-/* Ends each connection on which no whole message came for so many nanoseconds. It may be called
- * often: it looks once in a second. */
+/* Ends each connection on which no whole message has arrived for this many nanoseconds. You may
+ * call it often: it looks once a second. */
 void end_idle_streams(uint64_t nanoseconds);
 
 #endif

@@ -3,10 +3,10 @@
  *
  *     turn_client HOST PORT NAME PASSWORD PEER PORT [--within SECONDS]
  *
- * The peer, an IP address, is to send back what arrives, as turnutils_peer of coturn does. The
+ * The peer, an IP address, must send back what arrives, as turnutils_peer of coturn does. The
  * program prints what was allocated, and which data came back. It gives up after 30 s, and ends the
  * allocation after an error too. Status 0; or 1, and why on standard error; or 2 for wrong
- * arguments. What follows `--` is no option, such as a PASSWORD that begins with `-`. */
+ * arguments. What follows `--` is not an option, such as a PASSWORD that begins with `-`. */
 #define _GNU_SOURCE
 #include "asker.h"
 #include "heap.h"
@@ -79,11 +79,11 @@ static bool is_indication(const stunp_address *peer, const char *text, const str
     return stunp_read_header(got->bytes, got->length, &header) == 0
            && header.message_class == STUNP_INDICATION && header.method == STUNP_DATA_METHOD
            && find_address(got, STUNP_XOR_PEER_ADDRESS, &from) && is_same(&from, peer)
-           && at > 0 && length == strlen(text) && memcmp(got->bytes + at, text, length) == 0;
+           && at > 0 && length == strlen(text) && memcmp(got->bytes + at + 4, text, length) == 0;
 }
 
-/* The number of the channel, a length, and so many bytes (section 12.4): no STUN message, but sent
- * and compared like one. */
+/* Writes ChannelData (section 12.4): the number of the channel, a length, and the data. It is not a
+ * STUN message, but is sent and compared like one. */
 static stunp_writer write_on_channel(const stunp_address *peer, const char *text, uint8_t *bytes) {
     size_t length = strlen(text);
     const uint8_t header[CHANNEL_HEADER] = {CHANNEL >> 8, CHANNEL & 255, length >> 8 & 255,

@@ -4,10 +4,10 @@
  *
  * --user FILE         reads both from the last line of a file, or of standard input if it is `-`
  * --sha256            supports HMAC-SHA256 beside HMAC-SHA1
- * --within SECONDS    gives up after so long; a request ends after 39.5 s
- * --                  what follows is no option, such as a PASSWORD that begins with `-`
+ * --within SECONDS    gives up after SECONDS; a request ends after 39.5 s
+ * --                  what follows is not an option, such as a PASSWORD that begins with `-`
  *
- * Without a name it accepts an answer that nobody signed; with one, only an answer that the server
+ * Without a name it accepts an unsigned response; with a name, only a response that the server has
  * signed. Status 0; or 1, and why on standard error: `no answer`, `refused CODE`, `unsupported ..`
  * or `failed ..`; or 2 for wrong arguments. */
 #define _GNU_SOURCE

@@ -45,18 +45,18 @@ static const char help[] =
     "                    standard input. All of this machine unless given\n"
     "  --tcp             serve TCP too, 256 connections at a time in each process: one more ends\n"
     "                    the connection that has been silent for longest\n"
-    "  --idle SECONDS    end a connection if no whole message came for so long. 30 unless given\n"
-    "  --workers N       so many processes: 1 unless given\n"
+    "  --idle SECONDS    end a connection without a whole message for SECONDS. 30 unless given\n"
+    "  --workers N       the number of processes: 1 unless given\n"
     "  --shared          let other servers have the port too (SO_REUSEPORT)\n"
     "  --any-method      judge requests of other methods too, and answer them 420 if they have\n"
     "                    attributes of TURN, 400 if an Allocate lacks REQUESTED-TRANSPORT, and\n"
     "                    508 otherwise\n"
-    "  --counts SECONDS  print a line of counters so often; SIGUSR1 prints one at once\n"
+    "  --counts SECONDS  print a line of counters every SECONDS; SIGUSR1 prints one at once\n"
     "  --ahead SECONDS   SIGUSR2 moves the clock of the process that gets it so far ahead, to\n"
     "                    see nonces expire (for tests; with --workers send it to each worker)\n"
     "  -v                print a line for each datagram: from where, the answer, and who had\n"
     "                    signed, if the request was accepted and all its attributes are known\n"
-    "  --                what follows is no option, such as a PASSWORD that begins with `-`\n"
+    "  --                what follows is not an option, such as a PASSWORD that begins with `-`\n"
     "  --help, --version\n";
 
 enum { MOST_BATCHES = 4 /* of one socket in turn */, MOST_WAIT = 1000 /* milliseconds */ };
@@ -270,18 +270,18 @@ static bool fill(stunp_endpoint_users *table, const char *what) {
     return false;
 }
 
-/* SIGHUP came: the file is read again. A bad one changes nothing. */
+/* Reads the file of users again, after a SIGHUP. A file with a bad line changes nothing. */
 static void reload(void) {
     stunp_endpoint_users again = {0};
     if (!settings.has_users || settings.file == NULL || strcmp(settings.file, "-") == 0) return;
-    if (!fill(&again, "users stay as they were: ")) return;
+    if (!fill(&again, "the users are unchanged: ")) return;
     stunp_endpoint_users_free(&users);
     users = again;
 }
 
 /* ---- The sockets */
 
-/* Answers what waits at a socket; some of it, so that the other sockets have their turn. */
+/* Answers datagrams that wait at a socket; not all of them, so that other sockets get a turn. */
 static void serve_some(int socket) {
     static struct datagram got[BATCH];
     static struct answer answers[BATCH];

@@ -31,14 +31,14 @@ char **hidden_words(char **words, int count) {
     return copies;
 }
 
-/* The value of a hexadecimal digit, or -1. */
+/* Returns the value of a hexadecimal digit, or -1. */
 static int value_of(char digit) {
     if (digit >= '0' && digit <= '9') return digit - '0';
     if (digit >= 'a' && digit <= 'f') return digit - 'a' + 10;
     return digit >= 'A' && digit <= 'F' ? digit - 'A' + 10 : -1;
 }
 
-/* Reads as many bytes as there are pairs of hexadecimal digits in so many letters. */
+/* Reads `count` hexadecimal digits as bytes, two digits for each. */
 static bool read_hexadecimal(const char *letters, size_t count, uint8_t *bytes) {
     for (size_t i = 0; i < count; i++) {
         int value = value_of(letters[i]);
@@ -102,7 +102,7 @@ static long add_lines(stunp_endpoint_users *users, const char *path, const char 
             break;
         }
         if (answer < 0) {
-            fprintf(stderr, "udp_server: %s, line %lu: no `NAME PASSWORD`\n", path, number);
+            fprintf(stderr, "udp_server: %s, line %lu: expected `NAME PASSWORD`\n", path, number);
             bad++;
         }
     }
@@ -120,7 +120,7 @@ bool add_file(stunp_endpoint_users *users, const char *path, const char *what) {
     long bad = add_lines(users, is_input ? "standard input" : path, what, file);
     bool is_read = !ferror(file);
     if (is_read && bad > 0)
-        fprintf(stderr, "udp_server: %s%s: %ld lines are no users\n", what, path, bad);
+        fprintf(stderr, "udp_server: %s%s: bad lines: %ld\n", what, path, bad);
     if (!is_read) fails(path, strerror(errno));
     if (!is_input) fclose(file);
     explicit_bzero(ahead, sizeof ahead);

@@ -1,4 +1,4 @@
-/* Which digest of a message verifies under a password: says so of the message on standard input.
+/* Prints which signature of the message on standard input is valid under a password.
  *
  *     verify PASSWORD < MESSAGE
  *

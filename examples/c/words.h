@@ -28,7 +28,7 @@ bool read_number(const char *word, unsigned long least, unsigned long most, unsi
 
 /* Reads the options out of the arguments; the list of options ends with one without a name. Moves
  * the other arguments to the front, and returns their number, or -1 if an option is wrong. What
- * follows `--` is no option. */
+ * follows `--` is not an option. */
 int read_options(int count, char **words, const struct option *options);
 
 /* Reads the last line `NAME PASSWORD` of a file, or of standard input if it is `-`, into `line`,

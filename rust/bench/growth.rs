@@ -7,11 +7,15 @@
 //!
 //! Each call is timed in several rounds that do the same, and the least time of each call counts,
 //! so that other work of the machine does not. A row has the median of the calls, the time that
-//! one call in a thousand exceeds, and the longest, in nanoseconds.
+//! one call in a thousand exceeds, and the longest, in nanoseconds. The plain agent has the maps of
+//! the standard library alone ([plain_agent.rs](plain_agent.rs)).
 //!
 //! On Linux, `growth memory 100000` prints the resident bytes of an outstanding request, a user and
 //! an address with a nonce, if there are that many.
 
+mod plain_agent;
+
+use plain_agent::PlainAgent;
 use seatcrane_stun::Instant;
 use seatcrane_stun::agent::{StunAgent, StunAgentPollRet};
 use seatcrane_stun::auth::*;
@@ -88,45 +92,113 @@ fn at(millis: u64) -> Instant {
     Instant::ZERO + Duration::from_millis(millis)
 }
 
+/// A request with the ID of this number.
+fn request(i: usize) -> Vec<u8> {
+    Message::builder_request_with_id(BINDING, id(i), MessageWriteVec::new()).finish()
+}
+
+/// The success that answers a request.
+fn success(request: &[u8], address: SocketAddr) -> Vec<u8> {
+    let request = Message::from_bytes(request).unwrap();
+    let mut answer = Message::builder_success(&request, MessageWriteVec::new());
+    answer.add_xor_mapped_address(address).unwrap();
+    answer.finish()
+}
+
+/// The numbers below `size` in an order that looks random.
+fn shuffled(size: usize) -> Vec<usize> {
+    let mut order: Vec<usize> = (0..size).collect();
+    order.sort_unstable_by_key(|i| scattered(*i).rotate_left(32));
+    order
+}
+
+const REMOTE: ([u8; 4], u16) = ([192, 0, 2, 1], 3478);
+const LOCAL: ([u8; 4], u16) = ([192, 0, 2, 2], 4242);
+
+/// The time at which this request is sent first, and sent again.
+fn first_sent(i: usize) -> Instant {
+    at(i as u64 / 1000)
+}
+
+fn sent_again(i: usize) -> Instant {
+    at(500 + i as u64 / 1000)
+}
+
 fn agent(size: usize, table: &mut Table) {
-    let remote: SocketAddr = ([192, 0, 2, 1], 3478).into();
-    let local: SocketAddr = ([192, 0, 2, 2], 4242).into();
+    let (remote, local) = (REMOTE.into(), LOCAL.into());
     let mut agent = StunAgent::builder(TransportType::Udp, local).build();
-    let page =
-        |i| Message::builder_request_with_id(BINDING, id(i), MessageWriteVec::new()).finish();
-    let now = |i: usize| at(i as u64 / 1000);
     for i in 0..size {
-        let request = page(i);
+        let request = request(i);
         table.time("send_request while growing", i, || {
-            agent.send_request(&request, remote, now(i)).unwrap();
+            agent.send_request(&request, remote, first_sent(i)).unwrap();
         });
     }
-    let end = now(size);
+    let end = first_sent(size);
     for i in 0..size.min(100_000) {
         table.time("poll_transmit, none due", i, || {
             agent.poll_transmit(end).is_none()
         });
     }
     for i in 0..size.min(100_000) {
-        let later = at(500) + Duration::from_millis(i as u64 / 1000);
         table.time("poll_transmit, one due or more", i, || {
-            agent.poll_transmit(later).is_some()
+            agent.poll_transmit(sent_again(i)).is_some()
         });
     }
-    let mut order: Vec<usize> = (0..size).collect();
-    order.sort_unstable_by_key(|i| scattered(*i).rotate_left(32));
-    for (i, which) in order.into_iter().enumerate() {
-        let request = page(which);
-        let request = Message::from_bytes(&request).unwrap();
-        let mut answer = Message::builder_success(&request, MessageWriteVec::new());
-        answer.add_xor_mapped_address(local).unwrap();
-        let answer = answer.finish();
+    for (i, which) in shuffled(size).into_iter().enumerate() {
+        let answer = success(&request(which), local);
         let answer = Message::from_bytes(&answer).unwrap();
         table.time("response to a request", i, || {
             assert!(agent.handle_stun_message_with_time(&answer, remote, end));
         });
     }
     assert!(matches!(agent.poll(end), StunAgentPollRet::WaitUntil(_)));
+}
+
+fn plain_agent(size: usize, table: &mut Table) {
+    let (remote, local) = (REMOTE.into(), LOCAL.into());
+    let mut agent = PlainAgent::default();
+    for i in 0..size {
+        let request = request(i);
+        table.time("plain agent: send_request while growing", i, || {
+            agent.send_request(&request, remote, first_sent(i));
+        });
+    }
+    for i in 0..size.min(100_000) {
+        table.time("plain agent: poll_transmit, one due or more", i, || {
+            assert!(agent.poll_transmit(sent_again(i)).is_some());
+        });
+    }
+    let end = sent_again(size);
+    for (i, which) in shuffled(size).into_iter().enumerate() {
+        let answer = success(&request(which), local);
+        let answer = Message::from_bytes(&answer).unwrap();
+        table.time("plain agent: response to a request", i, || {
+            assert!(agent.response(&answer, remote, end).is_some());
+        });
+    }
+}
+
+/// Lets all requests end at once, and sends as many again. With glibc, a call may stop to gather
+/// the small blocks that were freed before it.
+fn ending_agent(size: usize, table: &mut Table) {
+    let (remote, local) = (REMOTE.into(), LOCAL.into());
+    let mut agent = StunAgent::builder(TransportType::Udp, local).build();
+    for i in 0..size {
+        agent.send_request(request(i), remote, at(0)).unwrap();
+        agent.mut_request_transaction(id(i)).unwrap().cancel();
+    }
+    for i in 0..size {
+        table.time("poll, one of all requests ends", i, || {
+            let ended = agent.poll(at(0));
+            assert!(matches!(ended, StunAgentPollRet::TransactionCancelled(_)));
+        });
+    }
+    for i in 0..size {
+        let request = request(i);
+        table.time("send_request after all ended", i, || {
+            agent.send_request(&request, remote, at(0)).unwrap();
+        });
+    }
 }
 
 fn credentials(i: usize) -> LongTermCredentials {
@@ -169,8 +241,7 @@ fn server(size: usize, table: &mut Table) {
     let words = |i: usize| std::array::from_fn(|k| scattered(i * 8 + k) as u32);
     let mut requests = Vec::new();
     for i in 0..size {
-        let request =
-            Message::builder_request_with_id(BINDING, id(i), MessageWriteVec::new()).finish();
+        let request = request(i);
         let request = Message::from_bytes(&request).unwrap();
         table.time("validate, a new address", i, || {
             let judged =
@@ -231,8 +302,7 @@ fn memory(size: usize) {
     let remote: SocketAddr = ([192, 0, 2, 1], 3478).into();
     let mut agent = StunAgent::builder(TransportType::Udp, remote).build();
     for i in 0..size {
-        let page = Message::builder_request_with_id(BINDING, id(i), MessageWriteVec::new());
-        agent.send_request(page.finish(), remote, at(0)).unwrap();
+        agent.send_request(request(i), remote, at(0)).unwrap();
     }
     let sent = resident();
     let mut server = LongTermServerAuth::new("example.org".to_string());
@@ -241,8 +311,7 @@ fn memory(size: usize) {
     }
     let added = resident();
     for i in 0..size {
-        let page = Message::builder_request_with_id(BINDING, id(i), MessageWriteVec::new());
-        let page = page.finish();
+        let page = request(i);
         let request = Message::from_bytes(&page).unwrap();
         let words = std::array::from_fn(|k| scattered(i * 8 + k) as u32);
         let judged =
@@ -275,7 +344,11 @@ fn main() {
     println!("| Call | of | median | one in 1,000 | longest |\n|---|---|---|---|---|");
     for size in arguments.iter().map(size) {
         let mut table = Table::default();
-        (0..ROUNDS).for_each(|_| agent(size, &mut table));
+        for _ in 0..ROUNDS {
+            agent(size, &mut table);
+            plain_agent(size, &mut table);
+        }
+        (0..ROUNDS).for_each(|_| ending_agent(size, &mut table));
         (0..ROUNDS).for_each(|_| server(size, &mut table));
         table.print(size);
     }

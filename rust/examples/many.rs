@@ -2,7 +2,7 @@
 //!
 //!     many HOST PORT CALLERS REQUESTS [NAME PASSWORD]
 //!
-//! Each of the CALLERS is a thread that makes so many Binding requests, one after another. They
+//! Each of the CALLERS is a thread that makes REQUESTS Binding requests, one after another. They
 //! share a `Front`, whose `ask` returns the response. One thread owns the client, and waits for
 //! three things: a caller, a datagram and a time. The standard library cannot wait for a socket and
 //! a channel together, so another thread reads the socket and passes on what arrives.
@@ -104,7 +104,7 @@ fn drive(socket: &UdpSocket, server: SocketAddr, mut client: Client, events: &Re
     }
 }
 
-/// Has so many callers make so many requests each, and returns how many were answered.
+/// Lets each of the callers make its requests, and returns how many were answered.
 fn ask_all(front: &Front, callers: usize, requests: usize) -> usize {
     let ask = || front.ask(BINDING, Body::new());
     let answered = |result: &Answer| match result {

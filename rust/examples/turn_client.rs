@@ -103,7 +103,7 @@ impl Session {
         self.ask(TurnMethod::ChannelBind, body).map(drop)
     }
 
-    /// Sends data until it comes back: nothing else tells whether it arrived.
+    /// Sends data until it comes back, because nothing else shows whether it arrived.
     fn carry(
         &mut self,
         what: &str,

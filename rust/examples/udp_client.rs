@@ -4,8 +4,8 @@
 //!
 //! Without a name it accepts an answer that nobody signed; with one, only an answer that the server
 //! signed. A file, or standard input if it is `-`, has a line `NAME PASSWORD`. What follows `--` is
-//! no option, such as a password that begins with `-`. Status 0; or 1, and why on standard error:
-//! `no answer`, `refused ..` or `failed ..`; or 2 for wrong arguments.
+//! not an option, such as a password that begins with `-`. Status 0; or 1, and why on standard
+//! error: `no answer`, `refused ..` or `failed ..`; or 2 for wrong arguments.
 
 #[path = "client/asker.rs"]
 mod asker;

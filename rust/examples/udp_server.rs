@@ -55,12 +55,12 @@ that realm alone. PORT 0 is any free one. The first line of output is `port N`.
   --at ADDRESS      an IP address to serve; may be repeated. `-` is the socket that is standard
                     input. `::` unless given, which is IPv4 too
   --tcp             serve TCP too, 64 connections at a time for each address
-  --idle SECONDS    end a connection if no whole message came for so long. 30 unless given
+  --idle SECONDS    end a connection without a whole message for SECONDS. 30 unless given
   --other ADDRESS   another IP address of this host, which makes this a server for NAT behavior
                     discovery (RFC 5780). It needs one --at, and takes ADDRESS:PORT for the other
                     port, which is PORT + 1 unless given
   --workers N       threads that read each socket: 1 unless given
-  --counts SECONDS  print a line of counters so often
+  --counts SECONDS  print a line of counters every SECONDS
   -v                print a line for each datagram
   --help, --version
 ";
@@ -177,7 +177,7 @@ impl Service<'_> {
 
     /// Builds the table of users again once their file is not as it was when it was first read, and
     /// has stayed the same for a second: it may be written in pieces. If it cannot be read, the
-    /// users stay as they were.
+    /// users are unchanged.
     fn reload(&self, file: &str, first: Option<Stamp>) {
         let Some((server, table)) = &self.of_realm else {
             return;
@@ -189,7 +189,7 @@ impl Service<'_> {
             if now.is_some() && now != last && now == before {
                 match users::table(server, &self.settings.users, Some(file)) {
                     Ok(users) => *table.write().unwrap_or_else(PoisonError::into_inner) = users,
-                    Err(error) => eprintln!("udp_server: users stay as they were: {error}"),
+                    Err(error) => eprintln!("udp_server: the users are unchanged: {error}"),
                 }
                 last = now;
             }

@@ -1,4 +1,4 @@
-//! Says by which algorithm a message is signed with a password: verify PASSWORD < MESSAGE
+//! Prints the algorithm with which a message is signed under a password: verify PASSWORD < MESSAGE
 
 use seatcrane_stun::types::message::{Message, ShortTermCredentials};
 use std::io::Read;

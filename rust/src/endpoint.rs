@@ -53,7 +53,7 @@ pub mod ice;
 
 pub use crate::exported::stun_endpoint::received::Refusal;
 pub use crate::exported::stun_endpoint::server::{
-    BuildError, DEFAULT_NONCE_LIFETIME, SHORTEST_NONCE_LIFETIME,
+    BuildError, Cause, DEFAULT_NONCE_LIFETIME, SHORTEST_NONCE_LIFETIME,
 };
 pub use crate::exported::stun_endpoint::unix_time::UnixTime;
 pub use body::{BODY_LIMIT, Body, BodyError};
@@ -115,6 +115,61 @@ impl From<std::time::SystemTime> for UnixTime {
     fn from(time: std::time::SystemTime) -> UnixTime {
         let since = time.duration_since(std::time::UNIX_EPOCH);
         UnixTime::from_secs(since.unwrap_or_default().as_secs())
+    }
+}
+
+/// The code of the response and its reason phrase, as `401 Unauthenticated`.
+impl fmt::Display for Refusal {
+    fn fmt(&self, f: &mut fmt::Formatter<'_>) -> fmt::Result {
+        write!(f, "{} {}", self.code(), self.phrase())
+    }
+}
+
+impl Cause {
+    /// All causes, each at its [`index`](Self::index).
+    pub const ALL: [Cause; Cause::COUNT] = [
+        Cause::NoSignature,
+        Cause::Incomplete,
+        Cause::OtherAlgorithms,
+        Cause::OtherFeatures,
+        Cause::StaleNonce,
+        Cause::WrongCredentials,
+        Cause::UnknownAttribute,
+    ];
+
+    /// How many causes there are.
+    pub const COUNT: usize = 7;
+
+    /// Returns a number below [`COUNT`](Self::COUNT), for counters of yours.
+    pub fn index(self) -> usize {
+        self as usize
+    }
+
+    /// Returns the name of the cause, as in the source.
+    pub fn name(self) -> &'static str {
+        match self {
+            Cause::NoSignature => "NoSignature",
+            Cause::Incomplete => "Incomplete",
+            Cause::OtherAlgorithms => "OtherAlgorithms",
+            Cause::OtherFeatures => "OtherFeatures",
+            Cause::StaleNonce => "StaleNonce",
+            Cause::WrongCredentials => "WrongCredentials",
+            Cause::UnknownAttribute => "UnknownAttribute",
+        }
+    }
+}
+
+impl fmt::Display for Cause {
+    fn fmt(&self, f: &mut fmt::Formatter<'_>) -> fmt::Result {
+        f.write_str(match self {
+            Cause::NoSignature => "the request is not signed",
+            Cause::Incomplete => "the realm, the nonce or the user name is missing",
+            Cause::OtherAlgorithms => "the password algorithms are not those that were offered",
+            Cause::OtherFeatures => "the security bits of the nonce are not the server's",
+            Cause::StaleNonce => "the nonce is not valid any more",
+            Cause::WrongCredentials => "the user is unknown, or the signature is not the user's",
+            Cause::UnknownAttribute => "the request has an attribute that is not understood",
+        })
     }
 }
 

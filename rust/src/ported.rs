@@ -522,7 +522,8 @@ impl From<TcpBuffer> for Vec<u8> {
     }
 }
 
-/// `AttributeExists` if the message ends with a FINGERPRINT, behind which nothing may stand.
+/// Fails with `AttributeExists` if the message ends with a FINGERPRINT, after which nothing may
+/// follow.
 pub(crate) fn not_after_fingerprint<W: MessageWrite>(writer: &W) -> Result<(), StunWriteError> {
     let message = writer.data();
     let has_its_head = message

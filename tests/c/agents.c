@@ -1,7 +1,7 @@
-/* The calls of an agent, on what only C can pass. Handles are empty, full, moved or freed twice.
- * Numbers, addresses and ids are those that no call takes, and rooms are exact. Each refusal comes
- * before those after it. What they answer to messages, and with each allocation refused, the
- * transcripts play (tests/play.py). */
+/* The calls on an agent, with arguments that only C can pass: handles that are empty, full, moved
+ * or freed twice; numbers, addresses and IDs that no call accepts; and buffers of exactly the
+ * right size. Each error is tested before those that come after it. How the calls answer messages,
+ * and refused allocations, is tested by the transcripts (tests/play.py). */
 #include "refusals.h"
 
 static void empty_agents(void) {

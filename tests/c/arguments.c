@@ -1,9 +1,9 @@
-/* The calls on messages, on what only C can pass. That is numbers and lengths that no call takes,
- * rooms that are too small, and the order of their refusals. What they answer to messages the
- * transcripts play (tests/play.py).
+/* The calls on messages, with arguments that only C can pass: numbers and lengths that no call
+ * accepts, buffers that are too small, and the order of the errors. How the calls answer messages
+ * is tested by the transcripts (tests/play.py).
  *
- * Its samples are typed from RFC 5769 and RFC 8489, B.1, and the key is by Python's hashlib; none
- * comes from the library. */
+ * The samples are typed from RFC 5769 and RFC 8489, B.1, and the key was made by Python's hashlib;
+ * nothing comes from the library. */
 #include "stunp.h"
 #include <stdio.h>
 #include <stdlib.h>

@@ -1,6 +1,6 @@
-/* Addresses, numbers and texts, and a writer: what the calls read of the samples of RFC 5769, what
- * they write, and what they refuse. What is wanted is counted, spelled or summed here, and does not
- * come from the library. */
+/* Addresses, numbers and texts, and a writer: what the calls read in the samples of RFC 5769, what
+ * they write, and what they refuse. The expected values are counted, spelled or computed here, and
+ * do not come from the library. */
 #include "samples.h"
 
 /* ---- Addresses. */
@@ -202,14 +202,15 @@ static void reads_texts(void) {
     static const char name[] =
         "\xe3\x83\x9e\xe3\x83\x88\xe3\x83\xaa\xe3\x83\x83\xe3\x82\xaf\xe3\x82\xb9";
     size_t length = 7;
-    CHECK(stunp_find_text(BYTES(request), STUNP_SOFTWARE, &length), 24);
+    CHECK(stunp_find_text(BYTES(request), STUNP_SOFTWARE, &length), 20);
     CHECK(length == 16 && memcmp(request + 24, "STUN test client", 16) == 0, 1);
     CHECK(stunp_read_text(BYTES(request), 20, &length), 24);
     int64_t begin = stunp_find_text(BYTES(long_term), STUNP_USERNAME, &length);
-    CHECK(begin, 24);
-    CHECK(length == 18 && memcmp(long_term + begin, name, 18) == 0, 1);
+    CHECK(begin, 20);
+    CHECK(stunp_find(BYTES(long_term), STUNP_USERNAME, &length), begin);
+    CHECK(length == 18 && memcmp(long_term + begin + 4, name, 18) == 0, 1);
     begin = stunp_find_text(BYTES(long_term), STUNP_REALM, &length);
-    CHECK(length == 11 && memcmp(long_term + begin, "example.org", 11) == 0, 1);
+    CHECK(length == 11 && memcmp(long_term + begin + 4, "example.org", 11) == 0, 1);
     length = 7;
     CHECK(stunp_find_text(BYTES(request), 65536, &length), STUNP_BAD_ARGUMENT);
     CHECK(stunp_find_text(BYTES(request), STUNP_REALM, &length), STUNP_MISSING_ATTRIBUTE);

@@ -1,6 +1,6 @@
-/* The headers in one file with those of other libraries of STUN: of libnice and coturn (LIBNICE,
- * COTURN), or of libre (LIBRE), which does not go with libnice's own. Each library reads a request
- * that the other one wrote. check.sh builds it where they are installed. */
+/* Includes the headers in one file with those of other STUN libraries: of libnice and coturn
+ * (LIBNICE, COTURN), or of libre (LIBRE), which cannot be combined with libnice's own. Each
+ * library reads a request that the other one wrote. check.sh builds it if they are installed. */
 #ifdef LIBNICE
 #include <stun/stunagent.h>
 #include <stun/usages/bind.h>

@@ -244,6 +244,73 @@ static void kinds(void) {
     free_realm(&realm);
 }
 
+/* The cause of a message, whose code is the one of the answer. */
+static int64_t cause_of(const struct realm *realm, const struct message *message,
+                        const stunp_address *source, uint64_t now, uint32_t code) {
+    stunp_received received = STUNP_INIT(stunp_received);
+    int64_t kind = stunp_endpoint_server_receive(&realm->server, &realm->users, message->bytes,
+                                                 message->length, source, now, out, sizeof out,
+                                                 &received);
+    want("judged", kind >= 0, true);
+    want("code", received.code, code);
+    return stunp_endpoint_server_cause(&realm->server, &realm->users, message->bytes,
+                                       message->length, source, now);
+}
+
+static void causes(void) {
+    stunp_endpoint_server_settings settings = settings_of(NULL, 0);
+    struct realm realm = realm_of(&settings);
+    const stunp_address other = {{192, 0, 2, 1}, 3479, 4};
+    struct message plain = message_of(STUNP_REQUEST, 1);
+    struct message indication = message_of(STUNP_INDICATION, 5);
+    want("unsigned", cause_of(&realm, &plain, &from, NOW, 401), STUNP_CAUSE_NO_SIGNATURE);
+    want("indication", cause_of(&realm, &indication, &from, NOW, 0), 0);
+    plain.length--;
+    want("no message", cause_of(&realm, &plain, &from, NOW, 0), 0);
+    struct message bare = message_of(STUNP_REQUEST, 3);
+    int64_t length = stunp_sign(bare.bytes, sizeof bare.bytes, bare.length, STUNP_SHA1, "key", 3);
+    bare.length = (size_t)length;
+    want("bare", cause_of(&realm, &bare, &from, NOW, 400), STUNP_CAUSE_INCOMPLETE);
+    take_challenge(&realm, NOW);
+    struct message good = request(&realm, 2, 0, false);
+    struct message odd = request(&realm, 3, STUNP_LIFETIME, true);
+    want("good", cause_of(&realm, &good, &from, NOW, 0), 0);
+    want("odd", cause_of(&realm, &odd, &from, NOW, 420), STUNP_CAUSE_UNKNOWN_ATTRIBUTE);
+    want("elsewhere", cause_of(&realm, &good, &other, NOW, 438), STUNP_CAUSE_STALE_NONCE);
+    want("later", cause_of(&realm, &good, &from, NOW + 7200, 438), STUNP_CAUSE_STALE_NONCE);
+    want("removed", stunp_endpoint_users_remove(&realm.users, "name", 4), 0);
+    want("nobody", cause_of(&realm, &good, &from, NOW, 401), STUNP_CAUSE_WRONG_CREDENTIALS);
+    want("its text", strcmp(stunp_cause_text(STUNP_CAUSE_STALE_NONCE),
+                            "the nonce is not valid any more"), 0);
+    want("none", strcmp(stunp_cause_text(0), "it is not refused"), 0);
+    /* The errors, in their order. */
+    stunp_endpoint_server_settings open = STUNP_INIT(stunp_endpoint_server_settings);
+    open.credentials = STUNP_NO_CREDENTIALS;
+    stunp_endpoint_server openly = {0};
+    stunp_endpoint_users as_users = {realm.server.is_full, realm.server.state};
+    want("open", stunp_endpoint_server_new(&openly, &open), 0);
+    want("null", stunp_endpoint_server_cause(NULL, NULL, NULL, 0, &nowhere, LAST + 1),
+         STUNP_EMPTY_HANDLE);
+    want("open", stunp_endpoint_server_cause(&openly, NULL, NULL, 0, &nowhere, LAST + 1),
+         STUNP_WRONG_HANDLE);
+    want("no users", stunp_endpoint_server_cause(&realm.server, NULL, NULL, 0, &nowhere, LAST + 1),
+         STUNP_EMPTY_HANDLE);
+    want("a server", stunp_endpoint_server_cause(&realm.server, &as_users, NULL, 0, &nowhere,
+         LAST + 1), STUNP_WRONG_HANDLE);
+    want("time", stunp_endpoint_server_cause(&realm.server, &realm.users, NULL, 0, &from, LAST + 1),
+         STUNP_BAD_ARGUMENT);
+    want("nowhere", stunp_endpoint_server_cause(&realm.server, &realm.users, NULL, 0, &nowhere, NOW),
+         STUNP_BAD_ARGUMENT);
+    stunp_heap_bound(0);
+    want("memory", stunp_endpoint_server_cause(&realm.server, &realm.users, good.bytes, good.length,
+         &from, NOW), STUNP_OUT_OF_MEMORY);
+    want("no memory", stunp_endpoint_server_cause(&realm.server, &realm.users, indication.bytes,
+         indication.length, &from, NOW), 0);
+    stunp_heap_bound(SIZE_MAX);
+    stunp_endpoint_server_free(&openly);
+    free_realm(&realm);
+}
+
 /* A request that the caller answers, and what the answer has. */
 static void replies(uint32_t algorithms, bool has_fingerprint) {
     const uint16_t understood[] = {STUNP_LIFETIME};
@@ -692,6 +759,7 @@ int main(void) {
     users_in_order();
     receiving_in_order();
     kinds();
+    causes();
     for (uint32_t algorithms = 0; algorithms <= 3; algorithms++) {
         replies(algorithms, true);
         replies(algorithms, false);

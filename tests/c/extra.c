@@ -1,7 +1,7 @@
-/* FINGERPRINT, types that are not known, and streams of messages. The calls are made on the samples
- * of RFC 5769 and on each of their bits changed. They are made on messages with many types and on
- * streams in any pieces. What is wanted is counted or spelled here, and does not come from the
- * library. */
+/* FINGERPRINT, unknown attribute types, and streams of messages. The calls are tested with the
+ * samples of RFC 5769, with each of their bits flipped, with messages of many types, and with
+ * streams that arrive in any pieces. The expected values are counted or spelled here, and do not
+ * come from the library. */
 #include "samples.h"
 
 /* ---- FINGERPRINT */

@@ -1,6 +1,6 @@
-/* The library without an operating system and without a C library: what such a program must have
- * itself, and a server that judges a request. tests/rust_c.sh links it with nothing but the archive.
- * It ends with status 0 by a system call, which is all that it wants of a system. */
+/* The library without an operating system and without a C library: the functions that such a
+ * program must have itself, and a server that judges a request. tests/rust_c.sh links it with the
+ * archive alone. It ends with status 0 by a system call, which is its only one. */
 #include "stunp_state.h"
 
 /* The memory of the library: blocks of one array, of which none comes back. */

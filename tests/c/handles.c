@@ -1,7 +1,8 @@
-/* The calls of a server and of a client, on what only C can pass. Handles are empty, full, moved or
- * freed twice. Numbers and addresses are those that no call takes, texts are none, and rooms are
- * exact. Each refusal comes before those after it. What they answer to messages, and with each
- * allocation refused, the transcripts play (tests/play.py). The agent's are in agents.c. */
+/* The calls on a server and on a client, with arguments that only C can pass: handles that are
+ * empty, full, moved or freed twice; numbers and addresses that no call accepts; bytes that are
+ * not texts; and buffers of exactly the right size. Each error is tested before those that come
+ * after it. How the calls answer messages, and refused allocations, is tested by the transcripts
+ * (tests/play.py). The calls on an agent are in agents.c. */
 #include "refusals.h"
 
 /* ---- The server */

@@ -1,7 +1,6 @@
-/* What is installed is enough to build with: a message of the first archive, an agent of the
- * second or (ENDPOINT) a server of the third, and its memory, of libstunp_heap.a or (OWN_MEMORY) of
- * this file. tests/install.sh builds
- * it. Prints the version of the header. */
+/* Tests that what is installed is enough to build with: a message by the first archive, an agent
+ * by the second or (ENDPOINT) a server by the third, and its memory, by libstunp_heap.a or
+ * (OWN_MEMORY) by this file. tests/install.sh builds it. Prints the version of the header. */
 #include <stdio.h>
 #include <stdlib.h>
 #ifdef ENDPOINT

@@ -1,6 +1,7 @@
-/* Whose memory the library has. tests/memory.sh links it in several ways, with FUNCTIONS as its
- * second part: the three functions of stunp_state.h, which say so when the first block is asked
- * for, or with PART two of them. The program itself refers to none of them. */
+/* Prints whose memory the library uses. tests/memory.sh links it in several ways, with FUNCTIONS
+ * as its second part: the three functions of stunp_state.h, which print that they are called when
+ * the first block is allocated, or with PART two of them. The program itself refers to none of
+ * them. */
 #include "stunp_state.h"
 #include <stdio.h>
 #include <stdlib.h>

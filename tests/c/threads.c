@@ -1,8 +1,8 @@
-/* Handles that go from thread to thread. They are made in main and handed to threads by a queue
- * with a mutex. One set of them goes through four threads in turn. One server of the endpoint is used
- * by four threads at once, with users that are replaced meanwhile. And the memory of heap.c, of which
- * four threads take at once. check.sh runs it plain, and under ThreadSanitizer and helgrind
- * where they are there.
+/* Handles that move from thread to thread. They are created in main, and passed to threads by a
+ * queue with a mutex. One set of them goes through four threads in turn. One server of the
+ * endpoint is used by four threads at the same time, while its users are replaced. Four threads
+ * allocate from heap.c at the same time. check.sh runs it plain, and under ThreadSanitizer and
+ * helgrind if they are installed.
  *
  *     threads [ROUNDS] */
 #include "fixture.h"

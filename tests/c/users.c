@@ -1,5 +1,5 @@
-/* A server that is handed each user, by a password and by keys: in whom a message names, what it
- * then answers, and what only C can pass. */
+/* A server to which each user is passed, with a password, with keys, or prepared: whom a message
+ * names, how the server then answers, and arguments that only C can pass. */
 #include "refusals.h"
 
 /* A server without users, to which its caller hands the user in whom a message names: as one that
@@ -211,7 +211,135 @@ static void users_by_keys(uint32_t algorithms) {
     want_no_blocks("users_by_keys");
 }
 
+/* What is refused of the handle of a user, in its order; it changes nothing. */
+static void refuses_users(struct pair *pair, const stunp_address *from) {
+    stunp_server *server = &pair->server, empty = {0};
+    stunp_user user = {0}, nobody = {0};
+    struct message answer = message_of(STUNP_SUCCESS, 2), left = answer;
+    uint8_t byte = 0xff;
+    want("no server", stunp_user_new(&user, &empty, &byte, 1, &byte, 1), STUNP_EMPTY_HANDLE);
+    want("no server, keys", stunp_user_new_of_keys(&user, &empty, &byte, 1, &byte, 1, &byte, 1),
+         STUNP_EMPTY_HANDLE);
+    stunp_heap_bound(0);
+    want("no name", stunp_user_new(&user, server, &byte, 1, "", 0), STUNP_NOT_TEXT);
+    want("no password", stunp_user_new(&user, server, "name", 4, &byte, 1), STUNP_NOT_TEXT);
+    want("no name, keys", stunp_user_new_of_keys(&user, server, &byte, 1, &byte, 1, &byte, 1),
+         STUNP_NOT_TEXT);
+    want("a short key", stunp_user_new_of_keys(&user, server, "name", 4, &byte, 1, NULL, 0),
+         STUNP_BAD_ARGUMENT);
+    want("a short key, SHA-256", stunp_user_new_of_keys(&user, server, "name", 4, NULL, 0, &byte,
+         1), STUNP_BAD_ARGUMENT);
+    want("no memory", stunp_user_new(&user, server, "name", 4, "password", 8),
+         STUNP_OUT_OF_MEMORY);
+    want("no memory, keys", stunp_user_new_of_keys(&user, server, "name", 4, NULL, 0, NULL, 0),
+         STUNP_OUT_OF_MEMORY);
+    stunp_heap_bound(SIZE_MAX);
+    want("still empty", user.is_full, 0);
+    want("new", stunp_user_new(&user, server, "name", 4, "password", 8), 0);
+    want("new again", stunp_user_new(&user, &empty, &byte, 1, &byte, 1), STUNP_FULL_HANDLE);
+    want("new of keys", stunp_user_new_of_keys(&user, &empty, &byte, 1, &byte, 1, &byte, 1),
+         STUNP_FULL_HANDLE);
+    want("validate, no server", stunp_server_validate_user(&empty, &byte, 1, &nowhere, 0,
+         some_words, &nobody), STUNP_EMPTY_HANDLE);
+    want("validate, nobody", stunp_server_validate_user(server, &byte, 1, &nowhere, 0, some_words,
+         &nobody), STUNP_EMPTY_HANDLE);
+    want("sign, no server", stunp_server_sign_user(&empty, answer.bytes, 20, 30, &nowhere,
+         &nobody), STUNP_EMPTY_HANDLE);
+    want("sign, nobody", stunp_server_sign_user(server, answer.bytes, 20, 30, &nowhere, &nobody),
+         STUNP_EMPTY_HANDLE);
+    struct pair other = pair_of(STUNP_SHA1);
+    stunp_server elsewhere = {0};
+    want("another realm", stunp_server_new(&elsewhere, "Realm", 5), 0);
+    want("its algorithms", stunp_server_set_algorithms(&elsewhere, STUNP_SHA1 | STUNP_SHA256), 0);
+    stunp_server *const foreign[] = {&other.server, &elsewhere};
+    for (int i = 0; i < 2; i++) {
+        want("of another server", stunp_server_validate_user(foreign[i], &byte, 1, &nowhere, 0,
+             some_words, &user), STUNP_WRONG_HANDLE);
+        want("signs of another", stunp_server_sign_user(foreign[i], answer.bytes, 20, 30, &nowhere,
+             &user), STUNP_WRONG_HANDLE);
+        want("nothing is kept", stunp_server_address_count(foreign[i]), 0);
+    }
+    want("nowhere", stunp_server_validate_user(server, &byte, 1, &nowhere, 0, some_words, &user),
+         STUNP_BAD_ARGUMENT);
+    REFUSES_MESSAGES("with a user", stunp_server_validate_user(server, bytes, length, from, 0,
+                                                               some_words, &user));
+    want("sign, nowhere", stunp_server_sign_user(server, answer.bytes, 20, 30, &nowhere, &user),
+         STUNP_BAD_ARGUMENT);
+    want("sign, no length", stunp_server_sign_user(server, answer.bytes, 20, 30, from, &user),
+         STUNP_BAD_ARGUMENT);
+    want_same("the message is left", &answer, &left, sizeof answer);
+    stunp_user_free(&user);
+    stunp_user_free(&user);
+    stunp_user_free(NULL);
+    want("free", user.is_full, 0);
+    stunp_server_free(&elsewhere);
+    free_pair(&other);
+}
+
+/* The verdict and the answer with a prepared user: those with the password, as often as the user is
+ * passed. */
+static void prepared_users(bool is_by_keys) {
+    struct pair pair = pair_of(STUNP_SHA1 | STUNP_SHA256);
+    stunp_server *server = &pair.server;
+    stunp_address from = address_of(7);
+    struct keys keys = keys_of("password");
+    stunp_user user = {0}, stranger = {0};
+    want("no users", stunp_server_remove_user(server, "name", 4), 0);
+    challenge(&pair, &from, 0);
+    struct message request = request_of(&pair, 2), same;
+    const size_t room = sizeof request.bytes;
+    refuses_users(&pair, &from);
+    want("a user", is_by_keys
+         ? stunp_user_new_of_keys(&user, server, "name", 4, keys.sha1, keys.sha1_length,
+                                  keys.sha256, keys.sha256_length)
+         : stunp_user_new(&user, server, "name", 4, "password", 8), 0);
+    want("a stranger", stunp_user_new(&stranger, server, "Name", 4, "password", 8), 0);
+    want("is no user of the server", stunp_server_validate(server, request.bytes, request.length,
+         &from, 0, some_words), STUNP_UNAUTHORIZED);
+    want("another user", stunp_server_validate_user(server, request.bytes, request.length, &from,
+         0, some_words, &stranger), STUNP_UNAUTHORIZED);
+    stunp_heap_bound(0);
+    want("no memory", stunp_server_validate_user(server, request.bytes, request.length, &from, 0,
+         some_words, &user), STUNP_OUT_OF_MEMORY);
+    stunp_heap_bound(SIZE_MAX);
+    want("the user", stunp_server_validate_user(server, request.bytes, request.length, &from, 0,
+         some_words, &user), STUNP_SHA256);
+    stunp_heap_bound(0);
+    for (uint32_t turn = 0; turn < 3; turn++) {
+        struct message answer = message_of(STUNP_SUCCESS, 2), left = answer;
+        want("again, without memory", stunp_server_validate_user(server, request.bytes,
+             request.length, &from, 0, some_words, &user), STUNP_SHA256);
+        want("another user signs", stunp_server_sign_user(server, answer.bytes, room, 20, &from,
+             &stranger), STUNP_CANNOT_SIGN);
+        want("no room", stunp_server_sign_user(server, answer.bytes, 20, 20, &from, &user),
+             STUNP_BUFFER_TOO_SMALL);
+        want_same("the message is left", &answer, &left, sizeof answer);
+        stunp_writer writer = stunp_write_on(20, answer.bytes, room);
+        stunp_write_server_sign_user(&writer, server, &from, &user);
+        want("signed", stunp_written(&writer), 0);
+        stunp_heap_bound(SIZE_MAX);
+        same = left;
+        want("as by the password", stunp_server_sign_of(server, same.bytes, room, 20, &from,
+             "name", 4, "password", 8), (int64_t)writer.length);
+        want_same("its bytes", answer.bytes, same.bytes, room);
+        stunp_heap_bound(0);
+        if (turn == 0)
+            want("and taken", stunp_client_validate(&pair.client, answer.bytes, writer.length),
+                 STUNP_SHA256);
+    }
+    stunp_heap_bound(SIZE_MAX);
+    want("other algorithms", stunp_server_set_algorithms(server, STUNP_SHA1), 0);
+    want("the user is of those before", stunp_server_validate_user(server, request.bytes,
+         request.length, &from, 0, some_words, &user), STUNP_WRONG_HANDLE);
+    stunp_user_free(&user);
+    stunp_user_free(&stranger);
+    free_pair(&pair);
+    want_no_blocks("prepared_users");
+}
+
 int main(void) {
+    prepared_users(false);
+    prepared_users(true);
     users_elsewhere(false);
     users_elsewhere(true);
     users_by_keys(STUNP_SHA1);

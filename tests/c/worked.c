@@ -1,4 +1,4 @@
-/* The worked examples of stunp.h and stunp_state.h, which check.sh takes out of the headers, each
+/* The worked examples of stunp.h and stunp_state.h, which check.sh copies from the headers, each
  * run against a peer in this process. It is C99, over heap.c, and C++17, over an allocator of its
  * own. */
 #include "stunp_state.h"

@@ -128,9 +128,16 @@ static void meet_from_a_database() {
     show("another password",
          name_or_refusal(server->validate(*request, home, 0, words, other)));
     show("the stored keys", name_or_refusal(server->validate(*request, home, 0, words, user)));
-    auto answer = stunp::writer(STUNP_SUCCESS, STUNP_BINDING, second_id)
-                      .add_address(STUNP_XOR_MAPPED_ADDRESS, home).sign(*server, home, user)
-                      .finish();
+    const auto prepared = server->prepare(user);
+    if (!prepared) return show("no user", prepared.text());
+    show("the same, prepared",
+         name_or_refusal(server->validate(*request, home, 0, words, *prepared)));
+    const auto success = [&](const auto &by) {
+        return stunp::writer(STUNP_SUCCESS, STUNP_BINDING, second_id)
+            .add_address(STUNP_XOR_MAPPED_ADDRESS, home).sign(*server, home, by).finish();
+    };
+    auto answer = success(user);
+    show("signed by either", *answer == *success(*prepared) ? "the same" : "otherwise");
     show("the client", name_or_refusal(client->validate(*answer)));
     show("no client is left", server->remove_client(home).text());
     show("a young clock", server->forget_expired(1, 2).text());

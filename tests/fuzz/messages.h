@@ -154,8 +154,9 @@ static void find_values(struct bytes m) {
         uint16_t ports[2] = {7, 7}, types[2] = {7, 7}, type = found[i].type;
         uint64_t numbers[2] = {7, 7};
         size_t lengths[2] = {77, 77}, place = found[first_of(type)].place;
+        int64_t text = stunp_read_text(m.at, m.length, place, lengths + 1);
         require(stunp_find_text(m.at, m.length, type, lengths)
-                        == stunp_read_text(m.at, m.length, place, lengths + 1)
+                        == (text < 0 ? text : (int64_t)place)
                     && lengths[0] == lengths[1],
                 "another text is found");
         require(stunp_find_number(m.at, m.length, type, numbers)

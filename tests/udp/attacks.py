@@ -1,14 +1,15 @@
 #!/usr/bin/env python3
-"""Attacks servers on UDP in a network namespace of its own, and prints a Markdown table of whom they
-served meanwhile.
+"""Attacks UDP servers in a network namespace of its own, and prints a Markdown table of the clients
+that they served meanwhile.
 
     attacks.py [PROGRAM].. [--seconds N]
 
-A PROGRAM takes the words of examples/c/udp_server.c, which is tried unless one is named. Each flood
-lasts N seconds (3 unless given). While it lasts, clients that the server has not seen ask one after
-another, each from an address of its own, and get 1 s for a challenge and a success, in which they
-send again as RFC 8489 has it. Then come the clock, stops, restarts and limits. Status 0 if all of
-them were served, and the server took no memory for it (1 MiB at most). It needs `unshare` and `ip`.
+A PROGRAM takes the arguments of examples/c/udp_server.c, which is attacked if none is named. Each
+flood lasts N seconds (3 unless given). During the flood, new clients send requests one after
+another, each from an address of its own. Each has 1 s for a challenge and a success, and
+retransmits as RFC 8489 says. Then come jumps of the clock, stops, restarts and limits. The status
+is 0 if all clients were served and the server needed at most 1 MiB for that. It needs `unshare` and
+`ip`.
 """
 import contextlib
 import itertools

@@ -1,5 +1,5 @@
-"""Cases of a server that keeps nothing of an address: its nonces are a function of a secret, the
-address and the time (examples/c/udp_server.c, rust/examples/udp_server.rs)."""
+"""Cases of a server that stores nothing about an address: its nonces are a function of a secret,
+the address and the time (examples/c/udp_server.c, rust/examples/udp_server.rs)."""
 import contextlib
 import hashlib
 import os
@@ -402,8 +402,8 @@ def read_again(server, words, signalled):
     with tempfile.TemporaryDirectory() as folder:
         file = pathlib.Path(folder) / "users"
         file.write_text(f"{NAME} {PASSWORD}\n")
-        told = (f"udp_server: {file}, line 1: no `NAME PASSWORD`\n"
-                f"udp_server: users stay as they were: {file}: 1 lines are no users\n")
+        told = (f"udp_server: {file}, line 1: expected `NAME PASSWORD`\n"
+                f"udp_server: the users are unchanged: {file}: bad lines: 1\n")
         number = 2 if words else 1  # each worker tells it
         with Server(server, REALM, "--users", str(file), *words,
                     told=None if words else told) as running:
@@ -454,7 +454,7 @@ def too_many_users(server):
     with tempfile.TemporaryDirectory() as folder:
         file = pathlib.Path(folder) / "users"
         file.write_text(f"{NAME} {PASSWORD}\n")
-        told = f"udp_server: users stay as they were: {file}, line "
+        told = f"udp_server: the users are unchanged: {file}, line "
         with Server(server, REALM, "--users", str(file), told=None) as running:
             with Peer(running.port) as peer:
                 challenge = peer.ask(stun.message(stun.REQUEST))

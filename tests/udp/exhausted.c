@@ -1,4 +1,4 @@
-/* Has no memory to give, as LD_PRELOAD, while the file is there that EXHAUSTED names. */
+/* A library for LD_PRELOAD whose allocations fail while the file exists that EXHAUSTED names. */
 #define _GNU_SOURCE
 #include <errno.h>
 #include <stdlib.h>

@@ -1,10 +1,11 @@
-/* Has system calls fail or tell otherwise, as LD_PRELOAD, by what the environment says:
+/* A library for LD_PRELOAD that makes system calls fail, or return other results. The environment
+ * says which:
  *
- * FAILING_READS=N    so many calls of recvmsg and recvmmsg fail by ENOBUFS
- * NO_IPV6=1          no socket is of IPv6
- * SLEPT=FILE         once it is there the machine has slept a minute, by CLOCK_BOOTTIME and
- *                    CLOCK_REALTIME, and /proc/uptime has what the file has
- * COUNTED=FILE       gets a byte for each call of getrandom */
+ * FAILING_READS=N    the first N calls of recvmsg and recvmmsg fail with ENOBUFS
+ * NO_IPV6=1          no IPv6 socket can be created
+ * SLEPT=FILE         as soon as FILE exists, the machine has slept for a minute, by CLOCK_BOOTTIME
+ *                    and CLOCK_REALTIME, and /proc/uptime has the contents of FILE
+ * COUNTED=FILE       a byte is appended to FILE for each call of getrandom */
 #define _GNU_SOURCE
 #include <dlfcn.h>
 #include <errno.h>

@@ -66,7 +66,7 @@ def write(out, exported, places, root):
               "use super::{stun_c, stun_c_endpoint, stun_state};\n"
               "use crate::handle::agent::AgentHandle;\nuse crate::handle::client::ClientHandle;\n"
               "use crate::handle::endpoint::EndpointHandle;\n"
-              "use crate::handle::server::ServerHandle;\n"
+              "use crate::handle::server::ServerHandle;\nuse crate::handle::user::UserHandle;\n"
               "use crate::kit::alloc::Global;\nuse crate::passed::{read, written};\n\n")
     for crate in CRATES:
         source = root / "crates" / crate / "src"

@@ -14,36 +14,37 @@ const FIRST_TIMEOUT: u32 = 500_000;
 /// When requests end that are sent once, in microseconds after they were sent.
 const LAST_WAIT: u32 = 8_000_000;
 
-/// How many bytes there is room for where a request is sent again.
+/// The bytes of room when a request is sent again.
 const ROOM: usize = 2048;
 
 /// A call, and the state that it meets.
 #[derive(Clone, Copy, Debug, PartialEq, Eq)]
 pub enum Call {
-    /// `poll`, where nothing is due.
+    /// `poll`, when nothing is due.
     Poll,
-    /// `poll_transmit`, where nothing is due.
+    /// `poll_transmit`, when nothing is due.
     PollTransmit,
     /// `next_awaited`.
     NextAwaited,
-    /// `poll_transmit`, where one request more is due each time.
+    /// `poll_transmit`, when one request more is due each time.
     TransmitsOne,
     /// `poll_transmit_within` of an agent that counts, where one request more is due each time: the
     /// call that the export for C makes.
     TransmitsOneWithin,
-    /// `poll_transmit`, where all requests are due.
+    /// `poll_transmit`, when all requests are due.
     TransmitsOfAll,
-    /// `poll`, where one request more is at its end each time.
+    /// `poll`, when one request more has ended each time.
     EndsOne,
-    /// `poll`, where all requests are at their ends.
+    /// `poll`, when all requests have ended.
     EndsOfAll,
     /// `send_request` after the others.
     SendsLast,
-    /// `send_request` at a moment before the others.
+    /// `send_request` at a time before the others.
     SendsFirst,
     /// A response to an outstanding request.
     Responds,
-    /// The same of an agent that counts, at a moment: the call that the export for C makes.
+    /// `handle_stun_message_with_time` of an agent that keeps statistics: the call behind the
+    /// export for C.
     RespondsWithTime,
     /// A response to no request.
     RespondsToNone,
@@ -59,7 +60,7 @@ pub enum Call {
     Finds,
 }
 
-/// The call of a name.
+/// Returns the call with this name.
 pub fn call_named(name: &str) -> Option<Call> {
     match name {
         "poll" => Some(Call::Poll),
@@ -84,7 +85,8 @@ pub fn call_named(name: &str) -> Option<Call> {
     }
 }
 
-/// How many of `times` calls did what they should, at an agent with `size` outstanding requests.
+/// Returns how many of `times` calls did what they should, at an agent with `size` outstanding
+/// requests.
 pub fn count_of(alloc: Global, call: Call, size: u32, times: u32) -> Option<u32> {
     let mut agent = agent_of(alloc, call, size)?;
     let (class, first) = match call {

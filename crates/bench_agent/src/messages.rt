@@ -8,18 +8,18 @@ use stun_types::message::{
 };
 use stun_types::prelude::MessageWrite;
 
-/// The id of a request: those of successive requests are far apart.
+/// Returns the transaction ID of a request. Those of successive requests are far apart.
 pub fn id_of(number: u32) -> Option<TransactionId> {
     let scattered = u64::from(number).wrapping_mul(0x9e37_79b9_7f4a_7c15);
     TransactionId::from_u128(u128::from(scattered))
 }
 
-/// So many microseconds.
+/// Returns the time this many microseconds after the start.
 pub fn moment(number: u32) -> Instant {
     Instant::from_nanos(u64::from(number) * 1000)
 }
 
-/// An address of its own for each number.
+/// Returns a different address for each number.
 pub fn address(number: u32) -> SocketAddr {
     let [first, second, third, fourth] = number.to_be_bytes();
     SocketAddr::new(
@@ -28,14 +28,14 @@ pub fn address(number: u32) -> SocketAddr {
     )
 }
 
-/// A Binding message without attributes.
+/// Builds a Binding message without attributes.
 pub fn message(alloc: Global, class: MessageClass, number: u32) -> Option<Vec<u8>> {
     let kind = MessageType::from_class_method(class, BINDING);
     let writer = Message::builder(kind, id_of(number)?, MessageWriteVec::new(alloc)).ok()?;
     Some(writer.finish())
 }
 
-/// A hundred of them, with the numbers from this one on.
+/// Builds a hundred messages, with the numbers from `first` on.
 pub fn messages(alloc: Global, class: MessageClass, first: u32) -> Option<Vec<Vec<u8>>> {
     let mut messages = Vec::new(alloc);
     for turn in 0..100u32 {

@@ -12,13 +12,14 @@ use stun_types::message::{
 };
 use stun_types::prelude::*;
 
-/// How many of `times` calls did what they should, at a server with `size` users and addresses.
+/// Returns how many of `times` calls did what they should, at a server with `size` users and
+/// addresses.
 ///
 /// - `validates_sha1`: a request of one user, whose address has been validated.
-/// - `validates_sha256`: the same with USERHASH.
+/// - `validates_sha256`: like `validates_sha1`, with HMAC-SHA256 and USERHASH.
 /// - `verifies`: a message of 44 bytes under a key of four.
-/// - `forgets_all`: `forget_expired`, where the nonce of each address has expired.
-/// - `forgets_none`: the same, where none has.
+/// - `forgets_all`: `forget_expired`, when the nonce of each address has expired.
+/// - `forgets_none`: `forget_expired`, when none has.
 pub fn count_of(alloc: Global, call: &str, size: u32, times: u32) -> Option<u32> {
     match call {
         "validates_sha1" => validations(alloc, false, size, times),

@@ -1,6 +1,6 @@
--- What the contracts of this crate say, in the order to read it.
+-- The definitions that the contracts of this crate use, in the order to read them.
 
--- numbers in either order of their bytes
+-- numbers in either byte order
 pub mod Numbers
--- where the records of a capture lie
+-- where the records of a capture are
 pub mod Records

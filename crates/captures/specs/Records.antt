@@ -1,30 +1,30 @@
--- Where the records of a capture lie.
+-- Where the records of a capture are.
 use Rattle.std.specs.Prelude.{◌≡◌, ◌+◌, ◌-◌, ℕ, List, take, drop}
 use Rattle.captures.specs.declared.numbers.Order.{Order}
 use Rattle.captures.specs.Numbers.{number_in}
 
--- the bytes of a record of libpcap before those of its packet
+-- the length of the header of a record, in a pcap file
 abbrev pub RECORD_LENGTH : ℕ
 RECORD_LENGTH = 16
 
--- the fewest bytes of a block
+-- the least number of bytes of a block
 abbrev pub BLOCK_LENGTH : ℕ
 BLOCK_LENGTH = 12
 
--- of a file of libpcap: the bytes of a packet follow the four numbers of its record, of which the
--- third counts them
+-- the bytes of a packet, in a pcap file: they follow the four numbers of its record, the third of
+-- which is their count
 abbrev pub packet_bytes : Order → List ℕ → List ℕ
 packet_bytes order bytes = take (number_in order 4 (drop 8 bytes)) (drop 16 bytes)
 
--- the bytes of a record with those of its packet
+-- the length of a record with its packet
 abbrev pub record_length : Order → List ℕ → ℕ
 record_length order bytes = RECORD_LENGTH + number_in order 4 (drop 8 bytes)
 
--- of a file of blocks: a block of this length has it in its last four bytes, as after its type
+-- a block of this length has the length in its last four bytes too, as it has after its type
+-- (pcapng)
 abbrev pub IsEndedBy : ℕ → Order → List ℕ → Type 0
 IsEndedBy length order block = number_in order 4 (drop (length - 4) block) ≡ length
 
--- what a block of this length has behind its type and its length, and before the length at its
--- end
+-- the bytes of a block of this length between its type and length and the length at its end
 abbrev pub block_body : ℕ → List ℕ → List ℕ
 block_body length block = take (length - BLOCK_LENGTH) (drop 8 block)

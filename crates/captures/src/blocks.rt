@@ -1,4 +1,4 @@
-//! Files of blocks, pcapng: sections, in which are interfaces and packets.
+//! Files in the format pcapng, which consist of blocks: sections, interfaces and packets.
 ghost use Rattle.std.specs.Prelude.{◌≡◌, ◌≤◌, ◌+◌, IfOk, drop, length};
 ghost use Rattle.captures.specs.Numbers.{number_in};
 ghost use Rattle.captures.specs.Records.{BLOCK_LENGTH, block_body, IsEndedBy};
@@ -7,38 +7,38 @@ use crate::clock::Moment;
 use crate::damage::Fault;
 use crate::numbers::{Order, count_32, number_16, number_32};
 
-/// The type of a block that begins a section. It reads the same in both orders.
+/// The type of a block that begins a section. It reads the same in both byte orders.
 pub const SECTION: u32 = 0x0A0D_0D0A;
 
-/// The mark after a section's type and length.
+/// The byte-order magic after the type and the length of a section.
 const MARK: u32 = 0x1A2B_3C4D;
 
-/// The mark in the other order of bytes.
+/// The byte-order magic in the other byte order.
 const TURNED_MARK: u32 = 0x4D3C_2B1A;
 
-/// The fewest bytes of a block.
+/// The least number of bytes of a block.
 pub const BLOCK_LENGTH: usize = 12;
 
 /// An interface of a section.
 #[derive(Clone, Copy)]
 pub struct Interface {
     pub link: u32,
-    /// The most bytes of a packet that are captured; 0 for all.
+    /// The most bytes that are captured of a packet, or 0 for all.
     pub most: usize,
-    /// The ticks of a second, where they are known.
+    /// The clock ticks in a second, or 0 if they are not known.
     pub in_second: u64,
-    /// Seconds that are added to each moment.
+    /// The seconds to add to each time.
     pub offset: u64,
 }
 
-/// A packet of a block.
+/// The packet of a block.
 #[derive(Clone, Copy)]
 pub struct Captured<'a> {
     /// The number of its interface.
     pub interface: usize,
-    /// Its moment in ticks, where it has one.
+    /// The time of the packet in ticks, if the block has one.
     pub ticks: Option<u64>,
-    /// How many bytes the packet had on its way.
+    /// The length of the packet on the wire.
     pub whole: usize,
     /// The bytes that were captured.
     pub bytes: &'a [u8],
@@ -48,14 +48,14 @@ pub struct Captured<'a> {
 #[derive(Clone, Copy)]
 pub struct Block<'a> {
     pub kind: u32,
-    /// What it has between its length and the length at its end.
+    /// The bytes between the length and the length at the end.
     pub body: &'a [u8],
-    /// What follows the block.
+    /// The bytes that follow the block.
     pub rest: &'a [u8],
 }
 
-/// The order of the bytes of the block at the front: its own if it begins a section, and else the
-/// section's. Fails if the mark of a section is cut, or tells no order.
+/// Returns the byte order of the block at the front: its own if it begins a section, and otherwise
+/// that of the section. Fails if the byte-order magic of a section is cut short or unknown.
 pub fn order_of(order: Order, bytes: &[u8]) -> Result<Order, Fault> {
     if number_32(order, bytes, 0) != Some(SECTION) {
         return Ok(order);
@@ -68,8 +68,8 @@ pub fn order_of(order: Order, bytes: &[u8]) -> Result<Order, Fault> {
     }
 }
 
-/// The block at the front of these bytes. Fails if it is not whole, or does not have its length at
-/// both ends.
+/// Returns the block at the front of these bytes. Fails if it is not whole, or does not have its
+/// length at both ends.
 pub fn block_of<'a>(order: Order, bytes: &'a [u8]) -> Result<Block<'a>, Fault>
     ensures body { IfOk result (λ block.
         block.body.now ≡ block_body (number_in order 4 (drop 4 bytes.now)) bytes.now) }
@@ -98,7 +98,7 @@ pub fn block_of<'a>(order: Order, bytes: &'a [u8]) -> Result<Block<'a>, Fault>
     }
 }
 
-/// The interface that a block describes.
+/// Parses the interface that a block describes.
 pub fn interface_of(order: Order, body: &[u8]) -> Option<Interface> {
     let link = u32::from(number_16(order, body, 0)?);
     let most = count_32(order, body, 4)?;
@@ -113,7 +113,7 @@ pub fn interface_of(order: Order, body: &[u8]) -> Option<Interface> {
     Some(interface)
 }
 
-/// Reads the options of an interface up to their end or the first one that is cut.
+/// Reads the options of an interface up to their end or the first one that is cut short.
 fn read_options(order: Order, options: &[u8], interface: &mut Interface) {
     let mut rest = options;
     for _turn in 0..options.len() {
@@ -130,7 +130,7 @@ fn read_options(order: Order, options: &[u8], interface: &mut Interface) {
     }
 }
 
-/// The option at the front of these bytes: its number, its value, and what follows it and its
+/// Returns the option at the front of these bytes: its number, its value, and the bytes after its
 /// padding.
 fn option_of<'a>(order: Order, options: &'a [u8]) -> Option<(u16, &'a [u8], &'a [u8])> {
     let kind = number_16(order, options, 0)?;
@@ -141,8 +141,8 @@ fn option_of<'a>(order: Order, options: &'a [u8]) -> Option<(u16, &'a [u8], &'a 
     Some((kind, value, after))
 }
 
-/// The number of 64 bits at the front. In one order its higher half comes first, and in the other
-/// its lower half.
+/// Parses the number of 64 bits at the front. In one byte order its upper half comes first, and in
+/// the other its lower half.
 fn number_64(order: Order, bytes: &[u8]) -> Option<u64> {
     let first = u64::from(number_32(order, bytes, 0)?);
     let second = u64::from(number_32(order, bytes, 4)?);
@@ -152,13 +152,13 @@ fn number_64(order: Order, bytes: &[u8]) -> Option<u64> {
     })
 }
 
-/// A number of 64 bits by its halves.
+/// Joins the halves of a number of 64 bits.
 fn joined(high: u64, low: u64) -> u64 {
     (high << 32) | low
 }
 
-/// How many ticks a second has, by an interface's resolution: a power of ten, or of two if the
-/// first bit is set. It is 0, for unknown, if they are more than 1000000000.
+/// Returns the ticks in a second for the resolution of an interface: a power of ten, or of two if
+/// the first bit is set. Returns 0, for unknown, if they are more than 1000000000.
 fn ticks_of(resolution: u8) -> u64 {
     if resolution & 0x80 != 0 {
         return match resolution & 0x7F {
@@ -173,20 +173,20 @@ fn ticks_of(resolution: u8) -> u64 {
     if ticks > 1_000_000_000 { 0 } else { ticks }
 }
 
-/// The packet of an enhanced packet block.
+/// Parses the packet of an enhanced packet block.
 pub fn enhanced_of<'a>(order: Order, body: &'a [u8]) -> Option<Captured<'a>> {
     let interface = count_32(order, body, 0)?;
     stamped_of(order, interface, body)
 }
 
-/// The packet of a packet block, which is obsolete. Such a block has a count of dropped packets
-/// after its interface.
+/// Parses the packet of a packet block, which is obsolete. Such a block has a count of dropped
+/// packets after its interface.
 pub fn obsolete_of<'a>(order: Order, body: &'a [u8]) -> Option<Captured<'a>> {
     let interface = usize::from(number_16(order, body, 0)?);
     stamped_of(order, interface, body)
 }
 
-/// The packet of a block that has a moment.
+/// Parses the packet of a block that has a time.
 fn stamped_of<'a>(order: Order, interface: usize, body: &'a [u8]) -> Option<Captured<'a>> {
     let high = number_32(order, body, 4)?;
     let low = number_32(order, body, 8)?;
@@ -201,8 +201,8 @@ fn stamped_of<'a>(order: Order, interface: usize, body: &'a [u8]) -> Option<Capt
     })
 }
 
-/// The packet of a simple packet block. It is of the section's first interface, which captures at
-/// most `most` bytes of a packet.
+/// Parses the packet of a simple packet block. It belongs to the first interface of the section,
+/// which captures at most `most` bytes of a packet.
 pub fn simple_of<'a>(order: Order, most: usize, body: &'a [u8]) -> Option<Captured<'a>> {
     let whole = count_32(order, body, 0)?;
     let count = if most == 0 { whole } else { whole.min(most) };
@@ -215,7 +215,7 @@ pub fn simple_of<'a>(order: Order, most: usize, body: &'a [u8]) -> Option<Captur
     })
 }
 
-/// The moment of a packet of an interface.
+/// Returns the time of a packet of an interface.
 pub fn moment_of(interface: Interface, ticks: Option<u64>) -> Option<Moment> {
     let moment = Moment::after(ticks?, interface.in_second)?;
     Some(Moment {

@@ -1,5 +1,5 @@
-//! A capture, read one record after another. It holds no record: its caller reads each, so that a
-//! capture of any size takes the memory of its longest record.
+//! A capture that is read one record after another. Its caller reads each record, and a `Capture`
+//! holds none, so a capture of any size takes no more memory than its longest record.
 ghost use Rattle.std.specs.Prelude.{◌≡◌, ◌≤◌, IfOk, MatchResult, length};
 ghost use Rattle.captures.specs.Records.{BLOCK_LENGTH};
 
@@ -13,15 +13,15 @@ use std::alloc::Allocator;
 /// A packet of a capture.
 #[derive(Clone, Copy)]
 pub struct Packet<'a> {
-    /// Its number among the packets of the capture, counted from 1.
+    /// The number of the packet in the capture, counted from 1.
     pub number: usize,
-    /// The place of its record in the file, counted from 0.
+    /// The offset of its record in the file.
     pub place: usize,
-    /// When it was captured, where that is known.
+    /// When it was captured, if that is known.
     pub moment: Option<Moment>,
-    /// The type of its link, as tcpdump.org numbers them.
+    /// The type of its link layer, as tcpdump.org numbers them.
     pub link: u32,
-    /// How many bytes it had on its way.
+    /// The length of the packet on the wire.
     pub whole: usize,
     /// The bytes that were captured.
     pub bytes: &'a [u8],
@@ -35,33 +35,33 @@ pub enum Step<'a> {
     Other,
 }
 
-/// How a file is laid out.
+/// The format of a file.
 #[derive(Clone, Copy)]
 enum Format {
     Classic(Header),
     Blocks(Order),
 }
 
-/// The bytes at the front of a file that tell whether it is a capture.
+/// The number of bytes at the front of a file that show whether it is a capture.
 pub const FRONT_LENGTH: usize = 12;
 
-/// The most bytes of a record that is read.
+/// The most bytes of a record that can be read.
 pub const RECORD_LIMIT: usize = 4_194_304;
 
-/// A capture that is partly read.
+/// A capture of which a part has been read.
 #[derive(Drop)]
 pub struct Capture<A: Allocator> {
-    /// The place of the next record in the file, counted from 0.
+    /// The offset of the next record in the file.
     place: usize,
-    /// How many packets were read.
+    /// The number of packets that were read.
     packets: usize,
     format: Format,
     /// The interfaces of the section.
     interfaces: Vec<Interface, A>,
 }
 
-/// How many bytes the header of a file has before its first record, by the front of the file. `None`
-/// if the file is no capture.
+/// Returns the length of the file header, of a file that begins with these bytes. Returns `None` if
+/// the file is not a capture.
 pub fn header_length_of(front: &[u8]) -> Option<usize> {
     if classic::magic_of(front).is_some() {
         return Some(classic::HEADER_LENGTH);
@@ -70,7 +70,7 @@ pub fn header_length_of(front: &[u8]) -> Option<usize> {
 }
 
 impl<A: Allocator> Capture<A> {
-    /// The capture that has this header. Fails if the header is cut.
+    /// Creates the capture that has this file header. Fails if the header is cut short.
     pub fn open(alloc: A, header: &[u8]) -> Result<Capture<A>, Failure> {
         let format = match classic::header_of(header) {
             Some(header) => Format::Classic(header),
@@ -91,7 +91,7 @@ impl<A: Allocator> Capture<A> {
         })
     }
 
-    /// How many bytes at the front of a record tell its length.
+    /// Returns the number of bytes at the front of a record that `record_length` needs.
     pub fn front_length(&self) -> usize {
         match self.format {
             Format::Classic(_) => classic::RECORD_LENGTH,
@@ -99,8 +99,8 @@ impl<A: Allocator> Capture<A> {
         }
     }
 
-    /// How many bytes the record has that begins so. Fails if they are more than 4194304. A front
-    /// that is cut, or that tells no length, is all of the record.
+    /// Returns the length of the record that begins with these bytes. If they are cut short, or
+    /// give no length, they are the whole record. Fails if the record has more than 4194304 bytes.
     pub fn record_length(&self, front: &[u8]) -> Result<usize, Failure> {
         let length = match self.format {
             Format::Classic(header) => match count_32(header.order, front, 8) {
@@ -119,7 +119,7 @@ impl<A: Allocator> Capture<A> {
         }
     }
 
-    /// Reads a record. Fails if it is damaged or an allocation fails.
+    /// Parses a record. Fails if it is damaged or an allocation fails.
     pub fn step<'a>(&mut self, record: &'a [u8]) -> Result<Step<'a>, Failure>
         ensures whole { IfOk result (λ step. BLOCK_LENGTH ≤ length record.now) }
     {
@@ -152,12 +152,12 @@ impl<A: Allocator> Capture<A> {
         Ok(step)
     }
 
-    /// Goes on to the place behind a record of this many bytes.
+    /// Moves the offset past a record of this many bytes.
     fn pass(&mut self, length: usize) {
         self.place = self.place.saturating_add(length);
     }
 
-    /// The packet of the record at the place.
+    /// Returns the packet of the record at the current offset.
     fn packet<'a>(
         &mut self,
         moment: Option<Moment>,
@@ -192,7 +192,7 @@ impl<A: Allocator> Capture<A> {
         Ok(step)
     }
 
-    /// Takes what a block of this kind has.
+    /// Reads what a block of this kind contains.
     fn take_block<'a>(
         &mut self,
         order: Order,

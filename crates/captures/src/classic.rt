@@ -1,22 +1,22 @@
-//! Files of libpcap: a header, and then a record for each packet.
+//! Files in the format pcap: a file header, and then a record for each packet.
 ghost use Rattle.std.specs.Prelude.{◌≡◌, ◌≤◌, ◌<◌, ◌+◌, IfSome, IfNone, drop, length};
 ghost use Rattle.captures.specs.Records.{RECORD_LENGTH, packet_bytes, record_length};
 
 use crate::numbers::{Order, count_32, number_32};
 
-/// How many bytes a file's header has.
+/// The length of the file header.
 pub const HEADER_LENGTH: usize = 24;
 
-/// How many bytes a record has before those of its packet.
+/// The length of the header of a record.
 pub const RECORD_LENGTH: usize = 16;
 
-/// The header of a file.
+/// The file header.
 #[derive(Clone, Copy)]
 pub struct Header {
     pub order: Order,
-    /// The ticks of a second.
+    /// The clock ticks in a second.
     pub in_second: u64,
-    /// The link type of all packets.
+    /// The link-layer type of all packets.
     pub link: u32,
 }
 
@@ -24,17 +24,17 @@ pub struct Header {
 #[derive(Clone, Copy)]
 pub struct Record<'a> {
     pub seconds: u32,
-    /// The ticks after the second.
+    /// The ticks since the second began.
     pub ticks: u32,
-    /// How many bytes the packet had on its way.
+    /// The length of the packet on the wire.
     pub whole: usize,
     /// The bytes that were captured.
     pub bytes: &'a [u8],
-    /// What follows the record.
+    /// The bytes that follow the record.
     pub rest: &'a [u8],
 }
 
-/// The order of the bytes of a file, and the ticks of a second, by its first four bytes.
+/// Returns the byte order of a file and the ticks in a second, by its first four bytes.
 pub fn magic_of(bytes: &[u8]) -> Option<(Order, u64)> {
     match number_32(Order::Big, bytes, 0)? {
         0xA1B2_C3D4 => Some((Order::Big, 1_000_000)),
@@ -45,8 +45,8 @@ pub fn magic_of(bytes: &[u8]) -> Option<(Order, u64)> {
     }
 }
 
-/// The header of a file, if it is whole. The upper half of its link type is left out, which counts
-/// bytes at a packet's end.
+/// Parses the file header, if it is whole. The upper half of its link type, which counts bytes at
+/// the end of a packet, is left out.
 pub fn header_of(bytes: &[u8]) -> Option<Header> {
     let magic = magic_of(bytes)?;
     let (order, in_second) = magic;
@@ -58,7 +58,7 @@ pub fn header_of(bytes: &[u8]) -> Option<Header> {
     })
 }
 
-/// The record at the front of these bytes, if it is whole.
+/// Parses the record at the front of these bytes, if it is whole.
 pub fn record_of<'a>(order: Order, bytes: &'a [u8]) -> Option<Record<'a>>
     ensures none { IfNone result (length bytes.now < record_length order bytes.now) }
     ensures packet { IfSome result (λ found. found.bytes.now ≡ packet_bytes order bytes.now) }

@@ -2,22 +2,22 @@
 
 use std::fmt;
 
-/// A moment, counted from the beginning of 1970 in UTC.
+/// A time, counted from the beginning of 1970 in UTC.
 #[derive(Clone, Copy)]
 pub struct Moment {
     pub seconds: u64,
     pub nanoseconds: u32,
 }
 
-/// The nanoseconds of a second.
+/// The nanoseconds in a second.
 const SECOND: u64 = 1_000_000_000;
 
-/// The first second of the year 10000, from which on no date is printed.
+/// The first second of the year 10000. Later times are not printed as dates.
 const LAST: u64 = 253_402_300_800;
 
 impl Moment {
-    /// The moment after `ticks`, of which a second has `in_second`. `None` if a second has none of
-    /// them, or more than 1000000000.
+    /// Returns the time after `ticks`, with `in_second` ticks in a second. Returns `None` if
+    /// `in_second` is 0 or more than 1000000000.
     pub fn after(ticks: u64, in_second: u64) -> Option<Moment> {
         if in_second == 0 || in_second > SECOND {
             return None;
@@ -40,8 +40,8 @@ struct Date {
     day: u64,
 }
 
-/// The date of a day, counted from the beginning of 1970. The days are counted from a first of
-/// March, in spans of 400 years. So a leap day is the last of its year.
+/// Returns the date of a day, counted from the beginning of 1970. The days are counted from a first
+/// of March, in spans of 400 years, so that a leap day is the last day of its year.
 fn date_of(days: u64) -> Date {
     let days = days.saturating_add(719_468);
     let (era, day_of_era) = (days / 146_097, days % 146_097);

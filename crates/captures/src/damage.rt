@@ -3,37 +3,37 @@
 use std::alloc::AllocError;
 use std::fmt;
 
-/// What a capture has in the place of a packet.
+/// What is wrong with a record or a block of a capture.
 #[derive(Clone, Copy)]
 pub enum Fault {
-    /// The file's header ends early.
+    /// The file ends within its header.
     HeaderCut,
-    /// The record of a packet, or a block, ends early.
+    /// The file ends within a record or a block.
     RecordCut,
-    /// The record of a packet, or a block, has this many bytes, which are too many.
+    /// A record or a block has this length, which is longer than can be read.
     RecordLength(usize),
-    /// A block's length is none that a block can have, or the one at its end is another.
+    /// A block states this length, which no block can have, or a different one at its end.
     BlockLength(usize),
-    /// A section's mark tells no order of bytes.
+    /// The byte-order magic of a section is unknown.
     Order,
-    /// A packet is of an interface that its section does not describe.
+    /// A packet belongs to an interface with this number, which its section does not describe.
     Interface(usize),
-    /// A packet has fewer bytes than its block says.
+    /// A packet has this length, and its block is shorter.
     PacketLength(usize),
 }
 
 /// Where a capture cannot be read further, and why.
 #[derive(Clone, Copy)]
 pub struct Damage {
-    /// How many packets were read before it.
+    /// The number of packets that were read before it.
     pub packets: usize,
-    /// The place of the record in the file, counted from 0.
+    /// The offset of the record in the file.
     pub place: usize,
-    /// What is there.
+    /// What is wrong there.
     pub fault: Fault,
 }
 
-/// Why there is no next packet.
+/// Why the next packet cannot be read.
 #[derive(Clone, Copy)]
 pub enum Failure {
     /// An allocation failed.
@@ -65,7 +65,7 @@ impl fmt::Display for Fault {
                     "a block cannot have {length} bytes, or has another length at its end"
                 )
             }
-            Fault::Order => f.write_str("a section has no order of bytes"),
+            Fault::Order => f.write_str("the byte order of a section is unknown"),
             Fault::Interface(number) => write!(f, "interface {number} is not described"),
             Fault::PacketLength(length) => {
                 write!(f, "a packet of {length} bytes is longer than its block")

@@ -1,4 +1,4 @@
-//! What a packet of IPv4 or IPv6 carries.
+//! The content of IPv4 and IPv6 packets.
 
 use crate::numbers::{Order, number_16};
 use std::net::{IpAddr, Ipv4Addr, Ipv6Addr, SocketAddr};
@@ -8,42 +8,43 @@ use std::net::{IpAddr, Ipv4Addr, Ipv6Addr, SocketAddr};
 pub struct Datagram<'a> {
     pub from: SocketAddr,
     pub to: SocketAddr,
-    /// What it carries, as far as that was captured.
+    /// The payload of the datagram. If the capture cut the packet short, this is only its
+    /// beginning.
     pub payload: &'a [u8],
-    /// Whether it carried more than was captured.
+    /// Whether the capture cut the payload short.
     pub is_cut: bool,
 }
 
-/// What a packet carries.
+/// The content of a packet.
 #[derive(Clone, Copy)]
 pub enum Carried<'a> {
     Udp(Datagram<'a>),
     Tcp(Datagram<'a>),
-    /// A part of a packet.
+    /// A fragment of a packet.
     Fragment,
     /// Something else.
     Other,
-    /// Its headers were not captured whole.
+    /// The capture has cut its headers short.
     Cut,
 }
 
-/// The number of UDP among the protocols of IP.
+/// The protocol number of UDP.
 const UDP: u8 = 17;
 
-/// The number of TCP among the protocols of IP.
+/// The protocol number of TCP.
 const TCP: u8 = 6;
 
-/// How many bytes a header of IPv6 has.
+/// The length of the fixed header of IPv6.
 const IPV6_LENGTH: usize = 40;
 
-/// How many bytes a header of UDP has.
+/// The length of the header of UDP.
 const UDP_LENGTH: usize = 8;
 
-/// How many bytes a header of TCP has, or more.
+/// The least length of the header of TCP.
 const TCP_LENGTH: usize = 20;
 
-/// What a packet of IPv4 or IPv6 carries, by its version. `None` if the headers are not whole, here
-/// and below.
+/// Returns the content of an IPv4 or IPv6 packet, by its version. This and the functions below
+/// return `None` if the headers are not whole.
 pub fn internet(bytes: &[u8]) -> Option<Carried<'_>> {
     match *bytes.first()? >> 4 {
         4 => ipv4(bytes),
@@ -52,7 +53,7 @@ pub fn internet(bytes: &[u8]) -> Option<Carried<'_>> {
     }
 }
 
-/// What a packet of IPv4 carries (RFC 791, section 3.1).
+/// Returns the content of an IPv4 packet (RFC 791, section 3.1).
 pub fn ipv4(bytes: &[u8]) -> Option<Carried<'_>> {
     let first = *bytes.first()?;
     let header = usize::from(first & 15) * 4;
@@ -78,7 +79,7 @@ pub fn ipv4(bytes: &[u8]) -> Option<Carried<'_>> {
     }
 }
 
-/// The address of IPv4 at a place.
+/// Parses the IPv4 address at an offset.
 fn ipv4_at(bytes: &[u8], place: usize) -> Option<IpAddr> {
     let [a, b, c, d, ..] = bytes.get(place..)? else {
         return None;
@@ -86,8 +87,8 @@ fn ipv4_at(bytes: &[u8], place: usize) -> Option<IpAddr> {
     Some(IpAddr::V4(Ipv4Addr::new(*a, *b, *c, *d)))
 }
 
-/// The first `length` bytes. It is all of them if `length` is 0, as where the network card cuts
-/// what is sent, or if there are fewer.
+/// Returns the first `length` bytes. Returns all of them if `length` is 0, as in packets that a
+/// network card is to split up, or if there are fewer.
 fn up_to(bytes: &[u8], length: usize) -> &[u8] {
     if length == 0 {
         return bytes;
@@ -95,7 +96,7 @@ fn up_to(bytes: &[u8], length: usize) -> &[u8] {
     bytes.get(..length).unwrap_or(bytes)
 }
 
-/// What a packet of IPv6 carries (RFC 8200, section 3).
+/// Returns the content of an IPv6 packet (RFC 8200, section 3).
 pub fn ipv6(bytes: &[u8]) -> Option<Carried<'_>> {
     let first = *bytes.first()?;
     if first >> 4 != 6 {
@@ -110,7 +111,7 @@ pub fn ipv6(bytes: &[u8]) -> Option<Carried<'_>> {
     behind_extensions(from, to, next, up_to(behind, length), is_cut)
 }
 
-/// The address of IPv6 at a place.
+/// Parses the IPv6 address at an offset.
 fn address_at(bytes: &[u8], place: usize) -> Option<IpAddr> {
     let octets = bytes.get(place..)?.get(..16)?;
     let mut ipv6 = [0; 16];
@@ -121,8 +122,8 @@ fn address_at(bytes: &[u8], place: usize) -> Option<IpAddr> {
     Some(IpAddr::V6(Ipv6Addr::from_octets(ipv6)))
 }
 
-/// What follows the extension headers (RFC 8200, section 4), the first of which is of this kind.
-/// The packet was captured whole, or not.
+/// Returns the content after the extension headers (RFC 8200, section 4), the first of which has
+/// this type. `is_cut` says whether the capture cut the packet short.
 fn behind_extensions<'a>(
     from: IpAddr,
     to: IpAddr,
@@ -150,13 +151,13 @@ fn behind_extensions<'a>(
     None
 }
 
-/// Whether a header of a fragment is of one that has the whole packet (RFC 6946).
+/// Returns `true` if a fragment header is that of a fragment with the whole packet (RFC 6946).
 fn is_whole(bytes: &[u8]) -> Option<bool> {
     Some(number_16(Order::Big, bytes, 2)? & 0xFFF9 == 0)
 }
 
-/// The UDP datagram that these bytes are (RFC 768). A length of 0 means all of them. One that is
-/// shorter than the header is no datagram's.
+/// Parses the UDP datagram at the front of these bytes (RFC 768). A length of 0 means all of them.
+/// A length that is less than that of the header is malformed.
 fn udp(from: IpAddr, to: IpAddr, bytes: &[u8]) -> Option<Carried<'_>> {
     let from = SocketAddr::new(from, number_16(Order::Big, bytes, 0)?);
     let to = SocketAddr::new(to, number_16(Order::Big, bytes, 2)?);
@@ -173,8 +174,8 @@ fn udp(from: IpAddr, to: IpAddr, bytes: &[u8]) -> Option<Carried<'_>> {
     }))
 }
 
-/// The segment of TCP that these bytes are (RFC 9293, section 3.1). A header that is shorter than
-/// its fixed part is no segment's.
+/// Parses a segment of TCP (RFC 9293, section 3.1). A header length that is less than that of the
+/// fixed header is malformed.
 fn tcp(from: IpAddr, to: IpAddr, bytes: &[u8], is_cut: bool) -> Option<Carried<'_>> {
     if bytes.len() < TCP_LENGTH && !is_cut {
         return Some(Carried::Other);

@@ -1,11 +1,11 @@
-//! Captures of packets, from the files of `tcpdump`, `tshark` and Wireshark: packet by packet, with
-//! the UDP datagram or the segment of TCP that each carries.
+//! Reads packet captures, as `tcpdump`, `tshark` and Wireshark write them: packet by packet, with
+//! the UDP datagram or the segment of TCP that each packet carries.
 //!
 //! ```text
-//! Capture::open(alloc, front)              none: the file that begins so is no capture
-//! capture.record_length(front)             how many bytes the record has that begins so
-//! capture.step(record)                     a packet, or a block without one
-//! carried(packet.link, packet.bytes)       the datagram or segment, or what is there instead
+//! Capture::open(alloc, header)             creates a capture from the header of its file
+//! capture.record_length(front)             returns the length of the record that begins here
+//! capture.step(record)                     parses a record, which has a packet or not
+//! carried(packet.link, packet.bytes)       returns the datagram or the segment of a packet
 //! ```
 #![tactic(auto)]
 

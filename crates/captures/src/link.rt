@@ -1,4 +1,4 @@
-//! What a packet carries, by the type of its link.
+//! The content of packets, by the type of their link layer.
 
 use crate::internet::{Carried, internet, ipv4, ipv6};
 use crate::numbers::{Order, number_16};
@@ -6,11 +6,11 @@ use crate::numbers::{Order, number_16};
 /// Ethernet.
 pub const ETHERNET: u32 = 1;
 
-/// A packet of IPv4 or IPv6 without a header before it.
+/// An IPv4 or IPv6 packet without a header before it.
 pub const RAW: u32 = 101;
 
-/// What a packet of a link of this type carries. `None` if links of the type are not read, or the
-/// headers are not whole.
+/// Returns the content of a packet with this link-layer type. Returns `None` if the type is not
+/// supported, or if the headers are not whole.
 pub fn carried(link: u32, bytes: &[u8]) -> Option<Carried<'_>> {
     let found = match link {
         ETHERNET => behind_type(bytes, 12),
@@ -27,8 +27,8 @@ pub fn carried(link: u32, bytes: &[u8]) -> Option<Carried<'_>> {
     Some(found.unwrap_or(Carried::Cut))
 }
 
-/// What follows a type of Ethernet at this place. The type may be that of a tag of a VLAN, after
-/// which another type follows.
+/// Returns the content after an EtherType at this offset. After the EtherType of a VLAN tag,
+/// another EtherType follows.
 fn behind_type(bytes: &[u8], place: usize) -> Option<Carried<'_>> {
     let mut rest = bytes.get(place..)?;
     for _tag in 0..bytes.len() {
@@ -41,7 +41,7 @@ fn behind_type(bytes: &[u8], place: usize) -> Option<Carried<'_>> {
     None
 }
 
-/// What a frame of this type carries.
+/// Returns the content of a frame with this EtherType.
 fn of_type(kind: u16, bytes: &[u8]) -> Option<Carried<'_>> {
     match kind {
         0x0800 => ipv4(bytes),
@@ -50,7 +50,8 @@ fn of_type(kind: u16, bytes: &[u8]) -> Option<Carried<'_>> {
     }
 }
 
-/// Linux cooked, version 2: the type comes first, and its packet behind 20 bytes.
+/// Returns the content of Linux cooked, version 2: the EtherType comes first, and the packet after
+/// 20 bytes.
 fn cooked_2(bytes: &[u8]) -> Option<Carried<'_>> {
     let kind = number_16(Order::Big, bytes, 0)?;
     let rest = bytes.get(20..)?;

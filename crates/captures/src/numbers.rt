@@ -1,4 +1,4 @@
-//! Numbers in the order of bytes that a capture has.
+//! Numbers in the byte order of a capture.
 ghost use Rattle.std.specs.Prelude.{◌≡◌, ◌+◌, ◌<◌, IfSome, IfNone, drop, length};
 ghost use Rattle.captures.specs.Numbers.{number_in};
 
@@ -11,7 +11,7 @@ pub enum Order {
     Little,
 }
 
-/// The number of 16 bits at a place, where it is whole.
+/// Parses the number of 16 bits at an offset, if it is whole.
 pub fn number_16(order: Order, bytes: &[u8], place: usize) -> Option<u16>
     ensures none { IfNone result (length bytes.now < place + 2) }
     ensures some { IfSome result (λ number. number ≡ number_in order 2 (drop place bytes.now)) }
@@ -26,7 +26,7 @@ pub fn number_16(order: Order, bytes: &[u8], place: usize) -> Option<u16>
     })
 }
 
-/// The number of 32 bits at a place, where it is whole.
+/// Parses the number of 32 bits at an offset, if it is whole.
 pub fn number_32(order: Order, bytes: &[u8], place: usize) -> Option<u32>
     ensures none { IfNone result (length bytes.now < place + 4) }
     ensures some { IfSome result (λ number. number ≡ number_in order 4 (drop place bytes.now)) }
@@ -41,7 +41,7 @@ pub fn number_32(order: Order, bytes: &[u8], place: usize) -> Option<u32>
     })
 }
 
-/// A number of 32 bits as a count of bytes.
+/// Parses a number of 32 bits at an offset as a count of bytes.
 pub fn count_32(order: Order, bytes: &[u8], place: usize) -> Option<usize>
     ensures none { IfNone result (length bytes.now < place + 4) }
     ensures some { IfSome result (λ number. number ≡ number_in order 4 (drop place bytes.now)) }

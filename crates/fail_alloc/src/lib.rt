@@ -9,11 +9,11 @@ use std::test::Fail;
 /// Below this many allocations each run of a test has met its last one.
 const MOST_ALLOCATIONS: u64 = 400;
 
-/// Passes each call on to the allocator inside it, but for the one allocation that it was told to
+/// Passes each call on to the allocator inside it, except for the one allocation that it should
 /// refuse.
 ///
-/// A collection takes it as `&heap`, which is copied, so every collection of a test shares the one
-/// count.
+/// A collection takes it as `&heap`, which is copied, so that every collection of a test shares the
+/// one count.
 pub struct RefusingAllocator<B: Allocator> {
     inner: B,
     counts: Cell<Counts>,
@@ -22,7 +22,8 @@ pub struct RefusingAllocator<B: Allocator> {
 /// What was asked so far, and what is still to be refused.
 #[derive(Clone, Copy)]
 struct Counts {
-    /// The number of allocations up to the refusal and with it; 0 if there is none to come.
+    /// The number of allocations up to and including the one to refuse, or 0 if none should be
+    /// refused.
     until_refusal: u64,
     allocations: u64,
     deallocations: u64,
@@ -51,7 +52,7 @@ impl<B: Allocator> RefusingAllocator<B> {
         });
     }
 
-    /// Whether the refusal that was asked for is still to come.
+    /// Returns `true` if the allocation to refuse has not been requested yet.
     pub fn is_waiting(&self) -> bool {
         self.counts.get().until_refusal != 0
     }
@@ -63,15 +64,15 @@ impl<B: Allocator> RefusingAllocator<B> {
         is_waiting
     }
 
-    /// How many allocations were asked for and not refused.
+    /// Returns how many allocations were requested and granted.
     pub fn allocations(&self) -> u64 {
         self.counts.get().allocations
     }
 
-    /// Makes a run for each number from 1 on, until one answers that it met no refusal. The first
-    /// is to meet one.
+    /// Makes a run for each number from 1 on, until a run returns that no allocation was refused.
+    /// In the first run one must be refused.
     ///
-    /// A run refuses the allocation of its number, and gives back what it allocates.
+    /// A run refuses the allocation with its number, and frees what it allocates.
     pub fn each_refusal<F: FnMut(u64) -> Result<bool, Fail>>(&self, mut run: F) -> Result<(), Fail>
         requires { F.IsAlwaysCallable run }
     {
@@ -91,7 +92,7 @@ impl<B: Allocator> RefusingAllocator<B> {
         Err(Fail::from("each run met a refusal"))
     }
 
-    /// How many blocks were allocated and not given back.
+    /// Returns how many blocks were allocated and not freed.
     pub fn live(&self) -> u64 {
         let counts = self.counts.get();
         counts.allocations.saturating_sub(counts.deallocations)

@@ -1,4 +1,4 @@
-//! The calls of an agent: `agent NAME WORDS`. Each takes its words, and adds what is answered to a
+//! The calls of an agent: `agent NAME WORDS`. Each takes its arguments, and appends its answer to a
 //! text.
 
 pub mod answers;
@@ -17,18 +17,18 @@ use crate::trouble::Trouble;
 use stun_agent::agent::StunAgent;
 use stun_base::transport::TransportType;
 
-/// What the calls of `agent` share.
+/// The state that the calls of `agent` share.
 #[derive(Drop)]
 pub struct Agent<'a> {
     agent: StunAgent<&'a Heap>,
-    /// The way that its messages are to go.
+    /// The transport and the address that its messages should go by.
     way: Way,
-    /// The requests that it has kept.
+    /// The requests that the agent stores.
     asked: Asked<'a>,
 }
 
 impl<'a> Agent<'a> {
-    /// An agent over UDP at 10.0.0.1:12345.
+    /// Creates an agent over UDP at 10.0.0.1:12345.
     pub fn new(heap: &'a Heap) -> Agent<'a> {
         let way = Way {
             transport: TransportType::Udp,
@@ -42,7 +42,7 @@ impl<'a> Agent<'a> {
     }
 }
 
-/// `agent NAME WORDS`: the calls with messages and addresses.
+/// Plays `agent NAME WORDS`: the calls with messages and addresses.
 pub fn call(
     scene: &mut Scene<'_>,
     name: &str,
@@ -63,7 +63,7 @@ pub fn call(
     }
 }
 
-/// The calls of requests that wait.
+/// Plays the calls on outstanding requests.
 fn wait(
     scene: &mut Scene<'_>,
     name: &str,
@@ -80,7 +80,7 @@ fn wait(
     }
 }
 
-/// What has no words.
+/// Plays the calls without arguments.
 fn tell(
     scene: &mut Scene<'_>,
     name: &str,

@@ -1,4 +1,4 @@
-//! The calls of single attributes: `attribute NAME WORDS`. Each adds what is answered to a text.
+//! The calls on single attributes: `attribute NAME WORDS`. Each appends its answer to a text.
 
 mod making;
 mod registry;
@@ -7,7 +7,7 @@ mod single;
 use crate::stage::Stage;
 use crate::trouble::Trouble;
 
-/// `attribute NAME WORDS`
+/// Plays `attribute NAME WORDS`.
 pub fn call(
     stage: &mut Stage<'_>,
     name: &str,

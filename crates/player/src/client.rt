@@ -1,5 +1,5 @@
-//! The calls of a client with long-term credentials: `client NAME WORDS`. Each adds what is
-//! answered to a text.
+//! The calls of a client with long-term credentials: `client NAME WORDS`. Each appends its answer
+//! to a text.
 
 use crate::kept::message;
 use crate::names::{OUT_OF_MEMORY, algorithm_name, feature_name};
@@ -13,7 +13,7 @@ use stun_auth::auth::{
 };
 use stun_types::message::{IntegrityAlgorithm, LongTermCredentials, Message};
 
-/// What has words, or may have some.
+/// Plays the calls that have arguments, or may have some.
 pub fn call(
     stage: &mut Stage<'_>,
     name: &str,
@@ -34,7 +34,7 @@ pub fn call(
     }
 }
 
-/// What has no words.
+/// Plays the calls without arguments.
 fn tell(
     stage: &mut Stage<'_>,
     name: &str,

@@ -1,5 +1,4 @@
-//! The calls of digests, keys and hashes: `digest NAME WORDS`. Each adds what is answered to a
-//! text.
+//! The calls on digests, keys and hashes: `digest NAME WORDS`. Each appends its answer to a text.
 
 mod hmac;
 mod keys;
@@ -10,7 +9,7 @@ use crate::words::{bytes, number, text};
 use std::alloc::Global;
 use stun_base::compare::is_same_text;
 
-/// `digest NAME WORDS`
+/// Plays `digest NAME WORDS`.
 pub fn call(
     stage: &mut Stage<'_>,
     name: &str,
@@ -58,7 +57,7 @@ fn digits(alloc: Global, word: &str) -> Result<Vec<u8>, Trouble> {
     Ok(whole)
 }
 
-/// The bytes of a word: `0xHEX`, `0xHEX*NUMBER`, `pattern:LENGTH:STEP:FIRST`, or those of a text.
+/// Parses bytes: `0xHEX`, `0xHEX*NUMBER`, `pattern:LENGTH:STEP:FIRST`, or the bytes of a text.
 pub fn bytes_of(alloc: Global, word: &str) -> Result<Vec<u8>, Trouble> {
     if let Some(rest) = word.strip_prefix("0x") {
         return digits(alloc, rest);

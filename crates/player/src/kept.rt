@@ -1,4 +1,4 @@
-//! Messages: spelled by words, by bytes, or kept under a name and changed on their way.
+//! Messages: spelled by words or by bytes, or stored under a name and then changed.
 
 use crate::spelling::{Spelling, add_words};
 use crate::stage::{Source, Stage};
@@ -6,14 +6,14 @@ use crate::trouble::Trouble;
 use crate::words::{attribute_type, bytes, class, size};
 use std::alloc::{AllocError, Global};
 
-/// A message with its name.
+/// A message and its name.
 #[derive(Drop)]
 struct Kept {
     name: String,
     bytes: Vec<u8>,
 }
 
-/// The messages of a paragraph that have names. Of two with one name the later is meant.
+/// The messages of a paragraph that have names. If two have the same name, the later one counts.
 #[derive(Drop)]
 pub struct Messages {
     alloc: Global,
@@ -28,7 +28,7 @@ impl Messages {
         }
     }
 
-    /// Keeps a message under a name.
+    /// Stores a message under a name.
     pub fn keep(&mut self, name: &str, bytes: Vec<u8>) -> Result<(), AllocError> {
         let name = String::from_str(self.alloc, name)?;
         match self.kept.push(Kept { name, bytes }) {
@@ -37,7 +37,7 @@ impl Messages {
         }
     }
 
-    /// The message of a name.
+    /// Returns the message with a name.
     fn find(&self, name: &str) -> Option<&[u8]> {
         let mut found = None;
         for kept in &self.kept {
@@ -49,7 +49,7 @@ impl Messages {
     }
 }
 
-/// The bytes that words of hexadecimal digits spell one after another.
+/// Parses hexadecimal digits in several words as one sequence of bytes.
 pub fn joined(alloc: Global, words: &[&str]) -> Result<Vec<u8>, Trouble> {
     let mut joined = Vec::new(alloc);
     for word in words {
@@ -111,7 +111,8 @@ fn change(
     }
 }
 
-/// The message that words spell: `CLASS NAME=VALUE ..`; or `None` where they begin with no class.
+/// Parses a message: `CLASS NAME=VALUE ..`. Returns `None` if the arguments do not begin with a
+/// class.
 pub fn spelled(source: Source<'_>, words: &[&str]) -> Result<Option<Vec<u8>>, Trouble> {
     let [first, words @ ..] = words else {
         return Err(Trouble::Words);
@@ -124,8 +125,8 @@ pub fn spelled(source: Source<'_>, words: &[&str]) -> Result<Option<Vec<u8>>, Tr
     Ok(Some(spelling.finish()?))
 }
 
-/// The message that words spell: `CLASS NAME=VALUE ..`, `bytes HEX ..`, or `NAME`, which is kept,
-/// and how it is changed.
+/// Parses a message: `CLASS NAME=VALUE ..`, `bytes HEX ..`, or the `NAME` of a stored message and
+/// how to change it.
 pub fn message(stage: &Stage<'_>, words: &[&str]) -> Result<Vec<u8>, Trouble> {
     let source = stage.source;
     if let Some(message) = spelled(source, words)? {

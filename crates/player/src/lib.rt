@@ -1,6 +1,6 @@
-//! What plays the lines of a transcript: words, messages, and where calls are made; and the calls of
-//! servers, clients and short-term credentials, of agents, of messages and their parts, and of
-//! messages that are written step by step.
+//! Plays the lines of a transcript. It has the calls of servers, clients and short-term
+//! credentials, of agents, of messages and their parts, and of messages that are written step by
+//! step.
 #![tactic(auto)]
 
 pub mod agent;

@@ -1,4 +1,4 @@
-//! The calls that read messages: `message NAME WORDS`. Each adds what is answered to a text.
+//! The calls that read messages: `message NAME WORDS`. Each appends its answer to a text.
 
 mod header;
 mod naming;
@@ -9,7 +9,7 @@ mod verdict;
 use crate::stage::Stage;
 use crate::trouble::Trouble;
 
-/// `message NAME WORDS`
+/// Plays `message NAME WORDS`.
 pub fn call(
     stage: &mut Stage<'_>,
     name: &str,

@@ -1,5 +1,5 @@
-//! What nonces say by their first letters (RFC 8489, section 9.2): `nonce NAME WORDS`. Each call
-//! adds what is answered to a text.
+//! The security bits of nonces (RFC 8489, section 9.2): `nonce NAME WORDS`. Each call appends its
+//! answer to a text.
 
 use crate::names::OUT_OF_MEMORY;
 use crate::phrases::phrase;
@@ -10,7 +10,7 @@ use crate::words::bytes;
 use std::alloc::Global;
 use stun_auth::auth::{LONG_TERM_RFC8489_NONCE_COOKIE, NonceSecurityBits};
 
-/// `nonce NAME WORDS`
+/// Plays `nonce NAME WORDS`.
 pub fn call(
     stage: &mut Stage<'_>,
     name: &str,

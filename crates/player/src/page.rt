@@ -1,6 +1,6 @@
 //! Transcripts: paragraphs with empty lines between them, and the lines of a paragraph.
 
-/// A line: what is called, and what is answered to it, if that is written.
+/// A line: a call, and its answer if the line has one.
 #[derive(Clone, Copy)]
 pub struct Line<'a> {
     pub call: &'a str,
@@ -8,7 +8,7 @@ pub struct Line<'a> {
 }
 
 impl<'a> Line<'a> {
-    /// Reads `CALL` or `CALL -> ANSWER`.
+    /// Parses `CALL` or `CALL -> ANSWER`.
     pub fn of(text: &'a str) -> Line<'a> {
         match text.split_once("->") {
             Some((call, answer)) => Line {
@@ -30,12 +30,14 @@ pub struct Page<'a> {
     pub text: &'a str,
 }
 
-/// Whether a line is played: it is no comment, no name of a paragraph and no meaning of a name.
+/// Returns `true` if a line is played: it is not a comment, the name of a paragraph or the
+/// definition of a name.
 pub fn is_played(text: &str) -> bool {
     !text.starts_with('#') && !text.starts_with('@') && !text.ends_with(':')
 }
 
-/// The words that a line `@NAME WORD ..` gives to a name that begins with `@`, or none.
+/// Returns the words that a line `@NAME WORD ..` gives to a name that begins with `@`, or an empty
+/// text.
 pub fn meaning<'a>(transcript: &'a str, name: &str) -> &'a str {
     for line in transcript.split('\n') {
         match line.split_once(' ') {
@@ -46,7 +48,7 @@ pub fn meaning<'a>(transcript: &'a str, name: &str) -> &'a str {
     ""
 }
 
-/// The name in `like NAME`.
+/// Returns the name in `like NAME`.
 pub fn like(call: &str) -> Option<&str> {
     match call.split_once(' ') {
         Some(("like", name)) => Some(name),
@@ -62,12 +64,13 @@ fn is_named(paragraph: &str, name: &str) -> bool {
     }
 }
 
-/// Whether another paragraph can begin with this one: it is there, and begins with no other itself.
+/// Returns `true` if another paragraph can begin with this one: it exists, and does not begin with
+/// another paragraph itself.
 pub fn is_beginning(paragraph: &str) -> bool {
     !paragraph.is_empty() && !paragraph.contains("\nlike ")
 }
 
-/// The paragraph that begins with the line `NAME:`, or an empty one.
+/// Returns the paragraph that begins with the line `NAME:`, or an empty one.
 pub fn named<'a>(transcript: &'a str, name: &str) -> &'a str {
     for paragraph in transcript.split("\n\n") {
         if is_named(paragraph, name) {
@@ -77,7 +80,7 @@ pub fn named<'a>(transcript: &'a str, name: &str) -> &'a str {
     ""
 }
 
-/// How many lines a text has.
+/// Returns the number of lines of a text.
 pub fn line_count(text: &str) -> usize {
     text.split('\n').count()
 }

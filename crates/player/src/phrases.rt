@@ -1,4 +1,4 @@
-//! Texts of several words, and how types and refusals are told.
+//! Texts of several words, and how types and errors are printed.
 
 use crate::signing::push_bytes;
 use crate::trouble::Trouble;
@@ -7,7 +7,7 @@ use std::alloc::Global;
 use stun_types::attribute::AttributeType;
 use stun_types::message::{StunParseError, ValidateError};
 
-/// A text of words with a space between them. `-` is the empty word.
+/// Joins words to a text with a space between them. `-` is the empty word.
 pub fn phrase(alloc: Global, words: &[&str]) -> Result<String, Trouble> {
     let mut phrase = String::new(alloc);
     for (at, word) in words.iter().enumerate() {
@@ -19,13 +19,13 @@ pub fn phrase(alloc: Global, words: &[&str]) -> Result<String, Trouble> {
     Ok(phrase)
 }
 
-/// Adds a type of attributes as `0x` and four digits.
+/// Appends an attribute type as `0x` and four digits.
 pub fn push_type(alloc: Global, kind: AttributeType, answer: &mut String) -> Result<(), Trouble> {
     answer.push_str("0x")?;
     push_bytes(alloc, kind.value().to_be_bytes().as_slice(), answer)
 }
 
-/// Adds why the digest of a message is refused, with the type of the attribute that it lacks.
+/// Appends why a signature is refused, and the type of the attribute that the message lacks.
 pub fn push_refusal(
     alloc: Global,
     error: ValidateError,

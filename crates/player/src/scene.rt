@@ -1,10 +1,10 @@
-//! A stage with what the calls of agents and of writers keep.
+//! A stage, with the state of the calls of agents and of writers.
 
 use crate::agent::Agent;
 use crate::stage::{Heap, Source, Stage};
 use crate::write::Writing;
 
-/// Where all calls are made but those of runs.
+/// The state of all calls except those of runs.
 #[derive(Drop)]
 pub struct Scene<'a> {
     pub stage: Stage<'a>,
@@ -13,7 +13,7 @@ pub struct Scene<'a> {
 }
 
 impl<'a> Scene<'a> {
-    /// A new stage, with an agent as it is made, and no message begun.
+    /// Creates a stage with a new agent and no message.
     pub fn new(source: Source<'a>, heap: &'a Heap) -> Self {
         Scene {
             stage: Stage::new(source, heap),

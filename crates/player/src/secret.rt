@@ -1,5 +1,5 @@
-//! Keys, credentials and bytes by themselves: `secret NAME WORDS`. Each call adds what is answered
-//! to a text.
+//! The calls on keys, credentials and bytes: `secret NAME WORDS`. Each appends its answer to a
+//! text.
 
 use crate::names::OUT_OF_MEMORY;
 use crate::phrases::phrase;
@@ -13,7 +13,7 @@ use stun_types::message::{
     IntegrityKey, LongTermCredentials, LongTermKeyCredentials, ShortTermCredentials, long_term_key,
 };
 
-/// One of each kind.
+/// A key, short-term credentials and long-term credentials, as far as they were set.
 #[derive(Drop)]
 pub struct Secrets<'a> {
     key: Option<IntegrityKey<&'a Heap>>,
@@ -23,7 +23,7 @@ pub struct Secrets<'a> {
 }
 
 impl<'a> Secrets<'a> {
-    /// None of any kind.
+    /// Creates a state without any of them.
     pub fn new() -> Secrets<'a> {
         Secrets {
             key: None,
@@ -34,7 +34,7 @@ impl<'a> Secrets<'a> {
     }
 }
 
-/// `secret NAME WORDS`
+/// Plays `secret NAME WORDS`.
 pub fn call(
     scene: &mut Scene<'_>,
     name: &str,

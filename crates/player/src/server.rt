@@ -1,5 +1,5 @@
-//! The calls of a server with long-term credentials: `server NAME WORDS`. Each adds what is
-//! answered to a text.
+//! The calls of a server with long-term credentials: `server NAME WORDS`. Each appends its answer
+//! to a text.
 
 use crate::kept::message;
 use crate::names::{OUT_OF_MEMORY, algorithm_name, feature_name, server_reason_name};
@@ -15,7 +15,7 @@ use stun_auth::auth::{
 use stun_base::words::WordSource;
 use stun_types::message::{LongTermCredentials, Message};
 
-/// What changes the server.
+/// Plays the calls that change the server.
 pub fn call(
     stage: &mut Stage<'_>,
     name: &str,
@@ -41,7 +41,7 @@ pub fn call(
     }
 }
 
-/// What has no words.
+/// Plays the calls without arguments.
 fn tell(
     stage: &mut Stage<'_>,
     name: &str,

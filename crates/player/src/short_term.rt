@@ -1,5 +1,5 @@
-//! The calls of short-term credentials (RFC 8489, section 9.1): `short-term NAME WORDS`. Each adds
-//! what is answered to a text.
+//! The calls of short-term credentials (RFC 8489, section 9.1): `short-term NAME WORDS`. Each
+//! appends its answer to a text.
 
 use crate::kept::message;
 use crate::names::{OUT_OF_MEMORY, algorithm_name};
@@ -12,7 +12,7 @@ use crate::words::algorithm;
 use stun_auth::auth::ShortTermAuth;
 use stun_types::message::{IntegrityAlgorithm, Message, ShortTermCredentials, ValidateError};
 
-/// `short-term NAME WORDS`
+/// Plays `short-term NAME WORDS`.
 pub fn call(
     stage: &mut Stage<'_>,
     name: &str,

@@ -1,4 +1,4 @@
-//! Messages that one side signs, on the heap or in a slice: the calls that a server, a client and
+//! Messages that are signed on the heap or in a slice: the calls that a server, a client and
 //! short-term credentials share.
 ghost use Rattle.std.specs.Prelude.{◌≡◌, []};
 
@@ -11,13 +11,13 @@ use std::alloc::Global;
 use stun_types::message::{MessageHeader, MessageWriteMutSlice, MessageWriteVec, StunWriteError};
 use stun_types::prelude::*;
 
-/// The bytes of a signed message, or why there is none.
+/// The bytes of a signed message, or the error.
 pub type Signed<'a> = Result<Vec<u8, &'a Heap>, StunWriteError>;
 
 /// Room for the messages that are signed in slices.
 pub type Room = [u8; 256];
 
-/// A message in an empty writer, byte by byte.
+/// Copies a message byte by byte to an empty writer.
 pub fn copied<W: MessageWrite>(message: &[u8], writer: W) -> Result<W, StunWriteError>
     requires { W.bytes writer ≡ [] }
 {
@@ -27,7 +27,7 @@ pub fn copied<W: MessageWrite>(message: &[u8], writer: W) -> Result<W, StunWrite
     Ok(writer)
 }
 
-/// Who signs.
+/// The side that signs.
 #[derive(Clone, Copy)]
 pub enum Side {
     Server,
@@ -68,7 +68,7 @@ fn signed_on_heap<'a>(
     Ok(signed.map(|writer| writer.finish()))
 }
 
-/// `.. signs MESSAGE`: the bytes of a message to the other side, once it is signed.
+/// Plays `.. signs MESSAGE`: prints the bytes of a message to the other side after it is signed.
 pub fn sign(
     stage: &mut Stage<'_>,
     side: Side,
@@ -81,7 +81,7 @@ pub fn sign(
     }
 }
 
-/// `.. signs-length MESSAGE`: how many bytes it has then.
+/// Plays `.. signs-length MESSAGE`: prints the length of the signed message.
 pub fn sign_length(
     stage: &mut Stage<'_>,
     side: Side,
@@ -97,7 +97,8 @@ pub fn sign_length(
     }
 }
 
-/// `.. signs-in ROOM MESSAGE`: the same as `signs`, in a slice of ROOM bytes, up to 256.
+/// Plays `.. signs-in ROOM MESSAGE`, which is like `signs`, but in a slice of ROOM bytes, up to
+/// 256.
 pub fn sign_in_slice(
     stage: &mut Stage<'_>,
     side: Side,
@@ -119,7 +120,7 @@ pub fn sign_in_slice(
     }
 }
 
-/// Adds the digits of bytes to an answer.
+/// Appends bytes as hexadecimal digits.
 pub fn push_bytes(alloc: Global, bytes: &[u8], answer: &mut String) -> Result<(), Trouble> {
     match hex::encode(alloc, bytes) {
         Ok(digits) => Ok(answer.push_str(digits.as_str())?),
@@ -127,7 +128,7 @@ pub fn push_bytes(alloc: Global, bytes: &[u8], answer: &mut String) -> Result<()
     }
 }
 
-/// Adds why a message is not signed; an attribute that is in the way with its type.
+/// Appends why a message is not signed. If an attribute is in the way, its type is printed.
 pub fn push_reason(reason: StunWriteError, answer: &mut String) -> Result<(), Trouble> {
     match reason {
         StunWriteError::AttributeExists(kind) => Ok(write!(answer, "AttributeExists {kind}")?),

@@ -1,8 +1,8 @@
-//! Messages from words: a class, and `NAME=VALUE` for each attribute, in any order and as often as
-//! is written.
+//! Spells messages from words: a class, and `NAME=VALUE` for each attribute, in any order and any
+//! number of times.
 //!
-//! The player spells them byte by byte (RFC 8489, sections 5 and 14), so that it can spell what no
-//! writer of the library writes.
+//! The player writes them byte by byte (RFC 8489, sections 5 and 14), so that it can spell messages
+//! that no writer of the library would write.
 
 use crate::page::meaning;
 use crate::stage::Source;
@@ -18,15 +18,15 @@ use stun_types::message::{
 /// The magic cookie (section 5).
 const COOKIE: [u8; 4] = [0x21, 0x12, 0xa4, 0x42];
 
-/// A message in the making.
+/// A message that is being spelled.
 #[derive(Drop)]
 pub struct Spelling {
     alloc: Global,
-    /// The first two bytes.
+    /// The first two bytes of the message.
     message_type: u16,
-    /// The id of the transaction.
+    /// The transaction ID.
     id: [u8; 12],
-    /// What stands behind the header.
+    /// The bytes after the header.
     attributes: Vec<u8>,
 }
 
@@ -50,7 +50,7 @@ fn id_of(number: u64) -> [u8; 12] {
 }
 
 impl Spelling {
-    /// A Binding message of a class, with id 1.
+    /// Creates a Binding message of a class, with transaction ID 1.
     pub fn new(alloc: Global, class: MessageClass) -> Spelling {
         Spelling {
             alloc,
@@ -60,7 +60,7 @@ impl Spelling {
         }
     }
 
-    /// A message that is there already, or `None` where it has no header.
+    /// Creates a spelling from a message. Returns `None` if it has no header.
     pub fn of(alloc: Global, message: &[u8]) -> Result<Option<Spelling>, Trouble> {
         let Some((header, attributes)) = message.split_at_checked(20) else {
             return Ok(None);
@@ -92,7 +92,7 @@ impl Spelling {
         Ok(header)
     }
 
-    /// The bytes of the message.
+    /// Returns the bytes of the message.
     pub fn finish(&self) -> Result<Vec<u8>, Trouble> {
         let mut message = self.header(0)?;
         message.extend_from_slice(self.attributes.as_slice())?;
@@ -134,7 +134,7 @@ impl Spelling {
         }
     }
 
-    /// Takes out each attribute of a type.
+    /// Removes each attribute of a type.
     pub fn take_out(&mut self, kind: AttributeType) -> Result<(), Trouble> {
         let mut left = Vec::new(self.alloc);
         let mut rest = self.attributes.as_slice();
@@ -160,7 +160,7 @@ fn is_of(attribute: &[u8], kind: AttributeType) -> bool {
     }
 }
 
-/// The first attribute with its padding, and what follows it.
+/// Returns the first attribute with its padding, and the bytes after it.
 pub fn first_of(bytes: &[u8]) -> Option<(&[u8], &[u8])> {
     let [_, _, high, low, ..] = bytes else {
         return None;
@@ -336,7 +336,8 @@ fn add_meaning(spelling: &mut Spelling, meaning: &str) -> Result<(), Trouble> {
     Ok(())
 }
 
-/// Adds what words spell, in their order. `@NAME` is what the transcript gives that name.
+/// Adds what the words spell, in order. `@NAME` stands for the words that the transcript gives to
+/// that name.
 pub fn add_words(
     source: Source<'_>,
     spelling: &mut Spelling,

@@ -1,4 +1,4 @@
-//! Where calls are made: the objects of the library, and what surrounds them.
+//! Where calls are played: the objects of the library, and what surrounds them.
 
 use crate::kept::Messages;
 use crate::trouble::Trouble;
@@ -11,15 +11,14 @@ use stun_base::instant::Instant;
 
 pub type Heap = RefusingAllocator<Global>;
 
-/// What a paragraph is played from: the memory of the player, and the transcript, which gives names
-/// a meaning.
+/// The sources of a paragraph: the memory of the player, and the transcript, which defines names.
 #[derive(Clone, Copy)]
 pub struct Source<'a> {
     pub alloc: Global,
     pub transcript: &'a str,
 }
 
-/// How many blocks were asked for, and how many were given back.
+/// The numbers of blocks that were allocated and freed.
 #[derive(Clone, Copy, PartialEq, Eq)]
 pub struct Blocks {
     pub asked: u64,
@@ -32,12 +31,12 @@ const NONE: Blocks = Blocks {
     returned: 0,
 };
 
-/// What a paragraph has: one object of each kind, and the messages that were kept. It has the
-/// address, the time and the random numbers of the messages that come.
+/// The state of a paragraph: one object of each kind, and the stored messages. It has the address,
+/// the time and the random numbers of the messages that arrive.
 #[derive(Drop)]
 pub struct Stage<'a> {
     pub source: Source<'a>,
-    /// Where the library allocates, and the player what it hands over.
+    /// The heap on which the library allocates, and the player what it passes to the library.
     pub heap: &'a Heap,
     pub from: SocketAddr,
     pub now: Instant,
@@ -46,20 +45,20 @@ pub struct Stage<'a> {
     pub server: LongTermServerAuth<&'a Heap>,
     pub client: LongTermClientAuth<&'a Heap>,
     pub short_term: ShortTermAuth<&'a Heap>,
-    /// Which allocation of a call is refused; at 0, none.
+    /// The number of the allocation of a call that is refused, or 0 for none.
     pub nth: u64,
     /// Whether it was refused.
     pub is_refused: bool,
-    /// Whether it was one of a run, which then ends after some of its calls.
+    /// Whether the call is a run, which ends after some of its calls.
     pub is_run: bool,
-    /// What the last call of the library did to the heap.
+    /// The allocations of the last call of the library.
     pub work: Blocks,
     before: Option<Blocks>,
 }
 
 impl<'a> Stage<'a> {
-    /// A new stage: time 0, address 10.0.0.1:12345, zeros are drawn, a server and a client without
-    /// users.
+    /// Creates a stage: time 0, address 10.0.0.1:12345, random numbers 0, and a server and a client
+    /// without users.
     pub fn new(source: Source<'a>, heap: &'a Heap) -> Self {
         let alloc = source.alloc;
         Stage {
@@ -80,7 +79,7 @@ impl<'a> Stage<'a> {
         }
     }
 
-    /// The text of a word, on the heap.
+    /// Copies a word to the heap.
     pub fn text(&self, word: &str) -> Result<String<&'a Heap>, Trouble> {
         let text = text(self.source.alloc, word)?;
         Ok(String::from_str(self.heap, text.as_str())?)
@@ -94,13 +93,13 @@ impl<'a> Stage<'a> {
         }
     }
 
-    /// The library works from here on, and an allocation may be refused.
+    /// Marks the beginning of the library's work. From here on an allocation may be refused.
     pub fn begin(&mut self) {
         self.before = Some(self.blocks());
         self.heap.refuse(self.nth);
     }
 
-    /// The library has ended its work.
+    /// Marks the end of the library's work.
     pub fn end(&mut self) {
         if let Some(before) = self.before {
             let after = self.blocks();

@@ -1,4 +1,4 @@
-//! Messages that are told in the words that spell them.
+//! Prints messages in the words that spell them.
 
 use crate::kept::spelled;
 use crate::signing::push_bytes;
@@ -9,7 +9,8 @@ use std::alloc::Global;
 use std::net::{IpAddr, Ipv4Addr, Ipv6Addr, SocketAddr};
 use std::str;
 
-/// Adds a message in the words that spell it, or `bytes` and its digits where they spell another.
+/// Appends a message in the words that spell it, or `bytes` and its digits if they spell another
+/// one.
 pub fn push_message(source: Source<'_>, bytes: &[u8], answer: &mut String) -> Result<(), Trouble> {
     let mut told = String::new(source.alloc);
     push_words(source.alloc, bytes, &mut told)?;
@@ -139,7 +140,7 @@ fn push_bytes_as_text(value: &[u8], answer: &mut String) -> Result<(), Trouble> 
     }
 }
 
-/// Adds a text: `-` where it is empty, and `a*763` where it is one letter so often.
+/// Appends a text: `-` if it is empty, and `a*763` if it is one letter that many times.
 pub fn push_text(text: &str, answer: &mut String) -> Result<(), Trouble> {
     let [first, ..] = text.as_bytes() else {
         return Ok(answer.push('-')?);

@@ -1,5 +1,5 @@
-//! Messages that are signed by the calls that check nothing. Their conditions are proved here: what
-//! the call that checks has signed, in ample memory, may be signed.
+//! Messages that are signed by the calls that check nothing. Their conditions are proved here: a
+//! message that the checking call has signed, in ample memory, may be signed.
 
 use crate::signing::{Side, push_bytes, push_reason};
 use crate::stage::{Heap, Stage};
@@ -61,9 +61,10 @@ fn password_signs<'a>(heap: &'a Heap, auth: &mut ShortTermAuth<&'a Heap>) -> Sig
     answer.map_err(StunWriteError::from)
 }
 
-/// `.. signs-unchecked`: the bytes of a Binding message with id 1 and without attributes, once it is
-/// signed: of a server's success, or of a request. A server must have signed one message to the
-/// address before: a line that is refused memory may have noted the offer that it makes.
+/// Plays `.. signs-unchecked`: prints the bytes of a signed Binding message with transaction ID 1
+/// and no other attributes, which is a success for a server, and otherwise a request. A server must
+/// have signed one message to the address before, because a line that is refused memory may have
+/// recorded the offer that it makes.
 pub fn sign_unchecked(
     stage: &mut Stage<'_>,
     side: Side,

@@ -1,4 +1,4 @@
-//! What single words mean.
+//! Parses single words.
 
 use crate::trouble::Trouble;
 use hex::FromHexError;
@@ -10,7 +10,7 @@ use stun_base::instant::Instant;
 use stun_types::attribute::AttributeType;
 use stun_types::message::{IntegrityAlgorithm, MessageClass, TransactionId};
 
-/// The number that decimal digits spell; underscores may part them.
+/// Parses a decimal number, in which underscores may separate digits.
 pub fn number(word: &str) -> Result<u64, Trouble> {
     if word.is_empty() {
         return Err(Trouble::Words);
@@ -36,7 +36,7 @@ fn with_digit(number: u64, digit: u8) -> Result<u64, Trouble> {
     }
 }
 
-/// A number up to 4294967295.
+/// Parses a number up to 4294967295.
 pub fn short_number(word: &str) -> Result<u32, Trouble> {
     match u32::try_from(number(word)?) {
         Ok(number) => Ok(number),
@@ -44,7 +44,7 @@ pub fn short_number(word: &str) -> Result<u32, Trouble> {
     }
 }
 
-/// The words behind the first, if that is this one.
+/// Returns the words after the first one, if the first one is this word.
 pub fn behind<'w, 'a>(first: &str, words: &'w [&'a str]) -> Option<&'w [&'a str]> {
     match words {
         [word, rest @ ..] if *word == first => Some(rest),
@@ -52,7 +52,7 @@ pub fn behind<'w, 'a>(first: &str, words: &'w [&'a str]) -> Option<&'w [&'a str]
     }
 }
 
-/// A number of bytes.
+/// Parses a number of bytes.
 pub fn size(word: &str) -> Result<usize, Trouble> {
     match usize::try_from(number(word)?) {
         Ok(size) => Ok(size),
@@ -60,7 +60,7 @@ pub fn size(word: &str) -> Result<usize, Trouble> {
     }
 }
 
-/// A number of 16 bits, as `0x` and four hexadecimal digits.
+/// Parses a number of 16 bits: `0x` and four hexadecimal digits.
 pub fn hex_number(alloc: Global, word: &str) -> Result<u16, Trouble> {
     let Some(digits) = word.strip_prefix("0x") else {
         return Err(Trouble::Words);
@@ -71,7 +71,7 @@ pub fn hex_number(alloc: Global, word: &str) -> Result<u16, Trouble> {
     }
 }
 
-/// Whether a word begins with a digit, as moments do and no call does.
+/// Returns `true` if a word begins with a digit, as times do and calls do not.
 pub fn is_moment(word: &str) -> bool {
     match word.as_bytes() {
         [first, ..] => first.is_ascii_digit(),
@@ -79,7 +79,7 @@ pub fn is_moment(word: &str) -> bool {
     }
 }
 
-/// Nanoseconds: `7`, `7ns`, `7ms` or `7s`.
+/// Parses nanoseconds: `7`, `7ns`, `7ms` or `7s`.
 pub fn nanos(word: &str) -> Result<u64, Trouble> {
     if let Some(count) = word.strip_suffix("ns") {
         return number(count);
@@ -100,7 +100,7 @@ fn times(count: u64, unit: u64) -> Result<u64, Trouble> {
     }
 }
 
-/// A moment: nanoseconds, or `max`, the last that there is.
+/// Parses a time: nanoseconds, or `max` for `Instant::MAX`.
 pub fn moment(word: &str) -> Result<Instant, Trouble> {
     match word {
         "max" => Ok(Instant::MAX),
@@ -108,7 +108,7 @@ pub fn moment(word: &str) -> Result<Instant, Trouble> {
     }
 }
 
-/// A span: nanoseconds, or `max`, the longest that there is.
+/// Parses a duration: nanoseconds, or `max` for the longest one.
 pub fn span(word: &str) -> Result<Duration, Trouble> {
     match word {
         "max" => Ok(Duration::MAX),
@@ -123,7 +123,7 @@ pub fn address(word: &str) -> Result<SocketAddr, Trouble> {
     }
 }
 
-/// The id of a small number.
+/// Creates a transaction ID from a small number.
 pub fn id(word: &str) -> Result<TransactionId, Trouble> {
     match TransactionId::from_u128(u128::from(number(word)?)) {
         Some(id) => Ok(id),
@@ -158,7 +158,7 @@ pub fn class(word: &str) -> Option<MessageClass> {
     }
 }
 
-/// The type of an attribute: its name in RFC 8489, or `0x` and four digits.
+/// Parses an attribute type: its name in RFC 8489, or `0x` and four digits.
 pub fn attribute_type(alloc: Global, word: &str) -> Result<AttributeType, Trouble> {
     match word {
         "USERNAME" => Ok(AttributeType::USERNAME),
@@ -177,7 +177,7 @@ pub fn attribute_type(alloc: Global, word: &str) -> Result<AttributeType, Troubl
     }
 }
 
-/// The bytes that hexadecimal digits spell.
+/// Parses hexadecimal digits.
 pub fn bytes(alloc: Global, digits: &str) -> Result<Vec<u8>, Trouble> {
     match hex::decode(alloc, digits.as_bytes()) {
         Ok(bytes) => Ok(bytes),
@@ -186,7 +186,7 @@ pub fn bytes(alloc: Global, digits: &str) -> Result<Vec<u8>, Trouble> {
     }
 }
 
-/// A text: `WORD`, or `WORD*NUMBER`, which repeats the word. `-` is the empty text.
+/// Parses a text: `WORD`, or `WORD*NUMBER`, which repeats the word. `-` is the empty text.
 pub fn text(alloc: Global, word: &str) -> Result<String, Trouble> {
     let mut text = String::new(alloc);
     match word.split_once('*') {
@@ -201,7 +201,8 @@ pub fn text(alloc: Global, word: &str) -> Result<String, Trouble> {
     Ok(text)
 }
 
-/// Up to sixteen numbers, with zeros after them; `all` and one number are sixteen of these.
+/// Parses up to sixteen random numbers, after which zeros follow. `all` and a number is sixteen
+/// times that number.
 pub fn draws(words: &[&str]) -> Result<[u32; 16], Trouble> {
     match behind("all", words) {
         Some([word]) => Ok([short_number(word)?; 16]),

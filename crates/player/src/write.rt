@@ -1,4 +1,4 @@
-//! Messages that are written step by step: `write NAME WORDS`. Each call adds what is answered to a
+//! Messages that are written step by step: `write NAME WORDS`. Each call appends its answer to a
 //! text.
 
 mod begin;
@@ -15,7 +15,7 @@ use crate::trouble::Trouble;
 use std::alloc::Global;
 use stun_types::message::{MessageWriteMutSlice, MessageWriteVec, StunWriteError};
 
-/// The message that is being written, and what `secret` keeps.
+/// The message that is being written, and the state of `secret`.
 #[derive(Drop)]
 pub struct Writing<'a> {
     writer: Writer<'a>,
@@ -23,7 +23,7 @@ pub struct Writing<'a> {
 }
 
 impl<'a> Writing<'a> {
-    /// No message is begun.
+    /// Creates a state in which no message is begun.
     pub fn new() -> Writing<'a> {
         Writing {
             writer: Writer::None,
@@ -101,7 +101,7 @@ fn push_answer(
     Ok(())
 }
 
-/// `write NAME WORDS`
+/// Plays `write NAME WORDS`.
 pub fn call(
     scene: &mut Scene<'_>,
     name: &str,

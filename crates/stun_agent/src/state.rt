@@ -7,5 +7,6 @@ pub(crate) mod deadline_tree;
 pub(crate) mod deadlines;
 pub(crate) mod outstanding;
 pub(crate) mod rto;
+pub(crate) mod timeouts;
 pub(crate) mod transaction;
 pub(crate) mod transactions;

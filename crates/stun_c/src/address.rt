@@ -25,7 +25,7 @@ pub const IPV4: u8 = 1;
 /// The family of IPv6.
 pub const IPV6: u8 = 2;
 
-/// Each octet xor the byte of the key at its place.
+/// Changes each octet to its exclusive or with the byte of the key at the same index.
 pub fn xor_with(octets: &mut [u8], key: &[u8])
     requires { length octets.old ≤ length key.now }
     ensures { octets.new ≡ xor_bytes octets.old key.now }
@@ -35,7 +35,7 @@ pub fn xor_with(octets: &mut [u8], key: &[u8])
     }
 }
 
-/// The magic cookie, then the transaction id.
+/// Returns the key with which addresses are XORed: the magic cookie, and then the transaction ID.
 pub fn xor_key(id: TransactionId) -> [u8; 16]
     ensures { result ≡ xor_key id }
 {
@@ -113,8 +113,8 @@ fn add_hidden(buffer: &mut [u8], count: usize, kind: AttributeType, octets: &[u8
     }
 }
 
-/// Adds an attribute of a type with an address as XOR-MAPPED-ADDRESS has it to the message in the
-/// first `count` bytes of the buffer. Returns the new length or the number of the refusal.
+/// Adds an attribute of a type with an address, in the form of XOR-MAPPED-ADDRESS, to the message
+/// in the first `count` bytes of the buffer. Returns the new length, or the number of the error.
 pub fn add_address(
     buffer: &mut [u8],
     count: usize,
@@ -133,8 +133,8 @@ pub fn add_address(
     add_hidden(buffer, count, kind, octets, port as u16)
 }
 
-/// Adds an attribute of a type with an address as MAPPED-ADDRESS has it to the message in the first
-/// `count` bytes of the buffer. Returns the new length or the number of the refusal.
+/// Adds an attribute of a type with an address, in the form of MAPPED-ADDRESS, to the message in
+/// the first `count` bytes of the buffer. Returns the new length, or the number of the error.
 pub fn add_plain(buffer: &mut [u8], count: usize, kind: u32, octets: &[u8], port: u32) -> i64
     ensures answer { result ≡ written_number
         (added_plain_address buffer.old count kind octets.now port) }

@@ -42,7 +42,7 @@ fn refusal_text(number: u64) -> &'static [u8]
     }
 }
 
-/// What an answer says, and a zero byte.
+/// Returns the text for a number that a call returned, with a terminating zero.
 pub fn error_text(answer: i64) -> &'static [u8]
     ensures { result.now ≡ error_text answer }
 {

@@ -32,7 +32,8 @@ fn fingerprint_number(fingerprint: Fingerprint) -> i64
     }
 }
 
-/// What the FINGERPRINT of a message is, as a number, or the number of the refusal.
+/// Checks the FINGERPRINT of a message. Returns the number of the result, or the number of the
+/// error.
 pub fn check(message: &[u8]) -> i64
     ensures { result ≡ fingerprint_answer message.now }
 {
@@ -92,8 +93,8 @@ fn append(buffer: &mut [u8], count: usize) -> i64
     end as i64
 }
 
-/// Adds FINGERPRINT to the message in the first `count` bytes of the buffer. Returns the new length
-/// or the number of the refusal.
+/// Adds FINGERPRINT to the message in the first `count` bytes of the buffer. Returns the new
+/// length, or the number of the error.
 pub fn add(buffer: &mut [u8], count: usize) -> i64
     ensures answer { result ≡ written_number (fingerprinted_message buffer.old count) }
     ensures written { buffer.new

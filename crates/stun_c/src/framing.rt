@@ -8,7 +8,7 @@ ghost use Rattle.stun_c.specs.Extra.{wanted_number};
 use stun_extra::framing::{Frame, is_stun};
 use stun_numbers::refusal::Refusal;
 
-/// 1 where a packet is to be given to STUN, and 0 where it is not.
+/// Returns 1 if a packet belongs to STUN, and otherwise 0.
 pub fn is_stun_packet(packet: &[u8]) -> i64
     ensures yes { (result ≡ pos 1) ↔ IsStunPacket packet.now }
     ensures no { (result ≡ pos 1) ⊎ (result ≡ pos 0) }
@@ -33,8 +33,8 @@ fn wanted_number(there: usize, frame: Frame) -> i64
     }
 }
 
-/// How many bytes the message has that bytes begin with, or its header, where these are not all
-/// there; or `NotStun`.
+/// Returns the length of the message at the front of the bytes, or 20 if there are fewer bytes than
+/// a header has. Returns the number of `NotStun` if they are not a header.
 #[tactic(auto, using(crate::proofs::Frames::few_of_message))]
 pub fn next_frame(bytes: &[u8]) -> i64
     ensures { result ≡ wanted_number (length bytes.now) (frame_of bytes.now) }
@@ -43,7 +43,8 @@ pub fn next_frame(bytes: &[u8]) -> i64
     wanted_number(bytes.len(), stun_extra::framing::next_frame(bytes))
 }
 
-/// The same of a packet behind its length in 2 bytes.
+/// Returns the length of the packet at the front of the bytes, which comes after its length in 2
+/// bytes (RFC 4571).
 #[tactic(auto, using(crate::proofs::Frames::few_of_packet))]
 pub fn next_packet_frame(bytes: &[u8]) -> i64
     ensures { result ≡ wanted_number (length bytes.now) (packet_frame_of bytes.now) }
@@ -52,7 +53,7 @@ pub fn next_packet_frame(bytes: &[u8]) -> i64
     wanted_number(bytes.len(), stun_extra::framing::next_packet_frame(bytes))
 }
 
-/// The same of a message or ChannelData.
+/// Returns the length of the message or the ChannelData at the front of the bytes.
 #[tactic(auto, using(crate::proofs::Frames::few_of_turn))]
 pub fn next_turn_frame(bytes: &[u8]) -> i64
     ensures { result ≡ wanted_number (length bytes.now) (turn_frame_of bytes.now) }

@@ -24,7 +24,7 @@ pub struct Header {
     pub id: [u8; 12],
 }
 
-/// The two bits of a class.
+/// Returns the two bits of a class.
 pub fn class_number(class: MessageClass) -> u32
     ensures { result ≡ class_number class }
 {
@@ -54,7 +54,8 @@ fn fields_of(bytes: &[u8]) -> Result<Header, StunParseError>
     })
 }
 
-/// Writes the header that the bytes begin with. Returns 0 or the number of the refusal.
+/// Writes the fields of the header at the front of the bytes. Returns 0, or the number of the
+/// error.
 pub fn read_header(bytes: &[u8], out: &mut Header) -> i64
     ensures answer { result ≡ header_answer bytes.now }
     ensures written { out.new ≡ header_after (header_refusal bytes.now) bytes.now out.old }

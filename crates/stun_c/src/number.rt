@@ -47,8 +47,8 @@ fn one_byte(number: u64) -> [u8; 1]
     [number as u8]
 }
 
-/// Adds an attribute of a type with a number in so many bytes to the message in the first `count`
-/// bytes of the buffer. Returns the new length or the number of the refusal.
+/// Adds an attribute of a type with a number of `size` bytes to the message in the first `count`
+/// bytes of the buffer. Returns the new length, or the number of the error.
 pub fn add_number(buffer: &mut [u8], count: usize, kind: u32, number: u64, size: usize) -> i64
     ensures answer { result ≡ written_number (added_sized buffer.old count kind size number) }
     ensures written { buffer.new ≡ buffer_after
@@ -97,8 +97,8 @@ fn number_of(value: &[u8]) -> u64
     }
 }
 
-/// Writes the number in the attribute at a place of a message. Returns how many bytes it has, or
-/// the number of the refusal.
+/// Writes the number in the attribute at an offset of a message. Returns how many bytes it has, or
+/// the number of the error.
 pub fn number_at(message: &[u8], place: usize, number: &mut u64) -> i64
     ensures answer { result ≡ written_number (sized_at message.now place) }
     ensures number { number.new ≡ sized_after (sized_at message.now place) number.old }

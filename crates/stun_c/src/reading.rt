@@ -1,5 +1,5 @@
-//! Messages read: their fields, their attributes by place, and the error and the address that they
-//! report.
+//! Reads messages: their fields, their attributes by offset, and the error and the address that
+//! they report.
 
 ghost use Rattle.std.specs.Prelude.{◌≡◌, ◌≤◌, ℕ, length, IfOk, IfErr, IfSome, IfNone};
 ghost use Rattle.std.specs.Prelude.{IsOkAnd, OnOk, Some, None, Ok, Err, slice_index, true};
@@ -31,7 +31,7 @@ use stun_types::attribute::{ErrorCode, RawAttribute};
 use stun_types::message::Message;
 use stun_types::prelude::*;
 
-/// The two bits of a message's class, or the number of the refusal.
+/// Returns the two bits of a message's class, or the number of the error.
 pub fn class(message: &[u8]) -> i64
     ensures { result ≡ class_answer message.now }
 {
@@ -41,7 +41,7 @@ pub fn class(message: &[u8]) -> i64
     }
 }
 
-/// The method of a message, or the number of the refusal.
+/// Returns the method of a message, or the number of the error.
 pub fn method(message: &[u8]) -> i64
     ensures { result ≡ method_answer message.now }
 {
@@ -60,8 +60,8 @@ fn id_bytes(message: &[u8]) -> Result<&[u8], Refusal>
     Ok(&message.as_bytes()[8..20])
 }
 
-/// Copies the transaction id of a message to the front of the buffer. Returns its length or the
-/// number of the refusal.
+/// Copies the transaction ID of a message to the front of the buffer. Returns its length, or the
+/// number of the error.
 pub fn id(message: &[u8], out: &mut [u8]) -> i64
     ensures answer { result ≡ written_number
         (within_room (id_of_message message.now) (length out.old)) }
@@ -82,8 +82,8 @@ fn member_after<'a>(message: &Message<'a>, place: usize) -> Option<(usize, RawAt
     message.iter_attributes().find(|found| place < found.0)
 }
 
-/// The place of the first visible attribute that comes after a place, or 0, or the number of the
-/// refusal. Its type and the length of its value are written.
+/// Finds the first visible attribute after an offset: returns its offset, or 0 if there is none, or
+/// the number of the error, and writes its type and the length of its value.
 pub fn next(message: &[u8], place: usize, kind: &mut u16, value_length: &mut usize) -> i64
     ensures answer { result ≡ next_answer message.now place }
     ensures kind { kind.new ≡ number_after (λ a. a.kind) (refusal message.now)
@@ -112,7 +112,7 @@ fn error_in<'a>(message: &Message<'a>) -> Result<ErrorCode<'a>, StunParseError>
     message.attribute::<ErrorCode<'a>>()
 }
 
-/// The code of the error that a message reports, or the number of the refusal.
+/// Returns the code of the error that a message reports, or the number of the error.
 pub fn error_code(message: &[u8]) -> i64
     ensures { result ≡ error_answer message.now }
 {
@@ -147,8 +147,8 @@ fn first_of<'a>(message: &Message<'a>, kind: AttributeType) -> Option<(usize, Ra
         .find(|found| found.1.get_type() == kind)
 }
 
-/// The place of the first visible attribute of a type, or the number of the refusal. The length of
-/// its value is written.
+/// Finds the first visible attribute of a type: returns its offset, or the number of the error, and
+/// writes the length of its value.
 pub fn find(message: &[u8], kind: u32, value_length: &mut usize) -> i64
     ensures answer { result ≡ find_answer (finding_refusal kind message.now)
         (first_member_of kind (visible message.now)) }
@@ -240,8 +240,8 @@ fn shown_address<'a>(message: &[u8], place: &'a mut [u8]) -> Result<(u16, &'a [u
     shown_in(&message, place)
 }
 
-/// Copies the octets of the address that a message reports to the front of the buffer and its port
-/// to the caller's. Returns how many octets there are or the number of the refusal.
+/// Copies the address that a message reports: its octets to the front of the buffer, and its port
+/// to the caller's. Returns how many octets there are, or the number of the error.
 pub fn mapped_address(message: &[u8], out: &mut [u8], port: &mut u16) -> i64
     ensures answer { result ≡ written_number (within_room (octets_of_message message.now)
         (length out.old)) }
@@ -330,9 +330,9 @@ fn shown_at<'a>(
     Ok((port ^ PORT_KEY, shown))
 }
 
-/// Copies the address in the attribute at a place of a message: its octets to the front of the
-/// buffer, and its port to the caller's. Returns how many octets there are or the number of the
-/// refusal.
+/// Copies the address in the attribute at an offset of a message: its octets to the front of the
+/// buffer, and its port to the caller's. Returns how many octets there are, or the number of the
+/// error.
 pub fn address_at(message: &[u8], place: usize, out: &mut [u8], port: &mut u16) -> i64
     ensures answer { result ≡ written_number (within_room (octets_at message.now place)
         (length out.old)) }
@@ -355,7 +355,7 @@ pub fn address_at(message: &[u8], place: usize, out: &mut [u8], port: &mut u16) 
     }
 }
 
-/// The same of an address that is not hidden.
+/// Like `address_at`, for an address that is not XORed.
 pub fn plain_at(message: &[u8], place: usize, out: &mut [u8], port: &mut u16) -> i64
     ensures answer { result ≡ written_number
         (within_room (plain_octets (address_at message.now place))

@@ -58,7 +58,7 @@ fn known_types<'a>(
     Ok(known)
 }
 
-/// Writes a number at a place, where it is there.
+/// Writes a number at an index, if the array is long enough.
 #[tactic(auto, using(crate::proofs::Told::not_set))]
 pub fn put(numbers: &mut [u16], place: usize, number: u16)
     ensures { numbers.new ≡ set numbers.old place number }
@@ -100,8 +100,8 @@ fn readable<'a, 'b>(
     Ok((message, known))
 }
 
-/// Writes as many unknown types of a message as have room. Returns how many it has, or the number
-/// of the refusal.
+/// Writes the unknown types of a message, as many as there is room for. Returns how many there are,
+/// or the number of the error.
 pub fn types(message: &[u8], known: &[u16], types: &mut [u16]) -> i64
     ensures answer { result ≡ told_number (known_refusal message.now known.now)
         (unknown_of message.now known.now) }
@@ -262,8 +262,8 @@ fn answer(message: &Message<'_>, known: &[AttributeType], out: &mut [u8]) -> i64
     write_answer(message, known, count, out)
 }
 
-/// Writes the answer to a request that has unknown types to the front of the buffer. Returns its
-/// length, or 0 where the request has none, or the number of the refusal.
+/// Writes the response to a request with unknown types to the front of the buffer. Returns its
+/// length, 0 if the request has none, or the number of the error.
 pub fn refuse(request: &[u8], known: &[u16], out: &mut [u8]) -> i64
     ensures answer { result ≡ written_number (within_room (unknown_made request.now known.now)
         (length out.old)) }

@@ -1,4 +1,4 @@
-//! The value of the attribute at a place of a message, as a text or as types.
+//! The value of the attribute at an offset of a message, as a text or as a list of types.
 
 ghost use Rattle.std.specs.Prelude.{◌≡◌, ◌≤◌, ◌<◌, ◌+◌, length, IfOk, IfErr, OnOk, Ok, Err};
 ghost use Rattle.stun_c.specs.Extra.{held_after, held_number, numbers_after, types_at};
@@ -38,8 +38,8 @@ fn text_at(message: &[u8], place: usize) -> Result<&str, Refusal>
     text(value)
 }
 
-/// Where the text in the attribute at a place of a message begins, whose length is written, or the
-/// number of the refusal.
+/// Returns the offset of the text in the attribute at an offset of a message, or the number of the
+/// error, and writes the length of the text.
 pub fn read_text(message: &[u8], place: usize, text_length: &mut usize) -> i64
     ensures answer { result ≡ text_answer (text_at message.now place) place }
     ensures text_length { text_length.new
@@ -80,8 +80,8 @@ fn hold(held: &UnknownAttributes<'_>, types: &mut [u16])
     }
 }
 
-/// Writes as many types of the attribute at a place of a message as have room. Returns how many it
-/// holds, or the number of the refusal.
+/// Writes the types of the attribute at an offset of a message, as many as there is room for.
+/// Returns how many it has, or the number of the error.
 pub fn read_types(message: &[u8], place: usize, types: &mut [u16]) -> i64
     ensures answer { result ≡ held_number (types_at message.now place) }
     ensures types { types.new ≡ held_after (types_at message.now place) types.old }

@@ -34,7 +34,7 @@ fn verdict_refusal(error: ValidateError) -> Refusal
     }
 }
 
-/// The algorithm whose digest verifies under the key, or why none does.
+/// Returns the algorithm of the message's signature if it is valid under the key, or why none is.
 pub fn verdict(message: &[u8], key: &[u8]) -> Result<IntegrityAlgorithm, Refusal>
     ensures ok { IfOk result (λ algorithm. verify_answer message.now key.now
         ≡ pos (algorithm_number algorithm)) }

@@ -101,8 +101,9 @@ fn begun(message: &[u8], cursor: Cursor) -> Result<Cursor, Refusal>
     Ok(cursor)
 }
 
-/// The place of the first visible attribute that is ahead of a cursor, or 0, or the number of the
-/// refusal. Its type and the length of its value are written, and the cursor goes past it.
+/// Finds the first visible attribute after a cursor: returns its offset, or 0 if there is none, or
+/// the number of the error, writes its type and the length of its value, and moves the cursor past
+/// it.
 pub fn walk(message: &[u8], cursor: &mut Cursor, kind: &mut u16, value_length: &mut usize) -> i64
     ensures answer { result ≡ walk_answer (cursor_refusal cursor.old message.now)
         (slice_get (ahead cursor.old message.now) 0) }

@@ -38,7 +38,7 @@ use stun_types::limits::{MAX_LENGTH, TEXT_LIMIT};
 use stun_types::message::{Message, MessageWriteMutSlice};
 use stun_types::prelude::*;
 
-/// Whether the message has a visible attribute of this type.
+/// Returns `true` if the message has a visible attribute of this type.
 pub fn shows_kind(message: &Message<'_>, kind: AttributeType) -> bool
     ensures { result ≡ shows_kind kind.0 message.now }
 {
@@ -48,8 +48,8 @@ pub fn shows_kind(message: &Message<'_>, kind: AttributeType) -> bool
         .is_some()
 }
 
-/// Whether a value of so many bytes fits after a message with so much room: the length field first,
-/// then the room.
+/// Fails if a value of this length does not fit after a message with this much room: first for the
+/// length field, then for the room.
 pub fn fits(message: &Message<'_>, room: usize, value_length: usize) -> Result<(), Refusal>
     ensures ok { OnOk result (fit_refusal message.now room value_length ≡ None) }
     ensures header { OnOk result (20 ≤ length message.now) }
@@ -151,7 +151,7 @@ pub(crate) fn append(buffer: &mut [u8], count: usize, kind: AttributeType, value
 }
 
 /// Adds an attribute to the message in the first `count` bytes of the buffer. Returns the new
-/// length or the number of the refusal.
+/// length, or the number of the error.
 pub fn add(buffer: &mut [u8], count: usize, kind: AttributeType, value: &[u8]) -> i64
     ensures answer { result ≡ written_number (added_attribute buffer.old count kind.0 value.now) }
     ensures written { buffer.new ≡ buffer_after
@@ -163,7 +163,7 @@ pub fn add(buffer: &mut [u8], count: usize, kind: AttributeType, value: &[u8]) -
     }
 }
 
-/// The same of a type that must be a number of 16 bits.
+/// Like `add`, for a type that must be a number of 16 bits.
 pub fn add_numbered(buffer: &mut [u8], count: usize, kind: u32, value: &[u8]) -> i64
     ensures answer { result ≡ written_number (added_number buffer.old count kind value.now) }
     ensures written { buffer.new ≡ buffer_after
@@ -246,7 +246,7 @@ fn signable(buffer: &[u8], count: usize, algorithm: u32) -> Result<IntegrityAlgo
 }
 
 /// Adds the integrity attribute to the message in the first `count` bytes of the buffer. Returns
-/// the new length or the number of the refusal.
+/// the new length, or the number of the error.
 pub fn sign(buffer: &mut [u8], count: usize, algorithm: u32, key: &[u8]) -> i64
     ensures answer { result ≡ written_number (signed_message buffer.old count
         (algorithm_numbered algorithm) key.now) }
@@ -301,8 +301,8 @@ fn header<'a>(class: u32, method: u32, id: &[u8], buffer: &'a mut [u8]) -> Resul
     Ok(writer.finish())
 }
 
-/// Writes a message without attributes to the front of the buffer. Returns its length or the number
-/// of the refusal.
+/// Writes a message without attributes to the front of the buffer. Returns its length, or the
+/// number of the error.
 pub fn begin(class: u32, method: u32, id: &[u8], out: &mut [u8]) -> i64
     ensures answer { result ≡ written_number
         (within_room (begun_message class method id.now) (length out.old)) }
@@ -345,7 +345,7 @@ fn error_arguments(code: u32, reason: &[u8]) -> Result<u16, Refusal>
 }
 
 /// Adds an ERROR-CODE to the message in the first `count` bytes of the buffer. Returns the new
-/// length or the number of the refusal.
+/// length, or the number of the error.
 pub fn add_error(buffer: &mut [u8], count: usize, code: u32, reason: &[u8]) -> i64
     ensures answer { result ≡ written_number (added_error buffer.old count code reason.now) }
     ensures written { buffer.new ≡ buffer_after

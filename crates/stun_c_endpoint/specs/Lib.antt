@@ -10,6 +10,8 @@ pub mod Users
 pub mod Told
 -- what one comes to before its user is looked up
 pub mod Lookups
+-- why one is refused, as a caller gets it
+pub mod Causes
 -- the agent of ICE that a caller makes
 pub mod Agents
 -- the checks that it writes, as a caller gets them and passes them again

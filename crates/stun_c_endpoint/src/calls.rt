@@ -1,4 +1,4 @@
-//! What a program in C calls, in the order of `include/stunp_endpoint.h`.
+//! The calls for programs in C, in the order of `include/stunp_endpoint.h`.
 
 mod ice;
 mod server;

@@ -1,4 +1,4 @@
-//! What a caller in C has of a server, of a table of users or of an agent of ICE: a handle of a
-//! value on the heap.
+//! The handle with which a program in C holds a server, a table of users or an agent of ICE on the
+//! heap.
 
 pub mod endpoint;

@@ -1,4 +1,4 @@
-//! What the calls on an agent of ICE do.
+//! The calls on an agent of ICE, without handles.
 
 pub mod agent;
 pub mod judging;

@@ -1,4 +1,4 @@
-//! What a datagram comes to, as a caller in C gets it.
+//! The result of judging a datagram, as a caller in C receives it.
 
 ghost use Rattle.std.specs.Prelude.{◌≡◌, ◌≤◌, None, Some};
 ghost use Rattle.byteorder.specs.Endian.{big_bytes};
@@ -19,44 +19,45 @@ use stun_endpoint::reply::Reply as EndpointReply;
 use stun_endpoint::short_term::ShortTermIndication;
 use stun_types::message::{IntegrityAlgorithm, Message, TransactionId};
 
-/// The longest key that a reply has room for.
+/// The longest key for which a reply has room.
 pub const KEY_ROOM: usize = 64;
 
-/// The reason of an indication that no user has signed.
+/// The reason for an indication that no user has signed.
 const NOT_SIGNED: u32 = 8;
 
-/// The longest name that is told.
+/// The longest name for which a result has room.
 pub const NAME_ROOM: usize = 513;
 
-/// The bytes of a caller's result, with which it begins.
+/// The size of the caller's struct, which begins with this number.
 pub const RECEIVED_SIZE: usize = 640;
 
-/// What answers one request: plain data, which owns nothing.
+/// The means to respond to one request. It is plain data, and owns nothing.
 #[repr(C)]
 #[derive(Clone, Copy)]
 pub struct Reply {
     /// The transaction ID.
     pub id: [u8; 12],
-    /// The key that signs a response, at the front.
+    /// The key that signs a response, in the first bytes.
     pub key: [u8; 64],
     /// The method.
     pub method: u16,
-    /// How long the key is.
+    /// The length of the key.
     pub key_length: u8,
-    /// The integrity attribute: 1 is HMAC-SHA1, 2 HMAC-SHA256. 0: a response is not signed.
+    /// The integrity attribute of a response: 1 is MESSAGE-INTEGRITY, 2 is
+    /// MESSAGE-INTEGRITY-SHA256, and 0 is none.
     pub integrity: u8,
     /// Whether a response ends with FINGERPRINT.
     pub has_fingerprint: bool,
 }
 
-/// What a datagram comes to.
+/// The result of judging a datagram.
 #[repr(C)]
 pub struct Received {
-    /// The bytes of it.
+    /// The size of this struct in the caller's program.
     pub size: usize,
-    /// What it comes to.
+    /// The number of the result.
     pub kind: u32,
-    /// Why it is dropped.
+    /// The number of the reason, if the datagram is dropped.
     pub why: u32,
     /// The code of an error response.
     pub code: u32,
@@ -64,19 +65,19 @@ pub struct Received {
     pub method: u16,
     /// The algorithm of the user's key.
     pub algorithm: u16,
-    /// How long the response is.
+    /// The length of the response.
     pub length: usize,
-    /// How long the name is.
+    /// The length of the name.
     pub name_length: usize,
-    /// What answers the request.
+    /// The means to respond to the request.
     pub reply: Reply,
-    /// The name of the user, which a zero ends; or the hash of the name.
+    /// The name of the user with a terminating zero, or the hash of the name.
     pub name: [u8; 516],
     /// Whether the name is a hash.
     pub is_hash: bool,
 }
 
-/// No more than so many bytes at the front of a place, and zeros after them.
+/// Copies at most `most` bytes to the front of an array, after which zeros follow.
 fn front<const N: usize>(bytes: &[u8], most: usize) -> [u8; N]
     requires { most ≤ N }
     ensures { result ≡ at_front N most bytes.now }
@@ -87,7 +88,7 @@ fn front<const N: usize>(bytes: &[u8], most: usize) -> [u8; N]
     place
 }
 
-/// The bytes of a transaction ID, in network order.
+/// Returns the bytes of a transaction ID, in network order.
 pub fn id_bytes(id: TransactionId) -> [u8; 12]
     ensures { result ≡ big_bytes 12 id }
 {
@@ -96,7 +97,7 @@ pub fn id_bytes(id: TransactionId) -> [u8; 12]
     bytes
 }
 
-/// The number of an integrity attribute, and 0 of none.
+/// Returns the number of an integrity attribute, or 0 for none.
 fn integrity_number(algorithm: Option<IntegrityAlgorithm>) -> u8
     ensures { result ≡ integrity_number algorithm }
 {
@@ -108,7 +109,7 @@ fn integrity_number(algorithm: Option<IntegrityAlgorithm>) -> u8
 }
 
 impl Reply {
-    /// What answers a request.
+    /// Converts the means to respond to a request.
     fn of(reply: &EndpointReply<Global>) -> Reply
         ensures { result ≡ reply_told reply.now }
     {
@@ -124,7 +125,7 @@ impl Reply {
     }
 }
 
-/// The number of a reason to drop a datagram.
+/// Returns the number of a reason to drop a datagram.
 pub fn drop_number(why: DropReason) -> u32
     ensures { result ≡ drop_number why }
 {
@@ -139,7 +140,7 @@ pub fn drop_number(why: DropReason) -> u32
 }
 
 impl Received {
-    /// Tells the kind alone.
+    /// Resets the result, and sets its number.
     fn begin(&mut self, kind: u32)
         ensures { self.new ≡ blank kind self.old }
     {
@@ -153,7 +154,7 @@ impl Received {
         self.is_hash = false;
     }
 
-    /// Tells of a datagram that is dropped.
+    /// Sets the result for a datagram that is dropped.
     pub fn dropped(&mut self, why: DropReason)
         ensures { self.new ≡ told_of (dropped (drop_number why) 0) self.old }
     {
@@ -161,7 +162,7 @@ impl Received {
         self.why = drop_number(why);
     }
 
-    /// Tells of a response to send: its length, and its code if it is an error.
+    /// Sets the result for a response to send: its length, and its code if it is an error response.
     pub fn answered(&mut self, code: u16, length: usize)
         ensures { self.new ≡ record (blank 1 self.old) { code = code; length = length } }
     {
@@ -170,7 +171,8 @@ impl Received {
         self.length = length;
     }
 
-    /// Tells of an indication that no user has signed: the code that a request like it would get.
+    /// Sets the result for an indication that no user has signed, with the code with which a
+    /// request would be refused.
     pub fn not_signed(&mut self, refusal: Refused)
         ensures { self.new ≡ told_of (dropped NOT_SIGNED (code_of refusal)) self.old }
     {
@@ -179,7 +181,7 @@ impl Received {
         self.code = u32::from(refusal.code());
     }
 
-    /// Tells who has signed the message.
+    /// Sets the user who has signed the message.
     fn signed(&mut self, name: &str, algorithm: IntegrityAlgorithm)
         ensures { self.new ≡ signer_told (Some (record { name = name.now; algorithm = algorithm }))
             self.old }
@@ -189,14 +191,14 @@ impl Received {
         self.name = front(name.as_bytes(), NAME_ROOM);
     }
 
-    /// Tells that nobody is known to have signed the message.
+    /// Sets that no user is known to have signed the message.
     fn signed_by_nobody(&mut self)
         ensures { self.new ≡ signer_told None self.old }
     {
         self.name = [0; 516];
     }
 
-    /// Tells of an accepted request.
+    /// Sets the result for an accepted request.
     pub fn requested(&mut self, request: &Request<'_, Global>)
         ensures { self.new ≡ told_of (requested (Some request.now.client) request.now.reply)
             self.old }
@@ -207,7 +209,8 @@ impl Received {
         self.signed(request.user(), request.algorithm());
     }
 
-    /// Tells of a request that anybody may have sent.
+    /// Sets the result for an accepted request to a server without credentials, which anybody may
+    /// have sent.
     pub fn requested_openly(&mut self, request: &OpenRequest<'_, Global>)
         ensures { self.new ≡ told_of (requested None request.now.reply) self.old }
     {
@@ -217,7 +220,7 @@ impl Received {
         self.signed_by_nobody();
     }
 
-    /// Tells of a request that waits for its user.
+    /// Sets the result for a request whose user must be looked up.
     pub fn looked_up(&mut self, lookup: &Lookup<'_>)
         ensures { self.new ≡ lookup_told lookup.now self.old }
     {
@@ -226,7 +229,7 @@ impl Received {
         self.named(lookup.user_id());
     }
 
-    /// Tells whom a request names.
+    /// Sets the user whom a request names.
     fn named(&mut self, user: NamedUser<'_>)
         ensures { self.new ≡ named_told (named_seen user.entry) self.old }
     {
@@ -243,7 +246,8 @@ impl Received {
         }
     }
 
-    /// Tells of an indication that anybody may have sent.
+    /// Sets the result for an indication to a server without credentials, which anybody may have
+    /// sent.
     pub fn indicated(&mut self, message: &Message<'_>)
         ensures { self.new ≡ told_of (indicated None message.now) self.old }
     {
@@ -252,7 +256,7 @@ impl Received {
         self.signed_by_nobody();
     }
 
-    /// Tells of an indication that a user has signed.
+    /// Sets the result for an indication that a user has signed.
     pub fn indicated_by(&mut self, indication: &ShortTermIndication<'_>)
         ensures { self.new ≡ told_of (indicated (Some indication.now.client) indication.now.message)
             self.old }
@@ -262,7 +266,7 @@ impl Received {
         self.signed(indication.user(), indication.algorithm());
     }
 
-    /// Tells of a response for a client.
+    /// Sets the result for a response, which is for a client.
     pub fn responded(&mut self, message: &Message<'_>)
         ensures { self.new ≡ told_of (responded message.now) self.old }
     {

@@ -1,7 +1,9 @@
-//! What the calls that judge a datagram do.
+//! The calls that judge a datagram, without handles.
 
-ghost use Rattle.std.specs.Prelude.{◌≡◌, None, Ok, Some};
+ghost use Rattle.std.specs.Prelude.{◌≡◌, Err, None, Ok, Some};
 ghost use Rattle.stun_handles.specs.Numbers.{number_answer};
+ghost use Rattle.stun_c_endpoint.specs.Causes.{CausedAs, cause_number, caused_at};
+ghost use Rattle.stun_c_endpoint.specs.Causes.{long_term_with};
 ghost use Rattle.stun_c_endpoint.specs.Kept.{by_realm, by_users, judge_with, openly};
 ghost use Rattle.stun_c_endpoint.specs.Lookups.{IdentifiesAs, identified_at, long_term_of};
 ghost use Rattle.stun_endpoint.specs.OpenOutcomes.{open_outcome_of};
@@ -16,7 +18,7 @@ use std::alloc::Global;
 use stun_endpoint::lookup::Identified;
 use stun_endpoint::open::{OpenReceived, OpenServer};
 use stun_endpoint::received::{Answer, Received as Outcome, Refusal as Refused};
-use stun_endpoint::server::Server;
+use stun_endpoint::server::{Cause, Server};
 use stun_endpoint::short_term::{ShortTermReceived, ShortTermServer, ShortTermUsers};
 use stun_endpoint::unix_time::UnixTime;
 use stun_endpoint::users::Users;
@@ -24,10 +26,10 @@ use stun_handles::address::Address;
 use stun_numbers::buffer::put;
 use stun_numbers::refusal::Refusal;
 
-/// The greatest time, in seconds. A greater number is one of nanoseconds.
+/// The greatest time, in seconds. A greater number must be one of nanoseconds.
 const LAST_SECOND: u64 = 1_099_511_627_776;
 
-/// The code of a response, and 0 of a success.
+/// Returns the code of a response, or 0 for a success.
 fn code(refusal: Option<Refused>) -> u16
     ensures { result ≡ code_told refusal }
 {
@@ -37,8 +39,8 @@ fn code(refusal: Option<Refused>) -> u16
     }
 }
 
-/// Writes a response to the front of the buffer, and tells of it. If it has no room, its length is
-/// told.
+/// Writes a response to the front of the buffer, and its length to the result. If the buffer has no
+/// room for it, only the length is written.
 fn answered(
     answer: &Answer<Global>,
     out: &mut [u8],
@@ -57,7 +59,7 @@ fn answered(
     Ok(1)
 }
 
-/// Tells what a datagram comes to at a server with long-term credentials.
+/// Writes the result of a server with long-term credentials.
 fn tell(
     outcome: &Outcome<'_, Global>,
     out: &mut [u8],
@@ -89,7 +91,7 @@ fn tell(
     }
 }
 
-/// Tells what a datagram comes to at a server with short-term credentials.
+/// Writes the result of a server with short-term credentials.
 fn tell_short_term(
     outcome: &ShortTermReceived<'_, Global>,
     out: &mut [u8],
@@ -125,7 +127,7 @@ fn tell_short_term(
     }
 }
 
-/// Tells what a datagram comes to at a server without credentials.
+/// Writes the result of a server without credentials.
 fn tell_openly(
     outcome: &OpenReceived<'_, Global>,
     out: &mut [u8],
@@ -157,7 +159,7 @@ fn tell_openly(
     }
 }
 
-/// Judges a datagram by a server and a table of users, and tells what it comes to.
+/// Judges a datagram with a server and a table of users, and writes the result.
 pub fn receive(
     server: &Kept,
     users: &Kept,
@@ -185,7 +187,7 @@ pub fn receive(
     }
 }
 
-/// The same without a table of users.
+/// Judges a datagram with a server without credentials, and writes the result.
 pub fn receive_alone(
     server: &Kept,
     message: &[u8],
@@ -205,7 +207,7 @@ pub fn receive_alone(
     }
 }
 
-/// The same by a server with long-term credentials and its table.
+/// Judges a datagram with a server with long-term credentials and its table, and writes the result.
 fn judge(
     server: &Server<Global>,
     users: &Users<Global>,
@@ -227,7 +229,8 @@ fn judge(
     tell(&outcome, out, received)
 }
 
-/// The same by a server with short-term credentials and its table.
+/// Judges a datagram with a server with short-term credentials and its table, and writes the
+/// result.
 fn judge_short_term(
     server: &ShortTermServer<Global>,
     users: &ShortTermUsers<Global>,
@@ -248,7 +251,7 @@ fn judge_short_term(
     tell_short_term(&outcome, out, received)
 }
 
-/// The same by a server without credentials.
+/// Judges a datagram with a server without credentials, and writes the result.
 fn judge_openly(
     server: &OpenServer<Global>,
     message: &[u8],
@@ -267,8 +270,8 @@ fn judge_openly(
     tell_openly(&outcome, out, received)
 }
 
-/// Judges a datagram by a server as far as that is possible without its user, and tells what it comes
-/// to.
+/// Judges a datagram with a server as far as that is possible without its user, and writes the
+/// result.
 pub fn identify(
     server: &Kept,
     message: &[u8],
@@ -286,7 +289,7 @@ pub fn identify(
     }
 }
 
-/// The same by the server.
+/// Judges a datagram with this server as far as that is possible without its user.
 fn identify_at(
     server: &Server<Global>,
     message: &[u8],
@@ -311,4 +314,70 @@ fn identify_at(
         // There is no other one in this release.
         _ => Err(Refusal::BadArgument),
     }
+}
+
+/// The number of a cause, and 0 of none.
+fn cause_number(cause: Option<Cause>) -> u32
+    ensures { result ≡ cause_number cause }
+{
+    match cause {
+        None => 0,
+        Some(Cause::NoSignature) => 1,
+        Some(Cause::Incomplete) => 2,
+        Some(Cause::OtherAlgorithms) => 3,
+        Some(Cause::OtherFeatures) => 4,
+        Some(Cause::StaleNonce) => 5,
+        Some(Cause::WrongCredentials) => 6,
+        Some(Cause::UnknownAttribute) => 7,
+        // There is no other one in this release.
+        Some(_) => 0,
+    }
+}
+
+/// Returns why a datagram is refused by a server and its table of users.
+pub fn cause(
+    server: &Kept,
+    users: &Kept,
+    message: &[u8],
+    from: &Address,
+    unix_seconds: u64,
+) -> Result<u32, Refusal>
+    ensures { CausedAs (caused_at (long_term_with (Some users.now) server.now) from.now unix_seconds
+        message.now) (number_answer result) }
+{
+    match (server, users) {
+        (Kept::Server(server), Kept::Users(users)) => {
+            cause_at(server, users, message, from, unix_seconds)
+        }
+        _ => Err(Refusal::WrongHandle),
+    }
+}
+
+/// The same without a table of users.
+pub fn cause_alone(server: &Kept) -> Refusal
+    ensures { long_term_with None server.now ≡ Err result }
+{
+    match server {
+        Kept::Server(_) => Refusal::EmptyHandle,
+        _ => Refusal::WrongHandle,
+    }
+}
+
+/// The same by the server and its table.
+fn cause_at(
+    server: &Server<Global>,
+    users: &Users<Global>,
+    message: &[u8],
+    from: &Address,
+    unix_seconds: u64,
+) -> Result<u32, Refusal>
+    ensures { CausedAs (caused_at (Ok (record { settings = server.now; users = users.now }))
+        from.now unix_seconds message.now) (number_answer result) }
+{
+    if unix_seconds > LAST_SECOND {
+        return Err(Refusal::BadArgument);
+    }
+    let from = from.socket()?;
+    let cause = server.cause(message, from, UnixTime::from_secs(unix_seconds), users)?;
+    Ok(cause_number(cause))
 }

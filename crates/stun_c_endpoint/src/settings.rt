@@ -1,4 +1,4 @@
-//! The settings of a server as a caller gives them.
+//! The settings of a server, as a caller passes them.
 
 ghost use Rattle.std.specs.Option.{option_map};
 ghost use Rattle.std.specs.Prelude.{◌≡◌, ◌==◌, IfOk, IsOkUnless, MatchOption, None, Some, Err};
@@ -30,13 +30,13 @@ const ONLY_SHA1: u32 = 1;
 /// The number of HMAC-SHA256 alone.
 const ONLY_SHA256: u32 = 2;
 
-/// The greatest number of algorithms: both.
+/// The greatest number for algorithms: both.
 const MOST_ALGORITHMS: u32 = 3;
 
-/// The greatest number of a feature, by which no name is hashed.
+/// The greatest number for a feature: names are never hashed.
 const DISABLED: u32 = 2;
 
-/// What a caller gives. Contracts see bytes and numbers.
+/// The arguments of a caller. Contracts see bytes and numbers.
 #[derive(Drop)]
 pub struct Given<'a> {
     pub realm: &'a [u8],
@@ -68,7 +68,7 @@ impl<'a> Model for Given<'a> {
     } };
 }
 
-/// The seconds of a nonce lifetime: an hour where 0 is given.
+/// Returns the nonce lifetime in seconds: an hour if 0 is passed.
 fn nonce_seconds(seconds: u64) -> u64
     ensures { result ≡ nonce_seconds seconds }
 {
@@ -78,7 +78,7 @@ fn nonce_seconds(seconds: u64) -> u64
     seconds
 }
 
-/// The types of numbers.
+/// Converts numbers to attribute types.
 fn types(alloc: Global, numbers: &[u16]) -> Result<Vec<AttributeType, Global>, AllocError>
     ensures { IfOk result (λ types. types.items ≡ types_of numbers.now) }
 {
@@ -88,7 +88,7 @@ fn types(alloc: Global, numbers: &[u16]) -> Result<Vec<AttributeType, Global>, A
     Ok(types)
 }
 
-/// Makes types of numbers.
+/// Converts numbers to attribute types in place.
 fn copy_types(types: &mut [AttributeType], numbers: &[u16])
     requires { length types.old ≡ length numbers.now }
     ensures { types.new ≡ types_of numbers.now }
@@ -98,7 +98,7 @@ fn copy_types(types: &mut [AttributeType], numbers: &[u16])
     }
 }
 
-/// A text, if it has bytes.
+/// Copies a text, if it has bytes.
 fn text_if_any(alloc: Global, text: &str) -> Result<Option<String<Global>>, AllocError>
     ensures { IfOk result (λ copy. option_map string_bytes copy ≡ if_any text.now) }
 {
@@ -108,7 +108,7 @@ fn text_if_any(alloc: Global, text: &str) -> Result<Option<String<Global>>, Allo
     Ok(Some(copied(alloc, text)?))
 }
 
-/// Puts a server into an empty handle, or returns the number of the refusal.
+/// Puts a server into an empty handle, or returns the number of the error.
 fn placed(alloc: Global, handle: &mut EndpointHandle, server: Kept) -> i64
     requires { handle.old.kept ≡ None }
     ensures { OrOutOfMemory result None handle.new.kept (pos 0) (Some server) }
@@ -123,7 +123,7 @@ fn placed(alloc: Global, handle: &mut EndpointHandle, server: Kept) -> i64
 }
 
 impl<'a> Given<'a> {
-    /// Whether a number is none that is taken.
+    /// Returns `true` if a number is out of range.
     fn is_out_of_range(&self) -> bool
         ensures { result ≡ is_out_of_range self.now }
     {
@@ -132,7 +132,7 @@ impl<'a> Given<'a> {
             || nonce_seconds(self.nonce_seconds) < SHORTEST_NONCE_LIFETIME
     }
 
-    /// The settings that are given, with the realm and the text of SOFTWARE.
+    /// Creates the settings, with the realm and the SOFTWARE text.
     fn long_term(
         &self,
         alloc: Global,
@@ -172,7 +172,7 @@ impl<'a> Given<'a> {
         })
     }
 
-    /// Builds the server in an empty handle, and returns 0 or the number of the refusal.
+    /// Builds the server in an empty handle. Returns 0 or the number of the error.
     pub fn place(&self, alloc: Global, handle: &mut EndpointHandle) -> i64
         requires { handle.old.kept ≡ None }
         ensures { MakesServer self.now result handle.new.kept }
@@ -206,7 +206,7 @@ impl<'a> Given<'a> {
     }
 }
 
-/// What a caller gives of a server without a realm. Contracts see bytes and numbers.
+/// The arguments of a caller for a server without a realm. Contracts see bytes and numbers.
 #[derive(Drop)]
 pub struct GivenAlone<'a> {
     pub software: &'a [u8],
@@ -227,8 +227,8 @@ impl<'a> Model for GivenAlone<'a> {
 }
 
 impl<'a> GivenAlone<'a> {
-    /// Builds a server with short-term credentials in an empty handle, and returns 0 or the number of
-    /// the refusal.
+    /// Builds a server with short-term credentials in an empty handle. Returns 0 or the number of
+    /// the error.
     pub fn place_short_term(&self, alloc: Global, handle: &mut EndpointHandle) -> i64
         requires { handle.old.kept ≡ None }
         ensures { MakesShortTerm self.now result handle.new.kept }
@@ -239,8 +239,8 @@ impl<'a> GivenAlone<'a> {
         }
     }
 
-    /// Builds a server without credentials in an empty handle, and returns 0 or the number of the
-    /// refusal.
+    /// Builds a server without credentials in an empty handle. Returns 0 or the number of the
+    /// error.
     pub fn place_open(&self, alloc: Global, handle: &mut EndpointHandle) -> i64
         requires { handle.old.kept ≡ None }
         ensures { MakesOpen self.now result handle.new.kept }
@@ -251,7 +251,7 @@ impl<'a> GivenAlone<'a> {
         }
     }
 
-    /// The settings that are given.
+    /// Creates the settings.
     fn settings(&self, alloc: Global) -> Result<ResponseSettings<Global>, Refusal>
         ensures refused { MatchOption (alone_refusal self.now)
             (IsOkUnless result Refusal.OutOfMemory) (λ refusal. result ≡ Err refusal) }

@@ -1,4 +1,4 @@
-//! What the calls on a table of users do.
+//! The calls on a table of users, without handles.
 
 ghost use Rattle.std.specs.Prelude.{◌≡◌, IfErr, IfOk, MatchResult, Ok, Err, Some};
 ghost use Rattle.stun_handles.specs.Numbers.{done_answer};
@@ -18,7 +18,7 @@ use stun_numbers::refusal::Refusal;
 use stun_numbers::text::text;
 use stun_types::limits::USERNAME_LIMIT;
 
-/// Fails with `TextTooLong` if no USERNAME carries the name.
+/// Fails with `TextTooLong` if the name is too long for a USERNAME.
 fn check_name(name: &str) -> Result<(), Refusal>
     ensures { result ≡ refusal_or (name_refusal name.now) (Ok tt) }
 {
@@ -28,7 +28,7 @@ fn check_name(name: &str) -> Result<(), Refusal>
     Ok(())
 }
 
-/// An empty table for the server of a handle.
+/// Creates an empty table for the server of a handle.
 pub fn table(alloc: Global, server: &Kept) -> Result<Box<Kept, Global>, Refusal>
     ensures none { IfErr (table_for server.now) (λ refusal. result ≡ Err refusal) }
     ensures made { IfOk (table_for server.now) (λ table. MatchResult result
@@ -44,7 +44,7 @@ pub fn table(alloc: Global, server: &Kept) -> Result<Box<Kept, Global>, Refusal>
     }
 }
 
-/// A table, on the heap.
+/// Moves a table to the heap.
 fn boxed(alloc: Global, table: Kept) -> Result<Box<Kept, Global>, Refusal>
     ensures { MatchResult result (λ made. made.value ≡ table)
         (λ refusal. refusal ≡ Refusal.OutOfMemory) }
@@ -55,7 +55,7 @@ fn boxed(alloc: Global, table: Kept) -> Result<Box<Kept, Global>, Refusal>
     }
 }
 
-/// Adds a user with a password to the users of a realm.
+/// Adds a user with a password to a table for a realm.
 fn add(
     alloc: Global,
     users: &mut Users<Global>,
@@ -73,7 +73,7 @@ fn add(
     Ok(users.add(credentials)?)
 }
 
-/// Adds a user with a password to users with short-term credentials.
+/// Adds a user with a password to a table of users with short-term credentials.
 fn add_short_term(
     alloc: Global,
     users: &mut ShortTermUsers<Global>,
@@ -108,7 +108,7 @@ fn add_keys(
     Ok(users.add_with_keys(copied(alloc, name)?, keys)?)
 }
 
-/// Removes a user of a realm.
+/// Removes a user from a table for a realm.
 fn remove(users: &mut Users<Global>, name: &[u8]) -> Result<(), Refusal>
     ensures { LeavesTable (removing name.now (kind.Users users.old)) (done_answer result)
         (Some (kind.Users users.old)) (Some (kind.Users users.new)) }
@@ -118,7 +118,7 @@ fn remove(users: &mut Users<Global>, name: &[u8]) -> Result<(), Refusal>
     Ok(())
 }
 
-/// Removes a user with short-term credentials.
+/// Removes a user from a table of users with short-term credentials.
 fn remove_short_term(users: &mut ShortTermUsers<Global>, name: &[u8]) -> Result<(), Refusal>
     ensures { LeavesTable (removing name.now (kind.ShortTermUsers users.old)) (done_answer result)
         (Some (kind.ShortTermUsers users.old)) (Some (kind.ShortTermUsers users.new)) }

@@ -1,4 +1,4 @@
--- How often an input is asked for, and why a command has none.
+-- How often an input is read, and why reading it fails.
 use Rattle.std.specs.Prelude.{◌≡◌, ◌≢◌, ◌<◌, ◌+◌, ◌-◌, ◌^◌, ◌⊎◌, ◌++◌, ⊤, ℕ, List}
 use Rattle.std.specs.Prelude.{Bool, true, Option, Result, IfSome, MatchResult, length, min}
 use Rattle.std.specs.IoError.{error_kind}
@@ -8,11 +8,11 @@ use Rattle.std.specs.Io.KnownBytes.{Consumes}
 use Rattle.stun_cli.specs.declared.failure.Failure.{Failure}
 use Rattle.stun_cli.specs.declared.failure.Failure.TheVariants.{Io, Memory, NoEnd}
 
--- how often a command asks its reader, at most
+-- the greatest number of reads of a command
 abbrev pub most_tries : ℕ
 most_tries = 1048576
 
--- how often a reader has been asked after so many reads more; a count ends at 2 ^ 32 - 1
+-- the number of reads after this many further reads; the count stops at 2 ^ 32 - 1
 abbrev pub asked_after : ℕ → ℕ → ℕ
 asked_after reads asked = min (asked + reads) (2 ^ 32 - 1)
 
@@ -20,15 +20,15 @@ asked_after reads asked = min (asked + reads) (2 ^ 32 - 1)
 abbrev pub IsFailed : Result ℕ Error → Type 0
 IsFailed read = MatchResult read (λ _. ⊥) (λ error. error_kind error ≢ Interrupted)
 
--- why a reader that had these bytes before is not read to its end: its last read failed; or it had
--- more bytes than so many, or was asked as often as it may be. An allocation may fail at any time
+-- why a reader that had these bytes left is not read to its end: its last read failed; or it had
+-- more bytes than allowed, or was read as often as allowed. An allocation may fail at any time
 abbrev pub IsReason : Failure → ℕ → Option (List ℕ) → ℕ → ℕ → Bool → Type 0
 IsReason Io most given asked asked_now failed = failed ≡ true
 IsReason NoEnd most given asked asked_now failed =
     IfSome given (λ input. most < length input) ⊎ (asked_now ≡ asked_after most_tries asked)
 IsReason Memory most given asked asked_now failed = ⊤
 
--- the bytes that a reader gave were read on after others
+-- the bytes of the reader were appended to those before
 pub record IsReadOn (given rest : Option (List ℕ)) (before bytes : List ℕ) : Type 0 where
   pub read : List ℕ
   pub consumed : Consumes given rest read

@@ -1,12 +1,12 @@
--- What the contracts of this crate say, in the order to read it.
+-- The definitions that the contracts of this crate use, in the order to read them.
 
--- how often an input is asked for, and why a command has none
+-- how often an input is read, and why reading it fails
 pub mod Input
 -- what a line of output is
 pub mod Line
 -- what writing a text leaves
 pub mod Output
--- what is said of bytes under keys
+-- the verdict on bytes under keys
 pub mod Verdict
 -- the exit statuses
 pub mod Status

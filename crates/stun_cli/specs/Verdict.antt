@@ -1,4 +1,4 @@
--- What is said of bytes under keys.
+-- The verdict on bytes under keys.
 use Rattle.std.specs.Prelude.{ℕ, List, [], ◌∷◌, ◌++◌, codes, Option, Some, None}
 use Rattle.stun_base.specs.declared.wire.error.StunParseError.{StunParseError}
 use Rattle.stun_base.specs.declared.wire.error.StunParseError.TheVariants.{Truncated, NotStun}
@@ -16,19 +16,19 @@ use Rattle.stun_cli.specs.declared.verdict.Verdict.TheVariants.{MalformedIntegri
 use Rattle.stun_cli.specs.declared.status.Status.{Status}
 use Rattle.stun_cli.specs.declared.status.Status.TheVariants.{Good, Bad}
 
--- where no digest verifies: an integrity attribute is missing or malformed, or its digest is
--- another
+-- the verdict if no digest verifies: an integrity attribute is missing or malformed, or its digest
+-- is another
 abbrev pub verdict_without_digest : ValidateError → Verdict
 verdict_without_digest (Parse (MissingAttribute _)) = NoIntegrity
 verdict_without_digest (Parse _) = MalformedIntegrity
 verdict_without_digest IntegrityFailed = OtherDigest
 
--- on a message: the algorithm whose digest verifies, if one does
+-- the verdict on a message: the algorithm whose digest verifies, if one does
 abbrev pub verdict_on_integrity : Option IntegrityAlgorithm → ValidateError → Verdict
 verdict_on_integrity (Some algorithm) error = Valid algorithm
 verdict_on_integrity None error = verdict_without_digest error
 
--- on bytes: what refuses them as a message, if anything does
+-- the verdict on bytes: why they are not a message, or that on the message
 abbrev pub verdict_on_refusal : Option StunParseError → Verdict → Verdict
 verdict_on_refusal (Some error) verdict = NotAMessage error
 verdict_on_refusal None verdict = verdict
@@ -39,7 +39,7 @@ verdict_of bytes keys =
     verdict_on_refusal (refusal bytes)
     (verdict_on_integrity (verified_by keys bytes) (integrity_refusal bytes))
 
--- the words for a refusal
+-- the text for a refusal
 abbrev pub parse_error_text : StunParseError → List ℕ
 parse_error_text Truncated = codes "truncated"
 parse_error_text NotStun = codes "not stun"
@@ -47,7 +47,7 @@ parse_error_text TooLarge = codes "too large"
 parse_error_text (MissingAttribute _) = codes "missing attribute"
 parse_error_text InvalidAttributeData = codes "malformed attribute"
 
--- the line for bytes that are no message
+-- the line for bytes that are not a message
 abbrev pub refusal_line : StunParseError → List ℕ
 refusal_line error = codes "not a message: " ++ (parse_error_text error ++ 10 ∷ [])
 

@@ -11,10 +11,10 @@ use std::alloc::Allocator;
 use std::io;
 use std::io::{ErrorKind, Read};
 
-/// How often a command asks its reader, at most.
+/// The greatest number of reads of a command.
 pub const MAX_READS: u32 = 1_048_576;
 
-/// How many bytes one read may give.
+/// The greatest number of bytes of one read.
 pub const READ_SIZE: usize = 256;
 
 /// A reader that counts how often it is read, so that contracts can bound it.
@@ -118,8 +118,8 @@ pub fn read_to_end<R: CountedRead, A: Allocator>(
     Err(Failure::NoEnd)
 }
 
-/// The bytes before, and then those that the reader gives until there are `least` of them. There
-/// are fewer only if the reader has no more. Nothing beyond them is read.
+/// Appends what the reader returns to the bytes before, until there are `least` bytes. There are
+/// fewer only if the reader has no more. Nothing beyond them is read.
 ///
 /// Fails if a read or an allocation fails, or if it takes more than 1048576 reads.
 pub fn read_up_to<R: CountedRead, A: Allocator>(
@@ -153,10 +153,10 @@ pub fn read_up_to<R: CountedRead, A: Allocator>(
     Err(Failure::NoEnd)
 }
 
-/// The bytes before, and then all that the reader has left. They are at most `most`.
+/// Appends all that the reader has left to the bytes before. Together they must be at most `most`.
 ///
 /// Fails if a read or an allocation fails, if there are more bytes, or if the end does not come
-/// within 1048576 reads, of which those of the bytes before count as one each.
+/// within 1048576 reads. Each of the bytes before counts as a read.
 pub fn read_rest<R: CountedRead, A: Allocator>(
     reader: &mut R,
     before: Vec<u8, A>,

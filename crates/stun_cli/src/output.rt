@@ -8,7 +8,7 @@ use crate::failure::Failure;
 use std::alloc::{AllocError, Allocator};
 use std::io::{ErrorKind, Write};
 
-/// How often a text is handed to its writer, at most.
+/// The greatest number of writes of a text.
 const MAX_WRITES: u32 = 1_048_576;
 
 /// Writes the text, in at most 1048576 writes. A write that is interrupted is tried again.

@@ -31,23 +31,23 @@ use stun_base::key::long_term_key;
 use stun_types::attribute::{ErrorCode, PasswordAlgorithmValue, PasswordAlgorithms};
 use stun_types::message::{IntegrityAlgorithm, LongTermCredentials, Message, PreparedKey};
 
-/// A server's challenge with the key that answers it: realm, nonce, the server's list of algorithms,
-/// the algorithm, the name of the user, and the key (RFC 8489, section 9.2.5).
+/// A server's challenge with the key that answers it: realm, nonce, the server's list of
+/// algorithms, the algorithm, the name of the user, and the key (RFC 8489, section 9.2.5).
 ///
-/// All of it is of one message, a 401 or a 438, and is chosen by one rule:
+/// All of it comes from one message, a 401 or a 438, by one rule:
 ///
 /// 1. If the nonce asks for password algorithms, the algorithm is the first of the message's list
-///    that the client supports. A message without a list, or with none that is supported, is
-///    ignored.
-/// 2. If it does not, the algorithm is HMAC-SHA1, and the list is not looked at. If the client does
-///    not support HMAC-SHA1, the message is ignored.
+///    that the client supports. A message without a list, or without a supported algorithm in it,
+///    is ignored.
+/// 2. Otherwise the algorithm is HMAC-SHA1, and the list is not looked at. If the client does not
+///    support HMAC-SHA1, the message is ignored.
 /// 3. The user name is sent as a hash if the nonce allows it and the client does it. A client that
 ///    must do it ignores a nonce that does not allow it.
 ///
-/// Of what was read before, only the list of the challenge before decides, and only for a 438 that
-/// has none and is signed with that challenge's key. So an attacker who forges challenges cannot make
-/// a request that the real server accepts by less than the strongest algorithm that both sides
-/// support.
+/// Earlier messages count in one case only: a 438 without a list that is signed with the key of the
+/// challenge before is read with the list of that challenge. So an attacker who forges challenges
+/// cannot make a request that the real server accepts by less than the strongest algorithm that
+/// both sides support.
 ///
 /// `Debug` shows nothing of the contents.
 ///
@@ -92,11 +92,12 @@ impl<A: Allocator + Copy> Challenge<A> {
     /// Reads a challenge: a 401 or a 438 with REALM and NONCE (RFC 8489, section 9.2.5). Returns
     /// `None` if the message is another one, or is ignored by the rule (see `Challenge`).
     ///
-    /// `before` is the challenge that the request was signed for. It matters to a 438 without a list
-    /// of algorithms alone: if the message is signed with that challenge's key, its list stands in
-    /// for the missing one.
+    /// `before` is the challenge that the request was signed for. It matters only to a 438 without
+    /// a list of algorithms: if the message is signed with that challenge's key, the list of that
+    /// challenge is used.
     ///
-    /// Fails if an allocation fails. It allocates only for a challenge that the rule does not ignore.
+    /// Fails if an allocation fails. It allocates only for a challenge that the rule does not
+    /// ignore.
     #[tactic(auto, using(crate::proofs::ChosenLemmas::challenge_is))]
     pub fn of(
         alloc: A,
@@ -339,8 +340,9 @@ impl<A: Allocator + Copy> Challenge<A> {
         self.list().equals(other.kept.algorithms.as_slice())
     }
 
-    /// Returns whether a request for this challenge is protected by less than one for another: by
-    /// HMAC-SHA1 in place of HMAC-SHA256, or by a user name in place of a hash.
+    /// Returns whether a request for this challenge is protected by less than a request for the
+    /// other one: by HMAC-SHA1 instead of HMAC-SHA256, or with the user name in clear instead of a
+    /// hash.
     pub fn is_weaker_than(&self, other: &Challenge<A>) -> bool
         ensures { result ≡ is_weaker self.now.challenge other.now.challenge }
     {

@@ -1,4 +1,4 @@
-//! A client of one server: what it has asked, and what a datagram comes to.
+//! A client of one server: its outstanding requests, and what a datagram comes to.
 ghost use Rattle.std.specs.Option.{IfSome, option_copied, option_map};
 ghost use Rattle.std.specs.Prelude.{◌≡◌, ◌≤◌, ℕ, false, Err, IfOk, IsOk, IsOkUnless};
 ghost use Rattle.std.specs.Prelude.{MatchOption, OnErr, OnOk, Some};
@@ -27,11 +27,11 @@ use stun_types::message::{Message, MessageClass, Method, TransactionId};
 #[derive(Drop)]
 #[non_exhaustive]
 pub enum Heard<'a, A: Allocator = Global> {
-    /// It is for somebody else, or for nobody.
+    /// It is for another recipient, or for none.
     NotOurs,
     /// An indication from the server. Nothing protects it.
     Indication(Message<'a>),
-    /// A response to the outstanding request with this number, and what it comes to.
+    /// A response to the outstanding request with this number, and what the response comes to.
     Response(Message<'a>, u64, Judged<A>),
 }
 
@@ -63,8 +63,7 @@ impl<A: Allocator> Model for Client<A> {
 }
 
 impl<A: Allocator + Copy> Client<A> {
-    /// Creates a client that has asked nothing. A request is sent again for at most so many
-    /// challenges.
+    /// Creates a client without requests. A request is sent again for at most `most` challenges.
     pub fn new(
         alloc: A,
         server: SocketAddr,

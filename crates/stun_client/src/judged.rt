@@ -26,10 +26,11 @@ pub enum Distrust {
 /// What a response to an outstanding request comes to.
 #[derive(Drop)]
 pub enum Judged<A: Allocator = Global> {
-    /// The response is believed and ends the request. It is signed by this algorithm, or by nobody.
+    /// The response is believed and ends the request. It is signed with this algorithm, or not
+    /// signed.
     Believed(Option<IntegrityAlgorithm>),
-    /// The request is to be sent again under another transaction ID, signed for this challenge or
-    /// not at all.
+    /// Send the request again under another transaction ID, signed for this challenge or not at
+    /// all.
     Anew(Option<Challenge<A>>),
     /// The response is dropped, for this reason.
     Dropped(Distrust),

@@ -20,8 +20,8 @@ ghost use Rattle.stun_client.specs.Standing.{AreUsualEvents, StandingEvent, Stan
 ghost use Rattle.stun_client.specs.Standing.{is_ignored, standing_after_all};
 ghost use Rattle.stun_client.specs.declared.preferences.Preferences.{Preferences as ThePreferences};
 
-/// Each challenge of a message is by the rule, whatever challenge was there before, and has realm,
-/// nonce and list of the message.
+/// Each challenge is made by the rule from one message, whatever challenge came before: its realm,
+/// nonce and list are those of the message.
 pub fn challenges_are_by_the_rule()
     ensures by_rule { (p : ThePreferences) (who : NameAndPassword) (before : Option Challenge)
         (bytes : List ℕ) (c : Challenge) → challenge_of p who before bytes ≡ Some c
@@ -59,8 +59,8 @@ pub fn believed_responses_are_believable()
         → IsBelievable identity before bytes by }
 {}
 
-/// A request is sent again for no other challenge than the one of the response, by the rule, and
-/// neither for the one that it was signed for nor for one that is ignored.
+/// A request is sent again only for the challenge that its response is by the rule. That challenge
+/// is neither the one that the request was signed for nor one that is ignored.
 pub fn requests_are_sent_again_for_new_challenges()
     ensures { (who : NameAndPassword) (p : ThePreferences) (accepts_unsigned : Bool)
         (standing : StandingSeen) (before : Option Answered) (bytes : List ℕ) (c : Answered)

@@ -117,7 +117,7 @@ impl<A: Allocator> Model for Requests<A> {
 }
 
 impl<A: Allocator + Copy> Requests<A> {
-    /// Returns that no request is outstanding. Each request may be sent again for `most` challenges.
+    /// Creates an empty set of requests. Each request may be sent again for `most` challenges.
     pub fn new(alloc: A, most: u32) -> Self
         ensures { result ≡ new_requests most }
     {
@@ -278,8 +278,8 @@ impl<A: Allocator + Copy> Requests<A> {
         }
     }
 
-    /// Returns number and method of the request that gets a new transaction ID, and how often it was
-    /// challenged then.
+    /// Returns the number and the method of the request to renew, and how many challenges it will
+    /// have had.
     fn renewal_of(
         &self,
         id: TransactionId,
@@ -296,7 +296,7 @@ impl<A: Allocator + Copy> Requests<A> {
         }
     }
 
-    /// Returns the same of a request that is outstanding.
+    /// Returns these parts for an outstanding request.
     fn renewal_of_asked(
         &self,
         asked: &Asked<A>,

@@ -12,7 +12,7 @@ use std::mem;
 ///
 /// A forged challenge can make all requests time out that were signed for it. The first of these
 /// timeouts takes the client back to the challenge that was confirmed last. If a request that is
-/// signed for that one times out too, the client goes back to none, from where it starts anew. From a
+/// signed for that one times out too, the client goes back to none, and starts afresh. From a
 /// success until a request under the confirmed challenge times out, a challenge that is weaker than
 /// the confirmed one is ignored.
 ///
@@ -37,7 +37,7 @@ impl<A: Allocator> Model for Standing<A> {
 }
 
 impl<A: Allocator + Copy> Standing<A> {
-    /// Returns that nothing was challenged yet.
+    /// Creates the state before the first challenge.
     pub fn new() -> Self
         ensures { result ≡ new_standing }
     {
@@ -80,7 +80,7 @@ impl<A: Allocator + Copy> Standing<A> {
         }
     }
 
-    /// Notes a success under a challenge.
+    /// Records a success under a challenge.
     pub fn confirm(&mut self, challenge: &Option<Challenge<A>>)
         ensures { self.new ≡ after_success self.old challenge.now }
     {
@@ -90,7 +90,7 @@ impl<A: Allocator + Copy> Standing<A> {
         }
     }
 
-    /// Notes that a request under a challenge has timed out: goes back to the challenge that was
+    /// Records that a request under a challenge has timed out: goes back to the challenge that was
     /// confirmed last, and from there to none.
     pub fn step_back(&mut self, challenge: &Option<Challenge<A>>)
         ensures { self.new ≡ after_timeout self.old challenge.now }

@@ -113,9 +113,9 @@ pub fn signed_requests_are_accepted()
     auth_laws::nonces_ask_for_what_is_supported();
 }
 
-/// A datagram that a server receives comes to what it comes to in any list of datagrams and changes
-/// of the users, if the users are the same: no earlier datagram changes what `receive` returns. So
-/// what `accepted_datagrams_are_handed_out` says of lists is said of this call.
+/// What `receive` returns for a datagram is what the datagram comes to in any list of datagrams and
+/// changes of the users, if the users are the same at its time: no earlier datagram changes the
+/// result. So `accepted_datagrams_are_handed_out`, which speaks of lists, holds for this call.
 pub fn a_datagram_is_one_of_a_list<'a, A: Allocator + Copy>(
     server: &Server<A>,
     bytes: &'a [u8],
@@ -133,7 +133,7 @@ pub fn a_datagram_is_one_of_a_list<'a, A: Allocator + Copy>(
     server.receive(bytes, from, now, users)
 }
 
-/// The same of a server without credentials.
+/// Like `a_datagram_is_one_of_a_list`, for a server without credentials.
 pub fn an_open_datagram_is_one_of_a_list<'a, A: Allocator + Copy>(
     server: &OpenServer<A>,
     bytes: &'a [u8],
@@ -147,7 +147,7 @@ pub fn an_open_datagram_is_one_of_a_list<'a, A: Allocator + Copy>(
     server.receive(bytes, from)
 }
 
-/// The same of a server with short-term credentials.
+/// Like `a_datagram_is_one_of_a_list`, for a server with short-term credentials.
 pub fn a_short_term_datagram_is_one_of_a_list<'a, A: Allocator + Copy>(
     server: &ShortTermServer<A>,
     bytes: &'a [u8],

@@ -24,7 +24,7 @@ use Rattle.stun_endpoint.specs.Judged.{Realm, judged_in, judged_under, or_previo
 use Rattle.stun_endpoint.specs.Nonces.{nonce_in, words_of}
 use Rattle.stun_endpoint.specs.Settings.{Settings}
 
-bits-same : (bits : Option (List ℕ)) → bits_differ bits bits ≡ false
+pub bits-same : (bits : Option (List ℕ)) → bits_differ bits bits ≡ false
 bits-same None = refl
 bits-same (Some b) = ap not ((bytes_eq-Decides b b).1 refl)
 

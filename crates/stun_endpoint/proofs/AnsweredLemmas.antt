@@ -49,7 +49,7 @@ undropped false false why other h = (refl, refl)
 abbrev pub IsGivenToAccepted : Option Refusal → Type 0
 IsGivenToAccepted refusal = (refusal ≡ None) ⊎ (refusal ≡ Some refused.UnknownAttribute)
 
-abbrev refusal_told : VerdictRefusal → Refusal
+abbrev pub refusal_told : VerdictRefusal → Refusal
 refusal_told verdict.Unauthorized = refused.Unauthenticated
 refusal_told verdict.StaleNonce = refused.StaleNonce
 refusal_told verdict.BadRequest = refused.BadRequest
@@ -59,7 +59,7 @@ pub plain_told : (s : Responding) (why : Refusal) (from : SocketAddr) (bytes : L
 unfolding refusal_by
 plain_told s why from bytes = refl
 
-refused_told : (s : Settings) (nonce : List ℕ) (from : SocketAddr) (bytes : List ℕ)
+pub refused_told : (s : Settings) (nonce : List ℕ) (from : SocketAddr) (bytes : List ℕ)
     (told : VerdictRefusal)
     → (answer_to_refused s nonce from bytes told).refusal ≡ Some (refusal_told told)
 refused_told s nonce from bytes verdict.Unauthorized =

@@ -102,12 +102,12 @@ told_of nonce r verdict.Unauthorized h = cc
 told_of nonce r verdict.StaleNonce h = cc
 told_of nonce r verdict.BadRequest h = told_so (is_malformed r) (bytes_eq (their_nonce r) nonce) h
 
-binding_fine : (s : Responding) (by : Option Signature) (from : SocketAddr) (bytes : List ℕ)
+pub binding_fine : (s : Responding) (by : Option Signature) (from : SocketAddr) (bytes : List ℕ)
     → (binding_by s by from bytes).refusal ≡ None
 unfolding binding_by
 binding_fine s by from bytes = refl
 
-unknown_odd : (s : Responding) (by : Option Signature) (from : SocketAddr) (bytes : List ℕ)
+pub unknown_odd : (s : Responding) (by : Option Signature) (from : SocketAddr) (bytes : List ℕ)
     → (unknown_by s by from bytes).refusal ≡ Some refused.UnknownAttribute
 unfolding unknown_by
 unknown_odd s by from bytes = refl

@@ -13,6 +13,8 @@ pub mod UnderstoodLemmas
 pub mod UnnamedLemmas
 pub mod ReadyLemmas
 pub mod IdentifiedLemmas
+pub mod CauseLemmas
+pub mod CausedLemmas
 pub mod ResumeLemmas
 pub mod JudgementLemmas
 pub mod RunLemmas

@@ -75,7 +75,7 @@ nonce_of-there set feature (word ∷ words) h = by (security_byte set feature ==
     by true = uncookied_there word words
     by false = spelled_there (security_byte set feature) (map letter (word ∷ words))
 
-nonce_in-there : (s : Settings) (secret : List ℕ) (from : SocketAddr) (e : ℕ)
+pub nonce_in-there : (s : Settings) (secret : List ℕ) (from : SocketAddr) (e : ℕ)
     → bytes_eq [] (nonce_in s secret from e) ≡ false
 nonce_in-there s secret from e =
     nonce_of-there s.algorithms s.feature (words_of s.algorithms secret from e)
@@ -94,7 +94,7 @@ fresh_rows false false false false true true client = refl
 fresh_rows false false false false true false client = refl
 fresh_rows false false false false false f client = refl
 
-stale_for_all : (theirs : List ℕ) → nonce_refusal [] theirs ≡ StaleNonce
+pub stale_for_all : (theirs : List ℕ) → nonce_refusal [] theirs ≡ StaleNonce
 unfolding security_bits
 stale_for_all theirs = refl
 

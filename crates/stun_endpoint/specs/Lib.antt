@@ -26,6 +26,8 @@ pub mod Outcomes
 pub mod Lookups
 -- what the result of `identify` says
 pub mod Identified
+-- why a request is refused, cause by cause (sections 9.2.4 and 6.3.1)
+pub mod Causes
 -- what a datagram comes to at a server without credentials (section 6.3)
 pub mod Open
 -- what the result of `OpenServer::receive` says

@@ -3,3 +3,4 @@ pub mod Judges
 pub mod Waiting
 pub mod Judgements
 pub mod Keys
+pub mod Refusing

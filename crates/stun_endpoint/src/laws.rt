@@ -1,6 +1,7 @@
 //! Laws over the definitions that the contracts of this crate cite. They do nothing when they run.
 ghost use Rattle.std.specs.FinMap as fin;
 ghost use Rattle.std.specs.Prelude.{◌≡◌, ◌↔◌, ◌⊎◌, ◌≤◌, ℕ, List, None, Ok, Option, Some, map, true};
+ghost use Rattle.std.specs.Option.{option_map};
 ghost use Rattle.std.specs.Str.{bytes_eq};
 ghost use Rattle.std.specs.declared.net.socket_addr.SocketAddr.{SocketAddr};
 ghost use Rattle.stun_auth.specs.declared.server.reason.LongTermServerValidation.TheVariants.{Validated};
@@ -11,6 +12,7 @@ ghost use Rattle.stun_auth.specs.Registered.{Registered, UserSecret, name_cmp};
 ghost use Rattle.stun_auth.specs.Seen.{ClientSeen};
 ghost use Rattle.stun_auth.specs.Server.{their_nonce};
 ghost use Rattle.stun_auth.specs.Validation.{is_malformed};
+ghost use Rattle.stun_endpoint.specs.Causes.{cause_of, code_of_cause, refused_code};
 ghost use Rattle.stun_endpoint.specs.Judged.{IsAcceptedAt, Realm, judged, key_of_client};
 ghost use Rattle.stun_endpoint.specs.Judged.{realm_of_table, realm_of_user};
 ghost use Rattle.stun_endpoint.specs.Lookups.{LookupSeen, WaitsUnderItsNonce, done};
@@ -78,6 +80,14 @@ pub fn outcomes_are_of_accepted_clients()
         ⊎ (bytes_eq (their_nonce (reading_of bytes)) (current_nonce s from now) ≡ true) }
 {}
 
+/// The cause of a refusal tells what `received_by` does: there is a cause if and only if the datagram
+/// comes to a response that refuses it, and the code of the cause is that of the response.
+pub fn causes_have_their_codes()
+    ensures { (s : Settings) (realm : Realm) (from : SocketAddr) (now : ℕ) (bytes : List ℕ)
+        → option_map code_of_cause (cause_of s realm from now bytes)
+        ≡ refused_code (received_by s realm from now bytes) }
+{}
+
 /// What `identify` says without the user is what the datagram comes to, whoever the user is.
 pub fn identify_needs_no_user()
     ensures { (s : Settings) (from : SocketAddr) (now : ℕ) (bytes : List ℕ) (outcome : Outcome)
@@ -100,9 +110,9 @@ pub fn resume_is_receive_with_all_users()
     stun_auth::laws::the_named_user_is_enough_to_judge();
 }
 
-/// Whom `identify` has looked up is named by a request that is signed, and that has a nonce which
-/// the server accepts for its source at the time at which the request arrived: that of the epoch or
-/// of the epoch before, of the secret or of the previous secret.
+/// A look-up of `identify` comes from a signed request with a nonce that the server accepts for its
+/// source at the time at which the request arrived: a nonce of that epoch or of the one before,
+/// under the secret or the previous secret.
 pub fn lookups_have_accepted_nonces()
     ensures { (s : Settings) (from : SocketAddr) (now : ℕ) (bytes : List ℕ) (lookup : LookupSeen)
         → identified_by s from now bytes ≡ looked_up lookup
@@ -131,7 +141,7 @@ pub fn datagrams_are_a_run_of_calls()
         → verdict_on s d ≡ Some (Ok (Validated request.client.algorithm)) }
 {}
 
-/// A server with short-term credentials takes a message for a user's if and only if `IsSignedBy`
+/// A server with short-term credentials regards a message as a user's if and only if `IsSignedBy`
 /// holds: the first USERNAME before the signature is the name of the user, and the signature is the
 /// digest under the user's key (`signer`). No earlier datagram is looked at.
 ///

@@ -1,4 +1,4 @@
-//! A request that waits for its user.
+//! A request whose user must be looked up.
 
 ghost use Rattle.std.specs.Prelude.{◌≡◌};
 ghost use Rattle.stun_auth.specs.Handed.{named_seen};

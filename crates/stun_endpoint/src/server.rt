@@ -26,6 +26,7 @@ use stun_auth::auth::{LongTermServerAuth, LongTermServerUser, StoredKeys};
 use stun_base::credentials::LongTermCredentials;
 use stun_base::prepared_key::PreparedKey;
 
+mod causes;
 mod identifying;
 pub(crate) mod judges;
 mod judging;
@@ -33,6 +34,7 @@ mod receiving;
 mod refusing;
 mod settings;
 
+pub use causes::Cause;
 pub use settings::{
     BuildError, DEFAULT_NONCE_LIFETIME, LongTerm, SHORTEST_NONCE_LIFETIME, STUN_ATTRIBUTES,
 };

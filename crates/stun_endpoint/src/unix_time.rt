@@ -25,7 +25,7 @@ impl Model for UnixTime {
 }
 
 impl UnixTime {
-    /// Returns the time so many seconds after the beginning of 1970.
+    /// Returns the time this many seconds after the beginning of 1970.
     pub fn from_secs(seconds: u64) -> UnixTime
         ensures { result ≡ seconds }
     {

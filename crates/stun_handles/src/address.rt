@@ -1,4 +1,4 @@
-//! The addresses that callers give and get.
+//! The addresses that callers pass and receive.
 
 ghost use Rattle.std.specs.Prelude.{◌≡◌, take, IfOk, IfErr, Some, None};
 ghost use Rattle.stun_handles.specs.Addresses.{caller_address, ipv4, ipv6};
@@ -11,15 +11,15 @@ use stun_numbers::refusal::Refusal;
 #[repr(C)]
 #[derive(Debug, Clone, Copy, PartialEq, Eq)]
 pub struct Address {
-    /// The octets in network order. After the fourth none is read of an IPv4 address.
+    /// The octets in network order. Only the first four of an IPv4 address are read.
     pub octets: [u8; 16],
-    /// The port, in the processor's order.
+    /// The port, in host byte order.
     pub port: u16,
-    /// 4 or 16.
+    /// The number of octets: 4 or 16.
     pub length: u16,
 }
 
-/// The IPv4 address in the first four octets.
+/// Returns the IPv4 address in the first four octets.
 fn ipv4(octets: &[u8; 16], port: u16) -> SocketAddr
     ensures { result ≡ ipv4 (take 4 octets.now) port }
 {
@@ -28,7 +28,7 @@ fn ipv4(octets: &[u8; 16], port: u16) -> SocketAddr
     SocketAddr::V4(SocketAddrV4::new(Ipv4Addr::from_octets(front), port))
 }
 
-/// The IPv6 address in the octets.
+/// Returns the IPv6 address in the octets.
 fn ipv6(octets: &[u8; 16], port: u16) -> SocketAddr
     ensures { result ≡ ipv6 octets.now port }
 {
@@ -36,7 +36,8 @@ fn ipv6(octets: &[u8; 16], port: u16) -> SocketAddr
 }
 
 impl Address {
-    /// The caller's address, or `BadArgument` if its length is neither 4 nor 16.
+    /// Converts the address of a caller. Fails with `BadArgument` if its length is neither 4 nor
+    /// 16.
     pub fn socket(&self) -> Result<SocketAddr, Refusal>
         ensures ok { IfOk result (λ address. socket_address self.now ≡ Some address) }
         ensures err { IfErr result (λ refusal. (socket_address self.now ≡ None)
@@ -49,7 +50,8 @@ impl Address {
         }
     }
 
-    /// Where a walk over addresses begins: at the first of all where the length is 0.
+    /// Returns the address at which to begin a walk over addresses, or `None`, for the first one,
+    /// if the length is 0.
     pub fn start(&self) -> Result<Option<SocketAddr>, Refusal>
         ensures ok { IfOk result (λ start. start_told self.now ≡ Some start) }
         ensures err { IfErr result (λ refusal. (start_told self.now ≡ None)
@@ -61,7 +63,7 @@ impl Address {
         Ok(Some(self.socket()?))
     }
 
-    /// Where a walk goes on, as a caller gets it: of length 0 at its end.
+    /// Converts the address at which a walk continues. The length is 0 at its end.
     pub fn of_start(start: Option<SocketAddr>) -> Address
         ensures { result ≡ start_for start }
     {
@@ -75,7 +77,8 @@ impl Address {
         }
     }
 
-    /// An address as a caller gets it. Flow information and scope of an IPv6 address are not told.
+    /// Converts an address for a caller. The flow information and the scope of an IPv6 address are
+    /// left out.
     pub fn of(address: SocketAddr) -> Address
         ensures { result ≡ caller_address address }
     {

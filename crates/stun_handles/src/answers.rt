@@ -8,7 +8,7 @@ use stun_numbers::refusal::Refusal;
 /// The greatest number that a call returns.
 const MOST: usize = 9_223_372_036_854_775_807;
 
-/// 0, or the refusal.
+/// Returns 0, or the number of the error.
 pub fn done(answer: Result<(), Refusal>) -> i64
     ensures { result ≡ done_answer answer }
 {
@@ -18,7 +18,7 @@ pub fn done(answer: Result<(), Refusal>) -> i64
     }
 }
 
-/// A small number, or the refusal.
+/// Returns a small number, or the number of the error.
 pub fn number(answer: Result<u32, Refusal>) -> i64
     ensures { result ≡ number_answer answer }
 {
@@ -28,7 +28,7 @@ pub fn number(answer: Result<u32, Refusal>) -> i64
     }
 }
 
-/// How many bytes were written, or the refusal.
+/// Returns how many bytes were written, or the number of the error.
 pub fn length(answer: Result<usize, Refusal>) -> i64
     ensures { result ≡ length_answer answer }
 {

@@ -1,4 +1,4 @@
-//! The stored keys of a user as a caller gives them.
+//! The stored keys of a user, as a caller passes them.
 
 ghost use Rattle.std.specs.Prelude.{◌≡◌};
 ghost use Rattle.stun_handles.specs.Keys.{key_given, keys_given};
@@ -6,8 +6,8 @@ ghost use Rattle.stun_handles.specs.Keys.{key_given, keys_given};
 use stun_auth::auth::StoredKeys;
 use stun_numbers::refusal::Refusal;
 
-/// A key as a caller gives it: none if it has no bytes, or `BadArgument` if it has another length
-/// than a key.
+/// Converts a key of a caller, which is missing if it has no bytes. Fails with `BadArgument` if it
+/// has another length than a key.
 fn key_of<const N: usize>(bytes: &[u8]) -> Result<Option<[u8; N]>, Refusal>
     ensures { result ≡ key_given N bytes.now }
 {
@@ -22,8 +22,8 @@ fn key_of<const N: usize>(bytes: &[u8]) -> Result<Option<[u8; N]>, Refusal>
     Ok(Some(key))
 }
 
-/// The stored keys that a caller gives: of 16 bytes for HMAC-SHA1 and of 32 for HMAC-SHA256. Each
-/// may have no bytes, if it is not stored. Another length fails with `BadArgument`.
+/// Converts the stored keys of a caller: 16 bytes for HMAC-SHA1 and 32 for HMAC-SHA256. A key
+/// without bytes is missing. Fails with `BadArgument` for another length.
 pub fn keys_of(sha1: &[u8], sha256: &[u8]) -> Result<StoredKeys, Refusal>
     ensures { result ≡ keys_given (key_given 16 sha1.now) (key_given 32 sha256.now) }
 {

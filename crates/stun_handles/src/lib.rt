@@ -1,6 +1,6 @@
-//! What an archive for programs in C needs beside its calls: values on the heap that callers have
-//! handles of, addresses, texts, stored keys, and the numbers that calls return. `stun_state` has its
-//! own yet.
+//! The parts of an archive for programs in C other than its calls: handles of values on the heap,
+//! addresses, texts, stored keys, and the numbers that calls return. `stun_state` still has its
+//! own.
 #![tactic(auto)]
 
 pub mod address;

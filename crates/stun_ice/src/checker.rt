@@ -365,8 +365,8 @@ impl<A: Allocator> Checker<A> {
         self.role = role;
     }
 
-    /// Sets another tie-breaker. An agent that was told of a role conflict must have a new random one
-    /// before its next check (RFC 8445, section 16.1).
+    /// Sets another tie-breaker. After a 487 an agent must have a new random one before its next
+    /// check (RFC 8445, section 16.1).
     pub fn set_tie_breaker(&mut self, tie_breaker: u64)
         ensures { self.new ≡ record self.old { tie_breaker = tie_breaker } }
     {

@@ -17,14 +17,15 @@ ghost use Rattle.stun_ice.specs.declared.received.Outcome.TheVariants as Outcome
 ghost use Rattle.stun_ice.specs.declared.role.Role.{Role};
 ghost use Rattle.stun_ice.specs.declared.role.Role.TheVariants.{Controlling, Controlled};
 
-/// Two agents that begin in one role, with distinct tie-breakers, end in opposite roles: the one
-/// with the larger tie-breaker controls. It is so from when an agent has heard the answer to one
-/// check, and stays so. Before that both have the role that they began in, or have these already
-/// (`settle`). Two that begin in opposite roles keep them (`stay`).
+/// Two agents that begin in the same role, with distinct tie-breakers, end in opposite roles: the
+/// one with the larger tie-breaker controls. They have these roles from the time when one of them
+/// has received the answer to one check, and keep them. Before that, both have the role that they
+/// began in, or they have the final roles already (`settle`). Two agents that begin in opposite
+/// roles keep them (`stay`).
 ///
 /// This holds for every network that loses, repeats, delays and reorders: any check may arrive at
-/// any time after it was sent, any number of times, and so may any answer. And it holds whatever
-/// tie-breaker an agent gives itself after a 487.
+/// any time after it was sent, any number of times, and so may any answer. It holds whatever
+/// tie-breaker an agent chooses after a 487.
 pub fn roles_end_opposite()
     ensures settle { (role : Role) (left right : ℕ) → (left ≡ right → ⊥) → (events : List Happening)
         → let both = after_all

@@ -126,7 +126,7 @@ pub enum DropReason {
     OtherMethod,
     /// It is an indication with an attribute that must be understood and is not.
     UnknownAttribute,
-    /// It is a response, and not to the check that was passed.
+    /// It is a response to another check than the one that was passed, or to none.
     NotAsked,
     /// It is a response whose signature is missing or invalid. A refusal by 400 or 401 is not
     /// signed, so such a check ends by its timeout.

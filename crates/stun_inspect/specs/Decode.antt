@@ -13,12 +13,12 @@ use Rattle.stun_inspect.specs.declared.telling.Told.{Told}
 use Rattle.stun_inspect.specs.Telling.{told_attributes}
 use Rattle.stun_inspect.specs.Fingerprint.{ending_of}
 
--- the letters of a name's column
+-- the width of the column of names
 abbrev pub NAME_LENGTH : ℕ
 NAME_LENGTH = 28
 
--- the text on an attribute of a message: its type and its place after the column of its name, then
--- the rest, of a FINGERPRINT whether it is right, and a line feed
+-- the line for an attribute: its name padded to the width of the column, its type and its offset,
+-- the rest, for a FINGERPRINT whether it is right, and a line feed
 abbrev pub line_with : List ℕ → Told → List ℕ → List ℕ → List ℕ
 line_with message told name rest =
     name ++ (codes " "
@@ -26,33 +26,34 @@ line_with message told name rest =
     ++ (codes " at "
     ++ (decimal told.place ++ (codes " " ++ (rest ++ (ending_of message told ++ 10 ∷ [])))))))
 
--- it is one line
+-- the text is the line for an attribute, and one line
 abbrev pub IsLineOn : List ℕ → Told → List ℕ → Type 0
 IsLineOn message told line =
     (name : List ℕ) × (rest : List ℕ) × (length name ≡ NAME_LENGTH) × IsLine line
     × (line ≡ line_with message told name rest)
 
--- a text is one line on each attribute, in order
+-- the text is the lines for these attributes, in order
 abbrev pub AreLinesOn : List ℕ → List Told → List ℕ → Type 0
 AreLinesOn message [] text = text ≡ []
 AreLinesOn message (first ∷ others) text =
     (line : List ℕ) × (rest : List ℕ) × IsLineOn message first line × AreLinesOn message others rest
     × (text ≡ line ++ rest)
 
--- three lines on the header: on class, method and transaction id
+-- three lines for the header: class, method and transaction ID
 abbrev pub IsHeader : List ℕ → Type 0
 IsHeader text =
     (first : List ℕ) × (second : List ℕ) × (third : List ℕ) × IsLine first × IsLine second
     × IsLine third
     × (text ≡ first ++ (second ++ third))
 
--- what is said of a message: the lines on its header, and then a line on each attribute
+-- the text that `decode` prints for a message: the lines for its header, and then a line for each
+-- attribute
 abbrev pub Describes : List ℕ → List ℕ → Type 0
 Describes message text =
     (header : List ℕ) × (lines : List ℕ) × IsHeader header
     × AreLinesOn message (told_attributes message) lines × (text ≡ header ++ lines)
 
--- the message is described, or the line for what refuses the bytes is printed
+-- the description of the message is printed, or the line that says why the bytes are not a message
 abbrev pub PrintsUnlessRefused : Option StunParseError → List ℕ → Status → Option (List ℕ)
     → Option (List ℕ) → Type 0
 PrintsUnlessRefused None bytes status before after =
@@ -60,7 +61,7 @@ PrintsUnlessRefused None bytes status before after =
 PrintsUnlessRefused (Some error) bytes status before after =
     (status ≡ Bad) × Appends before after (refusal_line error)
 
--- what is printed for bytes, and the status that goes with it
+-- what is printed for these bytes, and the status that goes with it
 abbrev pub PrintsDecoded : List ℕ → Status → Option (List ℕ) → Option (List ℕ) → Type 0
 PrintsDecoded bytes status before after =
     PrintsUnlessRefused (refusal bytes) bytes status before after

@@ -1,8 +1,8 @@
--- What the contracts of the program say, in the order to read it.
+-- The definitions that the contracts of the program use, in the order to read them.
 
--- what each command answers and prints
+-- what each command returns and prints
 pub mod Run
--- the attributes of a message one by one, and what hides each
+-- the attributes of a message one by one, and the attribute that hides each
 pub mod Telling
 -- whether a FINGERPRINT is that of its message
 pub mod Fingerprint
@@ -12,11 +12,11 @@ pub mod Decode
 pub mod Names
 -- what `verify` prints
 pub mod Verify
--- how `verify` says what holds of a message
+-- the line that `verify` prints for each verdict
 pub mod Verdict
--- which bytes of an input are a message as they are
+-- which inputs are read as a raw message
 pub mod Input
--- where the offset at the front of a dump's row ends
+-- the offset at the front of a row of a dump
 pub mod Dump
 -- definitions of private functions
 pub mod code

@@ -1,5 +1,5 @@
--- What each command prints where it has an answer, over a reader and a writer that tell contracts
--- their bytes. Real standard input and output do not.
+-- What each command prints when it has a result, with a reader and a writer whose bytes contracts
+-- can see. They cannot see those of the real standard input and output.
 use Rattle.std.specs.Prelude.{◌≡◌, ◌≢◌, ℕ, List, [], ◌∷◌, ◌++◌, codes, true}
 use Rattle.std.specs.Prelude.{Option, Some, None, Result, IfSome, IfOk}
 use Rattle.std.specs.Io.KnownBytes.{Appends}
@@ -19,14 +19,14 @@ use Rattle.stun_cli.specs.Line.{IsLine}
 use Rattle.stun_cli.specs.Verdict.{verdict_of}
 use Rattle.stun_inspect.specs.Verify.{PrintsVerdictAndNotes}
 
--- the key for each algorithm of a user at a realm, or of a password alone (RFC 8489, sections 9.1.1
--- and 9.2.2)
+-- the key for each algorithm: of a user at a realm, or of a password alone (RFC 8489, sections
+-- 9.1.1 and 9.2.2)
 abbrev pub keys_for : Option User → List ℕ → IntegrityAlgorithm → List ℕ
 keys_for None password = short_term_key password
 keys_for (Some user) password =
     λ algorithm. long_term_key algorithm user.name.now user.realm.now password
 
--- a text is printed, and the answer is good
+-- a text is printed, and the status is good
 abbrev pub PrintsText : List ℕ → Status → Option (List ℕ) → Option (List ℕ) → Type 0
 PrintsText text status before after = (status ≡ Good) × Appends before after text
 
@@ -39,8 +39,8 @@ abbrev pub PrintsDigits : List ℕ → Status → Option (List ℕ) → Option (
 PrintsDigits bytes status before after =
     PrintsText (encode_lower bytes ++ 10 ∷ []) status before after
 
--- what a command answers and prints: of a message where the input is raw, and under a password that
--- is among the words
+-- what a command returns and prints. For a message this is said if the input is raw and the
+-- password is among the arguments
 abbrev pub Answers : Command → Option (List ℕ) → Result Status Failure → Option (List ℕ)
     → Option (List ℕ) → Type 0
 Answers Help given result before after = IfOk result (λ status. status ≡ Good)

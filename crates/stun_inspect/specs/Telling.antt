@@ -1,10 +1,10 @@
--- The attributes of a message one by one: place, type, value, and what hides it.
+-- The attributes of a message one by one: offset, type, value, and the attribute that hides it.
 use Rattle.std.specs.Prelude.{ℕ, List, map, filter, is_none}
 use Rattle.stun_types.specs.Walk.{Member, walk}
 use Rattle.stun_types.specs.Visible.{hider, visibility_at}
 use Rattle.stun_inspect.specs.declared.telling.Told.{Told}
 
--- what is told of one of a message's attributes
+-- an attribute of a message as it is listed
 abbrev pub told_at : List Member → Member → Told
 told_at members m = record {
   place = m.0;
@@ -12,7 +12,7 @@ told_at members m = record {
   hidden_by = hider (visibility_at m.0 members) m.1.kind;
 }
 
--- what is told of a message: each attribute once, in order
+-- the attributes of a message as they are listed: each once, in order
 abbrev pub told_attributes : List ℕ → List Told
 told_attributes bytes = map (told_at (walk bytes)) (walk bytes)
 

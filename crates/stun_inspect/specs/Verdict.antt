@@ -1,4 +1,4 @@
--- How `verify` says what holds of a message.
+-- The line that `verify` prints for each verdict.
 use Rattle.std.specs.Prelude.{ℕ, List, [], ◌∷◌, ◌++◌, codes}
 use Rattle.stun_base.specs.declared.keys.algorithm.IntegrityAlgorithm.TheVariants.{Sha1, Sha256}
 use Rattle.stun_cli.specs.declared.verdict.Verdict.{Verdict}
@@ -7,11 +7,11 @@ use Rattle.stun_cli.specs.declared.verdict.Verdict.TheVariants.{MalformedIntegri
 use Rattle.stun_cli.specs.declared.verdict.Verdict.TheVariants.{BadInput}
 use Rattle.stun_cli.specs.Verdict.{refusal_line}
 
--- the line for a verdict; that on an input without bytes is none of a message
+-- the line for a verdict; `BadInput` is the verdict on an input that spells no bytes
 abbrev pub verify_line : Verdict → List ℕ
 verify_line (Valid Sha1) = codes "valid MESSAGE-INTEGRITY" ++ 10 ∷ []
 verify_line (Valid Sha256) = codes "valid MESSAGE-INTEGRITY-SHA256" ++ 10 ∷ []
-verify_line OtherDigest = codes "invalid: the digest is another" ++ 10 ∷ []
+verify_line OtherDigest = codes "invalid: the signature does not match" ++ 10 ∷ []
 verify_line NoIntegrity = codes "invalid: no integrity attribute is visible" ++ 10 ∷ []
 verify_line MalformedIntegrity = codes "invalid: the integrity attribute is malformed" ++ 10 ∷ []
 verify_line (NotAMessage error) = refusal_line error

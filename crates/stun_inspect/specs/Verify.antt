@@ -6,7 +6,8 @@ use Rattle.stun_cli.specs.declared.verdict.Verdict.{Verdict}
 use Rattle.stun_cli.specs.Verdict.{status_of}
 use Rattle.stun_inspect.specs.Verdict.{verify_line}
 
--- the verdict's line is printed, and perhaps notes after it; the status goes with the verdict
+-- the line for the verdict is printed, and perhaps notes after it; the status is that of the
+-- verdict
 abbrev pub PrintsVerdictAndNotes : Verdict → Status → Option (List ℕ) → Option (List ℕ) → Type 0
 PrintsVerdictAndNotes verdict status before after =
     (status ≡ status_of verdict) × (notes : List ℕ)

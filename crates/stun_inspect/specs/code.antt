@@ -1,4 +1,4 @@
--- Definitions that only clauses of private functions cite.
+-- Definitions that only clauses of private functions use.
 
 -- that an input is a capture
 pub mod Opened

@@ -1,5 +1,5 @@
-//! Password algorithms as text (RFC 8489, sections 14.11 and 14.12). Each function returns whether
-//! the value is one of its type.
+//! Writes the values of PASSWORD-ALGORITHM and PASSWORD-ALGORITHMS as text (RFC 8489, sections
+//! 14.11 and 14.12). Each function returns `false`, and appends nothing, if the value is malformed.
 
 use crate::value::push_digits;
 use captures::numbers::{Order, number_16};
@@ -10,12 +10,12 @@ use std::alloc::{AllocError, Allocator};
 struct Entry<'a> {
     number: u16,
     parameters: &'a [u8],
-    /// What follows the parameters and their padding.
+    /// The bytes after the parameters and their padding.
     rest: &'a [u8],
 }
 
-/// The algorithm at the front of a value, if it is whole. MD5 and SHA-256 have no parameters
-/// (section 18.5.1).
+/// Returns the algorithm at the front of a value, if it is whole. MD5 and SHA-256 have no
+/// parameters (section 18.5.1).
 fn entry_of(value: &[u8]) -> Option<Entry<'_>> {
     let number = number_16(Order::Big, value, 0)?;
     let length = usize::from(number_16(Order::Big, value, 2)?);
@@ -32,7 +32,7 @@ fn entry_of(value: &[u8]) -> Option<Entry<'_>> {
     })
 }
 
-/// Whether a value is a list of whole algorithms.
+/// Returns `true` if a value is a list of whole algorithms.
 fn is_list(value: &[u8]) -> bool {
     let mut rest = value;
     for _entry in 0..value.len() {
@@ -47,7 +47,8 @@ fn is_list(value: &[u8]) -> bool {
     rest.is_empty()
 }
 
-/// Appends the name of an algorithm, or the number of one that is not known, with its parameters.
+/// Appends the name of an algorithm and its parameters. An unknown algorithm has its number in
+/// place of a name.
 fn push_entry<A: Allocator + Copy>(
     text: &mut String<A>,
     entry: Entry<'_>,
@@ -65,7 +66,7 @@ fn push_entry<A: Allocator + Copy>(
     Ok(())
 }
 
-/// Appends the one algorithm of PASSWORD-ALGORITHM.
+/// Appends the algorithm of PASSWORD-ALGORITHM.
 pub fn push_algorithm<A: Allocator + Copy>(
     text: &mut String<A>,
     value: &[u8],

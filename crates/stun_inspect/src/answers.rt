@@ -1,4 +1,4 @@
-//! What each command does with its reader and its writer.
+//! The commands: what each one reads and prints.
 ghost use Rattle.std.specs.Prelude.{◌≡◌, ◌≢◌, codes, true, IfOk, IfSome, string_bytes};
 ghost use Rattle.stun_base.specs.Keys.{long_term_key};
 ghost use Rattle.stun_base.specs.Keys.OfCredentials.{keys_of};
@@ -33,7 +33,7 @@ use stun_types::message::{
 };
 
 /// Runs a command, and returns how it ended. Fails if a read, a write or an allocation fails, or if
-/// the input is none that the command reads.
+/// the input has none of the formats that the command can read.
 pub fn run_command<R: CountedRead, W: Write, A: Allocator + Copy>(
     alloc: A,
     command: Command<'_>,
@@ -114,8 +114,8 @@ fn decode_all<W: Write, A: Allocator + Copy>(
     tell_input(alloc, &Decoding, input, writer)
 }
 
-/// Prints whether the digest of each message that the reader has verifies. The password `-` means
-/// its first line.
+/// Verifies the signature of each message that the reader has, and prints the results. If the
+/// password is `-`, it is read from the first line of the reader.
 fn verify_input<R: CountedRead, W: Write, A: Allocator + Copy>(
     alloc: A,
     who: Who<'_>,
@@ -134,8 +134,8 @@ fn verify_input<R: CountedRead, W: Write, A: Allocator + Copy>(
     verify_reader(alloc, who.user, password, reader, writer)
 }
 
-/// Prints whether the digest of each message that the reader has verifies for a user, or under a
-/// password alone.
+/// Verifies the signature of each message that the reader has, for a user or under a password
+/// alone, and prints the results.
 fn verify_reader<R: CountedRead, W: Write, A: Allocator + Copy>(
     alloc: A,
     user: Option<User<'_>>,
@@ -159,7 +159,8 @@ fn verify_reader<R: CountedRead, W: Write, A: Allocator + Copy>(
     }
 }
 
-/// Prints whether the digest of each message that an input has verifies under these credentials.
+/// Verifies the signature of each message of an input under these credentials, and prints the
+/// results.
 fn verify_each<W: Write, A: Allocator + Copy>(
     alloc: A,
     user: Option<User<'_>>,
@@ -178,8 +179,8 @@ fn verify_each<W: Write, A: Allocator + Copy>(
     tell_input(alloc, &Verifying { user, credentials }, input, writer)
 }
 
-/// Prints whether the digest of each message of a file verifies. The password `-` means the first
-/// line of `reader`.
+/// Verifies the signature of each message of a file, and prints the results. If the password is
+/// `-`, it is read from the first line of `reader`.
 pub fn verify_file<R: CountedRead, F: CountedRead, W: Write, A: Allocator + Copy>(
     alloc: A,
     who: Who<'_>,
@@ -213,7 +214,7 @@ fn print_key<R: CountedRead, W: Write, A: Allocator + Copy>(
     print_digits(alloc, key.as_bytes(), writer)
 }
 
-/// Prints each attribute of the message, or why the bytes are no message.
+/// Prints each attribute of the message, or why the bytes are not a message.
 pub fn decode<W: Write, A: Allocator + Copy>(
     alloc: A,
     bytes: &[u8],
@@ -235,7 +236,8 @@ pub fn decode<W: Write, A: Allocator + Copy>(
     }
 }
 
-/// Prints whether the message's digest verifies, and then what differs from the user.
+/// Verifies the signature of the message, and prints the result and how the message differs from
+/// the user.
 pub fn verify<W: Write, A: Allocator + Copy, B: Allocator>(
     alloc: A,
     bytes: &[u8],
@@ -254,7 +256,7 @@ pub fn verify<W: Write, A: Allocator + Copy, B: Allocator>(
     Ok(verdict.status())
 }
 
-/// The credentials of a user, or of a password alone.
+/// Returns the credentials of a user, or those of a password alone.
 fn credentials_of<A: Allocator + Copy>(
     alloc: A,
     user: Option<User<'_>>,
@@ -275,8 +277,8 @@ fn credentials_of<A: Allocator + Copy>(
     }
 }
 
-/// If the word is `-`, the first line of the input, which is read up to its end. Else no bytes, and
-/// nothing is read.
+/// If the argument is `-`, reads the input to its end, and returns its first line. Otherwise reads
+/// nothing and returns no bytes.
 fn password_line<R: CountedRead, A: Allocator + Copy>(
     alloc: A,
     word: &str,
@@ -291,7 +293,7 @@ fn password_line<R: CountedRead, A: Allocator + Copy>(
     }
 }
 
-/// The first line of the input, with its end.
+/// Reads the first line of the input, with its line end.
 fn read_line<R: CountedRead, A: Allocator + Copy>(
     alloc: A,
     reader: &mut R,
@@ -306,8 +308,8 @@ fn read_line<R: CountedRead, A: Allocator + Copy>(
     Err(Failure::NoEnd)
 }
 
-/// If the word is `-`, the input whose first line is the password. Else no bytes, and nothing is
-/// read.
+/// If the argument is `-`, reads the input whose first line is the password. Otherwise reads
+/// nothing and returns no bytes.
 fn password_input<R: CountedRead, A: Allocator + Copy>(
     alloc: A,
     word: &str,
@@ -319,8 +321,8 @@ fn password_input<R: CountedRead, A: Allocator + Copy>(
     Ok(Vec::new(alloc))
 }
 
-/// The password, and the rest of the input. For the word `-` the password is the first line of the
-/// input, without its end.
+/// Returns the password, and the rest of the input. If the argument is `-`, the password is the
+/// first line of the input, without its line end.
 fn password_of<'a>(word: &'a str, input: &'a [u8]) -> Result<(&'a str, &'a [u8]), Failure>
     ensures word { word.now ≢ codes "-" → IfOk result (λ found. found.0.now ≡ word.now) }
     ensures input { word.now ≢ codes "-" → IfOk result (λ found. found.1.now ≡ input.now) }
@@ -345,7 +347,7 @@ fn password_of<'a>(word: &'a str, input: &'a [u8]) -> Result<(&'a str, &'a [u8])
     }
 }
 
-/// Prints the line on the security bits of a nonce.
+/// Prints the security bits of a nonce as a line.
 fn print_nonce<W: Write, A: Allocator + Copy>(
     alloc: A,
     nonce: &str,
@@ -359,7 +361,7 @@ fn print_nonce<W: Write, A: Allocator + Copy>(
     Ok(Status::Good)
 }
 
-/// The line on the security bits of a nonce.
+/// Returns the line that describes the security bits of a nonce.
 fn nonce_line<A: Allocator + Copy>(alloc: A, nonce: &str) -> Result<String<A>, AllocError>
     ensures { IfOk result (λ line. IsLine (string_bytes line)) }
 {

@@ -1,32 +1,33 @@
-//! The commands and their words.
+//! The commands and their arguments.
 
 use stun_types::message::IntegrityAlgorithm;
 
-/// A command with its words. It has no `Debug`, since a password may be among them.
+/// A command with its arguments. It has no `Debug`, because one of them may be a password.
 #[derive(Clone, Copy, PartialEq, Eq)]
 pub enum Command<'a> {
     Help,
     Version,
     Decode,
     Verify(Who<'a>),
-    /// The long-term key of a user under the password, which may be `-` as in `Who`.
+    /// Prints the long-term key of a user for a password. The password may be `-`, as in `Who`.
     Key(IntegrityAlgorithm, User<'a>, &'a str),
     Userhash(User<'a>),
     Nonce(&'a str),
 }
 
-/// What the words ask for.
+/// The command that the arguments name, and the file that it reads.
 #[derive(Clone, Copy)]
 pub struct Asked<'a> {
     pub command: Command<'a>,
-    /// The file that is read in the place of standard input.
+    /// The file to read in place of standard input.
     pub file: Option<&'a str>,
 }
 
-/// Whose credentials verify a message. The password `-` means the first line of standard input.
+/// The credentials to verify a message with. If the password is `-`, it is read from the first line
+/// of standard input.
 #[derive(Clone, Copy, PartialEq, Eq)]
 pub struct Who<'a> {
-    /// The name and the realm of a user, where the credential is a long-term one (RFC 8489, section
+    /// The name and the realm of a user, if the credentials are long-term ones (RFC 8489, section
     /// 9.2).
     pub user: Option<User<'a>>,
     pub password: &'a str,
@@ -39,7 +40,7 @@ pub struct User<'a> {
     pub realm: &'a str,
 }
 
-/// What the words ask for, if they are those of a command.
+/// Parses the arguments. Returns `None` if they are not those of a command.
 pub fn asked_of(words: &[String]) -> Option<Asked<'_>> {
     let (command, others) = words.split_first()?;
     match command.as_str() {
@@ -52,7 +53,7 @@ pub fn asked_of(words: &[String]) -> Option<Asked<'_>> {
     }
 }
 
-/// The command of this name that reads no message.
+/// Returns the command with this name that reads no message.
 fn command_of<'a>(name: &str, words: &'a [String]) -> Option<Command<'a>> {
     match name {
         "-h" | "--help" => words.is_empty().then_some(Command::Help),

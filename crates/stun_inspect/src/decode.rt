@@ -1,4 +1,4 @@
-//! What `decode` says of a message.
+//! The command `decode`: what it prints about a message.
 ghost use Rattle.std.specs.Prelude.{◌≡◌, false, IfOk, length, string_bytes};
 ghost use Rattle.stun_cli.specs.Line.{has_line_feed, IsLine};
 ghost use Rattle.stun_inspect.specs.Decode.{AreLinesOn, Describes, IsHeader, IsLineOn, NAME_LENGTH};
@@ -12,8 +12,8 @@ use std::alloc::{AllocError, Allocator};
 use stun_cli::output::{line_of, unbroken};
 use stun_types::message::{Message, MessageClass, TransactionId};
 
-/// What is printed of a message: its class, method and id, and then a line on each attribute. Fails
-/// if an allocation fails.
+/// Returns the text that is printed for a message: a line each for its class, its method and its
+/// transaction ID, and then a line for each attribute. Fails if an allocation fails.
 pub fn describe<A: Allocator + Copy>(
     alloc: A,
     message: &Message<'_>,
@@ -37,7 +37,7 @@ fn class_name(class: MessageClass) -> &'static str {
     }
 }
 
-/// The lines on the header.
+/// Returns the lines for the header.
 fn header_text<A: Allocator + Copy>(
     alloc: A,
     message: &Message<'_>,
@@ -56,7 +56,7 @@ fn header_text<A: Allocator + Copy>(
     Ok(text)
 }
 
-/// The line on a part of the header.
+/// Returns the line for a field of the header.
 fn header_line<A: Allocator + Copy>(
     alloc: A,
     name: &str,
@@ -68,13 +68,13 @@ fn header_line<A: Allocator + Copy>(
     line_of(alloc, text)
 }
 
-/// The name and the number of a method.
+/// Returns the name and the number of a method.
 fn method_text<A: Allocator + Copy>(alloc: A, method: u16) -> Result<String<A>, AllocError> {
     let name = method_name(method);
     format!(in alloc; "{name} 0x{method:03x}")
 }
 
-/// A line on each attribute of a message.
+/// Returns a line for each attribute of a message.
 fn lines_on<A: Allocator + Copy>(
     alloc: A,
     message: &[u8],
@@ -91,7 +91,7 @@ fn lines_on<A: Allocator + Copy>(
     Ok(text)
 }
 
-/// The line on an attribute of a message.
+/// Returns the line for an attribute of a message.
 fn line_on<A: Allocator + Copy>(
     alloc: A,
     message: &[u8],
@@ -113,10 +113,10 @@ fn line_on<A: Allocator + Copy>(
     Ok(line)
 }
 
-/// The letters of a name's column, as many as the longest name has.
+/// The width of the column of names: the length of the longest name.
 const NAME_LENGTH: usize = 28;
 
-/// The column of a name, with blanks after it.
+/// Pads a name with blanks to the width of its column.
 fn column_of<A: Allocator + Copy>(alloc: A, name: &str) -> Result<String<A>, AllocError>
     requires { IsName name.now }
     ensures length { IfOk result (λ column. length (string_bytes column) ≡ NAME_LENGTH) }
@@ -129,7 +129,7 @@ fn column_of<A: Allocator + Copy>(alloc: A, name: &str) -> Result<String<A>, All
     Ok(column)
 }
 
-/// The blanks that fill a column of five digits after a place.
+/// Returns the blanks after an offset that fill its column of five digits.
 fn blanks_after(place: usize) -> &'static str {
     match place {
         0..=9 => "    ",
@@ -140,8 +140,8 @@ fn blanks_after(place: usize) -> &'static str {
     }
 }
 
-/// What a line says of an attribute after its name, its type and its place: the length, what hides
-/// it, and the value.
+/// Returns the rest of an attribute's line, after its name, its type and its offset: the length of
+/// the value, the attribute that hides it, and the value.
 fn rest_of_line<A: Allocator + Copy>(
     alloc: A,
     told: &Told<'_>,

@@ -3,7 +3,7 @@
 use crate::failure::{BadInput, Failure, Wanted};
 use std::alloc::Allocator;
 
-/// The value of a hexadecimal digit.
+/// Returns the value of a hexadecimal digit.
 pub fn digit(byte: u8) -> Option<u8> {
     match byte {
         b'0'..=b'9' => Some(byte - b'0'),
@@ -13,23 +13,23 @@ pub fn digit(byte: u8) -> Option<u8> {
     }
 }
 
-/// The byte of two digits.
+/// Returns the byte that two digits spell.
 pub fn byte_of(high: u8, low: u8) -> u8 {
     (high << 4) | low
 }
 
-/// What was read of a run of digits.
+/// The state after reading some of a run of digits.
 #[derive(Clone, Copy, Debug)]
 struct Run {
-    /// The first digit of a byte whose second is to come.
+    /// The first digit of a byte whose second digit has not been read yet.
     high: Option<u8>,
-    /// Whether that digit is a zero after which an `x` may come.
+    /// Whether that digit is a zero, so that an `x` may follow it.
     may_be_prefix: bool,
-    /// Whether the next digit begins a word.
+    /// Whether the next digit would be the first of a word.
     is_at_word: bool,
 }
 
-/// What one byte of a run does.
+/// The result of reading one byte of a run.
 enum Step {
     Byte(u8),
     Nothing,
@@ -43,7 +43,7 @@ impl Run {
         is_at_word: true,
     };
 
-    /// Takes the next byte of the input.
+    /// Reads the next byte of the input.
     fn take(&mut self, byte: u8) -> Step {
         if let Some(low) = digit(byte) {
             return self.take_digit(low);
@@ -85,8 +85,8 @@ impl Run {
     }
 }
 
-/// The bytes that hexadecimal digits spell, two digits of either case for each. White space may be
-/// anywhere, a colon after each byte, and `0x` before each byte that begins a word.
+/// Parses hexadecimal digits, two digits of either case for each byte. White space may be anywhere,
+/// a colon after each byte, and `0x` before each byte at the start of a word.
 pub fn read_plain<A: Allocator>(alloc: A, text: &str) -> Result<Vec<u8, A>, Failure> {
     let mut bytes = Vec::new(alloc);
     let mut run = Run::BEGUN;
@@ -121,7 +121,7 @@ pub fn push<A: Allocator>(bytes: &mut Vec<u8, A>, byte: u8) -> Result<(), Failur
     }
 }
 
-/// The failure for a place at which something else was looked for.
+/// Creates the failure for a position in the input at which `wanted` was expected.
 pub fn bad_input(line: usize, column: usize, wanted: Wanted) -> Failure {
     Failure::Input(BadInput {
         line,

@@ -11,7 +11,7 @@ use crate::layout::{Spelled, push_spelled};
 use std::alloc::Allocator;
 use std::mem;
 
-/// The place of the first blank of a row, which ends its first word.
+/// Returns the index of the first blank of a row, which ends its first word.
 pub fn first_blank(row: &[u8]) -> Option<usize>
     ensures some { IfSome result (λ place. IsFirstBlank row.now place) }
     ensures none { IfNone result ((i : ℕ) → i < length row.now → get_or row.now i 0 ≢ 32) }
@@ -19,13 +19,13 @@ pub fn first_blank(row: &[u8]) -> Option<usize>
     row.iter().position(|byte| *byte == b' ')
 }
 
-/// The digits of an offset, if the first word of a row is one:
+/// Returns the digits of an offset, if the first word of a row is one of these:
 ///
-/// - a word that ends in a colon, without that colon, and without `0x` before the digits;
-/// - else a whole word, after which two blanks come;
-/// - else a whole word of six letters, after which a word of two comes, as `od` writes them.
+/// - a word that ends in a colon; the colon, and a `0x` before the digits, are left out;
+/// - a whole word that two blanks follow;
+/// - a whole word of six letters that a word of two letters follows, as `od` writes them.
 ///
-/// A colon that comes later, as one in the column of characters, ends no offset.
+/// A colon further on, such as one in the column of characters, does not end an offset.
 pub fn offset_digits<'a>(word: &'a [u8], rest: &[u8]) -> Option<&'a [u8]>
     ensures { option_copied result ≡ offset_digits word.now rest.now }
 {
@@ -40,14 +40,14 @@ pub fn offset_digits<'a>(word: &'a [u8], rest: &[u8]) -> Option<&'a [u8]>
     }
 }
 
-/// Whether a word has six letters, and the word after it has two.
+/// Returns `true` if a word has six letters, and the word after it has two.
 fn is_before_byte(word: &[u8], rest: &[u8]) -> bool
     ensures { result ≡ is_before_byte word.now rest.now }
 {
     word.len() == 6 && (rest.len() == 2 || rest.len() > 2 && rest[2] == b' ')
 }
 
-/// The digits after `0x`, if that comes first.
+/// Returns the digits without a leading `0x`.
 fn without_prefix(digits: &[u8]) -> &[u8]
     ensures { result.now ≡ without_prefix digits.now }
 {
@@ -58,7 +58,7 @@ fn without_prefix(digits: &[u8]) -> &[u8]
     }
 }
 
-/// The offset at the front of a row, and what follows the blank after it.
+/// Parses the offset at the front of a row, and returns it with what follows the blank after it.
 fn offset_of(row: &str) -> Option<(usize, &str)> {
     let row = row.trim_start();
     let blank = first_blank(row.as_bytes())?;
@@ -67,7 +67,7 @@ fn offset_of(row: &str) -> Option<(usize, &str)> {
     Some((number_of(digits)?, rest))
 }
 
-/// The number of four to eight hexadecimal digits.
+/// Parses a number of four to eight hexadecimal digits.
 fn number_of(digits: &[u8]) -> Option<usize> {
     if digits.len() < 4 || digits.len() > 8 {
         return None;
@@ -79,7 +79,7 @@ fn number_of(digits: &[u8]) -> Option<usize> {
     Some(number)
 }
 
-/// Whether one of the lines is the first row of a dump, whose offset is 0.
+/// Returns `true` if one of the lines is the first row of a dump, which has the offset 0.
 pub fn has_dump(text: &str) -> bool {
     for line in text.split('\n') {
         if let Some((0, _)) = offset_of(line) {
@@ -89,9 +89,9 @@ pub fn has_dump(text: &str) -> bool {
     false
 }
 
-/// The bytes of each dump, which begins with a row of the offset 0. Lines before a dump and blank
-/// lines are skipped. The offset of each row is the number of bytes before it. A line after the
-/// last row may be that number.
+/// Reads the bytes of each dump of a text. A dump begins with a row of offset 0. Lines before it
+/// and blank lines are skipped. The offset of each row must be the number of bytes before it, and a
+/// line after the last row may be that number alone.
 pub fn read_dumps<A: Allocator + Copy>(
     alloc: A,
     text: &str,
@@ -110,7 +110,7 @@ pub fn read_dumps<A: Allocator + Copy>(
     dumps.end(number)
 }
 
-/// What was read of dumps.
+/// The dumps that were read so far.
 #[derive(Drop)]
 struct Dumps<A: Allocator> {
     /// The dumps before the last one.
@@ -119,7 +119,7 @@ struct Dumps<A: Allocator> {
     bytes: Vec<u8, A>,
     /// The line of the last dump's first row.
     first: usize,
-    /// The first line after the last dump's rows that belongs to no dump.
+    /// The first line after the rows of the last dump that belongs to no dump.
     stray: Option<usize>,
 }
 
@@ -141,8 +141,8 @@ impl<A: Allocator + Copy> Dumps<A> {
         }
     }
 
-    /// Takes a row of this offset, or skips it before the first dump. Fails if the offset is not
-    /// the number of the bytes before it, or if a line that belongs to no dump is before it.
+    /// Reads a row with this offset, or skips it before the first dump. Fails if the offset is not
+    /// the number of bytes before it, or if a line before it belongs to no dump.
     fn take_row(
         &mut self,
         line: &str,
@@ -173,7 +173,7 @@ impl<A: Allocator + Copy> Dumps<A> {
         Ok(())
     }
 
-    /// The dumps, after the last line of the text.
+    /// Returns the dumps, after the last line of the text.
     fn end(self, number: usize) -> Result<Vec<Spelled<A>, A>, Failure> {
         let Dumps {
             mut dumps,
@@ -192,17 +192,18 @@ impl<A: Allocator + Copy> Dumps<A> {
     }
 }
 
-/// Whether a line is the number of a dump's bytes alone, with which `hexdump` and `od` end.
+/// Returns `true` if a line is only the number of bytes of a dump, as `hexdump` and `od` print it
+/// at the end.
 fn is_end(line: &str, length: usize) -> bool {
     let line = line.trim_end();
     line.len() >= 6 && number_of(line.as_bytes()) == Some(length)
 }
 
-/// The place of the characters in a row of `hexdump -C`.
+/// The offset of the column of characters in a row of `hexdump -C`.
 const CHARACTERS: usize = 60;
 
-/// Appends the bytes of a row. In a row of `hexdump -C` they lie between two blanks and a bar at a
-/// fixed place. In other rows two blanks end them.
+/// Appends the bytes of a row. In a row of `hexdump -C` they are between two blanks and a bar in a
+/// fixed column. In other rows two blanks end them.
 fn read_row_of<A: Allocator>(
     bytes: &mut Vec<u8, A>,
     line: &str,
@@ -216,8 +217,8 @@ fn read_row_of<A: Allocator>(
     }
 }
 
-/// The digits of a row of `hexdump -C`. Eight digits and two blanks come before them, and a bar at
-/// a fixed place after them.
+/// Returns the digits of a row of `hexdump -C`: eight digits and two blanks come before them, and a
+/// bar in a fixed column after them.
 fn canonical_row(line: &str) -> Option<&str> {
     let _offset = number_of(line.get(..8)?.as_bytes())?;
     match (line.get(8..10)?, line.as_bytes().get(CHARACTERS)?) {
@@ -226,14 +227,14 @@ fn canonical_row(line: &str) -> Option<&str> {
     }
 }
 
-/// Where two blanks may stand in a row: among its bytes, or after them.
+/// Where two blanks may be in a row: among its bytes, or after them.
 #[derive(Clone, Copy)]
 enum Gap {
     InRow,
     AtEnd,
 }
 
-/// How far the digits of a row were read.
+/// The state after reading some of the digits of a row.
 #[derive(Clone, Copy)]
 enum Column {
     /// Before the first digit.
@@ -246,7 +247,7 @@ enum Column {
     Blank,
 }
 
-/// What one byte of a row does.
+/// The result of reading one byte of a row.
 enum Step {
     To(Column),
     Byte(u8),
@@ -254,7 +255,7 @@ enum Step {
     Wrong(Wanted),
 }
 
-/// Takes the next byte of a row.
+/// Reads the next byte of a row.
 fn next_of(at: Column, byte: u8, gap: Gap) -> Step {
     match digit(byte) {
         Some(low) => match at {
@@ -274,7 +275,7 @@ fn next_of(at: Column, byte: u8, gap: Gap) -> Step {
     }
 }
 
-/// Appends the bytes of a row. Where two blanks end them, the row's characters may follow.
+/// Appends the bytes of a row. If two blanks end them, the characters of the row may follow.
 fn read_row<A: Allocator>(
     bytes: &mut Vec<u8, A>,
     row: &str,

@@ -1,5 +1,5 @@
-//! What is printed of an input that is no raw message: of the one message that it spells, or of
-//! each of several with a line before it.
+//! Prints the messages of an input that is not a raw message: the only message of a text, or each
+//! of several after a line that says where it is.
 
 use crate::answers::{decode, verify};
 use crate::command::User;
@@ -19,9 +19,9 @@ use stun_cli::output::write_text;
 use stun_cli::status::Status;
 use stun_types::message::MessageIntegrityCredentials;
 
-/// What is done with each message.
+/// What a command does with each message.
 pub trait Teller {
-    /// Tells one message, and returns how that ended.
+    /// Prints the result for a message, and returns how that ended.
     fn tell<W: Write, A: Allocator + Copy>(
         &self,
         alloc: A,
@@ -29,7 +29,7 @@ pub trait Teller {
         writer: &mut W,
     ) -> Result<Status, Failure>;
 
-    /// Tells ChannelData, after a line of its own.
+    /// Prints ChannelData that carries no message, after the line `heading`.
     fn tell_channel<W: Write, A: Allocator + Copy>(
         &self,
         alloc: A,
@@ -70,7 +70,7 @@ impl Teller for Decoding {
     }
 }
 
-/// Verifies a message for a user, or for a password alone, under these credentials.
+/// Verifies the signature of a message, for a user or under a password alone.
 #[derive(Drop)]
 pub struct Verifying<'a, B: Allocator> {
     pub user: Option<User<'a>>,
@@ -87,7 +87,7 @@ impl<'a, B: Allocator> Teller for Verifying<'a, B> {
         verify(alloc, message, self.user, self.credentials, writer)
     }
 
-    /// There is nothing to verify.
+    /// Prints nothing, because ChannelData has no signature.
     fn tell_channel<W: Write, A: Allocator + Copy>(
         &self,
         _alloc: A,
@@ -99,7 +99,7 @@ impl<'a, B: Allocator> Teller for Verifying<'a, B> {
     }
 }
 
-/// Tells each message of a text.
+/// Prints the result for each message of a text.
 pub fn tell_input<T: Teller, W: Write, A: Allocator + Copy>(
     alloc: A,
     teller: &T,
@@ -119,7 +119,7 @@ pub fn tell_input<T: Teller, W: Write, A: Allocator + Copy>(
     }
 }
 
-/// Tells a message after a line of its own, and counts it.
+/// Prints the result for a message after a heading line, and counts the message.
 fn tell_after<T: Teller, W: Write, A: Allocator + Copy>(
     alloc: A,
     teller: &T,
@@ -135,7 +135,7 @@ fn tell_after<T: Teller, W: Write, A: Allocator + Copy>(
     Ok(())
 }
 
-/// Tells what the parts of a text spell.
+/// Prints the result for what each part of a text spells.
 fn tell_spelled<T: Teller, W: Write, A: Allocator + Copy>(
     alloc: A,
     teller: &T,
@@ -158,7 +158,7 @@ fn tell_spelled<T: Teller, W: Write, A: Allocator + Copy>(
     Ok(tally.status())
 }
 
-/// Fails if a part spells more bytes than a message may have, before any message is told.
+/// Fails if a part spells more bytes than a message may have, before anything is printed.
 fn check_lengths<A: Allocator + Copy>(spelled: &[Spelled<A>]) -> Result<(), Failure> {
     for part in spelled {
         if message_of(part.bytes.as_slice()).is_err() {
@@ -176,9 +176,9 @@ fn line_heading<A: Allocator + Copy>(
     format!(in alloc; "message {number}, line {line}\n")
 }
 
-/// Tells the messages of a capture, of whose first record these bytes were read already. It is read
-/// record by record. Fails if the capture cannot be read further at a place, after it has told the
-/// messages before that place.
+/// Prints the result for each message of a capture, record by record. The bytes of the first record
+/// that were read already are passed. If a record is damaged, the call fails after it has printed
+/// the results for the messages before that record.
 pub fn tell_capture<T: Teller, R: CountedRead, W: Write, A: Allocator + Copy>(
     alloc: A,
     teller: &T,
@@ -221,7 +221,7 @@ pub fn tell_capture<T: Teller, R: CountedRead, W: Write, A: Allocator + Copy>(
     }
 }
 
-/// Tells what a packet has, or counts it.
+/// Prints the result for what a packet carries, or counts the packet.
 fn tell_packet<T: Teller, W: Write, A: Allocator + Copy>(
     alloc: A,
     teller: &T,
@@ -250,7 +250,7 @@ fn tell_packet<T: Teller, W: Write, A: Allocator + Copy>(
     Ok(())
 }
 
-/// Tells what a datagram has, or counts it as other UDP.
+/// Prints the result for the content of a datagram, or counts it as other UDP.
 fn tell_datagram<T: Teller, W: Write, A: Allocator + Copy>(
     alloc: A,
     teller: &T,
@@ -268,7 +268,7 @@ fn tell_datagram<T: Teller, W: Write, A: Allocator + Copy>(
     }
 }
 
-/// Tells the whole parts of a segment of TCP.
+/// Prints the result for each whole part of a segment of TCP.
 fn tell_segment<T: Teller, W: Write, A: Allocator + Copy>(
     alloc: A,
     teller: &T,
@@ -289,7 +289,8 @@ fn tell_segment<T: Teller, W: Write, A: Allocator + Copy>(
     Ok(())
 }
 
-/// Tells a part of what came on this way. What a channel carries is told too, if it is a message.
+/// Prints the result for a part of a datagram or a segment. The data of a channel is included if it
+/// is a message.
 fn tell_part<T: Teller, W: Write, A: Allocator + Copy>(
     alloc: A,
     teller: &T,
@@ -317,7 +318,8 @@ fn tell_part<T: Teller, W: Write, A: Allocator + Copy>(
     }
 }
 
-/// From where to where a packet went, and when.
+/// Returns the heading of a packet: its number, its time, and the addresses that it went from and
+/// to.
 fn way_of<A: Allocator + Copy>(
     alloc: A,
     packet: &Packet<'_>,

@@ -1,13 +1,13 @@
-//! Why a command has no answer.
+//! The errors of the commands.
 
 use captures::damage::Damage;
 use std::alloc::AllocError;
 use std::fmt;
 
-/// The most bytes of an input.
+/// The greatest number of bytes of an input.
 pub const INPUT_LIMIT: usize = 67_108_864;
 
-/// Why a command has no answer.
+/// Why a command has no result.
 #[derive(Clone, Copy)]
 pub enum Failure {
     /// A read or a write failed.
@@ -20,35 +20,35 @@ pub enum Failure {
     NoEnd,
     /// The input is compressed by gzip.
     Gzip,
-    /// The input is none that the command reads.
+    /// The input has none of the formats that the command can read.
     Input(BadInput),
-    /// The capture cannot be read further.
+    /// The capture is damaged, and cannot be read further.
     Capture(Damage),
 }
 
-/// Where an input cannot be read, and what was looked for there.
+/// Where an input cannot be read, and what was expected there.
 #[derive(Clone, Copy, Debug, PartialEq, Eq)]
 pub struct BadInput {
     /// The line, counted from 1.
     pub line: usize,
     /// The byte of the line, counted from 1.
     pub column: usize,
-    /// What was looked for.
+    /// What was expected.
     pub wanted: Wanted,
 }
 
-/// What is looked for in an input.
+/// What an input was expected to have.
 #[derive(Clone, Copy, Debug, PartialEq, Eq)]
 pub enum Wanted {
     /// Bytes.
     Bytes,
-    /// Text, where the bytes are no message.
+    /// Text, because the bytes are not a message.
     Text,
     /// A hexadecimal digit.
     Digit,
     /// The second hexadecimal digit of a byte.
     SecondDigit,
-    /// The offset of a row of a dump.
+    /// The offset of the next row of a dump.
     Offset(usize),
     /// The end of a message of 65552 bytes.
     EndOfMessage,
@@ -120,7 +120,7 @@ impl fmt::Display for Failure {
                 } = *bad;
                 write!(
                     f,
-                    "bad input at line {line}, column {column}: looked for {wanted}"
+                    "bad input at line {line}, column {column}: expected {wanted}"
                 )
             }
         }

@@ -1,4 +1,4 @@
-//! Whether a FINGERPRINT is that of its message (RFC 8489, section 14.7).
+//! Checks the FINGERPRINT of a message (RFC 8489, section 14.7).
 ghost use Rattle.std.specs.Prelude.{◌≡◌};
 ghost use Rattle.stun_inspect.specs.Fingerprint.{ending_of, fingerprint_text};
 
@@ -6,7 +6,7 @@ use crate::telling::Told;
 use stun_extra::fingerprint::{Fingerprint, fingerprint_at};
 use stun_types::attribute::AttributeType;
 
-/// What is printed after the value.
+/// Returns what is printed after the value of a FINGERPRINT.
 fn text_of(fingerprint: Fingerprint) -> &'static str
     ensures { result.now ≡ fingerprint_text fingerprint }
 {
@@ -18,7 +18,8 @@ fn text_of(fingerprint: Fingerprint) -> &'static str
     }
 }
 
-/// What ends the line on an attribute of the message: of a FINGERPRINT whether it is right.
+/// Returns the end of the line for an attribute of the message. For a FINGERPRINT it says whether
+/// the attribute is right.
 pub fn ending_of(message: &[u8], told: &Told<'_>) -> &'static str
     ensures { result.now ≡ ending_of message.now told.now }
 {

@@ -1,4 +1,4 @@
-//! What a UDP datagram or a segment of TCP has: messages, and ChannelData of TURN (RFC 8656,
+//! The content of a UDP datagram or a segment of TCP: messages, and ChannelData of TURN (RFC 8656,
 //! section 12.4).
 
 use crate::layout::is_raw;
@@ -12,22 +12,22 @@ pub enum Part<'a> {
     Channel(ChannelData<'a>),
 }
 
-/// The number of a channel, and the data on it.
+/// A channel number, and the data that the channel carries.
 #[derive(Clone, Copy)]
 pub struct ChannelData<'a> {
     pub channel: u16,
     pub bytes: &'a [u8],
 }
 
-/// A part of a segment, and what follows it.
+/// A part of a segment, and the bytes that follow it.
 #[derive(Clone, Copy)]
 pub struct Cut<'a> {
     pub part: Part<'a>,
     pub rest: &'a [u8],
 }
 
-/// The ChannelData at the front of bytes, if it is whole. The first two bits of its channel are 01
-/// (RFC 5766, section 11).
+/// Returns the ChannelData at the front of the bytes, if it is whole. The first two bits of its
+/// channel number are 01 (RFC 5766, section 11).
 fn channel_data(bytes: &[u8]) -> Option<ChannelData<'_>> {
     let channel = number_16(Order::Big, bytes, 0)?;
     let length = usize::from(number_16(Order::Big, bytes, 2)?);
@@ -38,7 +38,8 @@ fn channel_data(bytes: &[u8]) -> Option<ChannelData<'_>> {
     Some(ChannelData { channel, bytes })
 }
 
-/// What a UDP datagram has. ChannelData fills it, with padding or without (RFC 8656, section 12.5).
+/// Returns the content of a UDP datagram. ChannelData must fill the datagram, with padding or
+/// without it (RFC 8656, section 12.5).
 pub fn part_of(datagram: &[u8]) -> Option<Part<'_>> {
     if is_raw(datagram) {
         return Some(Part::Message(datagram));
@@ -53,8 +54,8 @@ pub fn part_of(datagram: &[u8]) -> Option<Part<'_>> {
     }
 }
 
-/// The part at the front of a stream, if it is whole. It is a message or ChannelData (RFC 8656,
-/// section 12.5), or a message behind its length in 2 bytes (RFC 4571).
+/// Returns the part at the front of a stream, if it is whole: a message, ChannelData (RFC 8656,
+/// section 12.5), or a message after its length in 2 bytes (RFC 4571).
 pub fn cut_of(stream: &[u8]) -> Option<Cut<'_>> {
     if let Frame::Message(length) = next_turn_frame(stream) {
         let rest = stream.get(length..)?;
@@ -77,18 +78,18 @@ pub fn cut_of(stream: &[u8]) -> Option<Cut<'_>> {
     }
 }
 
-/// How much of a segment is read.
+/// How much of a segment can be read.
 #[derive(Clone, Copy, PartialEq, Eq)]
 pub enum Read {
     /// All of it.
     Whole,
-    /// Its front, or nothing, and then a message begins that another segment goes on with.
+    /// Whole parts, or none, and then the beginning of a message that continues in another segment.
     Begun,
-    /// Nothing: it is of another protocol, or goes on with a message of another segment.
+    /// Nothing: the segment belongs to another protocol, or continues a message of another segment.
     Nothing,
 }
 
-/// How much of a segment is read.
+/// Returns how much of a segment can be read.
 pub fn read_of(segment: &[u8]) -> Read {
     let mut rest = segment;
     for _part in 0..segment.len() {
@@ -108,7 +109,7 @@ pub fn read_of(segment: &[u8]) -> Read {
     }
 }
 
-/// Whether a message begins that is not there whole, perhaps behind its length.
+/// Returns `true` if the stream begins with a part of a message, perhaps after its length.
 fn is_begun(stream: &[u8]) -> bool {
     is_raw(stream) || is_raw(stream.get(2..).unwrap_or(&[]))
 }

@@ -1,6 +1,6 @@
-//! The values of further attributes as text: of STUN (RFC 8489, section 14), of ICE (RFC 8445,
-//! section 16.1), of TURN (RFC 8656, section 18) and of NAT behavior discovery (RFC 5780, section 7).
-//! Each function returns whether the value is one of its type.
+//! Writes the values of further attributes as text: those of STUN (RFC 8489, section 14), ICE (RFC
+//! 8445, section 16.1), TURN (RFC 8656, section 18) and NAT behavior discovery (RFC 5780, section
+//! 7). Each function returns `false`, and appends nothing, if the value is malformed.
 
 use crate::registry::attribute_name;
 use crate::value::{push_address, push_digits, push_quoted};
@@ -15,7 +15,7 @@ use stun_types::attribute::RawAttribute;
 use stun_types::message::TransactionId;
 use stun_types::prelude::*;
 
-/// An address as it is, as that of MAPPED-ADDRESS.
+/// Appends an address that is not XORed, such as that of MAPPED-ADDRESS.
 pub fn push_plain_address<A: Allocator + Copy>(
     text: &mut String<A>,
     value: &[u8],
@@ -26,7 +26,7 @@ pub fn push_plain_address<A: Allocator + Copy>(
     }
 }
 
-/// An address that is hidden by the magic cookie and the transaction id.
+/// Appends an address that is XORed with the magic cookie and the transaction ID.
 pub fn push_xored_address<A: Allocator + Copy>(
     text: &mut String<A>,
     value: &[u8],
@@ -61,7 +61,7 @@ pub fn push_domain<A: Allocator + Copy>(
     Ok(true)
 }
 
-/// The names of types, each with its number.
+/// Appends the name and the number of each attribute type of a list.
 pub fn push_types<A: Allocator + Copy>(
     text: &mut String<A>,
     value: &[u8],
@@ -85,7 +85,7 @@ pub fn push_types<A: Allocator + Copy>(
     Ok(true)
 }
 
-/// A number of 32 bits, as that of PRIORITY.
+/// Appends a number of 32 bits, such as that of PRIORITY.
 pub fn push_number<A: Allocator + Copy>(
     text: &mut String<A>,
     value: &[u8],
@@ -98,7 +98,7 @@ pub fn push_number<A: Allocator + Copy>(
     Ok(true)
 }
 
-/// A tie-breaker as hexadecimal digits.
+/// Appends a tie-breaker as hexadecimal digits.
 pub fn push_tie_breaker<A: Allocator + Copy>(
     text: &mut String<A>,
     value: &[u8],
@@ -121,7 +121,7 @@ pub fn push_flag<A: Allocator + Copy>(
     Ok(true)
 }
 
-/// The number of a channel in hexadecimal.
+/// Appends a channel number in hexadecimal.
 pub fn push_channel<A: Allocator + Copy>(
     text: &mut String<A>,
     value: &[u8],
@@ -177,7 +177,7 @@ pub fn push_even_port<A: Allocator + Copy>(
     Ok(true)
 }
 
-/// The number of a protocol, and its name where it is UDP or TCP.
+/// Appends the number of a protocol, and its name if it is UDP or TCP.
 pub fn push_transport<A: Allocator + Copy>(
     text: &mut String<A>,
     value: &[u8],

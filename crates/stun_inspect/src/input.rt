@@ -1,4 +1,5 @@
-//! What an input is: a capture, which is read packet by packet, or bytes, which are read to the end.
+//! Opens an input: a capture, which is read packet by packet, or other bytes, which are read to
+//! their end.
 ghost use Rattle.std.specs.Prelude.{IfOk, IfSome};
 ghost use Rattle.stun_inspect.specs.Input.{IsBegun};
 ghost use Rattle.stun_inspect.specs.code.Opened.{IsCapture};
@@ -9,17 +10,18 @@ use captures::capture::{Capture, FRONT_LENGTH, header_length_of};
 use std::alloc::Allocator;
 use stun_cli::input::{CountedRead, read_rest, read_up_to};
 
-/// An input that is begun.
+/// An input whose beginning has been read.
 #[derive(Drop)]
 pub enum Input<A: Allocator> {
     /// A capture, and the bytes of its first record that were read already.
     Capture(Capture<A>, Vec<u8, A>),
-    /// All bytes of an input that is no capture.
+    /// All bytes of an input that is not a capture.
     Bytes(Vec<u8, A>),
 }
 
-/// Reads the header of a capture, or all of an input that is none. Fails if a read or an allocation
-/// fails, if the header is cut, or if other bytes are more than 67108864.
+/// Reads the header of a capture, or all bytes of another input. Fails if a read or an allocation
+/// fails, if the header is cut short, or if an input that is not a capture has more than 67108864
+/// bytes.
 pub fn begin<R: CountedRead, A: Allocator + Copy>(
     alloc: A,
     reader: &mut R,
@@ -36,7 +38,7 @@ pub fn begin<R: CountedRead, A: Allocator + Copy>(
     Ok(Input::Bytes(read_rest(reader, front, INPUT_LIMIT)?))
 }
 
-/// Opens the capture whose file begins so, and has a header of this length.
+/// Opens the capture whose file begins with these bytes and has a header of this length.
 fn open<R: CountedRead, A: Allocator + Copy>(
     alloc: A,
     reader: &mut R,

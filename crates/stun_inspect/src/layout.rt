@@ -1,4 +1,4 @@
-//! The layouts in which an input may spell messages.
+//! The layouts in which a text may spell messages.
 ghost use Rattle.std.specs.Prelude.{◌≡◌, ◌≤◌, IfOk, true, length};
 ghost use Rattle.stun_types.specs.Limits.{LENGTH_LIMIT};
 ghost use Rattle.stun_inspect.specs.Input.{is_raw};
@@ -16,16 +16,16 @@ use std::alloc::{AllocError, Allocator};
 use stun_base::header::MAGIC_COOKIE;
 use stun_types::limits::LENGTH_LIMIT;
 
-/// What a part of a text spells.
+/// The bytes that a part of a text spells.
 #[derive(Drop)]
 pub struct Spelled<A: Allocator> {
-    /// The line at which it begins, counted from 1.
+    /// The line at which the part begins, counted from 1.
     pub line: usize,
     pub bytes: Vec<u8, A>,
 }
 
-/// Whether bytes are taken as they are: the first two bits are zero, and byte 4 begins the magic
-/// cookie.
+/// Returns `true` if the bytes are read as a raw message: the first two bits are zero, and the
+/// magic cookie begins at byte 4.
 pub fn is_raw(bytes: &[u8]) -> bool
     ensures { result ≡ is_raw bytes.now }
 {
@@ -34,8 +34,9 @@ pub fn is_raw(bytes: &[u8]) -> bool
         && BigEndian::read_u32(&bytes[4..]) == MAGIC_COOKIE
 }
 
-/// The bytes that may be a message. If these do not begin as a message and are a packet, it is what
-/// the packet carries over UDP, and else all of them. Fails if it has more than 65552 bytes.
+/// Returns the bytes that may be a message. If `bytes` do not begin as a message, but are a packet
+/// that carries UDP, these are the payload of the datagram. Otherwise they are `bytes`. Fails if
+/// they are more than 65552.
 pub fn message_of(bytes: &[u8]) -> Result<&[u8], Failure>
     ensures limit { IfOk result (λ message. length message.now ≤ LENGTH_LIMIT) }
     ensures raw { is_raw bytes.now ≡ true → IfOk result (λ message. message.now ≡ bytes.now) }
@@ -46,7 +47,7 @@ pub fn message_of(bytes: &[u8]) -> Result<&[u8], Failure>
     within_limit(payload(bytes))
 }
 
-/// The bytes, if they are no more than a message may have (65552). Fails if they are more.
+/// Returns the bytes. Fails if they are more than a message may have (65552).
 pub fn within_limit(bytes: &[u8]) -> Result<&[u8], Failure>
     ensures limit { IfOk result (λ same. length same.now ≤ LENGTH_LIMIT) }
     ensures same { IfOk result (λ same. same.now ≡ bytes.now) }
@@ -57,8 +58,8 @@ pub fn within_limit(bytes: &[u8]) -> Result<&[u8], Failure>
     Ok(bytes)
 }
 
-/// If the bytes are a packet of IPv4 or IPv6 or a frame of Ethernet, what that carries over UDP.
-/// Else the bytes themselves.
+/// Returns the payload of UDP if the bytes are a packet of IPv4 or IPv6, or a frame of Ethernet,
+/// that carries it. Otherwise returns the bytes themselves.
 fn payload(bytes: &[u8]) -> &[u8] {
     if let Some(Carried::Udp(datagram)) = carried(RAW, bytes) {
         return datagram.payload;
@@ -69,8 +70,8 @@ fn payload(bytes: &[u8]) -> &[u8] {
     }
 }
 
-/// The messages that a text input spells. They are its dumps with offsets, or one in each line, or
-/// one in all of it. Lines and whole inputs are hexadecimal digits or base64. Fails if an
+/// Reads the messages that a text spells: its dumps with offsets, one message in each line, or one
+/// in the whole text. Lines and whole texts are hexadecimal digits or base64. Fails if an
 /// allocation fails, or if the text spells no bytes.
 pub fn read_text<A: Allocator + Copy>(
     alloc: A,
@@ -91,7 +92,7 @@ pub fn read_text<A: Allocator + Copy>(
     Ok(spelled)
 }
 
-/// Appends what a part of a text spells.
+/// Appends the bytes that a part of a text spells.
 pub fn push_spelled<A: Allocator + Copy>(
     spelled: &mut Vec<Spelled<A>, A>,
     line: usize,
@@ -103,7 +104,7 @@ pub fn push_spelled<A: Allocator + Copy>(
     }
 }
 
-/// The bytes that a text spells in hexadecimal digits, or else in base64.
+/// Parses hexadecimal digits, or else base64.
 pub fn read_digits<A: Allocator + Copy>(alloc: A, text: &str) -> Result<Vec<u8, A>, Failure> {
     match read_plain(alloc, text) {
         Err(Failure::Input(bad)) => match read_base64(alloc, text.as_bytes())? {
@@ -114,7 +115,7 @@ pub fn read_digits<A: Allocator + Copy>(alloc: A, text: &str) -> Result<Vec<u8, 
     }
 }
 
-/// Where an input stops being text.
+/// Returns the failure for the position at which an input stops being text.
 fn bad_text(input: &[u8]) -> Failure {
     let mut line: usize = 1;
     let mut column: usize = 1;
@@ -131,7 +132,7 @@ fn bad_text(input: &[u8]) -> Failure {
     bad_input(line, column, Wanted::Text)
 }
 
-/// The bytes that base64 spells, with white space anywhere, where they begin as a message.
+/// Parses base64 with white space anywhere, if its bytes begin as a message does.
 fn read_base64<A: Allocator + Copy>(
     alloc: A,
     input: &[u8],

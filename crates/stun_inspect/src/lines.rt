@@ -1,4 +1,4 @@
-//! Texts that have one message a line, as `tshark -T fields -e udp.payload` prints them.
+//! Texts with one message in each line, as `tshark -T fields -e udp.payload` prints them.
 
 use crate::digits::bad_input;
 use crate::failure::Failure;
@@ -7,7 +7,7 @@ use byteorder::{BigEndian, ByteOrder};
 use std::alloc::Allocator;
 use stun_base::header::HEADER_LENGTH;
 
-/// Whether bytes, or what they carry over UDP, are as long as their header says that they are.
+/// Returns `true` if the bytes, or their UDP payload, have the length that their header states.
 fn is_whole(bytes: &[u8]) -> bool {
     let Ok(message) = message_of(bytes) else {
         return false;
@@ -17,7 +17,7 @@ fn is_whole(bytes: &[u8]) -> bool {
         && usize::from(BigEndian::read_u16(&message[2..])) == message.len() - HEADER_LENGTH
 }
 
-/// Whether a text spells a whole message. Fails if an allocation fails.
+/// Returns `true` if a text spells a whole message. Fails if an allocation fails.
 fn spells_whole<A: Allocator + Copy>(alloc: A, text: &str) -> Result<bool, Failure> {
     match read_digits(alloc, text) {
         Ok(bytes) => Ok(is_whole(bytes.as_slice())),
@@ -26,8 +26,8 @@ fn spells_whole<A: Allocator + Copy>(alloc: A, text: &str) -> Result<bool, Failu
     }
 }
 
-/// Whether each line of a text is read by itself: one line spells a whole message, and the whole
-/// text does not. Fails if an allocation fails.
+/// Returns `true` if each line of a text is read separately: a line spells a whole message, and the
+/// whole text does not. Fails if an allocation fails.
 pub fn has_lines<A: Allocator + Copy>(alloc: A, text: &str) -> Result<bool, Failure> {
     if spells_whole(alloc, text)? {
         return Ok(false);
@@ -40,7 +40,7 @@ pub fn has_lines<A: Allocator + Copy>(alloc: A, text: &str) -> Result<bool, Fail
     Ok(false)
 }
 
-/// What each line spells that is not blank.
+/// Reads what each line spells that is not blank.
 pub fn read_lines<A: Allocator + Copy>(
     alloc: A,
     text: &str,
@@ -57,7 +57,7 @@ pub fn read_lines<A: Allocator + Copy>(
     Ok(spelled)
 }
 
-/// What a line spells.
+/// Parses what a line spells.
 fn read_line<A: Allocator + Copy>(
     alloc: A,
     line: &str,

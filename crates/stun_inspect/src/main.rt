@@ -1,4 +1,4 @@
-//! A program that prints what a STUN message has, and whether its integrity verifies.
+//! A program that decodes STUN messages and verifies their signatures.
 #![tactic(auto)]
 
 ghost use Rattle.std.specs.Prelude.{◌≡◌, ◌≢◌};
@@ -39,7 +39,8 @@ use stun_cli::status::Status;
 use stun_cli::words::words_of;
 use usage::usage_of;
 
-/// Runs the command that the words name. If it has no answer, the reason is written to `errors`.
+/// Runs the command that the arguments name. If it has no result, the reason is written to
+/// `errors`.
 fn run<F: Files, R: CountedRead, W: Write, E: Write, A: Allocator + Copy>(
     files: &F,
     alloc: A,
@@ -63,7 +64,7 @@ fn run<F: Files, R: CountedRead, W: Write, E: Write, A: Allocator + Copy>(
     }
 }
 
-/// Runs a command on the file that is named, or on the reader.
+/// Runs a command on the file that the arguments name, or on the reader.
 fn run_asked<F: Files, R: CountedRead, W: Write, A: Allocator + Copy>(
     files: &F,
     alloc: A,

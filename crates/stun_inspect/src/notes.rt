@@ -1,15 +1,15 @@
-//! How a message differs from the user under whose key it is verified.
+//! How a message differs from the user whose key it is verified with.
 
 use crate::command::User;
 use std::alloc::{AllocError, Allocator};
 use stun_types::attribute::{AttributeType, Realm, Userhash, Username};
 use stun_types::message::{Message, StunParseError};
 
-/// A line for a visible USERNAME and one for a visible REALM, if it is not the user's or is
-/// malformed. A line for a visible USERHASH tells whether it is the user's.
+/// Returns a line each for a visible USERNAME and REALM that differ from those of the user or are
+/// malformed. If a USERHASH is visible, a line says whether it is that of the user.
 ///
-/// There is no line for a password alone, and none if the bytes are no message. Fails if an
-/// allocation fails.
+/// Returns no lines for a password alone, or if the bytes are not a message. Fails if an allocation
+/// fails.
 pub fn notes_on<A: Allocator>(
     alloc: A,
     bytes: &[u8],
@@ -28,7 +28,7 @@ pub fn notes_on<A: Allocator>(
     Ok(notes)
 }
 
-/// Appends the line on USERNAME.
+/// Appends the line for USERNAME.
 fn push_username<A: Allocator>(
     notes: &mut String<A>,
     message: &Message<'_>,
@@ -45,7 +45,7 @@ fn push_username<A: Allocator>(
     }
 }
 
-/// Appends the line on USERHASH.
+/// Appends the line for USERHASH.
 fn push_userhash<A: Allocator>(
     notes: &mut String<A>,
     message: &Message<'_>,
@@ -64,7 +64,7 @@ fn push_userhash<A: Allocator>(
     }
 }
 
-/// Appends the line on REALM.
+/// Appends the line for REALM.
 fn push_realm<A: Allocator>(
     notes: &mut String<A>,
     message: &Message<'_>,
@@ -81,14 +81,14 @@ fn push_realm<A: Allocator>(
     }
 }
 
-/// What a USERNAME is that is too long (RFC 8489, section 14.3).
+/// What is printed for a USERNAME that is too long (RFC 8489, section 14.3).
 const MORE_THAN_A_NAME: &str = "has more than 513 bytes\n";
 
-/// What a REALM is that is too long (RFC 8489, section 14.9).
+/// What is printed for a REALM that is too long (RFC 8489, section 14.9).
 const MORE_THAN_A_TEXT: &str = "has more than 763 bytes\n";
 
-/// Why the first visible attribute of a type is malformed, whose value is a text: it is not UTF-8,
-/// or it is too long.
+/// Returns why the first visible attribute of a type, whose value is a text, is malformed: it is
+/// not UTF-8, or it is too long.
 fn fault_of(message: &Message<'_>, kind: AttributeType, long: &'static str) -> &'static str {
     let found = message
         .iter_attributes()

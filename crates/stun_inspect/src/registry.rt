@@ -1,13 +1,13 @@
-//! The names of IANA's registry of STUN parameters, and how a value of each type is read.
+//! The names in IANA's registry of STUN parameters, and how the value of each attribute is printed.
 ghost use Rattle.std.specs.Prelude.{IfSome};
 ghost use Rattle.stun_inspect.specs.Names.{IsName};
 
-/// How the value of an attribute is read.
+/// How the value of an attribute is printed.
 #[derive(Clone, Copy, Debug, PartialEq, Eq)]
 pub enum Form {
     /// An address and a port (RFC 8489, section 14.1).
     Address,
-    /// An address and a port, hidden by the magic cookie and the transaction id (section 14.2).
+    /// An address and a port, XORed with the magic cookie and the transaction ID (section 14.2).
     XorAddress,
     /// A text in UTF-8.
     Text,
@@ -19,11 +19,11 @@ pub enum Form {
     Nonce,
     /// A code and a phrase (section 14.8).
     Error,
-    /// The types of attributes (section 14.13).
+    /// A list of attribute types (section 14.13).
     Types,
     /// One password algorithm (section 14.12).
     Algorithm,
-    /// Password algorithms (section 14.11).
+    /// A list of password algorithms (section 14.11).
     Algorithms,
     /// A number of 32 bits.
     Number,
@@ -31,21 +31,21 @@ pub enum Form {
     TieBreaker,
     /// An empty value: the attribute is a flag.
     Flag,
-    /// The number of a channel (RFC 8656, section 18.1).
+    /// A channel number (RFC 8656, section 18.1).
     Channel,
-    /// Seconds (RFC 8656, section 18.2).
+    /// A number of seconds (RFC 8656, section 18.2).
     Lifetime,
     /// The family of an address (RFC 8656, sections 18.6 and 18.11).
     Family,
-    /// Whether the next port is to be reserved (RFC 8656, section 18.7).
+    /// Whether the next port should be reserved (RFC 8656, section 18.7).
     EvenPort,
-    /// A protocol over IP (RFC 8656, section 18.8).
+    /// The number of a protocol over IP (RFC 8656, section 18.8).
     Transport,
-    /// What names a reserved port (RFC 8656, section 18.10).
+    /// The token of a reserved port (RFC 8656, section 18.10).
     Token,
-    /// What a response should be sent from (RFC 5780, section 7.2).
+    /// Whether a response should come from another address or port (RFC 5780, section 7.2).
     ChangeRequest,
-    /// The port that a response should be sent to (RFC 5780, section 7.5).
+    /// The port to which a response should be sent (RFC 5780, section 7.5).
     ResponsePort,
     /// The 20 bytes of an HMAC-SHA1 (section 14.5).
     Sha1,
@@ -53,7 +53,7 @@ pub enum Form {
     Sha256,
     /// The 32 bytes of a hash (section 14.4).
     Userhash,
-    /// Bytes.
+    /// Any bytes.
     Bytes,
 }
 
@@ -71,7 +71,7 @@ fn entry(name: &'static str, form: Form) -> Option<Registered>
     Some(Registered { name, form })
 }
 
-/// The attribute of this type, where the registry has one.
+/// Returns the registered attribute with this type.
 pub fn attribute(number: u16) -> Option<Registered>
     ensures { IfSome result (λ entry. IsName entry.name.now) }
 {
@@ -82,7 +82,7 @@ pub fn attribute(number: u16) -> Option<Registered>
     }
 }
 
-/// The attributes that must be understood.
+/// Returns the attribute of a type that must be understood.
 fn required(number: u16) -> Option<Registered>
     ensures { IfSome result (λ entry. IsName entry.name.now) }
 {
@@ -119,8 +119,8 @@ fn required(number: u16) -> Option<Registered>
     }
 }
 
-/// The attributes that older RFCs had, whose types the registry keeps reserved (RFC 8489, section
-/// 18.3; RFC 5766, section 14.9; RFC 3489, section 11.2).
+/// Returns the attribute of a type that an older RFC had and that the registry keeps reserved (RFC
+/// 8489, section 18.3; RFC 5766, section 14.9; RFC 3489, section 11.2).
 fn reserved(number: u16) -> Option<Registered>
     ensures { IfSome result (λ entry. IsName entry.name.now) }
 {
@@ -138,7 +138,7 @@ fn reserved(number: u16) -> Option<Registered>
     }
 }
 
-/// The attributes that may be ignored.
+/// Returns the attribute of a type that may be ignored.
 fn optional(number: u16) -> Option<Registered>
     ensures { IfSome result (λ entry. IsName entry.name.now) }
 {
@@ -171,7 +171,7 @@ fn optional(number: u16) -> Option<Registered>
     }
 }
 
-/// The name of the attribute of this type, or `unregistered`.
+/// Returns the name of the attribute with this type, or `unregistered`.
 pub fn attribute_name(number: u16) -> &'static str {
     match attribute(number) {
         Some(registered) => registered.name,
@@ -179,7 +179,7 @@ pub fn attribute_name(number: u16) -> &'static str {
     }
 }
 
-/// The name of a method, or `unregistered`.
+/// Returns the name of a method, or `unregistered`.
 pub fn method_name(number: u16) -> &'static str {
     match number {
         0x001 => "Binding",
@@ -197,7 +197,7 @@ pub fn method_name(number: u16) -> &'static str {
     }
 }
 
-/// The name of an error code, or `unregistered`.
+/// Returns the name of an error code, or `unregistered`.
 pub fn error_name(code: u16) -> &'static str {
     match code {
         300 => "Try Alternate",

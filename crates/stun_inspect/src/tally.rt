@@ -1,4 +1,4 @@
-//! How many messages an input has, and what else it has in their place.
+//! Counts the messages of an input, and what the input has beside them.
 
 use std::alloc::{AllocError, Allocator};
 use stun_cli::status::Status;
@@ -6,21 +6,21 @@ use stun_cli::status::Status;
 /// Why a packet is not read.
 #[derive(Clone, Copy)]
 pub enum Unread {
-    /// Its link is of this type.
+    /// Its link layer has this type, which is not supported.
     Link(u32),
-    /// It is a part of a packet.
+    /// It is a fragment of an IP packet.
     Fragment,
-    /// Its headers were not captured whole.
+    /// The capture has cut its headers short.
     Cut,
-    /// It is a segment of TCP with the front of a message.
+    /// It is a segment of TCP that ends within a message.
     Begun,
 }
 
-/// Packets that are not read for one reason.
+/// The packets that are not read for one reason.
 #[derive(Clone, Copy)]
 struct Missed {
     count: usize,
-    /// The number of the first such packet, and the place of its record in the file.
+    /// The number of the first such packet, and the offset of its record in the file.
     packet: usize,
     place: usize,
 }
@@ -40,7 +40,7 @@ impl Missed {
         self.count = self.count.saturating_add(1);
     }
 
-    /// Appends a line on these packets, if there are any.
+    /// Appends a line for these packets, if there are any.
     fn push<A: Allocator + Copy>(self, text: &mut String<A>, why: &str) -> Result<(), AllocError> {
         let Missed {
             count,
@@ -55,22 +55,22 @@ impl Missed {
     }
 }
 
-/// What was counted of an input.
+/// The counts of an input.
 #[derive(Clone, Copy)]
 pub struct Tally {
     messages: usize,
-    /// The messages that are refused or do not verify.
+    /// The messages that are malformed or have no valid signature.
     bad: usize,
-    /// Datagrams, or parts of a text, without a message.
+    /// The datagrams, or parts of a text, that are not messages.
     others: usize,
     without_udp: usize,
-    /// ChannelData that carries no message.
+    /// The ChannelData that carries no message.
     channels: usize,
     fragments: Missed,
     begun: Missed,
     cut: Missed,
     links: Missed,
-    /// The type of the first link that is not read.
+    /// The type of the first link layer that is not supported.
     link: u32,
 }
 
@@ -88,12 +88,12 @@ impl Tally {
         link: 0,
     };
 
-    /// The number of the next message, counted from 1.
+    /// Returns the number of the next message, counted from 1.
     pub fn next(&self) -> usize {
         self.messages.saturating_add(1)
     }
 
-    /// Counts a message for which the command ended so.
+    /// Counts a message for which the command ended with this status.
     pub fn count_message(&mut self, status: Status) {
         self.messages = self.messages.saturating_add(1);
         match status {
@@ -102,7 +102,7 @@ impl Tally {
         }
     }
 
-    /// Counts a datagram, or a part of a text, without a message.
+    /// Counts a datagram, or a part of a text, that is not a message.
     pub fn count_other(&mut self) {
         self.others = self.others.saturating_add(1);
     }
@@ -130,7 +130,7 @@ impl Tally {
         }
     }
 
-    /// How the command ends: `Good` if there are messages, and it ended so for each.
+    /// Returns how the command ends: `Good` if there are messages, and each of them was `Good`.
     pub fn status(&self) -> Status {
         if self.messages > 0 && self.bad == 0 {
             Status::Good
@@ -139,13 +139,13 @@ impl Tally {
         }
     }
 
-    /// What is printed after the messages of a text.
+    /// Returns the last line of output for a text.
     pub fn ending_of_text<A: Allocator + Copy>(&self, alloc: A) -> Result<String<A>, AllocError> {
         let (messages, others) = (self.messages, self.others);
         format!(in alloc; "messages: {messages}, other: {others}\n")
     }
 
-    /// What is printed after the messages of a capture.
+    /// Returns the last lines of output for a capture.
     pub fn ending_of_capture<A: Allocator + Copy>(
         &self,
         alloc: A,
@@ -160,9 +160,9 @@ impl Tally {
         self.fragments.push(&mut text, "fragments")?;
         self.begun
             .push(&mut text, "segments of TCP that end within a message")?;
-        self.cut.push(&mut text, "with headers that are cut")?;
+        self.cut.push(&mut text, "with headers cut short")?;
         let link = self.link;
-        let why = format!(in alloc; "of another link, of type {link}")?;
+        let why = format!(in alloc; "of another link type, such as {link}")?;
         self.links.push(&mut text, why.as_str())?;
         Ok(text)
     }

@@ -1,4 +1,4 @@
-//! The attributes of a message one by one, hidden ones too.
+//! The attributes of a message one by one, including those that are not visible.
 ghost use Rattle.std.specs.Prelude.{◌≡◌, IfOk};
 ghost use Rattle.stun_types.specs.Visible.{visible};
 ghost use Rattle.stun_inspect.specs.Telling.{told_attributes, unhidden_members};
@@ -11,18 +11,18 @@ use stun_types::message::{Message, Visibility};
 /// An attribute of a message.
 #[derive(Debug, Drop)]
 pub struct Told<'a> {
-    /// The place of its first byte in the message.
+    /// The offset of its first byte in the message.
     pub place: usize,
     /// Its type and its value.
     pub attribute: RawAttribute<'a>,
-    /// The type of the earlier attribute that hides it, if it is hidden (RFC 8489, sections 14.5 to
-    /// 14.7).
+    /// If the attribute is not visible: the type of the earlier attribute that hides it (RFC 8489,
+    /// sections 14.5 to 14.7).
     pub hidden_by: Option<AttributeType>,
 }
 
-/// Each attribute of the message once, in their order, with its place and with what hides it. Those
-/// that nothing hides are the visible ones, which the message's own iterator gives. Fails if an
-/// allocation fails.
+/// Lists each attribute of the message, in order, with its offset and the attribute that hides it.
+/// Those that nothing hides are the visible ones, which the iterator of the message returns. Fails
+/// if an allocation fails.
 pub fn tell<'a, A: Allocator>(
     alloc: A,
     message: &Message<'a>,

@@ -1,4 +1,4 @@
-//! What is printed for `--help`, for `--version` and for wrong words.
+//! The texts for `--help`, for `--version` and for wrong arguments.
 
 /// What `--help` prints.
 pub const HELP: &str = "\
@@ -18,8 +18,8 @@ Status: 0 good, 1 not a message or invalid, 2 not judged or not read to the end.
 /// What `--version` prints.
 pub const VERSION: &str = "stun_inspect 0.2.0\n";
 
-/// What is written for words that are none of a command: the words of the command that was meant,
-/// or all commands.
+/// Returns the usage that is printed for wrong arguments: that of the command that they begin with,
+/// or that of all commands.
 pub fn usage_of(words: &[String]) -> &'static str {
     let Some(command) = words.first() else {
         return ALL;
@@ -34,5 +34,5 @@ pub fn usage_of(words: &[String]) -> &'static str {
     }
 }
 
-/// The commands.
+/// The usage of all commands.
 const ALL: &str = "usage: stun_inspect decode|verify|key|userhash|nonce ..; -h tells more\n";

@@ -1,4 +1,4 @@
-//! The values of attributes as text.
+//! Writes the values of attributes as text.
 
 use crate::algorithms::{push_algorithm, push_algorithms};
 use crate::further_value::{
@@ -14,8 +14,8 @@ use stun_types::attribute::{AttributeType, ErrorCode, RawAttribute};
 use stun_types::message::TransactionId;
 use stun_types::prelude::AttributeFromRaw;
 
-/// Appends a value as its type is read, or as hexadecimal digits if it is no such value. Fails if
-/// an allocation fails.
+/// Appends a value in the form of its type. If the value is malformed, it is appended as
+/// hexadecimal digits. Fails if an allocation fails.
 pub fn push_value<A: Allocator + Copy>(
     text: &mut String<A>,
     form: Form,
@@ -56,7 +56,7 @@ pub fn push_value<A: Allocator + Copy>(
     Ok(())
 }
 
-/// Appends bytes as hexadecimal digits; `empty` where there are none.
+/// Appends bytes as hexadecimal digits, or `empty` if there are none.
 pub fn push_digits<A: Allocator + Copy>(
     text: &mut String<A>,
     bytes: &[u8],
@@ -71,8 +71,8 @@ pub fn push_digits<A: Allocator + Copy>(
     Ok(true)
 }
 
-/// Appends a text in quotes. Printable characters of ASCII stay as they are. All others become
-/// `\u{..}`, so that no text can control a terminal.
+/// Appends a text in quotes. Every character that is not printable ASCII becomes `\u{..}`, so that
+/// no text can control a terminal.
 pub fn push_quoted<A: Allocator + Copy>(
     text: &mut String<A>,
     quoted: &str,
@@ -94,7 +94,7 @@ pub fn push_quoted<A: Allocator + Copy>(
     text.push('"')
 }
 
-/// Whether a value of this length is one of a digest or of a hash.
+/// Returns `true` if a signature or a hash of this form may have this length.
 fn has_length_of(form: Form, length: usize) -> bool {
     match form {
         Form::Sha1 => length == 20,
@@ -121,7 +121,7 @@ fn push_nonce<A: Allocator + Copy>(text: &mut String<A>, value: &[u8]) -> Result
     Ok(true)
 }
 
-/// Appends what a nonce's security bits say (RFC 8489, sections 9.2 and 18.1).
+/// Appends a description of a nonce's security bits (RFC 8489, sections 9.2 and 18.1).
 pub fn push_security_bits<A: Allocator + Copy>(
     text: &mut String<A>,
     nonce: &str,

@@ -1,4 +1,4 @@
-//! What `verify` says of a message.
+//! The command `verify`: its result for a message.
 ghost use Rattle.std.specs.Prelude.{◌≡◌};
 ghost use Rattle.stun_base.specs.Keys.OfCredentials.{keys_of};
 ghost use Rattle.stun_cli.specs.Verdict.{verdict_of};
@@ -8,14 +8,14 @@ use std::alloc::Allocator;
 use stun_cli::verdict::{Verdict, refusal_line, verdict_without_digest};
 use stun_types::message::{IntegrityAlgorithm, Message, MessageIntegrityCredentials};
 
-/// The line that is printed for a verdict.
+/// Returns the line that is printed for a verdict.
 pub fn line(verdict: Verdict) -> &'static str
     ensures { result.now ≡ verify_line verdict }
 {
     match verdict {
         Verdict::Valid(IntegrityAlgorithm::Sha1) => "valid MESSAGE-INTEGRITY\n",
         Verdict::Valid(IntegrityAlgorithm::Sha256) => "valid MESSAGE-INTEGRITY-SHA256\n",
-        Verdict::OtherDigest => "invalid: the digest is another\n",
+        Verdict::OtherDigest => "invalid: the signature does not match\n",
         Verdict::NoIntegrity => "invalid: no integrity attribute is visible\n",
         Verdict::MalformedIntegrity => "invalid: the integrity attribute is malformed\n",
         Verdict::NotAMessage(error) => refusal_line(error),
@@ -23,8 +23,8 @@ pub fn line(verdict: Verdict) -> &'static str
     }
 }
 
-/// The verdict on bytes under credentials: a password, or a user at a realm. Each has a key for
-/// each algorithm (RFC 8489, sections 9.1.1 and 9.2.2).
+/// Returns the verdict on bytes under credentials: a password, or a user at a realm. Each of them
+/// has a key for each algorithm (RFC 8489, sections 9.1.1 and 9.2.2).
 pub fn verdict_on<A: Allocator>(
     bytes: &[u8],
     credentials: &MessageIntegrityCredentials<A>,

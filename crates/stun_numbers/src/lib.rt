@@ -1,5 +1,5 @@
-//! What the two archives for C share: the errors and their numbers, the numbers of algorithms, and
-//! the texts, transaction IDs, buffers and messages that a caller passes.
+//! What the archives for C share: the errors and their numbers, the numbers of algorithms, and the
+//! texts, transaction IDs, buffers and messages that a caller passes.
 #![tactic(auto)]
 
 pub mod algorithm;

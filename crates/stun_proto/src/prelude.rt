@@ -1,1 +1,2 @@
-//! Empty, as in the Rust crate: the traits of attributes and of writers stand in `types::prelude`.
+//! Empty, as in the crate `stun-proto`: the traits of attributes and of writers are in
+//! `types::prelude`.

@@ -1,6 +1,6 @@
 -- A verdict in two steps: whom a message names, and what the server returns that has just the user
 -- whom its caller hands in (RFC 8489, section 9.2.4).
-use Rattle.std.specs.Prelude.{ℕ, ℤ, ◌==◌, if◌then◌else◌, List, length}
+use Rattle.std.specs.Prelude.{◌≡◌, ℕ, ℤ, ◌==◌, if◌then◌else◌, List, length}
 use Rattle.std.specs.Prelude.{Option, Some, None, Result, Ok, Err}
 use Rattle.std.specs.declared.net.socket_addr.SocketAddr.{SocketAddr}
 use Rattle.stun_base.specs.declared.keys.algorithm.IntegrityAlgorithm.{IntegrityAlgorithm}
@@ -18,7 +18,7 @@ use Rattle.stun_state.specs.Addresses.{socket_address}
 use Rattle.stun_state.specs.Answers.{after_address, at_address, kept_if_refused}
 use Rattle.stun_state.specs.Answers.{text_refusal, texts_refusal}
 use Rattle.stun_state.specs.Numbers.{algorithm_answer}
-use Rattle.stun_state.specs.Server.{room_refusal, server_validation_answer}
+use Rattle.stun_state.specs.Server.{kept_after_validating, room_refusal, server_validation_answer}
 use Rattle.stun_state.specs.Signing.{kept_after_signing, signed_for}
 use Rattle.stun_state.specs.declared.address.Address.{Address}
 use Rattle.stun_state.specs.declared.handle.server.Server.{Server as Kept}
@@ -168,3 +168,27 @@ abbrev pub kept_after_handed_signing : ServerSeen → List ℕ → ℕ → Addre
 kept_after_handed_signing s buffer count to user =
     left_with (just_given s.registered user) s
     (λ users. with_users (kept_after_signing (with_users s users) buffer count to) s.registered)
+
+-- ---- a user who is prepared
+
+-- such a user can be passed to a server: it was prepared at the server's realm, and for the
+-- algorithms that the server supports now. It is then the one who would be prepared now, of the
+-- same name and secret
+abbrev pub IsUserOf : ServerSeen → Registered → Type 0
+IsUserOf s user = (user.realm ≡ s.registered.realm) × (user.algorithms ≡ s.registered.algorithms)
+
+-- the server whose only user is this one
+abbrev pub with_only : Kept → Registered → Kept
+with_only k user = record k { server = with_users k.server user }
+
+-- the server that bytes from an address leave, with its own users
+abbrev pub kept_after_prepared_validation : Kept → List ℕ → Address → ℕ → List ℕ → Registered
+    → ServerSeen
+kept_after_prepared_validation k bytes from now words user =
+    with_users (kept_after_validating (with_only k user) bytes from now words) k.server.registered
+
+-- the server that is kept once a message in the first bytes of a buffer is signed, with its own
+-- users
+abbrev pub kept_after_prepared_signing : ServerSeen → List ℕ → ℕ → Address → Registered → ServerSeen
+kept_after_prepared_signing s buffer count to user =
+    with_users (kept_after_signing (with_users s user) buffer count to) s.registered

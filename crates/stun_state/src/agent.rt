@@ -1,4 +1,4 @@
-//! What the exports do with an agent (RFC 8489, section 6.2).
+//! The calls on an agent, without handles (RFC 8489, section 6.2).
 
 ghost use Rattle.std.specs.Prelude.{◌≡◌, ◌≤◌, ◌++◌, ⊤, IsTrue, length, drop, true};
 ghost use Rattle.std.specs.Prelude.{Some, None, IfOk, IfErr, IfSome, OnErr, OnOk};
@@ -39,32 +39,32 @@ use stun_numbers::id::{ID_LENGTH, transaction_id};
 use stun_numbers::refusal::Refusal;
 use stun_types::message::Message;
 
-/// How many bytes a caller's time-outs have, and its statistics. Each begins with that number.
+/// The sizes of a caller's timeouts and statistics, which each begin with that number.
 const TIMEOUTS_SIZE: usize = size_of::<Timeouts>();
 
 const STATISTICS_SIZE: usize = size_of::<Statistics>();
 
-/// When a request is sent again, in nanoseconds.
+/// The timeouts of a request, in nanoseconds.
 #[repr(C)]
 #[derive(Debug, Clone, Copy, PartialEq, Eq)]
 pub struct Timeouts {
-    /// How many bytes this struct has in the caller's program.
+    /// The size of this struct in the caller's program.
     pub size: usize,
-    /// The wait after the first transmission. Each further wait is twice as long.
+    /// The timeout after the first transmission. Each further one is twice as long.
     pub initial: u64,
-    /// The longest wait between two transmissions.
+    /// The longest timeout between two transmissions.
     pub longest: u64,
-    /// The wait after the last transmission.
+    /// The timeout after the last transmission.
     pub last: u64,
-    /// How many transmissions there are over UDP.
+    /// The number of transmissions over UDP.
     pub transmissions: u32,
 }
 
-/// What an agent counts. Round trips are in nanoseconds, and 0 where none was measured.
+/// The statistics of an agent. Round-trip times are in nanoseconds, and 0 if none was measured.
 #[repr(C)]
 #[derive(Debug, Clone, Copy, PartialEq, Eq)]
 pub struct Statistics {
-    /// How many bytes this struct has in the caller's program.
+    /// The size of this struct in the caller's program.
     pub size: usize,
     pub requests_sent: u64,
     pub requests_received: u64,
@@ -82,7 +82,7 @@ pub struct Statistics {
     pub round_trip_average: u64,
 }
 
-/// The refusal for an agent's error. An agent returns none of the last four.
+/// Converts an error of the agent. An agent returns none of the last four.
 pub fn refusal_of(error: StunError) -> Refusal
     ensures { result ≡ refusal_of_agent error }
 {
@@ -98,7 +98,7 @@ pub fn refusal_of(error: StunError) -> Refusal
     }
 }
 
-/// The transport of a number, or `BadArgument`.
+/// Returns the transport with this number, or fails with `BadArgument`.
 pub fn transport_numbered(number: u32) -> Result<TransportType, Refusal>
     ensures ok { IfOk result (λ transport. transport_numbered number ≡ Some transport) }
     ensures err { IfErr result (λ refusal. (transport_numbered number ≡ None)
@@ -111,7 +111,7 @@ pub fn transport_numbered(number: u32) -> Result<TransportType, Refusal>
     }
 }
 
-/// An agent that keeps statistics.
+/// Creates an agent that keeps statistics.
 pub fn new(alloc: Global, transport: u32, local: &Address) -> Result<StunAgent<Global>, Refusal>
     ensures { result ≡ agent_at (transport_numbered transport) (socket_address local.now) }
 {
@@ -124,8 +124,8 @@ pub fn new(alloc: Global, transport: u32, local: &Address) -> Result<StunAgent<G
     )
 }
 
-/// Fails with `BadArgument` if the time-outs have another size: then no other field is read. Fails
-/// with `NoWait` if a request would be sent again without a wait.
+/// Fails with `BadArgument` if the timeouts have another size: then no other field is read. Fails
+/// with `NoWait` if several transmissions would be due at the same time.
 fn check_timeouts(timeouts: &Timeouts) -> Result<(), Refusal>
     ensures ok { OnOk result (timeouts_refusal timeouts.now ≡ None) }
     ensures err { IfErr result (λ refusal. timeouts_refusal timeouts.now ≡ Some refusal) }
@@ -139,7 +139,7 @@ fn check_timeouts(timeouts: &Timeouts) -> Result<(), Refusal>
     Ok(())
 }
 
-/// The remote address, or none where its length is 0.
+/// Returns the remote address, or `None` if its length is 0.
 fn remote_of(remote: &Address) -> Result<Option<SocketAddr>, Refusal>
     ensures { result ≡ remote_given remote.now }
 {
@@ -149,7 +149,8 @@ fn remote_of(remote: &Address) -> Result<Option<SocketAddr>, Refusal>
     Ok(Some(remote.socket()?))
 }
 
-/// The same with other time-outs, and with a remote address where its length is not 0.
+/// Creates an agent like `new`, with other timeouts, and with a remote address if its length is not
+/// 0.
 pub fn new_with(
     alloc: Global,
     transport: u32,
@@ -216,8 +217,8 @@ pub fn send(agent: &mut StunAgent<Global>, message: &[u8], to: &Address) -> Resu
     }
 }
 
-/// What is to be done now: 0 and until when to wait, or 1 or 2 and the id of the request that
-/// ended.
+/// Reports what to do now: returns 0 and the time to wait until, or 1 or 2 and the ID of the
+/// request that has ended.
 pub fn poll(
     agent: &mut StunAgent<Global>,
     now: u64,
@@ -250,7 +251,7 @@ pub fn poll(
     }
 }
 
-/// Writes an id to the front of a buffer that has room for it.
+/// Writes a transaction ID to the front of a buffer that has room for it.
 fn put_id(out: &mut [u8], id: TransactionId)
     requires { 12 ≤ length out.old }
     ensures { out.new ≡ big_bytes 12 id ++ drop 12 out.old }
@@ -258,8 +259,8 @@ fn put_id(out: &mut [u8], id: TransactionId)
     BigEndian::write_uint128(out, id.as_u128(), ID_LENGTH);
 }
 
-/// Writes the request that is to be sent again now to the front of the buffer, and where it goes.
-/// Returns how many bytes it has.
+/// Writes the next retransmission that is due to the front of the buffer, and its destination.
+/// Returns its length.
 pub fn poll_transmit(
     agent: &mut StunAgent<Global>,
     now: u64,
@@ -286,7 +287,7 @@ pub fn poll_transmit(
     }
 }
 
-/// Takes a message that came from an address. Returns whether it was taken.
+/// Processes a message that arrived from an address. Returns 1 if it is accepted, and otherwise 0.
 pub fn handle(
     agent: &mut StunAgent<Global>,
     message: &[u8],
@@ -310,7 +311,7 @@ pub fn handle(
     Ok(u32::from(is_taken))
 }
 
-/// Marks an address as a validated peer.
+/// Adds an address to the validated peers.
 pub fn validated_peer(agent: &mut StunAgent<Global>, peer: &Address) -> Result<(), Refusal>
     ensures answer { CallUnlessMemory result (result ≡ done_if_given (socket_address peer.now)) ⊤ }
     ensures ok { OnOk result (agent.new ≡ kept_after_naming agent.old peer.now) }
@@ -324,14 +325,14 @@ pub fn validated_peer(agent: &mut StunAgent<Global>, peer: &Address) -> Result<(
     Ok(())
 }
 
-/// Whether an address is a validated peer: a message from it was taken, or it was marked as one.
+/// Returns 1 if an address is a validated peer: a message from it was accepted, or it was added.
 pub fn is_validated_peer(agent: &StunAgent<Global>, peer: &Address) -> Result<u32, Refusal>
     ensures { result ≡ at_address (socket_address peer.now) (peer_answer agent.now) }
 {
     Ok(u32::from(agent.is_validated_peer(peer.socket()?)))
 }
 
-/// Forgets a validated peer.
+/// Removes an address from the validated peers.
 pub fn forget_peer(agent: &mut StunAgent<Global>, peer: &Address) -> Result<(), Refusal>
     ensures answer { result ≡ done_if_given (socket_address peer.now) }
     ensures state { agent.new ≡ kept_after_forgetting agent.old peer.now }
@@ -340,7 +341,7 @@ pub fn forget_peer(agent: &mut StunAgent<Global>, peer: &Address) -> Result<(), 
     Ok(())
 }
 
-/// Whether a request of an id is outstanding, and the address that it went to.
+/// Returns whether a request with this ID is outstanding, and the address that it was sent to.
 pub fn is_outstanding(
     agent: &StunAgent<Global>,
     id: &[u8],
@@ -358,7 +359,7 @@ pub fn is_outstanding(
     }
 }
 
-/// Cancels the request of an id.
+/// Cancels the request with this ID.
 pub fn cancel(agent: &mut StunAgent<Global>, id: &[u8]) -> Result<u32, Refusal>
     ensures answer { result ≡ outstanding_answer (id_in id.now) agent.old }
     ensures state { agent.new ≡ with_changed with_cancellation (id_in id.now) agent.old }
@@ -372,7 +373,7 @@ pub fn cancel(agent: &mut StunAgent<Global>, id: &[u8]) -> Result<u32, Refusal>
     }
 }
 
-/// Ends the retransmissions of the request of an id.
+/// Stops retransmitting the request with this ID.
 pub fn cancel_retransmissions(agent: &mut StunAgent<Global>, id: &[u8]) -> Result<u32, Refusal>
     ensures answer { result ≡ outstanding_answer (id_in id.now) agent.old }
     ensures state { agent.new ≡ with_changed without_retransmissions (id_in id.now) agent.old }
@@ -386,7 +387,7 @@ pub fn cancel_retransmissions(agent: &mut StunAgent<Global>, id: &[u8]) -> Resul
     }
 }
 
-/// Sets the time-outs of the request of an id.
+/// Sets the timeouts of the request with this ID.
 pub fn configure(
     agent: &mut StunAgent<Global>,
     id: &[u8],
@@ -412,7 +413,7 @@ pub fn configure(
     }
 }
 
-/// Nanoseconds of a span, 0 of none, and the greatest number where there are more.
+/// Converts a duration to nanoseconds: 0 if there is none, and the greatest number if it is longer.
 fn nanos(span: Option<Duration>) -> u64
     ensures { result ≡ nanoseconds (option_map as_nanos span) }
 {
@@ -422,7 +423,7 @@ fn nanos(span: Option<Duration>) -> u64
     }
 }
 
-/// What was counted.
+/// Converts the statistics of an agent.
 fn told(stats: &StunAgentStats) -> Statistics
     ensures { result ≡ caller_statistics stats.now }
 {
@@ -445,7 +446,8 @@ fn told(stats: &StunAgentStats) -> Statistics
     }
 }
 
-/// What the agent counted. Statistics of another size are left, and nothing else of them is read.
+/// Writes the statistics of the agent. If the caller's struct has another size, it is unchanged,
+/// and only its size is read.
 pub fn tell_statistics(
     agent: &StunAgent<Global>,
     statistics: &mut Statistics,

@@ -10,16 +10,17 @@ use stun_base::algorithm::IntegrityAlgorithm;
 use stun_numbers::algorithm::algorithm_number;
 use stun_numbers::refusal::Refusal;
 
-/// The number of a response that asks for another request and whose digest does not verify.
+/// Returned for a response that asks for another request and has no valid signature.
 const RESEND: i64 = 3;
 
-/// The greatest number of one whose digest verifies.
+/// Returned for such a response with a valid HMAC-SHA256 signature, which is the greatest of the
+/// three numbers.
 const RESEND_SHA256: i64 = 5;
 
 /// The greatest number that a call returns.
 const MOST: usize = 9_223_372_036_854_775_807;
 
-/// 0, or the refusal.
+/// Returns 0, or the number of the error.
 pub fn done(answer: Result<(), Refusal>) -> i64
     ensures { result ≡ done_answer answer }
 {
@@ -29,7 +30,7 @@ pub fn done(answer: Result<(), Refusal>) -> i64
     }
 }
 
-/// A small number, or the refusal.
+/// Returns a small number, or the number of the error.
 pub fn number(answer: Result<u32, Refusal>) -> i64
     ensures { result ≡ number_answer answer }
 {
@@ -39,7 +40,7 @@ pub fn number(answer: Result<u32, Refusal>) -> i64
     }
 }
 
-/// The number of an algorithm, or the refusal.
+/// Returns the number of an algorithm, or the number of the error.
 pub fn algorithm(answer: Result<IntegrityAlgorithm, Refusal>) -> i64
     ensures { result ≡ algorithm_answer answer }
 {
@@ -49,8 +50,8 @@ pub fn algorithm(answer: Result<IntegrityAlgorithm, Refusal>) -> i64
     }
 }
 
-/// The number of a response that asks for another request, and verifies by this algorithm or by
-/// none.
+/// Returns the number for a response that asks for another request and is signed with this
+/// algorithm or unsigned.
 fn resend(signed_by: Option<IntegrityAlgorithm>) -> i64
     ensures { result ≡ pos (resend_number signed_by) }
 {
@@ -60,14 +61,14 @@ fn resend(signed_by: Option<IntegrityAlgorithm>) -> i64
     }
 }
 
-/// Whether an answer is one of the numbers by which another request is asked for.
+/// Returns `true` if a number says that another request is asked for.
 pub fn is_resend(answer: i64) -> bool
     ensures { result ≡ is_resend_answer answer }
 {
     answer >= RESEND && answer <= RESEND_SHA256
 }
 
-/// What a response says, or the refusal.
+/// Returns the number for a judged response, or the number of the error.
 pub fn reading(answer: Result<LongTermClientValidation, Refusal>) -> i64
     ensures { result ≡ reading_answer answer }
 {
@@ -80,7 +81,7 @@ pub fn reading(answer: Result<LongTermClientValidation, Refusal>) -> i64
     }
 }
 
-/// How many bytes were written, or the refusal.
+/// Returns how many bytes were written, or the number of the error.
 pub fn length(answer: Result<usize, Refusal>) -> i64
     ensures { result ≡ length_answer answer }
 {
@@ -90,7 +91,7 @@ pub fn length(answer: Result<usize, Refusal>) -> i64
     }
 }
 
-/// The number of an algorithm, 0 of none, or the refusal.
+/// Returns the number of an algorithm, 0 for none, or the number of the error.
 pub fn found(answer: Result<Option<IntegrityAlgorithm>, Refusal>) -> i64
     ensures { result ≡ found_answer answer }
 {

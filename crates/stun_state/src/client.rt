@@ -1,4 +1,5 @@
-//! What the exports do with a client's authenticator (RFC 8489, sections 9.2.3 and 9.2.5).
+//! The calls on the authenticator of a client, without handles (RFC 8489, sections 9.2.3 and
+//! 9.2.5).
 
 ghost use Rattle.std.specs.Prelude.{◌≡◌, ◌≤◌, ◌+◌, ◌-◌, true, length, take, None};
 ghost use Rattle.std.specs.Prelude.{Some, Ok, Err, IfErr, IfOk, OnErr, OnOk};
@@ -37,7 +38,7 @@ use stun_types::limits::LENGTH_LIMIT;
 use stun_types::message::Message;
 use stun_types::prelude::*;
 
-/// A client without credentials.
+/// Creates a client without credentials.
 pub fn new(alloc: Global) -> LongTermClientAuth<Global>
     ensures { result ≡ new_client }
 {
@@ -84,8 +85,7 @@ pub fn set_algorithms(
     Ok(())
 }
 
-/// Sets whether the user's name is sent as its hash: 0 if the server can read that, 1 always, 2
-/// never.
+/// Sets whether the user name is sent as a hash: 0 if the server accepts that, 1 always, 2 never.
 pub fn set_anonymous_username(
     client: &mut LongTermClientAuth<Global>,
     feature: u32,
@@ -97,7 +97,7 @@ pub fn set_anonymous_username(
     Ok(())
 }
 
-/// Signs the message in the first `length` bytes of a buffer. A refusal leaves the buffer.
+/// Signs the message in the first `length` bytes of a buffer. An error leaves the buffer unchanged.
 pub fn sign(
     client: &mut LongTermClientAuth<Global>,
     buffer: &mut [u8],
@@ -118,7 +118,7 @@ pub fn sign(
     }
 }
 
-/// Signs a message that has no more than `SHORT` bytes then.
+/// Signs a message that then has at most `SHORT` bytes.
 #[inline(never)]
 fn sign_short(
     client: &mut LongTermClientAuth<Global>,
@@ -168,7 +168,7 @@ fn sign_long(
     fill(buffer, signed)
 }
 
-/// The signed message, in memory that is enough.
+/// Signs the message in memory that is large enough.
 fn sign_in<'m>(
     client: &mut LongTermClientAuth<Global>,
     message: &[u8],
@@ -195,7 +195,7 @@ fn sign_in<'m>(
     }
 }
 
-/// The number of the algorithm by which a message would be signed now, or 0 of none.
+/// Returns the number of the algorithm with which a message would be signed now, or 0 for none.
 pub fn signing_algorithm(client: &LongTermClientAuth<Global>) -> u32
     ensures { result ≡ algorithm_or_none (signing_algorithm client.now.state) }
 {
@@ -205,7 +205,7 @@ pub fn signing_algorithm(client: &LongTermClientAuth<Global>) -> u32
     }
 }
 
-/// Reads a response: whether it is accepted, or asks for another request.
+/// Judges a response: it is accepted, or asks for another request.
 pub fn validate(
     client: &mut LongTermClientAuth<Global>,
     message: &[u8],
@@ -221,7 +221,7 @@ pub fn validate(
     validate_message(client, &message)
 }
 
-/// Reads a message.
+/// Judges a message.
 fn validate_message(
     client: &mut LongTermClientAuth<Global>,
     message: &Message<'_>,

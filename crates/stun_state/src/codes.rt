@@ -1,5 +1,5 @@
-//! The refusals for the reasons of authenticators, and the algorithms and the features by their
-//! numbers, as `include/stunp_state.h` has them.
+//! Converts the errors of authenticators, and the numbers of algorithms and features, as
+//! `include/stunp_state.h` has them.
 
 ghost use Rattle.std.specs.Prelude.{◌≡◌, IfOk, IfErr, Some, None};
 ghost use Rattle.std.specs.Option.{option_map_or};
@@ -12,7 +12,7 @@ use stun_auth::auth::{Feature, LongTermClientAuthErrorReason, LongTermServerAuth
 use stun_base::algorithm::IntegrityAlgorithm;
 use stun_numbers::refusal::Refusal;
 
-/// The refusal for the reason of a server.
+/// Converts the error of a server.
 pub fn server_refusal(reason: LongTermServerAuthErrorReason) -> Refusal
     ensures { result ≡ refusal_of_server reason }
 {
@@ -26,7 +26,7 @@ pub fn server_refusal(reason: LongTermServerAuthErrorReason) -> Refusal
     }
 }
 
-/// The refusal for the reason of a client.
+/// Converts the error of a client.
 pub fn client_refusal(reason: LongTermClientAuthErrorReason) -> Refusal
     ensures { result ≡ refusal_of_client reason }
 {
@@ -38,7 +38,8 @@ pub fn client_refusal(reason: LongTermClientAuthErrorReason) -> Refusal
     }
 }
 
-/// The algorithm of a number, or none where the number means both, or `BadArgument`.
+/// Returns the algorithm with this number, or `None` if the number means both. Fails with
+/// `BadArgument` for another number.
 pub fn algorithms_numbered(number: u32) -> Result<Option<IntegrityAlgorithm>, Refusal>
     ensures ok { IfOk result (λ one. algorithms_numbered number
         ≡ Some (option_map_or only one Both)) }
@@ -53,7 +54,7 @@ pub fn algorithms_numbered(number: u32) -> Result<Option<IntegrityAlgorithm>, Re
     }
 }
 
-/// The feature of a number, or `BadArgument`.
+/// Returns the feature with this number. Fails with `BadArgument` for another number.
 pub fn feature_numbered(number: u32) -> Result<Feature, Refusal>
     ensures ok { IfOk result (λ feature. feature_numbered number ≡ Some feature) }
     ensures err { IfErr result (λ refusal. (feature_numbered number ≡ None)

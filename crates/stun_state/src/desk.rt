@@ -1,4 +1,4 @@
-//! Memory in which a message is signed before it goes to its caller's buffer.
+//! Memory in which a message is signed before it is copied to the caller's buffer.
 
 ghost use Rattle.std.specs.Prelude.{◌≡◌, ◌≤◌, [], length};
 ghost use Rattle.stun_types.specs.Limits.{LENGTH_LIMIT as length_limit};
@@ -9,10 +9,10 @@ use stun_base::error::StunWriteError;
 use stun_types::limits::LENGTH_LIMIT;
 use stun_types::prelude::*;
 
-/// Writes a message to lent memory. It does not allocate.
+/// A writer over borrowed memory. It does not allocate.
 ///
-/// It refuses what a writer refuses that grows to the longest message. If that one would not refuse
-/// but the memory is short, it fails with `OutOfMemory`.
+/// It fails like a writer that grows up to the longest message. If only the memory is too short, it
+/// fails with `OutOfMemory`.
 #[derive(Drop)]
 pub struct Desk<'a> {
     memory: &'a mut [u8],
@@ -35,7 +35,7 @@ impl<'a> Model for Desk<'a> {
 }
 
 impl<'a> Desk<'a> {
-    /// An empty message in memory that is no longer than the longest message.
+    /// Creates an empty writer over memory that is at most as long as the longest message.
     pub fn new(memory: &'a mut [u8]) -> Self
         requires { length memory.old ≤ length_limit }
         ensures { result ≡ record { bytes = []; reserved = length memory.old } }

@@ -1,8 +1,8 @@
-//! What the exports do with a server's authenticator and a user whom the caller hands in (RFC 8489,
-//! section 9.2.4).
+//! The calls on the authenticator of a server with a user whom the caller passes, without handles
+//! (RFC 8489, section 9.2.4).
 
 ghost use Rattle.std.specs.Prelude.{◌≡◌, ⊤, length, take};
-ghost use Rattle.std.specs.Prelude.{Some, None, Ok, Err, IfOk, IfErr, OnErr, OnOk};
+ghost use Rattle.std.specs.Prelude.{Some, None, Ok, Err, IfOk, IfErr, IsOk, OnErr, OnOk};
 ghost use Rattle.stun_auth.specs.Handed.{with_users};
 ghost use Rattle.stun_auth.specs.ServerSigning.{after_signing};
 ghost use Rattle.stun_base.specs.MessageType.{class_in, is_response};
@@ -33,7 +33,7 @@ use stun_numbers::refusal::Refusal;
 use stun_numbers::text::text;
 use stun_types::message::Message;
 
-/// What a caller gives of a user beside the name.
+/// The secret of a user that a caller passes.
 #[derive(Clone, Copy)]
 pub(crate) enum Given<'a> {
     /// The password.
@@ -43,9 +43,9 @@ pub(crate) enum Given<'a> {
     Keys(&'a [u8], &'a [u8]),
 }
 
-/// By whose key a message from an address is judged: 1 by a name, 2 by its hash, or 0 where nobody
-/// is meant. The name or the hash is written to the front of the buffer, and its length also where
-/// the buffer has no room for it.
+/// Determines with which user's key a message from an address will be verified: returns 1 and the
+/// name, 2 and its hash, or 0 if the message names nobody. The name or the hash is written to the
+/// front of the buffer. Its length is written even if the buffer has no room for it.
 pub fn named_user(
     server: &LongTermServerAuth<Global>,
     message: &[u8],
@@ -77,8 +77,8 @@ pub fn named_user(
     }
 }
 
-/// A key as a caller gives it: none if it has no bytes, or `BadArgument` if it has another length
-/// than a key.
+/// Converts a key of a caller, which is missing if it has no bytes. Fails with `BadArgument` if it
+/// has another length than a key.
 fn key_of<const N: usize>(bytes: &[u8]) -> Result<Option<[u8; N]>, Refusal>
     ensures { result ≡ key_given N bytes.now }
 {
@@ -93,7 +93,7 @@ fn key_of<const N: usize>(bytes: &[u8]) -> Result<Option<[u8; N]>, Refusal>
     Ok(Some(key))
 }
 
-/// The stored keys that a caller gives.
+/// Converts the stored keys of a caller.
 fn keys_of(sha1: &[u8], sha256: &[u8]) -> Result<StoredKeys, Refusal>
     ensures { result ≡ keys_given (key_given 16 sha1.now) (key_given 32 sha256.now) }
 {
@@ -102,8 +102,8 @@ fn keys_of(sha1: &[u8], sha256: &[u8]) -> Result<StoredKeys, Refusal>
     Ok(StoredKeys { sha1, sha256 })
 }
 
-/// The user of a name who is known by what a caller gives, with keys for the server.
-fn prepared(
+/// Creates the user with this name and secret, with keys for the server.
+pub(crate) fn prepared(
     alloc: Global,
     server: &LongTermServerAuth<Global>,
     name: &[u8],
@@ -113,7 +113,8 @@ fn prepared(
         (user_given name.now given.entry)
         ≡ Ok user) }
     ensures err { IfErr result (λ refusal. CallUnlessMemory result
-        (just_given server.now.registered (user_given name.now given.entry) ≡ Err refusal) ⊤) }
+        (just_given server.now.registered (user_given name.now given.entry) ≡ Err refusal)
+        (IsOk (just_given server.now.registered (user_given name.now given.entry)))) }
 {
     let name = text(name)?;
     match given {
@@ -130,7 +131,7 @@ fn prepared(
     }
 }
 
-/// Validates a message. The server has just the user of a name.
+/// Validates a message, as a server whose only user has this name.
 pub(crate) fn validate(
     alloc: Global,
     kept: &mut Server,
@@ -160,8 +161,8 @@ pub(crate) fn validate(
     validate_message(&mut kept.server, &message, from, moment, *words, &mut user)
 }
 
-/// Signs the message in the first `length` bytes of a buffer, which goes to an address. The server
-/// has just the user of a name. A refusal leaves the buffer.
+/// Signs the message in the first `length` bytes of a buffer, which goes to an address, as a server
+/// whose only user has this name. An error leaves the buffer unchanged.
 pub(crate) fn sign(
     alloc: Global,
     server: &mut LongTermServerAuth<Global>,
@@ -185,8 +186,8 @@ pub(crate) fn sign(
     sign_with(server, buffer, length, to, &mut user)
 }
 
-/// The same with a user who is prepared. It does not allocate.
-fn sign_with(
+/// Signs like `sign`, with a user whose keys were derived before. This does not allocate.
+pub(crate) fn sign_with(
     server: &mut LongTermServerAuth<Global>,
     buffer: &mut [u8],
     length: usize,
@@ -203,6 +204,7 @@ fn sign_with(
         (λ to. with_users (after_signing (with_users server.old user.old) to
         (is_response (class_in (take length buffer.old)))) server.old.registered)) }
     ensures refused { OnErr result (server.new ≡ server.old) }
+    ensures user { user.new ≡ user.old }
 {
     let to = to.socket()?;
     let message = base_message(buffer, length)?;

@@ -1,7 +1,7 @@
-//! What a caller in C keeps of a value on the heap.
+//! The handle with which a program in C holds a value on the heap.
 //!
-//! A handle is a flag and a pointer, and has no `Drop`: what is in one cannot be lost by an
-//! assignment.
+//! A handle is a flag and a pointer, and has no `Drop`, so that an assignment cannot free its
+//! value.
 ghost use Rattle.std.specs.Prelude.{◌≡◌, Some, None, Option, IfSome, IfNone};
 ghost use Rattle.std.specs.Coded.{coded_option};
 ghost use Rattle.stun_state.specs.code.Handle.{handle_owns};
@@ -10,12 +10,13 @@ pub mod agent;
 pub mod client;
 mod parts;
 pub mod server;
+pub mod user;
 
 use parts::Parts;
 use std::alloc::Global;
 use std::marker::Model;
 
-/// A box, or none, as a flag and a pointer.
+/// A box or nothing, as a flag and a pointer.
 pub struct Loose<T> {
     is_full: bool,
     at: *mut T,
@@ -27,7 +28,7 @@ impl<T> Model for Loose<T> {
 }
 
 impl<T> Loose<T> {
-    /// No box.
+    /// Creates an empty handle.
     pub fn none() -> Loose<T>
         ensures { result.state ≡ None }
     {
@@ -55,7 +56,7 @@ impl<T> Loose<T> {
         None
     }
 
-    /// A box in its parts.
+    /// Takes a box apart.
     pub fn of(state: Box<T, Global>) -> Loose<T>
     where
         T: Drop,
@@ -64,7 +65,7 @@ impl<T> Loose<T> {
         Loose::of_parts(Parts::of(state))
     }
 
-    /// The box, if there is one.
+    /// Returns the box, if the handle has one.
     pub fn into_box(self, alloc: Global) -> Option<Box<T, Global>>
         ensures some { IfSome result (λ state. self.state ≡ Some state.value) }
         ensures none { IfNone result (self.state ≡ None) }
@@ -75,7 +76,7 @@ impl<T> Loose<T> {
         }
     }
 
-    /// Lets go of no box.
+    /// Forgets an empty handle.
     pub fn discard(self, alloc: Global)
     where
         T: Drop,

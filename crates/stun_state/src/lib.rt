@@ -1,8 +1,8 @@
 //! The calls with state for programs in C and Rust, which `include/stunp_state.h` declares.
 //!
 //! Each call takes the value out of its handle, calls the crates below with it, and puts it back.
-//! The clauses say what a call returns, writes and leaves in the words of those crates: `kept` is
-//! what the handle kept, and `handle.new` what it keeps.
+//! The clauses say what a call returns, writes and changes in the terms of those crates: `kept` is
+//! the value in the handle before the call, and `handle.new` has the value after it.
 #![tactic(auto)]
 
 mod address;
@@ -14,6 +14,7 @@ mod codes;
 mod desk;
 mod handed;
 mod handle;
+mod prepared;
 mod server;
 mod signing;
 mod text;

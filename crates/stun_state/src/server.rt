@@ -1,4 +1,4 @@
-//! What the exports do with a server's authenticator (RFC 8489, section 9.2.4).
+//! The calls on the authenticator of a server, without handles (RFC 8489, section 9.2.4).
 
 ghost use Rattle.std.specs.Prelude.{◌≡◌, ◌≤◌, ◌<◌, ◌+◌, ◌-◌, ◌^◌, ⊤, nat_lt, true, false};
 ghost use Rattle.std.specs.Prelude.{length, take, Some, None, Ok, Err, IfOk, IfErr, OnErr, OnOk};
@@ -41,10 +41,10 @@ use stun_numbers::refusal::Refusal;
 use stun_numbers::text::text;
 use stun_types::message::Message;
 
-/// The shortest time that a nonce lasts, in nanoseconds.
+/// The shortest lifetime of a nonce, in nanoseconds.
 const SHORTEST_EXPIRY: u64 = 30_000_000_000;
 
-/// A server of a realm, without users.
+/// Creates a server for a realm, without users.
 pub fn new(alloc: Global, realm: &[u8]) -> Result<LongTermServerAuth<Global>, Refusal>
     ensures ok { IfOk result (λ server. server ≡ new_server realm.now) }
     ensures accepted { OnOk result (text_refusal realm.now ≡ None) }
@@ -75,7 +75,7 @@ pub fn set_algorithms(
     Ok(())
 }
 
-/// Sets whether users may be named by a hash: 0 and 1 if the client wants it, 2 never.
+/// Sets whether users may send a hash in place of their names: 0 and 1 mean yes, 2 no.
 pub fn set_anonymous_username(
     server: &mut LongTermServerAuth<Global>,
     feature: u32,
@@ -88,7 +88,7 @@ pub fn set_anonymous_username(
     Ok(())
 }
 
-/// Sets how long a nonce lasts, in nanoseconds: 30 seconds at the least.
+/// Sets the lifetime of new nonces, in nanoseconds. Less than 30 seconds counts as 30 seconds.
 pub fn set_nonce_expiry(server: &mut LongTermServerAuth<Global>, nanoseconds: u64)
     ensures { server.new ≡ with_expiry nanoseconds server.old }
 {
@@ -96,7 +96,7 @@ pub fn set_nonce_expiry(server: &mut LongTermServerAuth<Global>, nanoseconds: u6
     server.set_nonce_expiry_duration(Duration::from_nanos(expiry));
 }
 
-/// Registers a user, in the place of one of the same name.
+/// Adds a user, or replaces the password of an existing one.
 pub fn add_user(
     alloc: Global,
     server: &mut LongTermServerAuth<Global>,
@@ -130,7 +130,7 @@ pub fn remove_user(server: &mut LongTermServerAuth<Global>, name: &[u8]) -> Resu
     Ok(())
 }
 
-/// Forgets who was validated at an address.
+/// Forgets the client of an address, but keeps its nonce.
 pub fn remove_client(server: &mut LongTermServerAuth<Global>, at: &Address) -> Result<(), Refusal>
     ensures answer { result ≡ done_if_given (socket_address at.now) }
     ensures state { server.new ≡ after_address (socket_address at.now) server.old
@@ -140,7 +140,7 @@ pub fn remove_client(server: &mut LongTermServerAuth<Global>, at: &Address) -> R
     Ok(())
 }
 
-/// Forgets all that is kept of an address.
+/// Removes the record of an address.
 pub fn forget(server: &mut LongTermServerAuth<Global>, at: &Address) -> Result<(), Refusal>
     ensures answer { result ≡ done_if_given (socket_address at.now) }
     ensures state { server.new ≡ after_address (socket_address at.now) server.old
@@ -150,16 +150,16 @@ pub fn forget(server: &mut LongTermServerAuth<Global>, at: &Address) -> Result<(
     Ok(())
 }
 
-/// Forgets each address without a client whose nonce expired more than an age ago. On a clock that
-/// is younger than the age it forgets nobody.
+/// Removes every record that has no client and whose nonce expired more than `age` ago. If `now` is
+/// less than `age`, it removes none.
 pub fn forget_expired(server: &mut LongTermServerAuth<Global>, now: u64, age: u64)
     ensures { server.new ≡ after_forgetting server.old (now - age) }
 {
     server.forget_expired(Instant::from_nanos(now.saturating_sub(age)));
 }
 
-/// Forgets what `forget_expired` does, at no more than `most` addresses from one on. Returns
-/// whether another call is to go on, and writes where.
+/// Removes records like `forget_expired`, but visits at most `most` of them, beginning at an
+/// address. Returns whether there are more to visit, and writes the address at which to continue.
 pub fn forget_expired_within(
     server: &mut LongTermServerAuth<Global>,
     now: u64,
@@ -180,8 +180,9 @@ pub fn forget_expired_within(
     Ok(u32::from(next.is_some()))
 }
 
-/// Who was validated last at an address: the algorithm of the key, and the user's name at the front
-/// of the buffer. The length of the name is written also where the buffer has no room for it.
+/// Returns the user who was validated last at an address: the algorithm of the key, and the name,
+/// which is written to the front of the buffer. The length of the name is written even if the
+/// buffer has no room for it.
 pub fn client(
     server: &LongTermServerAuth<Global>,
     at: &Address,
@@ -208,7 +209,8 @@ pub fn client(
     Ok(Some(algorithm))
 }
 
-/// How long the nonce of an address is, or 0 of none, and the nonce at the front of the buffer.
+/// Writes the nonce of an address to the front of the buffer, and returns its length, or 0 if there
+/// is none.
 pub fn nonce(
     server: &LongTermServerAuth<Global>,
     at: &Address,
@@ -231,8 +233,8 @@ pub fn nonce(
     Ok(nonce.len())
 }
 
-/// Signs the message in the first `length` bytes of a buffer, which goes to an address. A refusal
-/// leaves the buffer.
+/// Signs the message in the first `length` bytes of a buffer, which goes to an address. An error
+/// leaves the buffer unchanged.
 pub fn sign(
     server: &mut LongTermServerAuth<Global>,
     buffer: &mut [u8],
@@ -257,17 +259,17 @@ pub fn sign(
     }
 }
 
-/// How long a message is once it is signed.
+/// The length of a message after it is signed.
 #[derive(Clone, Copy)]
 pub struct Measured {
-    /// Its bytes, as far as a `usize` reaches.
+    /// The number of bytes, or the greatest number if it does not fit.
     pub whole: usize,
-    /// Whether the length field cannot tell that.
+    /// Whether the message is longer than its length field can state.
     pub is_long: bool,
 }
 
-/// How long a message to an address is once it is signed, where a buffer of `room` bytes has room
-/// for it then.
+/// Returns the length of a message to an address after it is signed, if a buffer of `room` bytes
+/// has room for it then.
 pub fn measure(
     server: &LongTermServerAuth<Global>,
     message: &Message<'_>,
@@ -301,8 +303,8 @@ pub fn measure(
     })
 }
 
-/// Validates a message that came from an address, and returns the algorithm of its digest. A
-/// refusal may make a nonce for the address.
+/// Validates a message that came from an address, and returns the algorithm of its signature. If it
+/// is refused, a nonce may be made for the address.
 pub fn validate(
     kept: &mut Server,
     message: &[u8],
@@ -339,7 +341,7 @@ pub fn validate(
     )
 }
 
-/// Fails with `TooManyAddresses` for a new address if as many addresses are kept as may be.
+/// Fails with `TooManyAddresses` if the address has no record and the limit is reached.
 pub fn check_room(
     server: &LongTermServerAuth<Global>,
     most: usize,
@@ -354,7 +356,7 @@ pub fn check_room(
     Err(Refusal::TooManyAddresses)
 }
 
-/// The algorithm with which a message is accepted.
+/// Returns the algorithm with which a message is accepted.
 pub fn validated_algorithm(validation: LongTermServerValidation) -> IntegrityAlgorithm
     ensures { LongTermServerValidation.Validated result ≡ validation }
 {

@@ -1,4 +1,4 @@
-//! The message in a caller's buffer that is to be signed.
+//! The message to sign in a caller's buffer.
 
 ghost use Rattle.std.specs.Prelude.{◌≡◌, ◌≤◌, ◌-◌, length};
 ghost use Rattle.stun_base.specs.Header.{BeginsWithHeader};
@@ -12,17 +12,17 @@ use stun_types::limits::MAX_LENGTH;
 use stun_types::message::Message;
 use stun_types::prelude::*;
 
-/// The bytes of memory for a message that is not long once it is signed, as no datagram is.
+/// The number of bytes of memory for a signed message that is not long. Datagrams are shorter.
 pub const SHORT: usize = 2048;
 
-/// Whether a message is a response.
+/// Returns `true` if a message is a response.
 pub fn is_response(message: &Message<'_>) -> bool
     ensures { result ≡ is_response (class_in message.now) }
 {
     message.is_response()
 }
 
-/// Whether a message that grows by so many bytes is longer than the length field can tell.
+/// Returns `true` if a message with this many bytes more is longer than its length field can state.
 pub fn is_too_long(message: &Message<'_>, more: usize) -> bool
     ensures { result ≡ is_too_long message.now more }
 {
@@ -30,7 +30,7 @@ pub fn is_too_long(message: &Message<'_>, more: usize) -> bool
     data_length.saturating_add(more) > MAX_LENGTH
 }
 
-/// A message in a writer over memory, to which attributes can be added.
+/// Returns a writer over memory that has a copy of the message, to which attributes can be added.
 pub fn writer_of<'m>(message: &[u8], memory: &'m mut [u8]) -> Desk<'m>
     requires header { BeginsWithHeader message.now }
     requires room { length message.now ≤ length memory.old }

@@ -1,10 +1,10 @@
-//! Texts of a caller, copied.
+//! Copies the texts of a caller.
 
 ghost use Rattle.std.specs.Prelude.{◌≡◌, IfOk, string_bytes};
 
 use std::alloc::{AllocError, Global};
 
-/// A text, copied.
+/// Copies a text.
 pub fn copied(alloc: Global, text: &str) -> Result<String<Global>, AllocError>
     ensures { IfOk result (λ copy. string_bytes copy ≡ text.now) }
 {

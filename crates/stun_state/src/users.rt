@@ -1,4 +1,4 @@
-//! The users with whom a server judges and signs: its own, or one whom the caller hands in (RFC
+//! The users with whom a server validates and signs: its own, or one whom the caller passes (RFC
 //! 8489, section 9.2.4).
 
 ghost use Rattle.std.specs.Prelude.{◌≡◌, ◌≤◌, ◌+◌, ◌-◌, ⊤, length, take, Ok, Err};
@@ -41,7 +41,7 @@ use stun_types::limits::LENGTH_LIMIT;
 use stun_types::message::Message;
 use stun_types::prelude::*;
 
-/// The users of a server while it judges or signs.
+/// The users of a server while it validates or signs.
 pub(crate) trait Users {
     // The server that has them.
     ghost server_with: { Self → ServerSeen → ServerSeen };
@@ -70,7 +70,8 @@ pub(crate) trait Users {
         ensures signed { OnOk result (server.new ≡ server_left (after_signing
             (server_with self.old server.old) to (is_response (class_in (W.bytes writer))))
             server.old) }
-        ensures refused { OnErr result (server.new ≡ server.old) };
+        ensures refused { OnErr result (server.new ≡ server.old) }
+        ensures users { self.new ≡ self.old };
 
     /// Validates a message that came from an address.
     fn validate(
@@ -92,10 +93,11 @@ pub(crate) trait Users {
             ChangesNothing (sight (server_with self.old server.old) from) now words
             (reading_of message.now) →
             result ≡ answer (sight (server_with self.old server.old) from) now words
-            (reading_of message.now) };
+            (reading_of message.now) }
+        ensures users { self.new ≡ self.old };
 }
 
-/// The users that a server has.
+/// The server's own users.
 #[derive(Clone, Copy)]
 pub(crate) struct OwnUsers;
 
@@ -171,6 +173,7 @@ pub(crate) fn validate_message<U: Users>(
         (reading_of message.now) →
         result ≡ server_validation_answer (answer (sight (U.server_with users.old server.old) from)
         now words (reading_of message.now)) }
+    ensures users { users.new ≡ users.old }
 {
     let mut source = WordSource::new(words);
     match users.validate(server, message, from, now, &mut source) {
@@ -179,7 +182,7 @@ pub(crate) fn validate_message<U: Users>(
     }
 }
 
-/// Signs a message that has no more than `SHORT` bytes then.
+/// Signs a message that then has at most `SHORT` bytes.
 #[inline(never)]
 pub(crate) fn sign_short<U: Users>(
     server: &mut LongTermServerAuth<Global>,
@@ -204,6 +207,7 @@ pub(crate) fn sign_short<U: Users>(
         (U.server_with users.old server.old) to (is_response (class_in (take count buffer.old))))
         server.old) }
     ensures refused { OnErr result (server.new ≡ server.old) }
+    ensures users { users.new ≡ users.old }
 {
     let mut memory = [0; SHORT];
     let signed = sign_in(server, &buffer[..count], to, is_long, &mut memory, users)?;
@@ -233,6 +237,7 @@ pub(crate) fn sign_long<U: Users>(
         (U.server_with users.old server.old) to (is_response (class_in (take count buffer.old))))
         server.old) }
     ensures refused { OnErr result (server.new ≡ server.old) }
+    ensures users { users.new ≡ users.old }
 {
     let mut memory = [0; LENGTH_LIMIT];
     let signed = sign_in(server, &buffer[..count], to, is_long, &mut memory, users)?;
@@ -240,7 +245,7 @@ pub(crate) fn sign_long<U: Users>(
     Ok(signed.len())
 }
 
-/// The signed message, in memory that is enough.
+/// Signs the message in memory that is large enough.
 fn sign_in<'m, U: Users>(
     server: &mut LongTermServerAuth<Global>,
     message: &[u8],
@@ -269,6 +274,7 @@ fn sign_in<'m, U: Users>(
         (U.server_with users.old server.old) to (is_response (class_in message.now)))
         server.old) }
     ensures refused { OnErr result (server.new ≡ server.old) }
+    ensures users { users.new ≡ users.old }
 {
     match users.sign(server, writer_of(message, memory), to) {
         Ok(signed) => Ok(signed.finish()),

@@ -1,10 +1,10 @@
--- What the contracts of the program say, in the order to read it.
+-- The definitions that the contracts of the program use, in the order to read them.
 
 -- what `check` prints
 pub mod Check
--- what `check` says of an input, and how it says it
+-- the verdict of `check` on an input, and the line for it
 pub mod Verdict
--- what the digits of an input read
+-- the bytes that the digits of an input spell
 pub mod Input
--- what no clause of a public call cites: codings of models, views of structs, steps of the code
+-- what no clause of a public call uses: codings of models, views of structs, steps of the code
 pub mod code

@@ -1,4 +1,4 @@
--- What `check` says of an input, and how it says it.
+-- The verdict of `check` on an input, and the line for it.
 use Rattle.std.specs.Prelude.{ℕ, List, [], ◌∷◌, ◌++◌, codes, Option, Some, None}
 use Rattle.stun_base.specs.declared.wire.error.StunParseError.TheVariants.{Truncated}
 use Rattle.stun_base.specs.declared.wire.error.StunParseError.TheVariants.{NotStun, TooLarge}
@@ -10,12 +10,12 @@ use Rattle.stun_cli.specs.declared.verdict.Verdict.TheVariants.{BadInput}
 use Rattle.stun_cli.specs.Verdict.{verdict_of, refusal_line}
 use Rattle.stun_tool.specs.Input.{bytes_read}
 
--- the verdict on bytes under a password, whose bytes are the key of either digest (RFC 8489,
+-- the verdict on bytes under a password, whose bytes are the key for both algorithms (RFC 8489,
 -- section 9.1.1)
 abbrev pub verdict_under : List ℕ → List ℕ → Verdict
 verdict_under bytes password = verdict_of bytes (λ _. password)
 
--- on an input: the bytes that it spells, if it spells any
+-- the verdict on the bytes that an input spells, if it spells any
 abbrev pub verdict_of_read : Option (List ℕ) → List ℕ → Verdict
 verdict_of_read (Some bytes) password = verdict_under bytes password
 verdict_of_read None password = BadInput
@@ -34,7 +34,7 @@ check_line MalformedIntegrity = codes "malformed integrity" ++ 10 ∷ []
 check_line (NotAMessage error) = refusal_line error
 check_line BadInput = codes "bad input" ++ 10 ∷ []
 
--- the lines that are ever printed
+-- all lines that can be printed
 abbrev pub printed_lines : List (List ℕ)
 printed_lines =
     check_line (Valid Sha1) ∷ check_line (Valid Sha256) ∷ check_line OtherDigest

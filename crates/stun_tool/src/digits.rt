@@ -6,7 +6,8 @@ use hex::FromHexError;
 use std::alloc::{AllocError, Allocator};
 use stun_cli::failure::Failure;
 
-/// The input without its white space: spaces, tabs, line feeds, form feeds and carriage returns.
+/// Returns the input without its white space: spaces, tabs, line feeds, form feeds and carriage
+/// returns.
 fn digits<A: Allocator>(alloc: A, input: &[u8]) -> Result<Vec<u8, A>, AllocError>
     ensures { IfOk result (λ digits. digits.items ≡ digits_of input.now) }
 {

@@ -31,14 +31,14 @@ use stun_cli::output::write_text;
 use stun_cli::status::Status;
 use stun_cli::words::words_of;
 
-/// What is written for wrong words.
+/// The line that is written for wrong arguments.
 const USAGE: &str = "usage: stun_tool check PASSWORD \
     | schedule TRANSPORT INITIAL_MS MAX_MS RETRANSMITS FINAL_MS [answer MS FROM] \
     | negotiate CLIENT_ALGORITHMS CLIENT_FEATURE SERVER_ALGORITHMS SERVER_FEATURE \
     | serve REALM\n";
 
-/// Runs the command that the words name. For wrong words it writes the usage to `errors`, and
-/// nothing else is done.
+/// Runs the command that the arguments name. For wrong arguments it only writes the usage to
+/// `errors`.
 fn run<R: CountedRead, W: Write, E: Write>(
     alloc: Global,
     words: &[String],

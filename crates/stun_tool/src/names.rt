@@ -1,4 +1,4 @@
-//! The names that are printed, which are those of the variants.
+//! The names that the program prints: those of the variants.
 
 use stun_proto::auth::{LongTermClientAuthErrorReason, LongTermServerAuthErrorReason};
 use stun_types::message::{IntegrityAlgorithm, StunWriteError};

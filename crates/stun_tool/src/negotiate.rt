@@ -31,7 +31,7 @@ pub struct Side {
     first: IntegrityAlgorithm,
     /// The algorithm that is added after it, if one is.
     second: Option<IntegrityAlgorithm>,
-    /// Whether users are named by a hash.
+    /// Whether the user name is sent as a hash.
     feature: Feature,
 }
 
@@ -71,7 +71,7 @@ pub fn negotiate<R: CountedRead, W: Write, A: Allocator + Copy>(
     }
 }
 
-/// The client and the server that the words name, if they name some.
+/// Parses the settings of the client and of the server. Returns `None` for other arguments.
 fn sides_of(words: &[String]) -> Option<(Side, Side)>
     ensures { IfSome result (λ _. length words.now ≡ 4) }
 {
@@ -102,7 +102,7 @@ fn side_of(algorithms: &str, hashing: &str) -> Option<Side> {
     })
 }
 
-/// The outcome of the meeting of both sides.
+/// Returns the outcome for these two sides.
 fn outcome_of<A: Allocator + Copy>(
     alloc: A,
     client: Side,

@@ -19,7 +19,7 @@ use stun_types::message::{
 };
 use stun_types::prelude::MessageWrite;
 
-/// The greatest number of transmissions that the command takes.
+/// The greatest number of transmissions that the command accepts.
 const MOST_TRANSMISSIONS: u64 = 1000;
 
 /// When a request is sent again and when it times out, and the response that arrives, if one does.
@@ -85,7 +85,7 @@ pub fn schedule<R: CountedRead, W: Write>(
     }
 }
 
-/// The settings that the words name, if they name some.
+/// Parses the arguments. Returns `None` if they are not those of the command.
 fn settings_of(words: &[String]) -> Option<Settings>
     ensures { length words.now ≢ 5 → length words.now ≢ 8 → result ≡ None }
 {
@@ -130,7 +130,7 @@ fn milliseconds(word: &str) -> Option<Duration> {
     Some(Duration::from_millis(number(word)?))
 }
 
-/// Milliseconds, or `-` for no limit.
+/// Parses a number of milliseconds, or `-` for no limit.
 fn longest_wait(word: &str) -> Option<Duration> {
     if word == "-" {
         Some(Duration::MAX)
@@ -146,7 +146,7 @@ fn response_of(at: &str, from: &str) -> Option<Response> {
     })
 }
 
-/// Prints a line for each step of a request, and for the response if one comes.
+/// Prints a line for each step of the request, and for the response if there is one.
 fn print_schedule<W: Write, A: Allocator + Copy>(
     alloc: A,
     settings: Settings,
@@ -175,7 +175,8 @@ fn print_schedule<W: Write, A: Allocator + Copy>(
     Ok(())
 }
 
-/// What an agent does that sends the request at 0, and gets the response if the settings name one.
+/// Returns the steps of an agent that sends the request at time 0, and receives the response if the
+/// settings name one.
 fn steps_of<A: Allocator + Copy>(
     alloc: A,
     settings: Settings,
@@ -210,7 +211,7 @@ fn steps_of<A: Allocator + Copy>(
     driven.map_err(|_| Failure::Memory)
 }
 
-/// A Binding message of this class with id 1, without attributes.
+/// Builds a Binding message of this class with transaction ID 1, without attributes.
 fn binding_message(alloc: Global, class: MessageClass) -> Result<Vec<u8>, Failure> {
     let id = TransactionId::from_u128(1).ok_or(Failure::Memory)?;
     let kind = MessageType::from_class_method(class, BINDING);
@@ -220,7 +221,7 @@ fn binding_message(alloc: Global, class: MessageClass) -> Result<Vec<u8>, Failur
     }
 }
 
-/// Prints a line of a word and a moment in milliseconds.
+/// Prints a line with a word and a time in milliseconds.
 fn print_line<W: Write, A: Allocator>(
     alloc: A,
     word: &str,

@@ -1,4 +1,4 @@
-//! The lines of `serve`, of which each that is not empty is a call of a server.
+//! Parses the lines of `serve`. Each line that is not empty is a call of a server.
 
 use crate::words::{address, algorithm, feature, moment, number};
 use hex::FromHexError;
@@ -25,7 +25,7 @@ pub fn read_line(alloc: Global, line: &[u8]) -> Result<Option<ServerCall>, Alloc
     }
 }
 
-/// The call of a command with these words.
+/// Parses the call of a command with these arguments.
 fn call_of(
     alloc: Global,
     command: &str,
@@ -145,7 +145,7 @@ fn forget_address(arguments: &[&str]) -> Option<ServerCall> {
     Some(ServerCall::Forget(address(client)?))
 }
 
-/// Sixteen random words, each spelled by the letter that a nonce has for it.
+/// Parses sixteen random numbers, each of them written as the letter that it becomes in a nonce.
 fn words_of_letters(letters: &str) -> Option<[u32; 16]> {
     if letters.len() != 16 {
         return None;
@@ -157,7 +157,7 @@ fn words_of_letters(letters: &str) -> Option<[u32; 16]> {
     Some(words)
 }
 
-/// The place of a letter among `A` to `Z`, `a` to `z` and `0` to `9`.
+/// Returns the index of a letter among `A` to `Z`, `a` to `z` and `0` to `9`.
 fn place_of(letter: u8) -> Option<u32> {
     match letter {
         b'A'..=b'Z' => Some(u32::from(letter - b'A')),
@@ -167,7 +167,7 @@ fn place_of(letter: u8) -> Option<u32> {
     }
 }
 
-/// The bytes that an even number of hexadecimal digits spells, at least two.
+/// Parses bytes: an even number of hexadecimal digits, at least two.
 fn bytes(alloc: Global, digits: &str) -> Result<Option<Vec<u8>>, AllocError> {
     match hex::decode(alloc, digits.as_bytes()) {
         Ok(bytes) => Ok(Some(bytes)),

@@ -85,7 +85,7 @@ struct Dialogue {
 }
 
 impl Dialogue {
-    /// Creates a server with this realm that has heard no line.
+    /// Creates a server with this realm that has read no line.
     fn new(alloc: Global, realm: &str) -> Result<Dialogue, AllocError> {
         let realm = String::from_str(alloc, realm)?;
         Ok(Dialogue {
@@ -96,8 +96,8 @@ impl Dialogue {
         })
     }
 
-    /// Reads on, and answers each line that ends in these bytes. Returns whether all were calls; if
-    /// not, the bytes after the first that was none are not read.
+    /// Reads these bytes, and answers each line that ends in them. Returns whether all lines were
+    /// calls; after the first line that is not a call, no further bytes are read.
     fn hear<W: Write>(&mut self, bytes: &[u8], writer: &mut W) -> Result<bool, Failure> {
         for (line_feeds, piece) in bytes.split(|byte| *byte == b'\n').enumerate() {
             if line_feeds > 0 && !self.answer_line(writer)? {
@@ -108,8 +108,8 @@ impl Dialogue {
         Ok(true)
     }
 
-    /// Answers the line that was read, and begins the next one. An empty line has no answer. Returns
-    /// whether the line was a call or empty.
+    /// Answers the line that was read, and begins the next one. An empty line has no answer.
+    /// Returns whether the line was a call or empty.
     fn answer_line<W: Write>(&mut self, writer: &mut W) -> Result<bool, Failure> {
         self.number = self.number.saturating_add(1);
         if self.line.is_empty() {
@@ -140,7 +140,7 @@ impl Dialogue {
     }
 }
 
-/// The line for a reply.
+/// Returns the line for a reply.
 fn line_of<A: Allocator + Copy>(alloc: A, reply: &ServerReply<A>) -> Result<String<A>, AllocError> {
     match reply {
         ServerReply::NotAMessage(error) => { String::from_str(alloc, refusal_line(*error)) }

@@ -24,7 +24,7 @@ pub fn line(verdict: Verdict) -> &'static str
     }
 }
 
-/// The verdict on a message under a password, whose bytes are the key.
+/// Returns the verdict on a message under a password, whose bytes are the key.
 fn verdict_on(bytes: &[u8], password: &[u8]) -> Verdict
     ensures { result ≡ verdict_under bytes.now password.now }
 {
@@ -38,8 +38,8 @@ fn verdict_on(bytes: &[u8], password: &[u8]) -> Verdict
     }
 }
 
-/// Returns the verdict on an input of hexadecimal digits under a password. Nine lines are possible
-/// for it.
+/// Returns the verdict on an input of hexadecimal digits under a password. There are nine lines
+/// that can be printed for it.
 pub fn verdict_on_input<A: Allocator + Copy>(
     alloc: A,
     input: &[u8],

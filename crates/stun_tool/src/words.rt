@@ -1,4 +1,4 @@
-//! The meaning of single words, which are arguments of a command or parts of a script.
+//! Parses single words: arguments of a command, or parts of a script.
 
 use std::net::{SocketAddr, SocketAddrV4};
 use stun_proto::Instant;

@@ -1,4 +1,4 @@
-//! Which call a line is.
+//! Plays the call of a line.
 
 use crate::endpoint::server as endpoint_server;
 use crate::runs::Runs;
@@ -11,7 +11,7 @@ use player::{
 };
 use std::alloc::{AllocError, Global};
 
-/// What is answered to a line that is not understood.
+/// The answer to a line that is not a call.
 const NOT_UNDERSTOOD: &str = "?";
 
 /// `from ADDRESS`: from here on messages come from there.
@@ -160,7 +160,7 @@ fn words_of(alloc: Global, call: &str) -> Result<Vec<&str>, AllocError> {
     call.split_whitespace().collect(alloc)
 }
 
-/// Makes a call, and adds what is answered to a text. It fails where the player has no memory.
+/// Plays a call, and appends its answer to a text. Fails if the player has no memory.
 pub fn answer_to(runs: &mut Runs<'_>, call: &str, answer: &mut String) -> Result<(), AllocError> {
     let words = words_of(runs.scene.stage.source.alloc, call)?;
     let made = make(runs, words.as_slice(), answer);
@@ -172,7 +172,7 @@ pub fn answer_to(runs: &mut Runs<'_>, call: &str, answer: &mut String) -> Result
     }
 }
 
-/// Passes to the time of a call that is not made.
+/// Moves on to the time of a call that is not made.
 pub fn pass(runs: &mut Runs<'_>, call: &str) -> Result<(), AllocError> {
     let words = words_of(runs.scene.stage.source.alloc, call)?;
     let _ = at_time(runs, words.as_slice());

@@ -1,10 +1,10 @@
 //! Driven agents: `drive NAME WORDS`. Events are collected, one call drives an agent by them, and
-//! then its steps are told one by one.
+//! then its steps are printed one by one.
 //!
-//! A run that is refused memory stops after some of its events, and its steps are lost. Where the
-//! run is made again it goes on with the events that are left. The lost steps are then told by a
-//! twin of the agent, which is driven by all events in ample memory; so the run, its last steps and
-//! the state that it leaves must be as written.
+//! A run in which an allocation is refused stops after some of its events, and its steps are lost.
+//! When the run is made again, it goes on with the events that are left. The lost steps are then
+//! those of a twin of the agent, which is driven by all events in ample memory. So the run, its
+//! last steps and the state afterwards must be as the transcript says.
 
 mod by_hand;
 mod event;
@@ -29,22 +29,22 @@ use stun_base::instant::Instant;
 use stun_base::transport::TransportType;
 use stun_proto::replay::{AgentEvent, AgentStep, Stopped};
 
-/// An agent, what happens to it, and what it does.
+/// An agent, the events for it, and its steps.
 #[derive(Drop)]
 pub struct Drive<'a> {
     alloc: Global,
     heap: &'a Heap,
     transport: TransportType,
     agent: StunAgent<&'a Heap>,
-    /// The agent in ample memory, which is not driven before a run is broken.
+    /// The agent in ample memory, which is driven only after a run was interrupted.
     twin: StunAgent,
     events: Vec<(Instant, AgentEvent)>,
-    /// How many events have come.
+    /// How many events the agent was driven by.
     come: usize,
     steps: Vec<String>,
-    /// How many steps are told.
+    /// How many steps were printed.
     told: usize,
-    /// Whether the last run was refused memory.
+    /// Whether an allocation of the last run was refused.
     is_broken: bool,
 }
 
@@ -136,7 +136,7 @@ impl<'a> Drive<'a> {
     }
 }
 
-/// `drive NAME WORDS`
+/// Plays `drive NAME WORDS`.
 pub fn call(
     runs: &mut Runs<'_>,
     name: &str,

@@ -1,5 +1,5 @@
-//! Plays transcripts: each line is a call, and after `->` what is answered to it.
-//! docs/maintainers/TRANSCRIPTS.md tells the language.
+//! Plays transcripts: each line is a call, and its answer comes after `->`.
+//! docs/maintainers/TRANSCRIPTS.md describes the language.
 #![tactic(auto)]
 
 mod calls;

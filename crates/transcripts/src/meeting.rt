@@ -1,9 +1,9 @@
 //! A client and a server that meet: `meet NAME WORDS`.
 //!
-//! A meeting in which an allocation is refused ends after some of its steps. If it is made again, a
-//! client that has kept the challenge signs its first request. What the server says of the second
-//! is then said of the first. The answer is told as that of the whole meeting. The calls between,
-//! of which some may be lacking, are made once more.
+//! A meeting in which an allocation is refused ends after some of its steps. When it is made again,
+//! a client that has stored the challenge signs its first request, and the answer to the second
+//! request of a whole meeting becomes the answer to the first. It is printed as that of the whole
+//! meeting. The calls between the two requests, some of which may be missing, are made once more.
 
 use crate::runs::Runs;
 use crate::serve::server_call;
@@ -26,9 +26,9 @@ use stun_types::message::{LongTermCredentials, TransactionId};
 pub struct Meeting {
     before_challenge: Vec<ServerCall>,
     before_second: Vec<ServerCall>,
-    /// Whether the last meeting was refused memory.
+    /// Whether an allocation of the last meeting was refused.
     is_broken: bool,
-    /// Whether its client took up the challenge all the same.
+    /// Whether its client accepted the challenge all the same.
     took_up: bool,
 }
 
@@ -43,7 +43,7 @@ impl Meeting {
     }
 }
 
-/// `meet NAME WORDS`
+/// Plays `meet NAME WORDS`.
 pub fn call(
     runs: &mut Runs<'_>,
     name: &str,

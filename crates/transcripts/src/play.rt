@@ -1,4 +1,4 @@
-//! Plays a paragraph, and one of its lines in a turn of its own.
+//! Plays a paragraph, and one of its lines in a special way.
 
 use crate::calls::{answer_to, pass};
 use crate::runs::Runs;
@@ -26,14 +26,14 @@ pub struct Cut {
     pub nth: u64,
 }
 
-/// What became of the line in question.
+/// The result for the line in question.
 #[derive(Clone, Copy, PartialEq, Eq)]
 pub struct LineOutcome {
     /// Whether an allocation was refused.
     pub is_met: bool,
-    /// Whether that was answered.
+    /// Whether the answer said so.
     pub is_right: bool,
-    /// Whether the line is a run, which is left after some of its calls.
+    /// Whether the line is a run, which stops after some of its calls.
     pub is_run: bool,
 }
 
@@ -158,7 +158,7 @@ fn play_lines(
     Ok(refusal)
 }
 
-/// Plays a paragraph from its beginning, and adds it with what is answered to a text.
+/// Plays a paragraph from its beginning, and appends it with the answers to a text.
 pub fn play(
     alloc: Global,
     heap: &Heap,

@@ -1,26 +1,26 @@
 //! Refuses each allocation of each line in turn.
 //!
-//! A call that is refused memory says so, and leaves all as it was: where it is made again, all
-//! goes on as written, and where it is not, as in a play without its line. Each play gives back all
-//! blocks that it took.
+//! A call whose allocation is refused says so, and leaves everything unchanged. If it is made
+//! again, everything goes on as the transcript says. If it is not, everything goes on as in a
+//! transcript without its line. Each play frees all blocks that it allocated.
 //!
-//! A run of many calls is left after some of them: where it is made again, it makes the others, and
-//! all goes on as written.
+//! A run of many calls stops after some of them. When it is made again, it makes the others, and
+//! everything goes on as the transcript says.
 
 use crate::play::{Cut, LineOutcome, LineTurn, play};
 use player::page::{Page, line_count};
 use player::stage::Heap;
 use std::alloc::{AllocError, Global};
 
-/// Below this many allocations each call has met its last one.
+/// The most allocations that a call may make.
 const MOST_ALLOCATIONS: u64 = 400;
 
-/// What was found.
+/// The results.
 #[derive(Clone, Copy)]
 pub struct Tally {
     /// How many allocations were refused.
     pub refused: u64,
-    /// The first line where that was not as it must be, counted from 0.
+    /// The index of the first line with a wrong result.
     pub wrong: Option<usize>,
 }
 
@@ -102,8 +102,7 @@ fn refuse_line(
     Ok(())
 }
 
-/// Refuses the allocations of all lines of a paragraph, which must come out as it is written where
-/// none is refused.
+/// Refuses the allocations of all lines of a paragraph, which must pass if none is refused.
 pub fn refuse_each(
     alloc: Global,
     heap: &Heap,

@@ -1,4 +1,4 @@
-//! What is told of a transcript.
+//! The report on a transcript.
 
 use crate::play::play;
 use crate::refusing::{Tally, refuse_each};
@@ -7,7 +7,7 @@ use player::page::{Page, line_count};
 use player::stage::Heap;
 use std::alloc::{AllocError, Global};
 
-/// How a transcript came out.
+/// The result of a transcript.
 #[derive(Clone, Copy)]
 pub struct Outcome {
     pub lines: usize,
@@ -105,7 +105,7 @@ fn play_pages(
     Ok(())
 }
 
-/// Plays a transcript, and adds the lines that are wrong to a report.
+/// Plays a transcript, and appends its wrong lines to a report.
 pub fn play_transcript(
     alloc: Global,
     transcript: &str,

@@ -1,4 +1,4 @@
-//! A scene with what the calls of runs keep.
+//! A scene, with the state of the calls of runs.
 
 use crate::drive::Drive;
 use crate::endpoint::server::Endpoint;
@@ -8,7 +8,7 @@ use player::scene::Scene;
 use player::stage::{Heap, Source};
 use stun_proto::laws;
 
-/// What a paragraph is played in.
+/// The state of a paragraph.
 #[derive(Drop)]
 pub struct Runs<'a> {
     pub scene: Scene<'a>,
@@ -19,7 +19,7 @@ pub struct Runs<'a> {
 }
 
 impl<'a> Runs<'a> {
-    /// A new scene, with no run begun.
+    /// Creates a scene in which no run is begun.
     pub fn new(source: Source<'a>, heap: &'a Heap) -> Self {
         // Programs reach the laws of runs by this path.
         laws::runs_are_determined();

@@ -1,10 +1,10 @@
 //! Runs of the server: `serve NAME WORDS`. Calls are collected, one call makes them, and then the
-//! replies are told one by one.
+//! replies are printed one by one.
 //!
-//! A run that is refused memory stops after some of its calls, and its replies are lost. Where the
-//! run is made again it makes the calls that are left. The lost replies are then told by a twin of
-//! the server, which makes all calls in ample memory; so the run, its last replies and the state
-//! that it leaves must be as written. The twin knows only the calls of `serve`.
+//! A run in which an allocation is refused stops after some of its calls, and its replies are lost.
+//! When the run is made again, it makes the calls that are left. The lost replies are then those of
+//! a twin of the server, which makes all calls in ample memory. So the run, its last replies and
+//! the state afterwards must be as the transcript says. The twin knows only the calls of `serve`.
 
 mod reply;
 mod server_call;
@@ -24,14 +24,14 @@ use stun_proto::replay::{ServerCall, ServerReply, Stopped, serve};
 pub struct Serving {
     alloc: Global,
     calls: Vec<ServerCall>,
-    /// How many calls are made.
+    /// How many calls were made.
     made: usize,
     replies: Vec<String>,
-    /// How many replies are told.
+    /// How many replies were printed.
     told: usize,
-    /// Whether the last run was refused memory.
+    /// Whether an allocation of the last run was refused.
     is_broken: bool,
-    /// The server in ample memory, which makes no call before a run is broken.
+    /// The server in ample memory, which makes calls only after a run was interrupted.
     twin: LongTermServerAuth,
 }
 
@@ -105,7 +105,7 @@ impl Serving {
     }
 }
 
-/// `serve NAME WORDS`
+/// Plays `serve NAME WORDS`.
 pub fn call(
     runs: &mut Runs<'_>,
     name: &str,

@@ -78,6 +78,20 @@ pub mod client {
     pub type ClientHandle = super::Handle<Client>;
 }
 
+pub mod user {
+    //! The handle of a prepared user.
+
+    use crate::exported::stun_auth::auth::LongTermServerUser;
+
+    /// A prepared user of the heap.
+    pub struct User {
+        pub user: LongTermServerUser,
+    }
+
+    /// What a caller keeps of a prepared user.
+    pub type UserHandle = super::Handle<User>;
+}
+
 pub mod endpoint {
     //! The handle of a server or of a table of users, of the endpoint, or of an agent of ICE.
 

@@ -22,7 +22,7 @@ const OLDER: [AttributeType; 3] = [
     AttributeType(0x0010),
 ];
 
-/// The arguments of a command line. What follows `--` is no option.
+/// The arguments of a command line. What follows `--` is not an option.
 pub struct Arguments {
     pub left: Vec<String>,
     pub file: Option<String>,
@@ -90,7 +90,7 @@ pub fn find(host: &str, port: &str) -> Result<SocketAddr, Box<dyn Error>> {
 }
 
 impl Asker {
-    /// Opens a socket to a server, which it asks for so long.
+    /// Opens a socket to a server. Requests that have no response `within` this time fail.
     ///
     /// The socket is connected, so that it hears if the port is closed. It keeps the address that
     /// it has now, so open another one after this machine has moved to another network.
@@ -138,7 +138,7 @@ impl Asker {
         }
     }
 
-    /// Waits for a datagram until this time, and returns it if it is no response to a request.
+    /// Waits for a datagram until this time, and returns it if it is not a response to a request.
     pub fn receive(&mut self, until: Instant) -> Result<Option<&[u8]>, Box<dyn Error>> {
         let until = until.min(self.give_up);
         self.socket
@@ -157,7 +157,7 @@ impl Asker {
         }
     }
 
-    /// Sends bytes that are no request.
+    /// Sends bytes that are not a request.
     pub fn send(&self, bytes: &[u8]) {
         let _ = self.socket.send(bytes);
     }
@@ -166,12 +166,12 @@ impl Asker {
         self.clock.now()
     }
 
-    /// Returns whether the time to ask is over.
+    /// Returns whether the time for requests is over.
     pub fn is_late(&self) -> bool {
         self.now() >= self.give_up
     }
 
-    /// Gives it more time, such as for a last request.
+    /// Extends the time for requests, such as for a last one.
     pub fn extend(&mut self, more: Duration) {
         self.give_up = self.give_up.max(self.now()) + more;
     }

@@ -1,4 +1,4 @@
-//! What a datagram came to, and counters of that.
+//! The outcomes of datagrams, and counters of them.
 
 use seatcrane_stun::endpoint::{Answer, DropReason, Refusal};
 use std::fmt;
@@ -8,11 +8,11 @@ use std::sync::atomic::{AtomicU64, Ordering::Relaxed};
 const CODES: [u16; 4] = [400, 401, 420, 438];
 
 pub enum Outcome {
-    /// A success, or an error with this code, to send to this address. If it is to leave from
-    /// another socket than the datagram came to, it has the number of that.
+    /// A success, or an error with this code, to send to this address. If it must leave from
+    /// another socket than the one that the datagram arrived at, it has the number of that socket.
     Answer(u16, Vec<u8>, SocketAddr, Option<usize>),
     Dropped(DropReason),
-    /// No Binding request.
+    /// An accepted message that is not a Binding request.
     Other,
 }
 

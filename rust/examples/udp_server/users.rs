@@ -38,7 +38,7 @@ pub fn table(
     filled
 }
 
-/// Adds the user of each line. Each line that is none is reported by its number.
+/// Adds the user of each line. Each bad line is reported by its number.
 fn fill(mut users: Users, path: &str, bytes: &[u8]) -> Result<Users, String> {
     let mut bad = 0;
     for (number, line) in (1..).zip(bytes.split(|byte| *byte == b'\n')) {
@@ -49,7 +49,7 @@ fn fill(mut users: Users, path: &str, bytes: &[u8]) -> Result<Users, String> {
         match add_line(&mut users, text.trim_end_matches('\r')) {
             Ok(true) => {}
             Ok(false) => {
-                eprintln!("udp_server: {path}, line {number}: no `NAME PASSWORD`");
+                eprintln!("udp_server: {path}, line {number}: expected `NAME PASSWORD`");
                 bad += 1;
             }
             Err(error) => {
@@ -60,7 +60,7 @@ fn fill(mut users: Users, path: &str, bytes: &[u8]) -> Result<Users, String> {
     }
     match bad {
         0 => Ok(users),
-        _ => Err(format!("{path}: {bad} lines are no users")),
+        _ => Err(format!("{path}: bad lines: {bad}")),
     }
 }
 
@@ -112,7 +112,7 @@ fn stored_keys(text: &str) -> Option<StoredKeys> {
     Some(keys)
 }
 
-/// Returns the bytes of so many hexadecimal digits.
+/// Parses `N` bytes, each of two hexadecimal digits.
 pub fn bytes_of<const N: usize>(digits: &str) -> Option<[u8; N]> {
     let mut bytes = [0; N];
     if digits.len() != 2 * N {

@@ -34,13 +34,13 @@ impl fmt::Debug for Credentials {
 }
 
 impl Credentials {
-    /// Requests are not signed.
+    /// Creates credentials that sign no request.
     pub fn none() -> Credentials {
         Credentials(Kind::None)
     }
 
-    /// Each request is signed with this password, and so is each response that is accepted, by the
-    /// same algorithm (RFC 8489, section 9.1).
+    /// Creates short-term credentials: each request is signed with this password and algorithm, and
+    /// only responses that are signed in the same way are accepted (RFC 8489, section 9.1).
     pub fn short_term(
         name: impl Into<String>,
         password: impl Into<String>,

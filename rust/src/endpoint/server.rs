@@ -1,6 +1,6 @@
 //! A server as one value.
 
-use super::{BuildError, DEFAULT_NONCE_LIFETIME, DropReason, Refusal, UnixTime};
+use super::{BuildError, Cause, DEFAULT_NONCE_LIFETIME, DropReason, Refusal, UnixTime};
 use crate::copies::{copy, granted, text};
 use crate::credentials::LongTermCredentials;
 use crate::exported::stun_auth::auth::{LongTermServerUser, NamedUser, StoredKeys};
@@ -254,6 +254,60 @@ impl Server {
     ) -> Received<'a> {
         let user = user.map(|user| &user.0);
         of_core(self.0.receive_for(bytes, from, now, user))
+    }
+
+    /// Returns why [`receive`](Self::receive) refuses a datagram, to count or to log it. Pass what you
+    /// passed to `receive`, with the same time and the same users.
+    ///
+    /// Returns `None` if `receive` does not refuse the datagram: it is dropped, is not a request, or
+    /// is accepted. It also returns `None` if an allocation failed.
+    ///
+    /// It judges the request again, so call it only for an answer that refuses. The client never
+    /// learns the cause, but only its [code](Cause::code).
+    ///
+    /// # Examples
+    ///
+    /// ```
+    /// use seatcrane_stun::endpoint::{Answer, Received, Server, UnixTime, Users};
+    /// use std::net::SocketAddr;
+    ///
+    /// fn answer(server: &Server, users: &Users, bytes: &[u8], from: SocketAddr) -> Option<Answer> {
+    ///     let now = UnixTime::now();
+    ///     let Received::Answer(answer) = server.receive(bytes, from, now, users) else {
+    ///         return None;
+    ///     };
+    ///     if answer.refusal().is_some() {
+    ///         if let Some(cause) = server.cause(bytes, from, now, users) {
+    ///             println!("{from}: {} {cause}", cause.code());
+    ///         }
+    ///     }
+    ///     Some(answer)
+    /// }
+    /// ```
+    pub fn cause(
+        &self,
+        bytes: &[u8],
+        from: SocketAddr,
+        now: UnixTime,
+        users: &Users,
+    ) -> Option<Cause> {
+        self.0.cause(bytes, from, now, &users.0).ok().flatten()
+    }
+
+    /// Returns why [`receive_for`](Self::receive_for) refuses a datagram, like
+    /// [`cause`](Self::cause).
+    ///
+    /// It is also why [`resume`](Self::resume) refuses the request of a look-up: pass the bytes of
+    /// that request, and the time at which it [arrived](Lookup::arrived).
+    pub fn cause_for(
+        &self,
+        bytes: &[u8],
+        from: SocketAddr,
+        now: UnixTime,
+        user: Option<&User>,
+    ) -> Option<Cause> {
+        let user = user.map(|user| &user.0);
+        self.0.cause_for(bytes, from, now, user).ok().flatten()
     }
 
     /// Judges a datagram as far as that is possible without its user, for a server that looks its

@@ -67,7 +67,7 @@ pub enum DecodeAllocError {
 }
 
 impl Standard {
-    /// The bytes that letters spell, with padding.
+    /// Decodes base64 with padding.
     pub fn decode<A: Allocator>(
         self,
         alloc: A,

@@ -14,16 +14,16 @@ use core::time::Duration;
 use std::borrow::ToOwned;
 use std::{collections, format, string, vec};
 
-/// Refuses one allocation in so many, and knows the sizes of those that were granted.
+/// Refuses every n-th allocation, and records the sizes of those that were granted.
 #[derive(Debug, Default)]
-struct Sparse {
+pub(super) struct Sparse {
     every: u64,
     asked: Cell<u64>,
     granted: RefCell<collections::BTreeMap<(usize, usize), u64>>,
 }
 
 impl Sparse {
-    fn new(every: u64) -> Self {
+    pub(super) fn new(every: u64) -> Self {
         Sparse {
             every,
             ..Sparse::default()
@@ -31,7 +31,7 @@ impl Sparse {
     }
 
     /// How many bytes are granted now.
-    fn bytes(&self) -> usize {
+    pub(super) fn bytes(&self) -> usize {
         let granted = self.granted.borrow();
         granted
             .iter()
@@ -63,10 +63,10 @@ impl Allocator for Sparse {
 }
 
 /// Numbers that look random.
-struct Dice(u64);
+pub(super) struct Dice(u64);
 
 impl Dice {
-    fn roll(&mut self, sides: u64) -> u64 {
+    pub(super) fn roll(&mut self, sides: u64) -> u64 {
         self.0 ^= self.0 << 13;
         self.0 ^= self.0 >> 7;
         self.0 ^= self.0 << 17;
@@ -77,7 +77,7 @@ impl Dice {
 const EVERY: [u64; 4] = [0, 2, 3, 7];
 
 /// Plays so many turns for each rate of refusals, and asserts that all memory comes back.
-fn play(turns: u64, mut game: impl FnMut(&Sparse, &mut Dice, u64)) {
+pub(super) fn play(turns: u64, mut game: impl FnMut(&Sparse, &mut Dice, u64)) {
     for every in EVERY {
         let heap = Sparse::new(every);
         game(&heap, &mut Dice(88_172_645_463_325_252 + every), turns);

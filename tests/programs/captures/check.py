@@ -184,7 +184,7 @@ def verified(message, words):
             covered = message[:2] + struct.pack(">H", place + 4) + message[4:place]
             is_right = hmac.new(key, covered, hashlib.sha1).digest() == value
             lines.append("valid MESSAGE-INTEGRITY" if is_right
-                         else "invalid: the digest is another")
+                         else "invalid: the signature does not match")
     lines = lines or ["invalid: no integrity attribute is visible"]
     for _, kind, value in attributes(message):
         if kind == INTEGRITY:
@@ -386,9 +386,9 @@ def try_headers(runs, what, message):
     wants("fragments", packets.pcap(101, fragments), 1, unread(3, "fragments"))
     cut = [packets.ipv4(datagram)[:length] for length in range(1, 28)]
     cut += [packets.ipv6(datagram)[:length] for length in range(1, 48)]
-    wants("cut headers", packets.pcap(101, cut), 1, unread(len(cut), "with headers that are cut"))
+    wants("cut headers", packets.pcap(101, cut), 1, unread(len(cut), "with headers cut short"))
     wants("another link", packets.pcap(147, [b"", b"1"]), 1,
-          unread(2, "of another link, of type 147"))
+          unread(2, "of another link type, such as 147"))
     heading, *_, ending = of_capture([message])
     for length in range(len(message) - 1, 19, -7):
         snapped, whole = packets.ipv4(datagram)[:28 + length], len(datagram) + 20
@@ -498,7 +498,7 @@ def try_damage(runs, what, messages):
             (last[:-4] + struct.pack("<I", 16), length.format(len(last))),
             (packets.block(6, struct.pack("<IIIII", 0, 0, 0, 5, 5) + bytes(4)),
              "a packet of 24 bytes is longer than its block"),
-            (packets.block(0x0A0D0D0A, bytes(16)), "a section has no order of bytes")):
+            (packets.block(0x0A0D0D0A, bytes(16)), "the byte order of a section is unknown")):
         error = f"bad capture after packet 1, at byte {len(front)}: {error}"
         runs.wants(what, ["decode"], front + damaged, 2, of_capture(messages[:1]), error)
     ethernet = packets.LINKS["Ethernet"][1](frames[1])

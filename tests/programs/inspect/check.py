@@ -32,7 +32,7 @@ FINGERPRINT = 0x8028
 # The most bytes of an input.
 LIMIT = 67_108_864
 ENDLESS = b"the input does not end within 67108864 bytes and 1048576 reads\n"
-NO_TEXT = (b"bad input at line 1, column 1: looked for text, a capture, or a message, "
+NO_TEXT = (b"bad input at line 1, column 1: expected text, a capture, or a message, "
            b"which has 2112a442 at its byte 4\n")
 
 

@@ -1,4 +1,4 @@
-//! How moments, spans, ids and errors of an agent are answered.
+//! Writes the times, durations, transaction IDs and errors of an agent as text.
 
 use crate::names::{OUT_OF_MEMORY, parse_error_name, write_error_name};
 use crate::trouble::Trouble;
@@ -8,7 +8,7 @@ use stun_agent::agent::StunError;
 use stun_base::instant::Instant;
 use stun_types::message::TransactionId;
 
-/// Adds a number of nanoseconds: `Nms` where it is whole milliseconds, else `Nns`.
+/// Appends a number of nanoseconds: `Nms` if it is a whole number of milliseconds, otherwise `Nns`.
 fn push_nanos(nanos: u128, answer: &mut String) -> Result<(), Trouble> {
     if nanos % 1_000_000 == 0 {
         let millis = nanos / 1_000_000;
@@ -18,7 +18,7 @@ fn push_nanos(nanos: u128, answer: &mut String) -> Result<(), Trouble> {
     }
 }
 
-/// Adds a moment, which is `max` if it is the last that there is.
+/// Appends a time, or `max` for `Instant::MAX`.
 pub fn push_moment(moment: Instant, answer: &mut String) -> Result<(), Trouble> {
     if moment == Instant::MAX {
         return Ok(answer.push_str("max")?);
@@ -26,7 +26,7 @@ pub fn push_moment(moment: Instant, answer: &mut String) -> Result<(), Trouble> 
     push_nanos(u128::from(moment.as_nanos()), answer)
 }
 
-/// Adds a span, which is `max` if it is the longest that there is.
+/// Appends a duration, or `max` for the longest one.
 pub fn push_span(span: Duration, answer: &mut String) -> Result<(), Trouble> {
     if span == Duration::MAX {
         return Ok(answer.push_str("max")?);
@@ -34,18 +34,18 @@ pub fn push_span(span: Duration, answer: &mut String) -> Result<(), Trouble> {
     push_nanos(span.as_nanos(), answer)
 }
 
-/// Adds the number of an id.
+/// Appends the number of a transaction ID.
 pub fn push_id(id: TransactionId, answer: &mut String) -> Result<(), Trouble> {
     let number = id.as_u128();
     Ok(write!(answer, "{number}")?)
 }
 
-/// Adds whether something is so.
+/// Appends `true` or `false`.
 pub fn push_flag(is_so: bool, answer: &mut String) -> Result<(), Trouble> {
     Ok(answer.push_str(if is_so { "true" } else { "false" })?)
 }
 
-/// Adds an answer that may be refused memory.
+/// Appends an answer, or `OutOfMemory` if an allocation failed.
 pub fn push_flag_if_any(
     is_so: Result<bool, AllocError>,
     answer: &mut String,
@@ -56,7 +56,7 @@ pub fn push_flag_if_any(
     }
 }
 
-/// Why an agent refuses a call.
+/// Returns the name of an error of the agent.
 pub fn error_name(error: StunError) -> &'static str {
     match error {
         StunError::AlreadyInProgress => "AlreadyInProgress",

@@ -1,4 +1,4 @@
-//! The requests that an agent has kept, and what it lends to be sent.
+//! The requests that an agent stores, and what it returns to be sent.
 
 use crate::agent::answers::push_id;
 use crate::signing::push_bytes;
@@ -10,14 +10,14 @@ use stun_agent::agent::Transmit;
 use stun_base::transport::TransportType;
 use stun_types::message::{MessageHeader, TransactionId};
 
-/// What carries the messages of an agent, and where they come from.
+/// The transport and the local address of the messages of an agent.
 #[derive(Clone, Copy)]
 pub struct Way {
     pub transport: TransportType,
     pub from: SocketAddr,
 }
 
-/// A request that was kept.
+/// A stored request.
 #[derive(Drop)]
 struct Request {
     id: TransactionId,
@@ -25,7 +25,7 @@ struct Request {
     to: SocketAddr,
 }
 
-/// The requests that were kept, the last of each id.
+/// The stored requests, the latest one of each transaction ID.
 #[derive(Drop)]
 pub struct Asked<'a> {
     requests: Vec<Request, &'a Heap>,
@@ -38,7 +38,7 @@ impl<'a> Asked<'a> {
         }
     }
 
-    /// Notes a request that was kept.
+    /// Adds a stored request.
     pub fn note(&mut self, bytes: Vec<u8>, to: SocketAddr) -> Result<(), Trouble> {
         let Ok(header) = MessageHeader::from_bytes(bytes.as_slice()) else {
             return Err(Trouble::Words);
@@ -57,7 +57,7 @@ impl<'a> Asked<'a> {
         Ok(())
     }
 
-    /// The id of the request with these bytes to this address.
+    /// Returns the transaction ID of the request with these bytes to this address.
     fn id_of(&self, bytes: &[u8], to: SocketAddr) -> Option<TransactionId> {
         for request in &self.requests {
             if request.bytes.as_slice() == bytes && request.to == to {
@@ -68,12 +68,12 @@ impl<'a> Asked<'a> {
     }
 }
 
-/// Whether what is to be sent goes the way of its agent.
+/// Returns `true` if a transmission has the transport and the address of its agent.
 fn goes(way: Way, sent: &Transmit<&[u8]>) -> bool {
     sent.transport == way.transport && sent.from == way.from
 }
 
-/// Adds all parts of what is to be sent.
+/// Appends all parts of a transmission.
 fn push_parts(alloc: Global, sent: &Transmit<&[u8]>, answer: &mut String) -> Result<(), Trouble> {
     let Transmit {
         data,
@@ -85,8 +85,8 @@ fn push_parts(alloc: Global, sent: &Transmit<&[u8]>, answer: &mut String) -> Res
     push_bytes(alloc, data, answer)
 }
 
-/// Adds `sent` where what is to be sent is these bytes, to this address and the way of the agent,
-/// and else its parts.
+/// Appends `sent` if a transmission has these bytes, goes to this address and has the transport and
+/// address of the agent. Otherwise appends its parts.
 pub fn push_sent(
     alloc: Global,
     sent: &Transmit<&[u8]>,
@@ -100,8 +100,9 @@ pub fn push_sent(
     push_parts(alloc, sent, answer)
 }
 
-/// Adds the id of the request that is lent to be sent again, to its address and the way of the
-/// agent. Where it is no such request its parts are added, and where nothing is lent, `none`.
+/// Appends the transaction ID of the request that the agent returns to be sent again, if the
+/// transmission has the address of that request and the transport and address of the agent. Appends
+/// its parts if it is not such a request, and `none` if nothing is returned.
 pub fn push_lent(
     alloc: Global,
     lent: Option<Transmit<&[u8]>>,

@@ -1,4 +1,4 @@
-//! How an agent is built, and what it tells of that.
+//! How an agent is built, and the call that prints that.
 
 use crate::agent::asked::{Asked, Way};
 use crate::agent::waits::waits;
@@ -9,18 +9,18 @@ use std::net::{IpAddr, Ipv4Addr, SocketAddr};
 use stun_agent::agent::{RequestRto, StunAgent};
 use stun_base::transport::TransportType;
 
-/// The address of an agent, where none is named.
+/// Returns the address of an agent for which none is named.
 pub fn usual_local() -> SocketAddr {
     SocketAddr::new(IpAddr::V4(Ipv4Addr::new(10, 0, 0, 1)), 12345)
 }
 
-/// The address of its peer, where none is named.
+/// Returns the address of its peer if none is named.
 pub fn usual_peer() -> SocketAddr {
     SocketAddr::new(IpAddr::V4(Ipv4Addr::new(10, 0, 0, 2)), 3478)
 }
 
-/// The address that words begin with, and the words behind it; that of the peer, where they begin
-/// with none.
+/// Returns the address at the front of the arguments, and the arguments after it. If there is none,
+/// returns the address of the peer and all arguments.
 pub fn address_or_peer<'w, 'a>(words: &'w [&'a str]) -> (SocketAddr, &'w [&'a str]) {
     match words {
         [first, rest @ ..] => match address(first) {
@@ -39,7 +39,7 @@ pub fn transport(word: &str) -> Result<TransportType, Trouble> {
     }
 }
 
-/// What an agent is built with.
+/// The settings of a new agent.
 #[derive(Clone, Copy)]
 struct Built {
     way: Way,
@@ -109,8 +109,8 @@ fn counting(
     })
 }
 
-/// `agent new udp|tcp [from ADDRESS] [to ADDRESS] [timeouts INITIAL MAX RETRANSMITS FINAL]
-/// [counts]`: a new agent, in the place of the one before.
+/// Plays `agent new udp|tcp [from ADDRESS] [to ADDRESS] [timeouts INITIAL MAX RETRANSMITS FINAL]
+/// [counts]`: creates an agent, which replaces the one before.
 pub fn begin(scene: &mut Scene<'_>, words: &[&str]) -> Result<(), Trouble> {
     let built = made_of(words)?;
     scene.agent.asked = Asked::new(scene.stage.heap);
@@ -133,7 +133,7 @@ pub fn begin(scene: &mut Scene<'_>, words: &[&str]) -> Result<(), Trouble> {
     Ok(())
 }
 
-/// `agent built`: its transport, its address, and the one that it sends to, if there is one.
+/// Plays `agent built`: prints its transport, its address, and its remote address, if it has one.
 pub fn tell(scene: &Scene<'_>, answer: &mut String) -> Result<(), Trouble> {
     let transport = scene.agent.agent.transport();
     let from = scene.agent.agent.local_addr();

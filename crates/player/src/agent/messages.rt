@@ -1,4 +1,4 @@
-//! Messages that an agent sends and takes, and the addresses that they come from.
+//! The messages that an agent sends and receives, and the addresses that they come from.
 
 use crate::agent::answers::{error_name, push_flag, push_flag_if_any};
 use crate::agent::asked::push_sent;
@@ -10,7 +10,7 @@ use crate::trouble::Trouble;
 use crate::words::address;
 use stun_types::message::Message;
 
-/// `agent asks [ADDRESS] MESSAGE`: keeps a request, and lends it to be sent.
+/// Plays `agent asks [ADDRESS] MESSAGE`: the agent stores a request, and returns it to be sent.
 pub fn ask(scene: &mut Scene<'_>, words: &[&str], answer: &mut String) -> Result<(), Trouble> {
     let (to, words) = address_or_peer(words);
     let bytes = message(&scene.stage, words)?;
@@ -25,7 +25,7 @@ pub fn ask(scene: &mut Scene<'_>, words: &[&str], answer: &mut String) -> Result
     scene.agent.asked.note(bytes, to)
 }
 
-/// `agent sends [ADDRESS] MESSAGE`: an indication or a response.
+/// Plays `agent sends [ADDRESS] MESSAGE`: the agent sends an indication or a response.
 pub fn send(scene: &mut Scene<'_>, words: &[&str], answer: &mut String) -> Result<(), Trouble> {
     let (to, words) = address_or_peer(words);
     let bytes = message(&scene.stage, words)?;
@@ -37,7 +37,7 @@ pub fn send(scene: &mut Scene<'_>, words: &[&str], answer: &mut String) -> Resul
     }
 }
 
-/// `agent sends-data [ADDRESS] HEX ..`: bytes that are no message.
+/// Plays `agent sends-data [ADDRESS] HEX ..`: the agent sends bytes that are not a message.
 pub fn send_data(
     scene: &mut Scene<'_>,
     words: &[&str],
@@ -54,7 +54,7 @@ pub fn send_data(
     }
 }
 
-/// `agent takes [ADDRESS] MESSAGE`: whether a message from there is taken.
+/// Plays `agent takes [ADDRESS] MESSAGE`: prints whether a message from this address is accepted.
 pub fn take(scene: &mut Scene<'_>, words: &[&str], answer: &mut String) -> Result<(), Trouble> {
     let (from, words) = address_or_peer(words);
     let bytes = message(&scene.stage, words)?;
@@ -66,7 +66,8 @@ pub fn take(scene: &mut Scene<'_>, words: &[&str], answer: &mut String) -> Resul
     push_flag_if_any(is_taken, answer)
 }
 
-/// `agent takes-timed [ADDRESS] MESSAGE`: the same, where the agent is told the time.
+/// Plays `agent takes-timed [ADDRESS] MESSAGE`, which is like `agent takes`, but passes the time to
+/// the agent.
 pub fn take_timed(
     scene: &mut Scene<'_>,
     words: &[&str],
@@ -86,7 +87,7 @@ pub fn take_timed(
     push_flag_if_any(is_taken, answer)
 }
 
-/// `agent validate ADDRESS`
+/// Plays `agent validate ADDRESS`: adds a validated peer.
 pub fn validate(scene: &mut Scene<'_>, words: &[&str], answer: &mut String) -> Result<(), Trouble> {
     let [word] = words else {
         return Err(Trouble::Words);
@@ -99,7 +100,7 @@ pub fn validate(scene: &mut Scene<'_>, words: &[&str], answer: &mut String) -> R
     Ok(())
 }
 
-/// `agent is-validated ADDRESS ..`: whether each is.
+/// Plays `agent is-validated ADDRESS ..`: prints for each address whether it is a validated peer.
 pub fn is_validated(scene: &Scene<'_>, words: &[&str], answer: &mut String) -> Result<(), Trouble> {
     for word in words {
         let address = address(word)?;

@@ -1,4 +1,4 @@
-//! Polls: what ends, what is to be sent again, and until when to wait.
+//! Polls: which requests end, which are sent again, and how long to wait.
 
 use crate::agent::Agent;
 use crate::agent::answers::{push_id, push_moment};
@@ -10,7 +10,7 @@ use std::alloc::Global;
 use stun_agent::agent::StunAgentPollRet;
 use stun_base::instant::Instant;
 
-/// `agent poll`: `wait MOMENT`, `timed out ID` or `cancelled ID`.
+/// Plays `agent poll`: prints `wait TIME`, `timed out ID` or `cancelled ID`.
 pub fn poll(scene: &mut Scene<'_>, answer: &mut String) -> Result<(), Trouble> {
     let now = scene.stage.now;
     scene.stage.begin();
@@ -31,7 +31,7 @@ pub fn poll(scene: &mut Scene<'_>, answer: &mut String) -> Result<(), Trouble> {
 }
 
 impl Agent<'_> {
-    /// Adds what the agent lends to be sent again.
+    /// Appends the transmission that the agent returns.
     fn push_transmit(
         &mut self,
         alloc: Global,
@@ -42,7 +42,7 @@ impl Agent<'_> {
         push_lent(alloc, lent, self.way, &self.asked, answer)
     }
 
-    /// The same, if there is room for `room` bytes.
+    /// Like `push_transmit`, if there is room for `room` bytes.
     fn push_transmit_within(
         &mut self,
         alloc: Global,
@@ -56,7 +56,7 @@ impl Agent<'_> {
         }
     }
 
-    /// Adds what it would lend.
+    /// Appends the transmission that the agent would return.
     fn push_next_transmit(
         &self,
         alloc: Global,
@@ -73,14 +73,15 @@ impl Agent<'_> {
     }
 }
 
-/// `agent transmit`: the id of the request that is sent again, or `none`.
+/// Plays `agent transmit`: prints the ID of the request that is sent again, or `none`.
 pub fn transmit(scene: &mut Scene<'_>, answer: &mut String) -> Result<(), Trouble> {
     let (alloc, now) = (scene.stage.source.alloc, scene.stage.now);
     scene.stage.begin();
     scene.agent.push_transmit(alloc, now, answer)
 }
 
-/// `agent transmit-within NUMBER`: the same, or `NoRoom` where it has more bytes.
+/// Plays `agent transmit-within NUMBER`, which is like `agent transmit`, but prints `NoRoom` if the
+/// request has more bytes.
 pub fn transmit_within(
     scene: &mut Scene<'_>,
     words: &[&str],
@@ -95,14 +96,14 @@ pub fn transmit_within(
     scene.agent.push_transmit_within(alloc, now, room, answer)
 }
 
-/// `agent next-transmit`: what `transmit` would answer.
+/// Plays `agent next-transmit`: prints what `transmit` would print.
 pub fn next_transmit(scene: &mut Scene<'_>, answer: &mut String) -> Result<(), Trouble> {
     let (alloc, now) = (scene.stage.source.alloc, scene.stage.now);
     scene.stage.begin();
     scene.agent.push_next_transmit(alloc, now, answer)
 }
 
-/// `agent next-awaited`: the least moment that a request awaits, or `none`.
+/// Plays `agent next-awaited`: prints the earliest time that a request waits for, or `none`.
 pub fn next_awaited(scene: &mut Scene<'_>, answer: &mut String) -> Result<(), Trouble> {
     scene.stage.begin();
     match scene.agent.agent.next_awaited() {

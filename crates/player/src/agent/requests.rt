@@ -1,4 +1,4 @@
-//! Requests that wait: where they went, and how their waits are changed.
+//! The calls on outstanding requests: where they were sent, and how their timeouts are changed.
 
 use crate::agent::waits::waits;
 use crate::names::algorithm_name;
@@ -8,10 +8,10 @@ use crate::words::id;
 use stun_agent::agent::RequestRto;
 use stun_types::message::TransactionId;
 
-/// What is answered of a request that is not outstanding.
+/// The answer for a request that is not outstanding.
 const NONE: &str = "none";
 
-/// `agent request ID`: `to ADDRESS, ALGORITHM`, `to ADDRESS, unsigned`, or `none`.
+/// Plays `agent request ID`: prints `to ADDRESS, ALGORITHM`, `to ADDRESS, unsigned`, or `none`.
 pub fn tell(scene: &Scene<'_>, words: &[&str], answer: &mut String) -> Result<(), Trouble> {
     let id = only_id(words)?;
     let Some(request) = scene.agent.agent.request_transaction(id) else {
@@ -32,7 +32,7 @@ fn only_id(words: &[&str]) -> Result<TransactionId, Trouble> {
     }
 }
 
-/// `agent cancel ID`
+/// Plays `agent cancel ID`.
 pub fn cancel(scene: &mut Scene<'_>, words: &[&str], answer: &mut String) -> Result<(), Trouble> {
     let id = only_id(words)?;
     scene.stage.begin();
@@ -43,7 +43,7 @@ pub fn cancel(scene: &mut Scene<'_>, words: &[&str], answer: &mut String) -> Res
     Ok(())
 }
 
-/// `agent cancel-retransmissions ID`
+/// Plays `agent cancel-retransmissions ID`.
 pub fn cancel_retransmissions(
     scene: &mut Scene<'_>,
     words: &[&str],
@@ -58,7 +58,7 @@ pub fn cancel_retransmissions(
     Ok(())
 }
 
-/// `agent configure ID INITIAL RETRANSMITS FINAL [MAX]`
+/// Plays `agent configure ID INITIAL RETRANSMITS FINAL [MAX]`.
 pub fn configure(
     scene: &mut Scene<'_>,
     words: &[&str],

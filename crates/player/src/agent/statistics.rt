@@ -1,4 +1,4 @@
-//! What an agent has counted.
+//! The statistics of an agent.
 
 use crate::agent::answers::push_span;
 use crate::scene::Scene;
@@ -6,12 +6,12 @@ use crate::trouble::Trouble;
 use std::time::Duration;
 use stun_agent::stats::StunAgentStats;
 
-/// What is answered where no statistics are kept.
+/// The answer if the agent keeps no statistics.
 const NOT_KEPT: &str = "not kept";
 
-/// `agent counts`: `NAME=SENT/RECEIVED` for messages and bytes, `NAME=NUMBER` for requests that are
-/// outstanding or have ended, and `round-trips=NUMBER/SHORTEST/LONGEST/AVERAGE`. What is zero is
-/// left out, and `nothing` is as new.
+/// Plays `agent counts`: prints `NAME=SENT/RECEIVED` for messages and bytes, `NAME=NUMBER` for
+/// requests that are outstanding or have ended, and `round-trips=NUMBER/SHORTEST/LONGEST/AVERAGE`.
+/// Zeros are left out, and the answer of a new agent is `nothing`.
 pub fn tell(scene: &Scene<'_>, answer: &mut String) -> Result<(), Trouble> {
     let Some(stats) = scene.agent.agent.stats() else {
         return Ok(answer.push_str(NOT_KEPT)?);
@@ -26,7 +26,7 @@ pub fn tell(scene: &Scene<'_>, answer: &mut String) -> Result<(), Trouble> {
     push_round_trips(stats, answer)
 }
 
-/// Adds a space, if something stands before.
+/// Appends a space, if there is text before it.
 fn part(answer: &mut String) -> Result<(), Trouble> {
     if !answer.as_str().is_empty() {
         answer.push(' ')?;
@@ -61,7 +61,7 @@ fn push_messages(stats: &StunAgentStats, answer: &mut String) -> Result<(), Trou
     push_pair("bytes", bytes, answer)
 }
 
-/// Adds a round trip, if there is one.
+/// Appends a round-trip time, if there is one.
 fn push_trip(trip: Option<Duration>, answer: &mut String) -> Result<(), Trouble> {
     answer.push('/')?;
     match trip {
@@ -84,7 +84,7 @@ fn push_round_trips(stats: &StunAgentStats, answer: &mut String) -> Result<(), T
     push_trip(average, answer)
 }
 
-/// `agent reset`: all that was counted is forgotten.
+/// Plays `agent reset`: resets the statistics.
 pub fn reset(scene: &mut Scene<'_>, answer: &mut String) -> Result<(), Trouble> {
     scene.stage.begin();
     match scene.agent.agent.stats_mut() {

@@ -1,4 +1,4 @@
-//! The waits of a request: when it is sent again, and when it is given up.
+//! The timeouts of a request: when it is sent again, and when it times out.
 
 use crate::agent::answers::push_span;
 use crate::agent::building::transport;
@@ -6,8 +6,8 @@ use crate::trouble::Trouble;
 use crate::words::{short_number, span};
 use stun_agent::agent::RequestRto;
 
-/// The wait after the first transmission, the longest between two, how many transmissions there
-/// are, and the last wait.
+/// Parses the timeout after the first transmission, the longest timeout between two, the number of
+/// transmissions, and the last timeout.
 pub fn waits(
     initial: &str,
     max: &str,
@@ -22,8 +22,8 @@ pub fn waits(
     })
 }
 
-/// `agent rto [INITIAL MAX RETRANSMITS FINAL] ..`: what these waits tell, or those that a request
-/// has by default.
+/// Plays `agent rto [INITIAL MAX RETRANSMITS FINAL] ..`: prints what these timeouts report, or what
+/// the defaults report.
 pub fn tell(words: &[&str], answer: &mut String) -> Result<(), Trouble> {
     match words {
         [initial, max, retransmits, last, words @ ..] => {
@@ -33,8 +33,8 @@ pub fn tell(words: &[&str], answer: &mut String) -> Result<(), Trouble> {
     }
 }
 
-/// `.. slots udp|tcp`: how often a request is sent again; `.. timeout NUMBER`: the wait after this
-/// transmission, counted from 0; `.. final-wait udp|tcp`: the wait after the last; or all four
+/// Plays `.. slots udp|tcp`: how often a request is sent again; `.. timeout NUMBER`: the timeout
+/// after this transmission, counted from 0; `.. final-wait udp|tcp`: the last timeout; or all four
 /// settings.
 fn tell_of(waits: RequestRto, words: &[&str], answer: &mut String) -> Result<(), Trouble> {
     if words.is_empty() {

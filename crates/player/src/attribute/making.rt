@@ -1,4 +1,4 @@
-//! Attributes that the library makes, and writes into a message from which they are read again.
+//! Attributes that the library creates and writes to a message, from which they are read again.
 
 use crate::attribute::registry::password_value;
 use crate::attribute::single::{carrier, only};
@@ -347,8 +347,8 @@ fn id_of(stage: &Stage<'_>, words: &[&str]) -> Result<TransactionId, Trouble> {
     }
 }
 
-/// `attribute rewrites PASSWORD-ALGORITHMS=VALUE`: the bytes of a list that was read, once it is
-/// written again.
+/// Plays `attribute rewrites PASSWORD-ALGORITHMS=VALUE`: prints the bytes of a list that was read
+/// and written again.
 pub fn rewrite(stage: &mut Stage<'_>, words: &[&str], answer: &mut String) -> Result<(), Trouble> {
     let alloc = stage.source.alloc;
     let bytes = carrier(stage, words)?;
@@ -368,11 +368,13 @@ pub fn rewrite(stage: &mut Stage<'_>, words: &[&str], answer: &mut String) -> Re
     answer_made(stage, asked, &read, told.as_str(), answer)
 }
 
-/// `attribute makes TYPE=VALUE [ID=..]`: what the attribute says that the library makes, or why it
-/// makes none.
+/// Plays two calls:
 ///
-/// `attribute writes TYPE=VALUE [ID=..]`: its bytes in a message of a writer, from which it is read
-/// again.
+/// `attribute makes TYPE=VALUE [ID=..]` prints the value of the attribute that the library creates,
+/// or why it creates none.
+///
+/// `attribute writes TYPE=VALUE [ID=..]` prints its bytes in a message of a writer, from which it
+/// is read again.
 pub fn make(
     stage: &mut Stage<'_>,
     words: &[&str],

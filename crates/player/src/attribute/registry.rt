@@ -1,4 +1,4 @@
-//! The numbers of types, codes and algorithms as the library has them.
+//! The numbers that the library has for attribute types, error codes and algorithms.
 
 use crate::message::typed::algorithm_word;
 use crate::names::algorithm_name;
@@ -12,7 +12,8 @@ use stun_types::attribute::{
 };
 use stun_types::prelude::*;
 
-/// `attribute takes LENGTH`: how many bytes an attribute takes whose value has LENGTH bytes.
+/// Plays `attribute takes LENGTH`: prints how many bytes an attribute with a value of LENGTH bytes
+/// takes in a message.
 pub fn takes(words: &[&str], answer: &mut String) -> Result<(), Trouble> {
     let [word] = words else {
         return Err(Trouble::Words);
@@ -21,7 +22,7 @@ pub fn takes(words: &[&str], answer: &mut String) -> Result<(), Trouble> {
     Ok(write!(answer, "{whole}")?)
 }
 
-/// The type that an attribute's own Rattle type states, as a constant and as a call.
+/// Returns the type that the Rattle type of an attribute states, as a constant and as a call.
 fn stated(name: &str) -> Option<[AttributeType; 2]> {
     match name {
         "USERNAME" => Some([Username::TYPE, Username::static_type()]),
@@ -44,8 +45,8 @@ fn stated(name: &str) -> Option<[AttributeType; 2]> {
     }
 }
 
-/// `attribute number TYPE`: the number of a type. What an attribute of it states is told behind it,
-/// if it is another.
+/// Plays `attribute number TYPE`: prints the number of a type. If an attribute of the type states
+/// another number, that one is printed too.
 pub fn number(stage: &mut Stage<'_>, words: &[&str], answer: &mut String) -> Result<(), Trouble> {
     let [name] = words else {
         return Err(Trouble::Words);
@@ -67,7 +68,7 @@ pub fn number(stage: &mut Stage<'_>, words: &[&str], answer: &mut String) -> Res
     Ok(())
 }
 
-/// `attribute code NAME`: the number of a code that has one.
+/// Plays `attribute code NAME`: prints the number of an error code.
 pub fn code(words: &[&str], answer: &mut String) -> Result<(), Trouble> {
     let [name] = words else {
         return Err(Trouble::Words);
@@ -81,7 +82,7 @@ pub fn code(words: &[&str], answer: &mut String) -> Result<(), Trouble> {
     Ok(write!(answer, "{code}")?)
 }
 
-/// `MD5` or `SHA256`.
+/// Parses `MD5` or `SHA256`.
 pub fn password_value(word: &str) -> Result<PasswordAlgorithmValue, Trouble> {
     match word {
         "MD5" => Ok(PasswordAlgorithmValue::MD5),
@@ -90,8 +91,9 @@ pub fn password_value(word: &str) -> Result<PasswordAlgorithmValue, Trouble> {
     }
 }
 
-/// `attribute algorithm MD5 | SHA256`: the digest that its keys go with, how many bytes that has,
-/// and the way back.
+/// Plays `attribute algorithm MD5
+/// SHA256`: prints the algorithm that its keys are for, the length of that algorithm's signatures,
+/// and the password algorithm for it.
 pub fn algorithm(words: &[&str], answer: &mut String) -> Result<(), Trouble> {
     let [word] = words else {
         return Err(Trouble::Words);

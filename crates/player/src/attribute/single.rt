@@ -1,4 +1,4 @@
-//! A single attribute, spelled by words, as the library reads it.
+//! A single attribute, spelled by arguments, as the library reads it.
 
 use crate::message::typed::{Found, push_read_as};
 use crate::spelling::{Spelling, add_words};
@@ -7,7 +7,7 @@ use crate::trouble::Trouble;
 use stun_types::attribute::RawAttribute;
 use stun_types::message::{Message, MessageClass};
 
-/// A request of the attribute that words spell, and of the id that they give.
+/// Spells a request with one attribute and a transaction ID.
 pub fn carrier(stage: &Stage<'_>, words: &[&str]) -> Result<Vec<u8>, Trouble> {
     let source = stage.source;
     let mut spelling = Spelling::new(source.alloc, MessageClass::Request);
@@ -15,7 +15,7 @@ pub fn carrier(stage: &Stage<'_>, words: &[&str]) -> Result<Vec<u8>, Trouble> {
     spelling.finish()
 }
 
-/// The first attribute of a message.
+/// Returns the first attribute of a message.
 pub fn only<'a>(message: &Message<'a>) -> Result<RawAttribute<'a>, Trouble> {
     match message.iter_attributes().next() {
         Some((_, attribute)) => Ok(attribute),
@@ -23,8 +23,8 @@ pub fn only<'a>(message: &Message<'a>) -> Result<RawAttribute<'a>, Trouble> {
     }
 }
 
-/// `attribute reads TYPE ATTRIBUTE [ID=..]`: what it says where it is read as one of this type, or
-/// why it is not.
+/// Plays `attribute reads TYPE ATTRIBUTE [ID=..]`: prints the value of the attribute if it is read
+/// as one of this type, or why it cannot be.
 pub fn reads(stage: &mut Stage<'_>, words: &[&str], answer: &mut String) -> Result<(), Trouble> {
     let [name, words @ ..] = words else {
         return Err(Trouble::Words);
@@ -38,7 +38,8 @@ pub fn reads(stage: &mut Stage<'_>, words: &[&str], answer: &mut String) -> Resu
     push_read_as(stage.source.alloc, name, id, found, answer)
 }
 
-/// `attribute lengths ATTRIBUTE`: how many bytes its value has, and how many it takes in a message.
+/// Plays `attribute lengths ATTRIBUTE`: prints the length of its value, and how many bytes it takes
+/// in a message.
 pub fn lengths(stage: &mut Stage<'_>, words: &[&str], answer: &mut String) -> Result<(), Trouble> {
     let bytes = carrier(stage, words)?;
     let Ok(message) = Message::from_bytes(bytes.as_slice()) else {
@@ -50,8 +51,8 @@ pub fn lengths(stage: &mut Stage<'_>, words: &[&str], answer: &mut String) -> Re
     Ok(write!(answer, "{length} in {padded}")?)
 }
 
-/// `attribute is-digest ATTRIBUTE`: whether it is an integrity attribute whose value has a length
-/// of its type.
+/// Plays `attribute is-digest ATTRIBUTE`: prints whether it is an integrity attribute whose value
+/// has a length that its type allows.
 pub fn is_digest(
     stage: &mut Stage<'_>,
     words: &[&str],

@@ -1,4 +1,4 @@
-//! HMAC, by each call that makes one, of a text in one piece and in several.
+//! HMAC of a text in one piece and in several, by each call that computes one.
 
 use crate::digest::bytes_of;
 use crate::names::OUT_OF_MEMORY;
@@ -80,7 +80,7 @@ fn prepared<'a>(stage: &mut Stage<'a>, bytes: Vec<u8>) -> Option<Keys<'a>> {
     })
 }
 
-/// `digest hmac KEY TEXT`: HMAC-SHA1 and HMAC-SHA256.
+/// Plays `digest hmac KEY TEXT`: prints HMAC-SHA1 and HMAC-SHA256.
 pub fn tell(stage: &mut Stage<'_>, words: &[&str], answer: &mut String) -> Result<(), Trouble> {
     let [key, words @ ..] = words else {
         return Err(Trouble::Words);

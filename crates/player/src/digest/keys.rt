@@ -1,4 +1,4 @@
-//! The keys of long-term credentials and the hashes that name users, by each call that makes one.
+//! The keys of long-term credentials and the hashes of user names, by each call that computes one.
 
 use crate::digest::bytes_of;
 use crate::names::OUT_OF_MEMORY;
@@ -108,8 +108,8 @@ fn push_of_texts(
     Ok(())
 }
 
-/// `digest key sha1 | sha256 NAME REALM PASSWORD`: the long-term key, or `none` of bytes that are
-/// no text.
+/// Plays `digest key sha1
+/// sha256 NAME REALM PASSWORD`: prints the long-term key, or `none` if the bytes are not a text.
 pub fn tell(stage: &mut Stage<'_>, words: &[&str], answer: &mut String) -> Result<(), Trouble> {
     let [word, words @ ..] = words else {
         return Err(Trouble::Words);
@@ -132,7 +132,7 @@ pub fn tell(stage: &mut Stage<'_>, words: &[&str], answer: &mut String) -> Resul
     }
 }
 
-/// `digest userhash NAME REALM`
+/// Plays `digest userhash NAME REALM`.
 pub fn hash(stage: &mut Stage<'_>, words: &[&str], answer: &mut String) -> Result<(), Trouble> {
     let [name, realm] = words else {
         return Err(Trouble::Words);

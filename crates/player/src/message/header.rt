@@ -1,4 +1,4 @@
-//! What is read of a message as a whole: its header, its length, and which attributes are visible.
+//! A message as a whole: its header, its length, and which attributes are visible.
 
 use crate::kept::message;
 use crate::message::naming::{class_name, push_parse_error};
@@ -17,13 +17,13 @@ const CLASSES: [MessageClass; 4] = [
     MessageClass::Error,
 ];
 
-/// Adds an id: `0x` and 24 digits.
+/// Appends a transaction ID: `0x` and 24 digits.
 pub fn push_id(alloc: Global, id: TransactionId, answer: &mut String) -> Result<(), Trouble> {
     answer.push_str("0x")?;
     push_bytes(alloc, &id.as_u128().to_be_bytes()[4..], answer)
 }
 
-/// Adds a type: its number, its class, whether that is one of responses, and its method.
+/// Appends a message type: its number, its class, whether that is a response, and its method.
 pub fn push_type(kind: MessageType, answer: &mut String) -> Result<(), Trouble> {
     let number = kind.value();
     let class = kind.class();
@@ -41,7 +41,8 @@ pub fn push_type(kind: MessageType, answer: &mut String) -> Result<(), Trouble> 
     Ok(write!(answer, " 0x{method:03x}")?)
 }
 
-/// `message header MESSAGE`: what `MessageHeader::from_bytes` reads of its first twenty bytes.
+/// Plays `message header MESSAGE`: prints what `MessageHeader::from_bytes` returns for its first
+/// twenty bytes.
 pub fn tell(stage: &mut Stage<'_>, words: &[&str], answer: &mut String) -> Result<(), Trouble> {
     let bytes = message(stage, words)?;
     match MessageHeader::from_bytes(bytes.as_slice()) {
@@ -101,8 +102,8 @@ fn push_refusal(
     Ok(push_parse_error(error, answer)?)
 }
 
-/// Adds what both readers make of bytes: the message, or the refusal. `header,` comes before a
-/// refusal if a header is read.
+/// Appends what both parsers return for these bytes: the message, or the error. If the header can
+/// be parsed, `header,` comes before the error.
 pub fn push_read(alloc: Global, bytes: &[u8], answer: &mut String) -> Result<(), Trouble> {
     let header = MessageHeader::from_bytes(bytes).err();
     match Message::from_bytes(bytes) {
@@ -112,13 +113,15 @@ pub fn push_read(alloc: Global, bytes: &[u8], answer: &mut String) -> Result<(),
     }
 }
 
-/// `message reads MESSAGE`: what `Message::from_bytes` and `MessageHeader::from_bytes` answer.
+/// Plays `message reads MESSAGE`: prints what `Message::from_bytes` and `MessageHeader::from_bytes`
+/// return.
 pub fn reads(stage: &mut Stage<'_>, words: &[&str], answer: &mut String) -> Result<(), Trouble> {
     let bytes = message(stage, words)?;
     push_read(stage.source.alloc, bytes.as_slice(), answer)
 }
 
-/// `message attributes MESSAGE`: type, place and length of each visible attribute, or `none`.
+/// Plays `message attributes MESSAGE`: prints type, offset and length of each visible attribute, or
+/// `none`.
 pub fn attributes(
     stage: &mut Stage<'_>,
     words: &[&str],

@@ -1,4 +1,4 @@
-//! Types, ids and refusals of messages in words.
+//! Message types, transaction IDs and errors as text.
 
 use crate::message::header::{push_id, push_type};
 use crate::stage::Stage;
@@ -19,7 +19,7 @@ pub fn class_name(class: MessageClass) -> &'static str {
     }
 }
 
-/// Adds why something is not read. A missing attribute is told by its type.
+/// Appends why something cannot be parsed. For a missing attribute, its type is printed.
 pub fn push_parse_error(error: StunParseError, answer: &mut String) -> Result<(), AllocError> {
     match error {
         StunParseError::Truncated => answer.push_str("Truncated"),
@@ -33,7 +33,7 @@ pub fn push_parse_error(error: StunParseError, answer: &mut String) -> Result<()
     }
 }
 
-/// Adds why no digest verifies.
+/// Appends why no signature is valid.
 pub fn push_validate_error(error: ValidateError, answer: &mut String) -> Result<(), AllocError> {
     match error {
         ValidateError::Parse(error) => push_parse_error(error, answer),
@@ -49,8 +49,8 @@ fn method(stage: &Stage<'_>, word: &str) -> Result<Option<Method>, Trouble> {
     }
 }
 
-/// `message type CLASS METHOD`: the type of both, and what is read of it; `none` where that is no
-/// method.
+/// Plays `message type CLASS METHOD`: prints the message type of both and what is read from it, or
+/// `none` if there is no such method.
 pub fn type_of(stage: &mut Stage<'_>, words: &[&str], answer: &mut String) -> Result<(), Trouble> {
     let [word, number] = words else {
         return Err(Trouble::Words);
@@ -70,7 +70,8 @@ pub fn type_of(stage: &mut Stage<'_>, words: &[&str], answer: &mut String) -> Re
     Ok(())
 }
 
-/// `message ids COUNT`: COUNT ids, one after another from the numbers that are drawn.
+/// Plays `message ids COUNT`: prints COUNT transaction IDs that are made of the random numbers of
+/// the stage.
 pub fn ids(stage: &mut Stage<'_>, words: &[&str], answer: &mut String) -> Result<(), Trouble> {
     let [count] = words else {
         return Err(Trouble::Words);

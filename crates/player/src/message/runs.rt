@@ -1,5 +1,5 @@
-//! Calls that read many messages at once. Answers that are the same one after another are told
-//! once, with their count.
+//! Calls that read many messages at once. Equal answers in succession are printed once, with their
+//! number.
 
 use crate::kept::message;
 use crate::message::header::push_read;
@@ -60,8 +60,8 @@ fn note_read(
     runs.note(told, answer)
 }
 
-/// `message prefixes MESSAGE`: what `reads` answers to its first 0, 1 .. bytes, up to all but the
-/// last.
+/// Plays `message prefixes MESSAGE`: prints what `reads` returns for its first 0, 1 .. bytes, up to
+/// all but the last.
 pub fn prefixes(stage: &mut Stage<'_>, words: &[&str], answer: &mut String) -> Result<(), Trouble> {
     let alloc = stage.source.alloc;
     let bytes = message(stage, words)?;
@@ -74,7 +74,8 @@ pub fn prefixes(stage: &mut Stage<'_>, words: &[&str], answer: &mut String) -> R
     runs.tell(answer)
 }
 
-/// `message tails COUNT MESSAGE`: what `reads` answers to it with 1, 2 .. COUNT zeros behind it.
+/// Plays `message tails COUNT MESSAGE`: prints what `reads` returns for it with 1, 2 .. COUNT zeros
+/// after it.
 pub fn tails(stage: &mut Stage<'_>, words: &[&str], answer: &mut String) -> Result<(), Trouble> {
     let [count, words @ ..] = words else {
         return Err(Trouble::Words);

@@ -1,4 +1,4 @@
-//! Attributes that are read by their types.
+//! Attributes that are parsed as their types.
 
 use crate::kept::message;
 use crate::message::naming::push_parse_error;
@@ -16,7 +16,7 @@ use stun_types::attribute::{
 use stun_types::message::{Message, StunParseError, TransactionId};
 use stun_types::prelude::*;
 
-/// Where an attribute is read: it is there itself, or it is the first visible one of its type in a
+/// Where an attribute is read from: the attribute itself, or the first visible one of its type in a
 /// message.
 #[derive(Drop)]
 pub enum Found<'a> {
@@ -33,7 +33,7 @@ fn read<'a, A: AttributeFromRaw<'a> + AttributeStaticType>(
     }
 }
 
-/// Adds an error: its code, and its phrase behind it if there is one.
+/// Appends an error: its code, and its phrase if there is one.
 pub fn push_error(error: &ErrorCode<'_>, answer: &mut String) -> Result<(), Trouble> {
     let code = error.code();
     write!(answer, "{code}")?;
@@ -91,7 +91,7 @@ fn is_list(
     is_so
 }
 
-/// Adds the algorithms of a list, or `-`.
+/// Appends the algorithms of a list, or `-`.
 pub fn push_algorithms(
     alloc: Global,
     list: &PasswordAlgorithms<'_>,
@@ -114,7 +114,7 @@ pub fn push_algorithms(
     Ok(())
 }
 
-/// Adds an address.
+/// Appends an address.
 pub fn push_address(address: SocketAddr, answer: &mut String) -> Result<(), Trouble> {
     Ok(write!(answer, "{address}")?)
 }
@@ -214,7 +214,8 @@ fn raw(alloc: Global, found: Found<'_>, answer: &mut String) -> Result<(), Troub
     }
 }
 
-/// Adds what an attribute says where it is read as one of a name, or why it is not.
+/// Appends the value of an attribute that is parsed as the type with this name, or why it cannot
+/// be.
 pub fn push_read_as(
     alloc: Global,
     name: &str,
@@ -237,7 +238,8 @@ pub fn push_read_as(
     }
 }
 
-/// `message attribute TYPE MESSAGE`: what the first visible one of a type says.
+/// Plays `message attribute TYPE MESSAGE`: prints the value of the first visible attribute of a
+/// type.
 pub fn first(stage: &mut Stage<'_>, words: &[&str], answer: &mut String) -> Result<(), Trouble> {
     let [name, words @ ..] = words else {
         return Err(Trouble::Words);

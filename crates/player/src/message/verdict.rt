@@ -1,4 +1,4 @@
-//! Whether a message verifies under a key, by each call that takes one.
+//! Whether the signature of a message is valid under a key, by each call that takes one.
 
 use crate::kept::message;
 use crate::message::naming::push_validate_error;
@@ -162,7 +162,8 @@ fn by_word(
     }
 }
 
-/// `message verifies KEY MESSAGE`: the algorithm of the digest that verifies, or why none does.
+/// Plays `message verifies KEY MESSAGE`: prints the algorithm of the valid signature, or why none
+/// is valid.
 pub fn verify(stage: &mut Stage<'_>, words: &[&str], answer: &mut String) -> Result<(), Trouble> {
     let [key, words @ ..] = words else {
         return Err(Trouble::Words);
@@ -210,8 +211,8 @@ fn note_length(
     Ok(())
 }
 
-/// `message digest-lengths TYPE`: of 0 to 40 bytes, the lengths at which a digest of zeros is
-/// compared, alone and before FINGERPRINT. At the others it is malformed.
+/// Plays `message digest-lengths TYPE`: prints, of 0 to 40 bytes, the lengths at which a signature
+/// of zeros is compared, alone and before FINGERPRINT. At the other lengths it is malformed.
 pub fn digest_lengths(
     stage: &mut Stage<'_>,
     words: &[&str],

@@ -125,7 +125,7 @@ fn begun<W: MessageWrite>(beginning: &Beginning<'_>, writer: W) -> Result<W, Stu
     }
 }
 
-/// `write new`: an empty vector, in which nothing is begun.
+/// Plays `write new`: creates an empty vector, in which no message is begun.
 pub fn empty(scene: &mut Scene<'_>, words: &[&str]) -> Result<(), Trouble> {
     if !words.is_empty() {
         return Err(Trouble::Words);
@@ -135,7 +135,7 @@ pub fn empty(scene: &mut Scene<'_>, words: &[&str]) -> Result<(), Trouble> {
     Ok(())
 }
 
-/// `write begin BEGINNING`: a message in a vector, in the place of the one before.
+/// Plays `write begin BEGINNING`: begins a message in a vector, which replaces the message before.
 pub fn in_vector(
     scene: &mut Scene<'_>,
     words: &[&str],
@@ -153,7 +153,7 @@ pub fn in_vector(
     }
 }
 
-/// `write begin-in ROOM BEGINNING`: a message in a slice of ROOM bytes, up to 256.
+/// Plays `write begin-in ROOM BEGINNING`: begins a message in a slice of ROOM bytes, up to 256.
 pub fn in_slice(scene: &mut Scene<'_>, words: &[&str], answer: &mut String) -> Result<(), Trouble> {
     let [length, words @ ..] = words else {
         return Err(Trouble::Words);

@@ -1,4 +1,4 @@
-//! Attributes that are added, and messages that are signed.
+//! Adds attributes to a message, and signs it.
 
 use super::{Slice, Writer, push_answer};
 use crate::phrases::phrase;
@@ -13,17 +13,17 @@ use stun_types::message::{
 };
 use stun_types::prelude::*;
 
-/// What a call that writes answers.
+/// What a call that writes returns.
 type Made = Result<(), StunWriteError>;
 
-/// By what a message is signed, and validated.
+/// What a message is signed and verified with.
 #[derive(Drop)]
 pub enum Signer {
     Credentials(MessageIntegrityCredentials),
     Key(IntegrityKey),
-    /// The bytes of a key, which are lent.
+    /// The bytes of a key, borrowed.
     Bytes(IntegrityKey),
-    /// A key, by the call that leaves its conditions to the caller.
+    /// A key, for the call that leaves its conditions to the caller.
     Unchecked(IntegrityKey),
 }
 
@@ -54,7 +54,7 @@ fn key(alloc: Global, word: &str) -> Result<IntegrityKey, Trouble> {
     }
 }
 
-/// `credentials`, `key`, `bytes` or `unchecked`, and the secret.
+/// Parses `credentials`, `key`, `bytes` or `unchecked`, and the secret.
 pub fn signer_of(alloc: Global, way: &str, words: &[&str]) -> Result<Signer, Trouble> {
     let secret = phrase(alloc, words)?;
     let secret = secret.as_str();
@@ -67,8 +67,8 @@ pub fn signer_of(alloc: Global, way: &str, words: &[&str]) -> Result<Signer, Tro
     }
 }
 
-/// `write add TYPE=VALUE`: USERNAME as the library has it, any other attribute by its type and
-/// bytes: a text, or `0x` and digits.
+/// Plays `write add TYPE=VALUE`: adds USERNAME by the call of the library, and any other attribute
+/// by its type and its bytes: a text, or `0x` and digits.
 pub fn add(scene: &mut Scene<'_>, words: &[&str], answer: &mut String) -> Result<(), Trouble> {
     let alloc = scene.stage.source.alloc;
     let [word] = words else {
@@ -126,7 +126,7 @@ fn add_in_slice<A: Attribute>(
     Ok(made)
 }
 
-/// `write sign WAY ALGORITHM SECRET`
+/// Plays `write sign WAY ALGORITHM SECRET`.
 pub fn sign(scene: &mut Scene<'_>, words: &[&str], answer: &mut String) -> Result<(), Trouble> {
     let alloc = scene.stage.source.alloc;
     let [way, word, words @ ..] = words else {

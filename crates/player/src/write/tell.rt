@@ -1,4 +1,4 @@
-//! What the writer tells of its message.
+//! What the writer reports about its message.
 
 use super::Writer;
 use super::steps::{Signer, signer_of};
@@ -15,7 +15,7 @@ use stun_types::message::{
 };
 use stun_types::prelude::*;
 
-/// What is asked of the message.
+/// Plays the calls that read the message.
 pub fn call(
     scene: &mut Scene<'_>,
     name: &str,

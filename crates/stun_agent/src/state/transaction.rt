@@ -11,6 +11,7 @@ ghost use Rattle.stun_agent.specs.Transactions.{after_slot, round_trip};
 use crate::state::address::is_same;
 use crate::state::deadlines::{Deadline, DeadlineKind};
 use crate::state::rto::RequestRto;
+use crate::state::timeouts::Timeouts;
 use std::alloc::{Allocator, Global};
 use std::marker::Model;
 use std::net::SocketAddr;
@@ -74,14 +75,13 @@ pub(crate) struct Transaction<A: Allocator = Global> {
     bytes: Vec<u8, A>,
     to: SocketAddr,
     integrity: Option<IntegrityAlgorithm>,
-    settings: RequestRto,
+    timeouts: Timeouts,
     slot: u32,
     last: Instant,
     sending: Sending,
 }
 
 impl<A: Allocator> Model for Transaction<A> {
-    ghost use Rattle.stun_agent.specs.Timing.{settings_of};
     ghost use Rattle.stun_agent.specs.Transactions.{Transaction};
 
     ghost Value = { Transaction };
@@ -90,7 +90,7 @@ impl<A: Allocator> Model for Transaction<A> {
       bytes = t.bytes.items;
       to = t.to;
       integrity = t.integrity;
-      settings = settings_of t.settings;
+      settings = t.timeouts;
       slot = t.slot;
       last = t.last;
       sending = t.sending;
@@ -111,7 +111,7 @@ impl<A: Allocator> Transaction<A> {
             bytes,
             to,
             integrity,
-            settings,
+            timeouts: Timeouts::of(settings),
             slot: 0,
             last: now,
             sending: Sending::Repeats,
@@ -167,7 +167,7 @@ impl<A: Allocator> Transaction<A> {
             Change::Silence => self.sending = self.sending.silenced(),
             Change::Cancel => self.sending = Sending::Cancelled,
             Change::Configure(settings) => {
-                self.settings = settings;
+                self.timeouts = Timeouts::of(settings);
             }
         }
     }
@@ -176,7 +176,7 @@ impl<A: Allocator> Transaction<A> {
     fn has_slots(&self, transport: TransportType) -> bool
         ensures { result ≡ has_slots transport self.now }
     {
-        self.slot < self.settings.slots(transport)
+        self.slot < self.timeouts.settings().slots(transport)
     }
 
     pub(crate) fn is_cancelled(&self) -> bool
@@ -189,10 +189,11 @@ impl<A: Allocator> Transaction<A> {
     pub(crate) fn awaited(&self, transport: TransportType) -> Instant
         ensures { result ≡ awaited_moment transport self.now }
     {
+        let settings = self.timeouts.settings();
         let wait = if self.has_slots(transport) {
-            self.settings.timeout(self.slot)
+            settings.timeout(self.slot)
         } else {
-            self.settings.final_wait(transport)
+            settings.final_wait(transport)
         };
         self.last + wait
     }
@@ -236,7 +237,7 @@ impl<A: Allocator> Transaction<A> {
         requires { self.old.slot < repetitions self.old.settings }
         ensures { self.new ≡ after_slot now self.old }
     {
-        prove!(self.slot < self.settings.retransmits);
+        prove!(self.slot < self.timeouts.transmissions);
         self.slot += 1;
         self.last = now;
     }

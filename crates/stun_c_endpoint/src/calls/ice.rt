@@ -106,8 +106,8 @@ pub extern "C" fn stunp_ice_checker_set_tie_breaker(
     answer
 }
 
-/// Writes a check to the front of `out`, and returns its length. What its answer is judged by is
-/// written to `check`.
+/// Writes a check to the front of `out`, and returns its length. What the agent needs to judge the
+/// answer is written to `check`.
 ///
 /// Fails with `BadArgument` for the address, then with `OutOfMemory`, then with `BufferTooSmall`.
 #[unsafe(no_mangle)]
@@ -133,13 +133,13 @@ pub extern "C" fn stunp_ice_checker_check_with(
     answer
 }
 
-/// Judges a datagram that came from an address, and returns the number of what it comes to. The
-/// answer to a check of the peer is written to the front of `out`. `check` is the check of this agent
-/// that the datagram may answer, if `has_check` is true.
+/// Judges a datagram that came from an address, and returns the number of the result. If the
+/// datagram is a check of the peer, the answer is written to the front of `out`. `check` is the
+/// check of this agent that the datagram may answer, if `has_check` is true.
 ///
-/// Fails with `BadArgument` for the size of what is told, for the address, or for the one in `check`.
-/// Then come `OutOfMemory`, and `BufferTooSmall`: the length of the answer is told then, and nothing
-/// else. The agent is unchanged by every failure.
+/// Fails with `BadArgument` for the size of the caller's struct, for the address, or for the
+/// address in `check`. Then come `OutOfMemory`, and `BufferTooSmall`, which writes the length of
+/// the answer and nothing else. Every failure leaves the agent unchanged.
 #[unsafe(no_mangle)]
 pub extern "C" fn stunp_ice_checker_receive_with(
     alloc: Global,

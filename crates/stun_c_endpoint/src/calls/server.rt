@@ -2,6 +2,7 @@
 
 ghost use Rattle.std.specs.Prelude.{◌≡◌, Some, None, IfNone, IfSome, if◌then◌else◌};
 ghost use Rattle.stun_numbers.specs.Refusals.{refusal_number};
+ghost use Rattle.stun_c_endpoint.specs.Causes.{CausedAs, caused_at, long_term_and_users};
 ghost use Rattle.stun_c_endpoint.specs.Given.{MakesOpen, MakesServer, MakesShortTerm};
 ghost use Rattle.stun_c_endpoint.specs.Kept.{judge_of};
 ghost use Rattle.stun_c_endpoint.specs.Lookups.{IdentifiesAs, identified_at, long_term_in};
@@ -16,12 +17,12 @@ use stun_handles::address::Address;
 use stun_handles::answers;
 use stun_numbers::refusal::Refusal;
 
-/// Creates a server with long-term credentials. A number of seconds that is 0 is an hour, algorithms
-/// that are 0 are both, and a text of SOFTWARE without bytes is none.
+/// Creates a server with long-term credentials. A nonce lifetime of 0 seconds means an hour,
+/// algorithms of 0 mean both, and a SOFTWARE text without bytes means none.
 ///
-/// Fails with `FullHandle`, then with `BadArgument` for algorithms above 3, for a feature above 2 or
-/// for less than 30 seconds. Then come `NotText` for the realm or SOFTWARE,
-/// `TextTooLong` for more than 763 bytes of either, and `OutOfMemory`.
+/// Fails with `FullHandle`, then with `BadArgument` for algorithms above 3, for a feature above 2
+/// or for a lifetime below 30 seconds. Then come `NotText` for the realm or SOFTWARE, `TextTooLong`
+/// for more than 763 bytes of either, and `OutOfMemory`.
 #[unsafe(no_mangle)]
 pub extern "C" fn stunp_endpoint_server_new_with(
     alloc: Global,
@@ -69,7 +70,7 @@ pub extern "C" fn stunp_endpoint_server_new_with(
     given.place(alloc, server)
 }
 
-/// The secret before, if there is one.
+/// Returns the previous secret, if there is one.
 fn previous(secret: &[u8; 32], is_there: bool) -> Option<[u8; 32]>
     ensures { result ≡ (if is_there then Some secret.now else None) }
 {
@@ -79,8 +80,8 @@ fn previous(secret: &[u8; 32], is_there: bool) -> Option<[u8; 32]>
     None
 }
 
-/// Creates a server with short-term credentials (RFC 8489, section 9.1). A text of SOFTWARE without
-/// bytes is none.
+/// Creates a server with short-term credentials (RFC 8489, section 9.1). A SOFTWARE text without
+/// bytes means none.
 ///
 /// Fails with `FullHandle`, then with `NotText` for SOFTWARE, then with `TextTooLong` for more than
 /// 763 bytes of it, then with `OutOfMemory`.
@@ -112,8 +113,8 @@ pub extern "C" fn stunp_endpoint_server_new_short_term(
     given.place_short_term(alloc, server)
 }
 
-/// Creates a server without credentials, which answers everybody. A text of SOFTWARE without bytes is
-/// none.
+/// Creates a server without credentials, which responds to every client. A SOFTWARE text without
+/// bytes means none.
 ///
 /// Fails with `FullHandle`, then with `NotText` for SOFTWARE, then with `TextTooLong` for more than
 /// 763 bytes of it, then with `OutOfMemory`.
@@ -153,14 +154,15 @@ pub extern "C" fn stunp_endpoint_server_clear(alloc: Global, server: &mut Endpoi
     let _kept = server.take(alloc);
 }
 
-/// Judges a datagram that came from an address, and returns the number of what it comes to. A
-/// response that it gets at once is written to the front of `out`. `unix_seconds` is the time of the
-/// wall clock. A server without credentials looks at no users.
+/// Judges a datagram that came from an address, and returns the number of the result. If the server
+/// responds by itself, the response is written to the front of `out`. `unix_seconds` is the time of
+/// the wall clock. A server without credentials ignores the users.
 ///
 /// Fails with `EmptyHandle` or `WrongHandle` for the server's handle, then for that of the users.
-/// A `WrongHandle` has a value of another kind, or users of another kind of credentials. Then come
-/// `BadArgument` for the size of what is told, for the time or for the address, `OutOfMemory`, and
-/// `BufferTooSmall`: the length of the response is told then, and nothing else.
+/// `WrongHandle` means that the value is of another kind, or that the users have another kind of
+/// credentials. Then come `BadArgument` for the size of the caller's struct, for the time or for
+/// the address, `OutOfMemory`, and `BufferTooSmall`, which writes the length of the response and
+/// nothing else.
 #[unsafe(no_mangle)]
 pub extern "C" fn stunp_endpoint_server_receive_own(
     alloc: Global,
@@ -192,13 +194,13 @@ pub extern "C" fn stunp_endpoint_server_receive_own(
     answer
 }
 
-/// Judges a datagram as far as that is possible without its user, and returns the number of what it
-/// comes to, or 5 if it is a request that waits for its user.
+/// Judges a datagram as far as that is possible without its user, and returns the number of the
+/// result, which is 5 if the datagram is a request whose user must be looked up.
 ///
 /// Fails with `EmptyHandle`, or with `WrongHandle` for anything but a server with long-term
-/// credentials. Then come `BadArgument` for the size of what is told, for the time or for the
-/// address, `OutOfMemory`, and `BufferTooSmall`: the length of the response is told then, and nothing
-/// else.
+/// credentials. Then come `BadArgument` for the size of the caller's struct, for the time or for
+/// the address, `OutOfMemory`, and `BufferTooSmall`, which writes the length of the response and
+/// nothing else.
 #[unsafe(no_mangle)]
 pub extern "C" fn stunp_endpoint_server_identify_own(
     alloc: Global,
@@ -218,6 +220,42 @@ pub extern "C" fn stunp_endpoint_server_identify_own(
     };
     let told = server::identify(&kept, message, from, unix_seconds, out, received);
     let answer = answers::number(told);
+    server.put(alloc, kept);
+    answer
+}
+
+/// Returns the number of the cause for which a server with long-term credentials refuses a datagram,
+/// or 0 if it does not.
+///
+/// Fails with `EmptyHandle` for the server's handle, or with `WrongHandle` if it has anything but a
+/// server with long-term credentials. The users' handle is next: `EmptyHandle`, and `WrongHandle` if
+/// it has anything but users of a realm. Then come `BadArgument` for the time or for the address, and
+/// `OutOfMemory`.
+#[unsafe(no_mangle)]
+pub extern "C" fn stunp_endpoint_server_cause_own(
+    alloc: Global,
+    server: &mut EndpointHandle,
+    users: &mut EndpointHandle,
+    message: &[u8],
+    from: &Address,
+    unix_seconds: u64,
+) -> i64
+    ensures answer { CausedAs (caused_at (long_term_and_users server.old.kept users.old.kept) from.now
+        unix_seconds message.now) result }
+    ensures server { server.new.kept ≡ server.old.kept }
+    ensures users { users.new.kept ≡ users.old.kept }
+{
+    let Some(kept) = server.take(alloc) else {
+        return Refusal::EmptyHandle.code();
+    };
+    let Some(table) = users.take(alloc) else {
+        let refusal = server::cause_alone(&kept);
+        server.put(alloc, kept);
+        return refusal.code();
+    };
+    let caused = server::cause(&kept, &table, message, from, unix_seconds);
+    let answer = answers::number(caused);
+    users.put(alloc, table);
     server.put(alloc, kept);
     answer
 }

@@ -60,8 +60,8 @@ pub extern "C" fn stunp_endpoint_users_clear(alloc: Global, users: &mut Endpoint
     let _kept = users.take(alloc);
 }
 
-/// Adds a user with a password, or replaces what the table has of this user. Fails with `NotText`,
-/// then with `TextTooLong` for a name of more than 513 bytes, then with `OutOfMemory`.
+/// Adds a user with a password, or replaces the user of this name. Fails with `NotText`, then with
+/// `TextTooLong` for a name of more than 513 bytes, then with `OutOfMemory`.
 #[unsafe(no_mangle)]
 pub extern "C" fn stunp_endpoint_users_add(
     alloc: Global,
@@ -81,8 +81,8 @@ pub extern "C" fn stunp_endpoint_users_add(
 }
 
 /// Adds a user with stored keys, of 16 bytes for HMAC-SHA1 and of 32 for HMAC-SHA256, or replaces
-/// what the table has of this user. A key of no bytes is none. Users with short-term credentials
-/// have no keys: such a table is a `WrongHandle`.
+/// the user of this name. A key without bytes is missing. Users with short-term credentials have no
+/// stored keys, so for their table the call fails with `WrongHandle`.
 ///
 /// Fails with `NotText`, then with `TextTooLong` for a name of more than 513 bytes, then with
 /// `BadArgument` for the length of a key, then with `OutOfMemory`.

@@ -14,7 +14,7 @@ use stun_endpoint::users::Users;
 use stun_handles::handle::Loose;
 use stun_ice::checker::Checker;
 
-/// A value of the heap: a server, a table of users, or an agent of ICE.
+/// A value on the heap: a server, a table of users, or an agent of ICE.
 #[derive(Drop)]
 pub enum Kept {
     Server(Server<Global>),

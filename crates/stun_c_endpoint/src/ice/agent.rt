@@ -1,4 +1,4 @@
-//! The agent of ICE that a caller makes.
+//! Creates and reads the agent of ICE that a caller holds.
 
 ghost use Rattle.std.specs.Prelude.{◌≡◌, IfOk, IsOkUnless, MatchOption, None, Some, Err};
 ghost use Rattle.stun_c_endpoint.specs.Agents.{MakesAgent, agent_given, agent_refusal};
@@ -16,7 +16,7 @@ use stun_ice::role::Role;
 use stun_numbers::refusal::Refusal;
 use stun_numbers::text::text;
 
-/// The role of an agent that controls, or does not.
+/// Returns the role of an agent that controls, or of one that does not.
 pub fn role_if(is_controlling: bool) -> Role
     ensures { result ≡ role_if is_controlling }
 {
@@ -27,7 +27,7 @@ pub fn role_if(is_controlling: bool) -> Role
     }
 }
 
-/// Whether a role is to control.
+/// Returns `true` if the role is that of the controlling agent.
 pub fn is_controlling(role: Role) -> bool
     ensures { result ≡ is_controlling role }
 {
@@ -37,7 +37,7 @@ pub fn is_controlling(role: Role) -> bool
     }
 }
 
-/// What a caller gives. Contracts see bytes and numbers.
+/// The arguments of a caller. Contracts see bytes and numbers.
 #[derive(Drop)]
 pub struct Given<'a> {
     pub name: &'a [u8],
@@ -63,7 +63,7 @@ impl<'a> Model for Given<'a> {
     } };
 }
 
-/// The refusal of credentials that make no agent.
+/// Converts an error of building an agent.
 fn refusal_of_building(error: BuildError) -> Refusal
     ensures { result ≡ refusal_of_building error }
 {
@@ -77,7 +77,7 @@ fn refusal_of_building(error: BuildError) -> Refusal
     }
 }
 
-/// An agent, on the heap.
+/// Moves an agent to the heap.
 fn boxed(alloc: Global, checker: Checker<Global>) -> Result<Box<Kept, Global>, AllocError>
     ensures { IfOk result (λ made. made.value ≡ kind.Checker checker) }
 {
@@ -88,7 +88,7 @@ fn boxed(alloc: Global, checker: Checker<Global>) -> Result<Box<Kept, Global>, A
 }
 
 impl<'a> Given<'a> {
-    /// Makes the agent in an empty handle, and returns 0 or the number of the refusal.
+    /// Creates the agent in an empty handle. Returns 0 or the number of the error.
     pub fn place(&self, alloc: Global, handle: &mut EndpointHandle) -> i64
         requires { handle.old.kept ≡ None }
         ensures { MakesAgent self.now result handle.new.kept }
@@ -105,7 +105,7 @@ impl<'a> Given<'a> {
         }
     }
 
-    /// Makes the agent.
+    /// Creates the agent.
     #[tactic(auto, unfolding(crate::specs::Agents::agent_refusal))]
     fn checker(&self, alloc: Global) -> Result<Checker<Global>, Refusal>
         ensures refused { MatchOption (agent_refusal self.now)
@@ -133,7 +133,7 @@ impl<'a> Given<'a> {
     }
 }
 
-/// 1 if the agent of a handle controls, and 0 if it does not.
+/// Returns 1 if the agent of a handle controls, and 0 if it does not.
 pub fn controlling(kept: &Kept) -> Result<u32, Refusal>
     ensures { number_answer result ≡ controlling_answer (agent_of kept.now) }
 {
@@ -143,7 +143,7 @@ pub fn controlling(kept: &Kept) -> Result<u32, Refusal>
     }
 }
 
-/// Gives the agent of a handle another tie-breaker.
+/// Changes the tie-breaker of the agent of a handle.
 pub fn set_tie_breaker(kept: &mut Kept, tie_breaker: u64) -> Result<(), Refusal>
     ensures { SetsTieBreaker (agent_of kept.old) tie_breaker (done_answer result) (Some kept.old)
         (Some kept.new) }

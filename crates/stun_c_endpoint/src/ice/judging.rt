@@ -1,4 +1,4 @@
-//! What the call that judges a datagram at an agent of ICE does.
+//! The call that judges a datagram with an agent of ICE.
 
 ghost use Rattle.std.specs.Prelude.{◌≡◌, IfOk, IfErr, None, Ok, Some, length};
 ghost use Rattle.stun_ice.specs.Received.{checked, responded};
@@ -22,7 +22,7 @@ use stun_numbers::buffer::put;
 use stun_numbers::id::transaction_id;
 use stun_numbers::refusal::Refusal;
 
-/// The check that a caller passes, if any.
+/// Returns the check that a caller passes, if there is one.
 fn stored(
     alloc: Global,
     has_check: bool,
@@ -41,7 +41,7 @@ fn stored(
     Ok(Some(Check::without_bytes(alloc, id, to, role, check.nominates)))
 }
 
-/// Judges a datagram by the agent of a handle, and tells what it comes to.
+/// Judges a datagram with the agent of a handle, and writes the result.
 pub fn judge_at(
     alloc: Global,
     kept: &mut Kept,
@@ -64,7 +64,7 @@ pub fn judge_at(
     }
 }
 
-/// The same by the agent.
+/// Judges a datagram with the agent, and writes the result.
 fn judge(
     alloc: Global,
     checker: &mut Checker<Global>,
@@ -106,8 +106,8 @@ fn judge(
     }
 }
 
-/// Writes the answer to a check to the front of the buffer, and tells of it. If it has no room, its
-/// length is told, and the role is again the one before.
+/// Writes the answer to a check to the front of the buffer, and its length to the result. If the
+/// buffer has no room for it, only the length is written, and the agent gets its role back.
 fn answered(
     checker: &mut Checker<Global>,
     before: Role,
@@ -132,7 +132,7 @@ fn answered(
     Ok(1)
 }
 
-/// Tells what the answer to a check of this agent comes to.
+/// Writes the outcome of a check of this agent to the result.
 fn ended(outcome: &Outcome, received: &mut IceReceived)
     ensures told { received.new ≡ outcome_told outcome.now received.new.mapped
         (ice_blank 4 received.old) }

@@ -1,4 +1,5 @@
-//! What a caller gets of a check that was written and of a datagram that was judged: plain data.
+//! The structs that a caller receives for a check that was written and for a datagram that was
+//! judged.
 
 ghost use Rattle.std.specs.Prelude.{◌≡◌};
 ghost use Rattle.stun_ice.specs.Received.{dropped};
@@ -14,16 +15,16 @@ use stun_handles::address::Address;
 use stun_ice::check::Check;
 use stun_ice::received::{DropReason, Failure, Judged, Mapped, Outcome};
 
-/// The bytes of a caller's result, with which it begins.
+/// The size of the caller's struct, which begins with this number.
 pub const ICE_RECEIVED_SIZE: usize = 64;
 
-/// A check that was written, without its bytes: what its answer is judged by.
+/// What the agent needs to judge the answer to a check. It does not have the bytes of the check.
 #[repr(C)]
 #[derive(Clone, Copy)]
 pub struct IceCheck {
     /// The transaction ID.
     pub id: [u8; 12],
-    /// Where the check goes.
+    /// The address that the check was sent to.
     pub to: Address,
     /// Whether the check says that its sender controls.
     pub is_controlling: bool,
@@ -31,35 +32,35 @@ pub struct IceCheck {
     pub nominates: bool,
 }
 
-/// What a datagram comes to at an agent of ICE.
+/// The result of judging a datagram with an agent of ICE.
 #[repr(C)]
 pub struct IceReceived {
-    /// The bytes of it.
+    /// The size of this struct in the caller's program.
     pub size: usize,
-    /// What it comes to.
+    /// The number of the result.
     pub kind: u32,
-    /// Why it is dropped.
+    /// The number of the reason, if the datagram is dropped.
     pub why: u32,
-    /// What a check, or the answer to one, comes to.
+    /// The number of the outcome of a check, or of the answer to one.
     pub outcome: u32,
     /// The code of an error response.
     pub code: u32,
-    /// The priority in an accepted check.
+    /// The priority of an accepted check.
     pub priority: u32,
-    /// The type of an attribute that must be understood and is not.
+    /// The type of the attribute that the agent does not understand, although it must.
     pub not_understood: u16,
     /// Whether an accepted check nominates its pair.
     pub nominated: bool,
-    /// Whether the agent has switched its role.
+    /// Whether the agent has changed its role.
     pub switched: bool,
-    /// How long the answer is.
+    /// The length of the answer.
     pub length: usize,
     /// The address in a success response.
     pub mapped: Address,
 }
 
 impl IceCheck {
-    /// What a caller stores of a check.
+    /// Converts a check to what a caller stores.
     pub fn of(check: &Check<Global>) -> IceCheck
         ensures { result ≡ check_told check.now }
     {
@@ -72,7 +73,7 @@ impl IceCheck {
     }
 }
 
-/// The number of a reason to drop a datagram.
+/// Returns the number of a reason to drop a datagram.
 fn drop_number(why: DropReason) -> u32
     ensures { result ≡ ice_drop_number why }
 {
@@ -90,7 +91,7 @@ fn drop_number(why: DropReason) -> u32
 }
 
 impl IceReceived {
-    /// Tells the kind alone.
+    /// Resets the result, and sets its number.
     fn begin(&mut self, kind: u32)
         ensures { self.new ≡ ice_blank kind self.old }
     {
@@ -106,7 +107,7 @@ impl IceReceived {
         self.mapped = Address::of_start(None);
     }
 
-    /// Tells of a datagram that is dropped.
+    /// Sets the result for a datagram that is dropped.
     pub fn dropped(&mut self, why: DropReason)
         ensures { self.new ≡ record (ice_blank 0 self.old) { why = ice_drop_number why } }
     {
@@ -114,14 +115,14 @@ impl IceReceived {
         self.why = drop_number(why);
     }
 
-    /// Tells of an indication.
+    /// Sets the result for an indication.
     pub fn indicated(&mut self)
         ensures { self.new ≡ ice_blank 3 self.old }
     {
         self.begin(3);
     }
 
-    /// Tells of a check of the peer, and how long its answer is.
+    /// Sets the result for a check of the peer, and the length of its answer.
     pub fn checked(&mut self, judged: Judged, length: usize)
         ensures { self.new ≡ record (judged_told judged (ice_blank 1 self.old)) {
           length = length;
@@ -132,7 +133,7 @@ impl IceReceived {
         self.length = length;
     }
 
-    /// Tells what a check of the peer comes to.
+    /// Sets the outcome of a check of the peer.
     fn judged(&mut self, judged: Judged)
         ensures { self.new ≡ judged_told judged self.old }
     {
@@ -160,7 +161,7 @@ impl IceReceived {
         }
     }
 
-    /// Tells that a pair is valid, with the address that the peer saw.
+    /// Sets the result for a valid pair, with the address that the peer saw.
     pub fn valid(&mut self, mapped: &Mapped)
         ensures told { self.new ≡ outcome_told (Ended.Valid mapped.now) self.new.mapped
             (ice_blank 4 self.old) }
@@ -171,7 +172,7 @@ impl IceReceived {
         self.mapped = Address::of(mapped.address());
     }
 
-    /// Tells of a role conflict that the peer found.
+    /// Sets the result for a role conflict that the peer found.
     pub fn conflict(&mut self, switched: bool)
         ensures { self.new ≡ record (ice_blank 4 self.old) {
           outcome = 5;
@@ -185,7 +186,7 @@ impl IceReceived {
         self.switched = switched;
     }
 
-    /// Tells why a check failed.
+    /// Sets the result for a check that failed.
     pub fn failed(&mut self, failure: Failure)
         ensures { self.new ≡ failure_told failure (ice_blank 4 self.old) }
     {

@@ -1,4 +1,4 @@
-//! What the call that writes a check does.
+//! The call that writes a check.
 
 ghost use Rattle.std.specs.Prelude.{Ok};
 ghost use Rattle.stun_handles.specs.Numbers.{length_answer};
@@ -33,7 +33,7 @@ pub fn write_of(
     }
 }
 
-/// Writes a check to the front of the buffer, and tells what its answer is judged by.
+/// Writes a check to the front of the buffer, and what the agent needs to judge the answer.
 fn write(
     checker: &Checker<Global>,
     id: &[u8; 12],

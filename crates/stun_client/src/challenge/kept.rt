@@ -16,7 +16,7 @@ pub(crate) enum UserNaming<A: Allocator> {
     Hashed([u8; 32]),
 }
 
-/// What a client keeps of a server's challenge.
+/// What a client stores of a server's challenge.
 #[derive(Drop)]
 pub(crate) struct KeptChallenge<A: Allocator> {
     pub(crate) naming: UserNaming<A>,

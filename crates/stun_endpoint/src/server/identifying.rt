@@ -198,7 +198,7 @@ impl<A: Allocator + Copy> Server<A> {
     }
 
     /// Judges a request under a nonce, at a realm without users.
-    fn judged_by_nobody<'a>(
+    pub(super) fn judged_by_nobody<'a>(
         &'a self,
         message: &Message<'a>,
         nonce: &str,

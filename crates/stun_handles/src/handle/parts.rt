@@ -1,11 +1,11 @@
-//! A box as a pointer and the handle of its allocator.
+//! A box as a pointer and its allocator.
 ghost use Rattle.std.specs.Prelude.{◌≡◌};
 ghost use Rattle.std.specs.Box.Ownership.{box_owns};
 
 use std::alloc::Allocator;
 use std::marker::Model;
 
-/// What a box is made of.
+/// The parts of a box.
 pub struct Parts<T, A: Allocator> {
     pub at: *mut T,
     pub alloc: A,
@@ -17,7 +17,7 @@ impl<T, A: Allocator> Model for Parts<T, A> {
 }
 
 impl<T, A: Allocator> Parts<T, A> {
-    /// The parts of a box.
+    /// Takes a box apart.
     pub fn of(whole: Box<T, A>) -> Parts<T, A>
     where
         T: Drop,
@@ -27,7 +27,7 @@ impl<T, A: Allocator> Parts<T, A> {
         Parts { at, alloc }
     }
 
-    /// The box that has these parts.
+    /// Puts a box together again.
     pub fn into_box(self) -> Box<T, A>
         ensures { result.value ≡ self.value }
     {

@@ -10,6 +10,7 @@ use Rattle.std.specs.Coded.{Coded, coded_option}
 use Rattle.stun_state.specs.contracts.handle.agent.Agent as agent
 use Rattle.stun_state.specs.contracts.handle.client.Client as client
 use Rattle.stun_state.specs.contracts.handle.server.Server as server
+use Rattle.stun_state.specs.contracts.handle.user.User as user
 
 -- the block of a box with this value is at the pointer
 abbrev pub box_at : (R : RattleType) → Global → Ptr → R.Denot → Fml
@@ -45,3 +46,10 @@ client_row = client.the_row
 
 abbrev pub client_coded : Coded (Option client_row.Denot)
 client_coded = coded_option client_row.coded
+
+-- a prepared user
+abbrev pub user_row : RattleType
+user_row = user.the_row
+
+abbrev pub user_coded : Coded (Option user_row.Denot)
+user_coded = coded_option user_row.coded

@@ -1,5 +1,5 @@
-//! The calls of a server whose users are looked up elsewhere, such as in a database: who is named,
-//! and then the verdict and the signing with that user.
+//! The calls of a server whose users are looked up elsewhere, such as in a database: first the
+//! caller asks whom a message names, and then validates and signs with that user.
 //!
 //! A call fails first with `EmptyHandle` if its handle is empty. An address and a message fail as
 //! in `calls/server.rt`. A stored key for HMAC-SHA1 has 16 bytes, and one for HMAC-SHA256 has 32. A

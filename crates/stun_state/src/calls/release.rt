@@ -1,4 +1,4 @@
-//! Which release the archive is of, and what its answers say.
+//! The release of the archive, and the meaning of its answers.
 
 ghost use Rattle.std.specs.Prelude.{◌≡◌, pos};
 ghost use Rattle.stun_state.specs.Numbers.{is_resend_answer};
@@ -8,7 +8,7 @@ use crate::answers;
 /// 10000 times the first number of the release, 100 times its second, and its third.
 const VERSION: i64 = 200;
 
-/// The version of the archive.
+/// Returns the version of the archive.
 #[unsafe(no_mangle)]
 pub extern "C" fn stunp_state_version() -> i64
     ensures { result ≡ pos 200 }
@@ -16,7 +16,8 @@ pub extern "C" fn stunp_state_version() -> i64
     VERSION
 }
 
-/// The same. A program that is compiled against the header of this release refers to this name.
+/// Returns the version of the archive. A program that is compiled against the header of this
+/// release refers to this name, so that it cannot be linked with another release.
 #[unsafe(no_mangle)]
 pub extern "C" fn stunp_state_release_0_2() -> i64
     ensures { result ≡ pos 200 }
@@ -24,7 +25,8 @@ pub extern "C" fn stunp_state_release_0_2() -> i64
     VERSION
 }
 
-/// Whether an answer of `stunp_client_validate` asks for another request: whether it is 3, 4 or 5.
+/// Returns `true` if an answer of `stunp_client_validate` asks for another request: if it is 3, 4
+/// or 5.
 #[unsafe(no_mangle)]
 pub extern "C" fn stunp_is_resend(answer: i64) -> bool
     ensures { result ≡ is_resend_answer answer }

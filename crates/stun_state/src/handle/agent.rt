@@ -9,7 +9,7 @@ use std::marker::Model;
 use std::mem::replace;
 use stun_agent::agent::StunAgent;
 
-/// An agent of the heap.
+/// An agent on the heap.
 #[derive(Drop)]
 pub struct Agent {
     pub agent: StunAgent<Global>,

@@ -9,7 +9,7 @@ use std::marker::Model;
 use std::mem::replace;
 use stun_auth::auth::LongTermClientAuth;
 
-/// A client of the heap.
+/// A client on the heap.
 #[derive(Drop)]
 pub struct Client {
     pub client: LongTermClientAuth<Global>,

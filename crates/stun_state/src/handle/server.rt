@@ -9,11 +9,11 @@ use std::marker::Model;
 use std::mem::replace;
 use stun_auth::auth::LongTermServerAuth;
 
-/// A server of the heap.
+/// A server on the heap.
 #[derive(Drop)]
 pub struct Server {
     pub server: LongTermServerAuth<Global>,
-    /// Of how many addresses something may be kept.
+    /// The greatest number of addresses that may have a record.
     pub most_addresses: usize,
 }
 

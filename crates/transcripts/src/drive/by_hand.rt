@@ -1,5 +1,5 @@
-//! Driven runs again, by an application's own loop around a second agent: each event by a call of
-//! its own, and polls between.
+//! Makes a driven run again, by the loop of an application around a second agent: each event is a
+//! call of its own, with polls between them.
 
 use crate::drive::step::text_of;
 use player::trouble::Trouble;
@@ -197,8 +197,8 @@ fn change(agent: &mut StunAgent, event: &AgentEvent) -> Result<(), AllocError> {
     Ok(())
 }
 
-/// An application's own loop over events, and then up to the last moment. The answer tells its
-/// steps. Without events nothing happens.
+/// Runs the loop of an application over events, and then up to the last time. Appends its steps to
+/// the answer. Without events nothing happens.
 pub fn run_by_hand(
     alloc: Global,
     agent: &mut StunAgent,

@@ -1,4 +1,4 @@
-//! What happens to an agent, from words.
+//! Parses the events of an agent.
 
 use player::agent::building::usual_peer;
 use player::kept::message;
@@ -7,7 +7,7 @@ use player::trouble::Trouble;
 use player::words::{address, id, short_number, span};
 use stun_proto::replay::AgentEvent;
 
-/// The event that words spell. All messages go to the usual peer or come from it.
+/// Parses an event. All messages go to the usual peer or come from it.
 pub fn event(stage: &Stage<'_>, words: &[&str]) -> Result<AgentEvent, Trouble> {
     let [name, words @ ..] = words else {
         return Err(Trouble::Words);

@@ -1,4 +1,4 @@
-//! Events in order, as a driven run takes them.
+//! Events in order, as a driven run requires them.
 ghost use Rattle.std.specs.Prelude.{IsTrue};
 ghost use Rattle.stun_proto.specs.Schedule.{AreInOrder};
 
@@ -8,7 +8,7 @@ use stun_agent::agent::StunAgent;
 use stun_base::instant::Instant;
 use stun_proto::replay::{AgentEvent, AgentStep, Stopped, drive};
 
-/// Whether the moments never go back, from this one on, and none is past `until`.
+/// Returns `true` if the times never decrease, beginning with `from`, and none is after `until`.
 fn are_in_order(from: Instant, events: &[(Instant, AgentEvent)], until: Instant) -> bool
     ensures { IsTrue result → AreInOrder until from events.now }
 {
@@ -20,7 +20,7 @@ fn are_in_order(from: Instant, events: &[(Instant, AgentEvent)], until: Instant)
     }
 }
 
-/// A run over events, where they are in order.
+/// Drives an agent by events, if they are in order.
 pub fn run_over<A: Allocator + Copy>(
     alloc: A,
     agent: &mut StunAgent<A>,

@@ -1,4 +1,4 @@
-//! What an agent did, told in words.
+//! Prints the steps of an agent.
 
 use player::agent::answers::error_name;
 use player::agent::building::usual_peer;
@@ -10,7 +10,7 @@ use stun_base::instant::Instant;
 use stun_base::transaction_id::TransactionId;
 use stun_proto::replay::AgentStep;
 
-/// Adds a moment: in milliseconds if they are whole, and else in nanoseconds.
+/// Appends a time: in milliseconds if it is a whole number of them, otherwise in nanoseconds.
 pub fn push_moment(moment: Instant, answer: &mut String) -> Result<(), Trouble> {
     let nanos = moment.as_nanos();
     let millis = nanos / 1_000_000;
@@ -76,7 +76,7 @@ fn push_request(
     push_bytes(alloc, bytes, answer)
 }
 
-/// The text of a step.
+/// Returns the text for a step.
 pub fn text_of<A: Allocator>(alloc: Global, step: &AgentStep<A>) -> Result<String, Trouble> {
     let mut text = String::new(alloc);
     match step {

@@ -1,4 +1,4 @@
-//! What a datagram comes to, in words.
+//! Prints what a datagram comes to.
 
 use player::signing::push_bytes;
 use player::stage::{Heap, Source, Stage};
@@ -11,8 +11,8 @@ use stun_endpoint::received::{Answer, Received, Request};
 use stun_endpoint::reply::Reply;
 use stun_types::message::Message;
 
-/// Adds what a datagram from an address came to, and hands out the means to respond, if it is for
-/// the caller to respond.
+/// Appends what a datagram from an address comes to. If the caller has to respond, returns the
+/// means to do so.
 pub fn push_received<'a>(
     source: Source<'_>,
     received: Received<'_, &'a Heap>,
@@ -41,7 +41,7 @@ fn push_dropped(received: &Received<'_, &Heap>, answer: &mut String) -> Result<(
     }
 }
 
-/// Adds whom a request names: `looks up NAME`, or `looks up 0xHASH`.
+/// Appends the user whom a request names: `looks up NAME`, or `looks up 0xHASH`.
 pub fn push_lookup(
     stage: &Stage<'_>,
     lookup: &Lookup<'_>,

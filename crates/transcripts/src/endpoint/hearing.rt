@@ -1,4 +1,4 @@
-//! Datagrams that a server hears, at the time and from the address of the stage.
+//! Datagrams that a server receives, at the time and from the address of the stage.
 
 use crate::endpoint::heard::push_received;
 use crate::endpoint::server::seconds;
@@ -27,7 +27,7 @@ fn told<'a>(
     }
 }
 
-/// `hears MESSAGE`: what the message comes to, by the users of the table.
+/// Plays `hears MESSAGE`: prints what the message comes to, with the users of the table.
 pub fn hear(runs: &mut Runs<'_>, words: &[&str], answer: &mut String) -> Result<(), Trouble> {
     let bytes = message(&runs.scene.stage, words)?;
     runs.scene.stage.begin();
@@ -38,7 +38,7 @@ pub fn hear(runs: &mut Runs<'_>, words: &[&str], answer: &mut String) -> Result<
     Ok(())
 }
 
-/// The means to respond, if a request was handed out.
+/// The means to respond, if a request was returned to the caller.
 type Means<'a> = Result<Option<Reply<&'a Heap>>, Trouble>;
 
 fn heard<'a>(runs: &mut Runs<'a>, bytes: &[u8], answer: &mut String) -> Means<'a> {

@@ -1,4 +1,4 @@
-//! Responses to the last request that was handed out.
+//! Responses to the last request that was returned to the caller.
 
 use player::signing::push_reason;
 use player::spelling::{Spelling, add_words};
@@ -10,7 +10,8 @@ use stun_endpoint::reply::Reply;
 use stun_types::message::{Message, MessageClass, MessageWriteVec, StunWriteError};
 use stun_types::prelude::*;
 
-/// `responds success ATTRIBUTE ..` or `responds CODE PHRASE ATTRIBUTE ..`: the response.
+/// Plays `responds success ATTRIBUTE ..` or `responds CODE PHRASE ATTRIBUTE ..`: prints the
+/// response.
 pub fn respond<'a>(
     stage: &mut Stage<'a>,
     reply: &Reply<&'a Heap>,

@@ -1,4 +1,4 @@
-//! A server as one value: `endpoint server NAME WORDS`. Each call adds what is answered to a text.
+//! A server as one value: `endpoint server NAME WORDS`. Each call appends its answer to a text.
 
 use crate::endpoint::hearing::hear;
 use crate::endpoint::respond::respond;
@@ -17,18 +17,18 @@ use stun_endpoint::unix_time::UnixTime;
 use stun_endpoint::users::Users;
 use stun_types::message::LongTermCredentials;
 
-/// The settings as they are written, the server that was built of them, and what it has given.
+/// The settings so far, the server that was built from them, and what the server has returned.
 #[derive(Drop)]
 pub struct Endpoint<'a> {
     settings: LongTerm,
     built: Option<Realm<'a>>,
     /// The user who was looked up.
     pub user: Option<LongTermServerUser<&'a Heap>>,
-    /// The means to respond to the last request that was handed out.
+    /// The means to respond to the last request that was returned to the caller.
     pub reply: Option<Reply<&'a Heap>>,
 }
 
-/// A server, and its users.
+/// A server and its users.
 #[derive(Drop)]
 pub struct Realm<'a> {
     pub server: Server<&'a Heap>,
@@ -36,7 +36,7 @@ pub struct Realm<'a> {
 }
 
 impl<'a> Endpoint<'a> {
-    /// The settings of an empty realm, and no server.
+    /// Creates the settings for an empty realm, without a server.
     pub fn new(alloc: Global) -> Endpoint<'a> {
         Endpoint {
             settings: LongTerm::new(alloc, String::new(alloc), [0; 32]),
@@ -46,7 +46,7 @@ impl<'a> Endpoint<'a> {
         }
     }
 
-    /// The server that was built.
+    /// Returns the server that was built.
     pub fn realm(&self) -> Result<&Realm<'a>, Trouble> {
         match &self.built {
             Some(realm) => Ok(realm),
@@ -62,7 +62,7 @@ impl<'a> Endpoint<'a> {
     }
 }
 
-/// `endpoint server NAME WORDS`
+/// Plays `endpoint server NAME WORDS`.
 pub fn call(runs: &mut Runs<'_>, words: &[&str], answer: &mut String) -> Result<(), Trouble> {
     let [name, words @ ..] = words else {
         return Err(Trouble::Words);
@@ -121,7 +121,7 @@ fn realm_of<'a>(heap: &'a Heap, settings: LongTerm<&'a Heap>) -> Result<Realm<'a
     }
 }
 
-/// The time of the wall clock: the whole seconds of the stage's.
+/// Returns the time of the wall clock: the whole seconds of the stage's time.
 pub fn seconds(now: Instant) -> UnixTime {
     UnixTime::from_secs(now.as_nanos() / 1_000_000_000)
 }

@@ -1,4 +1,4 @@
-//! The settings of a server, word by word.
+//! The settings of a server, one by one.
 
 use player::stage::Heap;
 use player::trouble::Trouble;
@@ -7,9 +7,9 @@ use std::alloc::Global;
 use stun_endpoint::server::LongTerm;
 use stun_types::attribute::AttributeType;
 
-/// `realm REALM`: new settings, with a secret of zeros; or one setting: `secret HEX`,
-/// `previous-secret HEX`, `algorithms sha1,sha256`, `hashes yes`, `lifetime SPAN`,
-/// `understands TYPE,TYPE`, `software TEXT`, `binding yes`.
+/// Plays a setting: `realm REALM`, which resets all settings, with a secret of zeros; `secret HEX`,
+/// `previous-secret HEX`, `algorithms sha1,sha256`, `hashes yes`, `lifetime SPAN`, `understands
+/// TYPE,TYPE`, `software TEXT` or `binding yes`.
 pub fn set(
     alloc: Global,
     settings: &mut LongTerm,
@@ -71,7 +71,7 @@ fn types(alloc: Global, names: &str) -> Result<Vec<AttributeType>, Trouble> {
     Ok(types)
 }
 
-/// A copy of settings on the heap.
+/// Copies settings to the heap.
 pub fn on_heap<'a>(heap: &'a Heap, settings: &LongTerm) -> Result<LongTerm<&'a Heap>, Trouble> {
     let realm = String::from_str(heap, settings.realm.as_str())?;
     let mut copy = LongTerm::new(heap, realm, settings.secret);

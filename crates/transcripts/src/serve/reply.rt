@@ -1,4 +1,4 @@
-//! What a server replied, told as `server` tells the answers to the same calls.
+//! Prints the reply of a server in the words in which `server` prints the answer to the same call.
 
 use player::names::{algorithm_name, parse_error_name, server_reason_name, write_error_name};
 use player::signing::push_bytes;
@@ -6,7 +6,7 @@ use player::trouble::Trouble;
 use std::alloc::{Allocator, Global};
 use stun_proto::replay::ServerReply;
 
-/// The text of a reply.
+/// Returns the text for a reply.
 pub fn text_of<A: Allocator>(alloc: Global, reply: &ServerReply<A>) -> Result<String, Trouble> {
     let mut text = String::new(alloc);
     match reply {

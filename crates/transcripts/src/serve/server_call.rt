@@ -1,5 +1,5 @@
-//! Calls of a server that are collected: spelled as those of `server`, but for `remove-client` and
-//! the like without answers.
+//! Parses the calls of a server that are collected. They are spelled like those of `server`, except
+//! for `remove-client` and other calls without answers.
 
 use player::kept::message;
 use player::stage::Stage;
@@ -7,7 +7,7 @@ use player::trouble::Trouble;
 use player::words::{address, algorithm, feature, span, text};
 use stun_proto::replay::ServerCall;
 
-/// The call that words spell, at the stage's time, from its address and with its random words.
+/// Parses a call at the time, from the address and with the random numbers of the stage.
 pub fn server_call(stage: &Stage<'_>, words: &[&str]) -> Result<ServerCall, Trouble> {
     let [name, words @ ..] = words else {
         return Err(Trouble::Words);

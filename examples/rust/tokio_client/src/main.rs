@@ -4,7 +4,7 @@
 //!
 //! One task owns the socket and the client, and waits for three things: a request of another task,
 //! a datagram, and a time. The other tasks share a `Front`, whose `ask` returns the response. Here
-//! so many tasks ask once each. Status 0 if all were answered.
+//! each of REQUESTS tasks makes one request. Status 0 if all were answered.
 
 use seatcrane_stun::endpoint::{Body, Client, Clock, Credentials, Output};
 use seatcrane_stun::endpoint::{RequestError, RequestId, Response};
@@ -72,7 +72,7 @@ async fn drive(mut client: Client, socket: UdpSocket, mut asked: mpsc::Receiver<
                     Err(error) => drop(caller.send(Err(error))),
                 }
             }
-            // Something is to be sent again, or to be given up.
+            // A request may be due to be sent again, or to time out.
             () = sleep_until(due.unwrap_or_else(Instant::now)), if due.is_some() => {
                 for (request, _) in callers.iter().filter(|(_, caller)| caller.is_closed()) {
                     client.cancel(*request);

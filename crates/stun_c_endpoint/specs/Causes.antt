@@ -1,0 +1,79 @@
+-- Why a request is refused, as a caller in C gets it (RFC 8489, sections 9.2.4 and 6.3.1).
+use Rattle.std.specs.Prelude.{◌≡◌, ◌⊎◌, ℕ, ℤ, pos, List, nat_lt, if◌then◌else◌, Option, Some, None}
+use Rattle.std.specs.Prelude.{Result, Ok, Err}
+use Rattle.stun_auth.specs.Validation.{ServerSeen}
+use Rattle.stun_endpoint.specs.Causes.{cause_of}
+use Rattle.stun_endpoint.specs.Judged.{realm_of_table}
+use Rattle.stun_endpoint.specs.Settings.{Settings}
+use Rattle.stun_endpoint.specs.declared.server.causes.Cause.{Cause}
+use Rattle.stun_endpoint.specs.declared.server.causes.Cause.TheVariants.{NoSignature, Incomplete}
+use Rattle.stun_endpoint.specs.declared.server.causes.Cause.TheVariants.{OtherAlgorithms}
+use Rattle.stun_endpoint.specs.declared.server.causes.Cause.TheVariants.{OtherFeatures, StaleNonce}
+use Rattle.stun_endpoint.specs.declared.server.causes.Cause.TheVariants.{WrongCredentials}
+use Rattle.stun_endpoint.specs.declared.server.causes.Cause.TheVariants.{UnknownAttribute}
+use Rattle.stun_handles.specs.Addresses.{socket_address}
+use Rattle.stun_handles.specs.Answers.{at_address}
+use Rattle.stun_handles.specs.declared.address.Address.{Address}
+use Rattle.stun_numbers.specs.Refusals.{refusal_number}
+use Rattle.stun_numbers.specs.declared.refusal.Refusal.{Refusal}
+use Rattle.stun_numbers.specs.declared.refusal.Refusal.TheVariants.{BadArgument, OutOfMemory}
+use Rattle.stun_numbers.specs.declared.refusal.Refusal.TheVariants.{WrongHandle}
+use Rattle.stun_c_endpoint.specs.Kept.{at_handle}
+use Rattle.stun_c_endpoint.specs.Told.{LAST_SECOND}
+use Rattle.stun_c_endpoint.specs.declared.handle.endpoint.Kept.{Kept}
+use Rattle.stun_c_endpoint.specs.declared.handle.endpoint.Kept.TheVariants.{Checker, Server, Users}
+use Rattle.stun_c_endpoint.specs.declared.handle.endpoint.Kept.TheVariants.{Open, ShortTerm}
+use Rattle.stun_c_endpoint.specs.declared.handle.endpoint.Kept.TheVariants.{ShortTermUsers}
+
+-- a server with long-term credentials, and its users
+pub record OfRealm : Type 0 where
+  pub settings : Settings
+  pub users : ServerSeen
+
+-- the table of users, which must be one of a realm
+abbrev pub with_table : Settings → Kept → Result OfRealm Refusal
+with_table s (Users u) = Ok (record { settings = s; users = u })
+with_table s (Server t) = Err WrongHandle
+with_table s (Open t) = Err WrongHandle
+with_table s (ShortTerm t) = Err WrongHandle
+with_table s (ShortTermUsers t) = Err WrongHandle
+with_table s (Checker t) = Err WrongHandle
+
+-- a server of another kind has no causes, and is refused before the table is looked at
+abbrev pub long_term_with : Option Kept → Kept → Result OfRealm Refusal
+long_term_with users (Server s) = at_handle users (λ u. with_table s u)
+long_term_with users (Users t) = Err WrongHandle
+long_term_with users (Open t) = Err WrongHandle
+long_term_with users (ShortTerm t) = Err WrongHandle
+long_term_with users (ShortTermUsers t) = Err WrongHandle
+long_term_with users (Checker t) = Err WrongHandle
+
+abbrev pub long_term_and_users : Option Kept → Option Kept → Result OfRealm Refusal
+long_term_and_users server users = at_handle server (λ s. long_term_with users s)
+
+-- the cause by what two handles have. Their refusals come first, and then a time that is none of
+-- seconds, and an address that is none
+abbrev pub caused_at : Result OfRealm Refusal → Address → ℕ → List ℕ
+    → Result (Option Cause) Refusal
+caused_at (Err refusal) from seconds bytes = Err refusal
+caused_at (Ok realm) from seconds bytes =
+    if nat_lt LAST_SECOND seconds then Err BadArgument
+    else at_address (socket_address from)
+    (λ from. Ok (cause_of realm.settings (realm_of_table realm.users) from seconds bytes))
+
+-- the number of a cause, and 0 of none
+abbrev pub cause_number : Option Cause → ℕ
+cause_number None = 0
+cause_number (Some NoSignature) = 1
+cause_number (Some Incomplete) = 2
+cause_number (Some OtherAlgorithms) = 3
+cause_number (Some OtherFeatures) = 4
+cause_number (Some StaleNonce) = 5
+cause_number (Some WrongCredentials) = 6
+cause_number (Some UnknownAttribute) = 7
+
+-- a call returns the number of the cause, or an allocation failed
+abbrev pub CausedAs : Result (Option Cause) Refusal → ℤ → Type 0
+CausedAs (Ok cause) result =
+    (result ≡ pos (cause_number cause)) ⊎ (result ≡ refusal_number OutOfMemory)
+CausedAs (Err refusal) result = result ≡ refusal_number refusal

@@ -1,0 +1,129 @@
+-- The code of a cause is that of the response, and what is not refused has no cause.
+use Rattle.std.proofs.Common.{◌≡◌, ℕ, List, [], Option, Some, None, Bool, true, false, refl, sym, ◌∙◌}
+use Rattle.std.proofs.Common.{ap, Ok, Err}
+use Rattle.std.specs.Prelude.{cond, ◌||◌, ◌&&◌}
+use Rattle.std.specs.Option.{is_some, option_map}
+use Rattle.std.specs.Str.{bytes_eq}
+use Rattle.std.specs.declared.net.socket_addr.SocketAddr.{SocketAddr}
+use Rattle.std.specs.declared.result.Result.{Result}
+use Rattle.stun_base.specs.MessageType.{class_in}
+use Rattle.stun_base.specs.declared.wire.message_type.MessageClass.{MessageClass}
+use Rattle.stun_base.specs.declared.wire.message_type.MessageClass.TheVariants.{Request}
+use Rattle.stun_base.specs.declared.wire.message_type.MessageClass.TheVariants.{Indication}
+use Rattle.stun_base.specs.declared.wire.message_type.MessageClass.TheVariants.{Success, Error}
+use Rattle.stun_types.specs.Message.{refusal}
+use Rattle.stun_auth.specs.Datagrams.{told_refusal}
+use Rattle.stun_auth.specs.Reading.{Reading, reading_of}
+use Rattle.stun_auth.specs.Seen.{ClientSeen}
+use Rattle.stun_auth.specs.Server.{their_nonce}
+use Rattle.stun_auth.specs.Validation.{is_malformed}
+use Rattle.stun_auth.specs.declared.server.reason.VerdictRefusal.{VerdictRefusal}
+use Rattle.stun_auth.specs.declared.server.reason.VerdictRefusal.TheVariants as verdict
+use Rattle.stun_extra.specs.Fingerprint.{fingerprint_in}
+use Rattle.stun_extra.specs.Unknown.{unknown_types}
+use Rattle.stun_endpoint.specs.Causes.{cause_by_class, cause_of, code_of_cause, credential_cause}
+use Rattle.stun_endpoint.specs.Causes.{or_unknown, refused_code}
+use Rattle.stun_endpoint.specs.Judged.{Realm, judged, key_of_client}
+use Rattle.stun_endpoint.specs.Nonces.{current_nonce}
+use Rattle.stun_endpoint.specs.Received.{Answer, Outcome, answer_to_refused, by_class, by_verdict}
+use Rattle.stun_endpoint.specs.Received.{dropped, indicated, is_binding, is_empty, is_wrong}
+use Rattle.stun_endpoint.specs.Received.{no_message, or_handed, received_by, responding_of}
+use Rattle.stun_endpoint.specs.Received.{signature_for}
+use Rattle.stun_endpoint.specs.Refusals.{code_of}
+use Rattle.stun_endpoint.specs.Responding.{binding_by, unknown_by}
+use Rattle.stun_endpoint.specs.Settings.{Settings}
+use Rattle.stun_endpoint.specs.code.Refusing.{cause_told, is_unauthorized}
+use Rattle.stun_endpoint.specs.code.Refusing.{verdict_under_none}
+use Rattle.stun_endpoint.specs.declared.received.DropReason.{DropReason}
+use Rattle.stun_endpoint.specs.declared.received.DropReason.TheVariants.{WrongFingerprint}
+use Rattle.stun_endpoint.specs.declared.received.DropReason.TheVariants as drop
+use Rattle.stun_endpoint.specs.declared.received.Refusal.TheVariants as refused
+use Rattle.stun_endpoint.specs.declared.server.causes.Cause.{Cause}
+use Rattle.stun_endpoint.specs.declared.server.causes.Cause.TheVariants.{NoSignature, Incomplete}
+use Rattle.stun_endpoint.specs.declared.server.causes.Cause.TheVariants.{OtherAlgorithms}
+use Rattle.stun_endpoint.specs.declared.server.causes.Cause.TheVariants.{OtherFeatures}
+use Rattle.stun_endpoint.specs.declared.server.causes.Cause.TheVariants.{WrongCredentials}
+use Rattle.stun_endpoint.specs.declared.server.causes.Cause.TheVariants.{UnknownAttribute}
+use Rattle.stun_endpoint.proofs.AnsweredLemmas.{refusal_told, refused_told}
+use Rattle.stun_endpoint.proofs.CauseLemmas.{accepted_cause, refused_cause}
+use Rattle.stun_endpoint.proofs.HandedLemmas.{binding_fine, unknown_odd}
+
+-- the code of what a client is told
+unauthorized_code : (bare current : Bool)
+    → code_of_cause (cond bare NoSignature (cond current WrongCredentials OtherFeatures)) ≡ 401
+unauthorized_code true current = refl
+unauthorized_code false true = refl
+unauthorized_code false false = refl
+
+bad_code : (malformed : Bool) → code_of_cause (cond malformed Incomplete OtherAlgorithms) ≡ 400
+bad_code true = refl
+bad_code false = refl
+
+told_code : (s : Settings) (ours : List ℕ) (r : Reading) (told : VerdictRefusal)
+    → code_of_cause (cause_told s ours r told) ≡ code_of (refusal_told told)
+told_code s ours r verdict.Unauthorized =
+    unauthorized_code (is_unauthorized (verdict_under_none s r)) (bytes_eq (their_nonce r) ours)
+told_code s ours r verdict.StaleNonce = refl
+told_code s ours r verdict.BadRequest = bad_code (is_malformed r || bytes_eq (their_nonce r) [])
+
+-- what a dropped datagram comes to
+undropped_code : (b c : Bool) (why other : DropReason) (rest : Outcome) (cause : Option Cause)
+    → option_map code_of_cause cause ≡ refused_code rest
+    → option_map code_of_cause
+    (cond (is_some (cond b (Some why) (cond c (Some other) None))) None cause)
+    ≡ refused_code (cond b (dropped why) (cond c (dropped other) rest))
+undropped_code true c why other rest cause h = refl
+undropped_code false true why other rest cause h = refl
+undropped_code false false why other rest cause h = h
+
+module _ (s : Settings) (realm : Realm) (from : SocketAddr) (now : ℕ) (bytes : List ℕ) where
+  -- what an accepted request comes to
+  handed_code : (b c : Bool) (one other : Answer) (key : List ℕ) (client : ClientSeen)
+      → one.refusal ≡ None → other.refusal ≡ Some refused.UnknownAttribute
+      → option_map code_of_cause (cond b None (Some UnknownAttribute))
+      ≡ refused_code
+      (or_handed s key from bytes client (cond b (cond c (Some one) None) (Some other)))
+  handed_code true true one other key client fine odd = sym (ap (option_map code_of) fine)
+  handed_code true false one other key client fine odd = refl
+  handed_code false c one other key client fine odd = sym (ap (option_map code_of) odd)
+
+  indicated_code : (b : Bool)
+      → None ≡ refused_code (cond b (indicated bytes) (dropped drop.UnknownAttribute))
+  indicated_code true = refl
+  indicated_code false = refl
+
+  verdict_code : (v : Result ClientSeen VerdictRefusal)
+      → judged s realm from now (reading_of bytes) ≡ v
+      → option_map code_of_cause
+      (or_unknown s bytes (credential_cause s realm from now (reading_of bytes)))
+      ≡ refused_code (by_verdict s realm from now bytes v)
+  verdict_code (Ok client) is =
+      let by = signature_for (key_of_client realm client) bytes in
+      ap (λ cause. option_map code_of_cause (or_unknown s bytes cause))
+      (accepted_cause s realm from (reading_of bytes) now client is)
+      ∙ handed_code (is_empty (unknown_types s.known bytes))
+      (s.answers_binding && is_binding bytes) (binding_by (responding_of s) by from bytes)
+      (unknown_by (responding_of s) by from bytes) (key_of_client realm client) client
+      (binding_fine (responding_of s) by from bytes) (unknown_odd (responding_of s) by from bytes)
+  verdict_code (Err why) is =
+      let ours = current_nonce s from now in
+      let told = told_refusal ours (reading_of bytes) why in
+      ap (λ cause. option_map code_of_cause (or_unknown s bytes cause))
+      (refused_cause s realm from (reading_of bytes) now why is)
+      ∙ ap (λ n. Some n) (told_code s ours (reading_of bytes) told)
+      ∙ sym (ap (option_map code_of) (refused_told s ours from bytes told))
+
+  class_code : (class : MessageClass)
+      → option_map code_of_cause (cause_by_class s realm from now bytes class)
+      ≡ refused_code (by_class s realm from now bytes class)
+  class_code Request = verdict_code (judged s realm from now (reading_of bytes)) refl
+  class_code Indication = indicated_code (is_empty (unknown_types s.known bytes))
+  class_code Success = refl
+  class_code Error = refl
+
+  pub cause_code : option_map code_of_cause (cause_of s realm from now bytes)
+      ≡ refused_code (received_by s realm from now bytes)
+  cause_code =
+      undropped_code (is_some (refusal bytes)) (is_wrong (fingerprint_in bytes)) (no_message bytes)
+      WrongFingerprint (by_class s realm from now bytes (class_in bytes))
+      (cause_by_class s realm from now bytes (class_in bytes)) (class_code (class_in bytes))

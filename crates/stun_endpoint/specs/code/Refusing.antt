@@ -1,0 +1,52 @@
+-- How the code finds the cause of a refusal: by the refusal under the nonces of the server, and by the
+-- verdict under the empty nonce, which no client is ever sent.
+use Rattle.std.specs.Prelude.{ℕ, List, [], Bool, true, false, ◌||◌, if◌then◌else◌, Some}
+use Rattle.std.specs.Str.{bytes_eq}
+use Rattle.std.specs.declared.result.Result.{Result}
+use Rattle.std.specs.declared.result.Result.TheVariants.{Ok, Err}
+use Rattle.stun_auth.specs.Datagrams.{told_refusal}
+use Rattle.stun_auth.specs.Reading.{Reading}
+use Rattle.stun_auth.specs.Seen.{ClientSeen}
+use Rattle.stun_auth.specs.Server.{their_nonce, verdict}
+use Rattle.stun_auth.specs.Validation.{is_malformed}
+use Rattle.stun_auth.specs.declared.server.reason.VerdictRefusal.{VerdictRefusal}
+use Rattle.stun_auth.specs.declared.server.reason.VerdictRefusal.TheVariants as refused
+use Rattle.stun_endpoint.specs.Settings.{Settings, registered_of}
+use Rattle.stun_endpoint.specs.declared.server.causes.Cause.{Cause}
+use Rattle.stun_endpoint.specs.declared.server.causes.Cause.TheVariants.{NoSignature, Incomplete}
+use Rattle.stun_endpoint.specs.declared.server.causes.Cause.TheVariants.{OtherAlgorithms}
+use Rattle.stun_endpoint.specs.declared.server.causes.Cause.TheVariants.{OtherFeatures, StaleNonce}
+use Rattle.stun_endpoint.specs.declared.server.causes.Cause.TheVariants.{WrongCredentials}
+
+-- whether a verdict says that nobody is authorized
+abbrev pub is_unauthorized : Result ClientSeen VerdictRefusal → Bool
+is_unauthorized (Ok client) = false
+is_unauthorized (Err refused.Unauthorized) = true
+is_unauthorized (Err refused.BadRequest) = false
+is_unauthorized (Err refused.StaleNonce) = false
+
+-- the verdict under the empty nonce, where there are no users
+abbrev pub verdict_under_none : Settings → Reading → Result ClientSeen VerdictRefusal
+verdict_under_none s r = verdict (registered_of s) s.feature [] (Some s.algorithms) r
+
+-- the cause of a bad request
+abbrev pub bad_cause : Reading → Cause
+bad_cause r =
+    if is_malformed r || bytes_eq (their_nonce r) [] then Incomplete else OtherAlgorithms
+
+-- the cause where nobody is authorized
+abbrev pub unauthorized_cause : Settings → List ℕ → Reading → Cause
+unauthorized_cause s ours r =
+    if is_unauthorized (verdict_under_none s r) then NoSignature
+    else if bytes_eq (their_nonce r) ours then WrongCredentials
+    else OtherFeatures
+
+-- the cause of what a client is told
+abbrev pub cause_told : Settings → List ℕ → Reading → VerdictRefusal → Cause
+cause_told s ours r refused.Unauthorized = unauthorized_cause s ours r
+cause_told s ours r refused.StaleNonce = StaleNonce
+cause_told s ours r refused.BadRequest = bad_cause r
+
+-- the cause of a refusal
+abbrev pub cause_by_refusal : Settings → List ℕ → Reading → VerdictRefusal → Cause
+cause_by_refusal s ours r refusal = cause_told s ours r (told_refusal ours r refusal)

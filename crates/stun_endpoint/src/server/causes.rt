@@ -1,0 +1,250 @@
+//! Why a request is refused, for counters and a log (RFC 8489, sections 6.3.1 and 9.2.4).
+
+ghost use Rattle.std.specs.Option.{option_copied};
+ghost use Rattle.std.specs.Prelude.{◌≡◌, IfOk, IsOk, None, Some, false, if◌then◌else◌};
+ghost use Rattle.stun_auth.specs.Reading.{reading_of};
+ghost use Rattle.stun_base.specs.MessageType.{class_in, is_request};
+ghost use Rattle.stun_endpoint.specs.Causes.{cause_by_class, cause_of, code_of_cause};
+ghost use Rattle.stun_endpoint.specs.Causes.{credential_cause, or_unknown};
+ghost use Rattle.stun_endpoint.specs.Judged.{realm_of_table, realm_of_user};
+ghost use Rattle.stun_endpoint.specs.Responding.{is_empty, is_undropped_request};
+ghost use Rattle.stun_endpoint.specs.code.Judges.{realm_of};
+ghost use Rattle.stun_endpoint.specs.code.Refusing.{bad_cause, cause_by_refusal, is_unauthorized};
+ghost use Rattle.stun_endpoint.specs.code.Refusing.{unauthorized_cause, verdict_under_none};
+ghost use Rattle.stun_extra.specs.Unknown.{unknown_types};
+
+use crate::responder::read;
+use crate::server::Server;
+use crate::server::judges::Judges;
+use crate::unix_time::UnixTime;
+use crate::users::Users;
+use std::alloc::{AllocError, Allocator};
+use std::net::SocketAddr;
+use stun_auth::auth::{LongTermServerUser, VerdictRefusal, has_nonce, told_refusal};
+use stun_types::message::{Message, MessageClass};
+
+/// Why a server with long-term credentials refuses a request: the first check that the request
+/// fails.
+#[derive(Clone, Copy, Debug, PartialEq, Eq)]
+#[non_exhaustive]
+pub enum Cause {
+    /// 401: the request has no well-formed MESSAGE-INTEGRITY or MESSAGE-INTEGRITY-SHA256. The first
+    /// request of a client is not signed, so this says nothing against the client.
+    NoSignature,
+    /// 400: the request is signed, but has no well-formed REALM, NONCE, or name of a user (USERNAME
+    /// or USERHASH).
+    Incomplete,
+    /// 400: the request has the current nonce, but not the algorithms that were offered with it.
+    /// PASSWORD-ALGORITHMS is another list, PASSWORD-ALGORITHM is not in it, or one of the two is
+    /// missing. An attacker in between may have changed the list.
+    OtherAlgorithms,
+    /// 401: the security bits of the nonce are not those of the server's nonces (RFC 8489, section
+    /// 9.2). An attacker may have changed them, or the nonce was sent before a change of settings.
+    OtherFeatures,
+    /// 438: the nonce is not valid any more, was sent to another address, or is of another secret or
+    /// other settings. If the nonce is of the period before, or of the previous secret, this is also
+    /// the cause if the credentials are wrong. The client continues with the nonce of the 438, so
+    /// another cause follows if it has wrong credentials.
+    StaleNonce,
+    /// 401: the nonce is the current one, but the request names no registered user, the user has no
+    /// key for the algorithm, or the signature is not valid under the user's key.
+    WrongCredentials,
+    /// 420: a user has signed the request, but it has an attribute that must be understood and is
+    /// not.
+    UnknownAttribute,
+}
+
+impl Cause {
+    /// Returns the code of the error response.
+    pub fn code(self) -> u16
+        ensures { result ≡ code_of_cause self }
+    {
+        match self {
+            Cause::NoSignature => 401,
+            Cause::Incomplete => 400,
+            Cause::OtherAlgorithms => 400,
+            Cause::OtherFeatures => 401,
+            Cause::StaleNonce => 438,
+            Cause::WrongCredentials => 401,
+            Cause::UnknownAttribute => 420,
+        }
+    }
+}
+
+impl<A: Allocator + Copy> Server<A> {
+    /// Returns why `receive` refuses a datagram, or `None` if it does not: if the datagram is
+    /// dropped, is no request, or is accepted. Pass what you passed to `receive`, with the same time
+    /// and the same users.
+    ///
+    /// It judges the request again, so call it only for an answer that refuses, to count or to log
+    /// why. The cause is never sent: a client learns no more than the code of the response.
+    ///
+    /// Fails if an allocation fails. Memory is allocated for requests alone.
+    ///
+    /// Contracts: law `causes_have_their_codes`.
+    pub fn cause<'a>(
+        &'a self,
+        bytes: &'a [u8],
+        from: SocketAddr,
+        now: UnixTime,
+        users: &'a Users<A>,
+    ) -> Result<Option<Cause>, AllocError>
+        ensures cause { IfOk result (λ cause. cause
+            ≡ cause_of self.now (realm_of_table users.now) from now bytes.now) }
+        ensures no_memory { is_undropped_request bytes.now ≡ false → IsOk result }
+    {
+        self.cause_by(bytes, from, now, &Judges::Table(&users.auth))
+    }
+
+    /// Returns why `receive_for` refuses a datagram, or `None` if it does not. It is also why
+    /// `resume` refuses the request of a look-up, if you pass the time at which that arrived.
+    ///
+    /// Fails if an allocation fails. Memory is allocated for requests alone.
+    ///
+    /// Contracts: law `causes_have_their_codes`.
+    pub fn cause_for<'a>(
+        &'a self,
+        bytes: &'a [u8],
+        from: SocketAddr,
+        now: UnixTime,
+        user: Option<&'a LongTermServerUser<A>>,
+    ) -> Result<Option<Cause>, AllocError>
+        ensures cause { IfOk result (λ cause. cause
+            ≡ cause_of self.now (realm_of_user self.now (option_copied user.entry)) from now
+            bytes.now) }
+        ensures no_memory { is_undropped_request bytes.now ≡ false → IsOk result }
+    {
+        match user {
+            Some(user) => self.cause_by(bytes, from, now, &Judges::User(&self.auth, user)),
+            None => self.cause_by(bytes, from, now, &Judges::Table(&self.auth)),
+        }
+    }
+
+    /// Why a datagram is refused, if it is.
+    fn cause_by<'a>(
+        &'a self,
+        bytes: &'a [u8],
+        from: SocketAddr,
+        now: UnixTime,
+        judges: &Judges<'a, A>,
+    ) -> Result<Option<Cause>, AllocError>
+        ensures cause { IfOk result (λ cause. cause
+            ≡ cause_of self.now (realm_of judges.now) from now bytes.now) }
+        ensures no_memory { is_undropped_request bytes.now ≡ false → IsOk result }
+    {
+        match read(bytes) {
+            Ok((message, _)) => self.cause_by_class(&message, from, now, judges),
+            Err(_) => Ok(None),
+        }
+    }
+
+    /// Why a message is refused, if it is.
+    fn cause_by_class<'a>(
+        &'a self,
+        message: &Message<'a>,
+        from: SocketAddr,
+        now: UnixTime,
+        judges: &Judges<'a, A>,
+    ) -> Result<Option<Cause>, AllocError>
+        ensures cause { IfOk result (λ cause. cause
+            ≡ cause_by_class self.now (realm_of judges.now) from now message.now
+            (class_in message.now)) }
+        ensures no_memory { is_request (class_in message.now) ≡ false → IsOk result }
+    {
+        match message.class() {
+            MessageClass::Request => self.request_cause(message, from, now, judges),
+            MessageClass::Indication => Ok(None),
+            MessageClass::Success => Ok(None),
+            MessageClass::Error => Ok(None),
+        }
+    }
+
+    /// Why a request is refused, if it is.
+    fn request_cause<'a>(
+        &'a self,
+        request: &Message<'a>,
+        from: SocketAddr,
+        now: UnixTime,
+        judges: &Judges<'a, A>,
+    ) -> Result<Option<Cause>, AllocError>
+        ensures { IfOk result (λ cause. cause
+            ≡ or_unknown self.now request.now
+            (credential_cause self.now (realm_of judges.now) from now (reading_of request.now))) }
+    {
+        let epoch = self.epoch(now);
+        let nonce = self.nonce_in(&self.secret, from, epoch)?;
+        match self.judged_in(judges, request, from, epoch, &nonce)? {
+            Ok(_) => Ok(self.unknown_cause(request)),
+            Err(refusal) => Ok(Some(self.refused_cause(request, &nonce, refusal))),
+        }
+    }
+
+    /// Why an accepted request is refused, if it is.
+    fn unknown_cause(&self, request: &Message<'_>) -> Option<Cause>
+        ensures { result ≡ (if is_empty (unknown_types self.now.known request.now) then None
+            else Some Cause.UnknownAttribute) }
+    {
+        if self.responder.understands(request) {
+            None
+        } else {
+            Some(Cause::UnknownAttribute)
+        }
+    }
+
+    /// Why a request is refused that is not accepted under any nonce, of which the current one is
+    /// given.
+    fn refused_cause<'a>(
+        &'a self,
+        request: &Message<'a>,
+        nonce: &str,
+        refusal: VerdictRefusal,
+    ) -> Cause
+        ensures { result
+            ≡ cause_by_refusal self.now nonce.now (reading_of request.now) refusal }
+    {
+        match told_refusal(refusal, request, nonce) {
+            VerdictRefusal::Unauthorized => self.unauthorized_cause(request, nonce),
+            VerdictRefusal::StaleNonce => Cause::StaleNonce,
+            VerdictRefusal::BadRequest => bad_cause(request),
+        }
+    }
+
+    /// Why nobody is authorized by a request. One that is not signed is unauthorized under any nonce,
+    /// and all others are not so under the empty one, which no request has that comes here.
+    fn unauthorized_cause<'a>(&'a self, request: &Message<'a>, nonce: &str) -> Cause
+        ensures { result ≡ unauthorized_cause self.now nonce.now (reading_of request.now) }
+    {
+        if self.is_unauthorized(request) {
+            Cause::NoSignature
+        } else if has_nonce(request, nonce) {
+            Cause::WrongCredentials
+        } else {
+            Cause::OtherFeatures
+        }
+    }
+
+    /// Whether nobody is authorized by a request under the empty nonce.
+    fn is_unauthorized<'a>(&'a self, request: &Message<'a>) -> bool
+        ensures { result
+            ≡ is_unauthorized (verdict_under_none self.now (reading_of request.now)) }
+    {
+        match self.judged_by_nobody(request, "") {
+            Ok(_) => false,
+            Err(VerdictRefusal::Unauthorized) => true,
+            Err(VerdictRefusal::BadRequest) => false,
+            Err(VerdictRefusal::StaleNonce) => false,
+        }
+    }
+}
+
+/// Why a request is a bad one. The empty nonce, which no request has that is refused for its
+/// algorithms, tells one that is malformed.
+fn bad_cause(request: &Message<'_>) -> Cause
+    ensures { result ≡ bad_cause (reading_of request.now) }
+{
+    match told_refusal(VerdictRefusal::BadRequest, request, "") {
+        VerdictRefusal::BadRequest => Cause::Incomplete,
+        VerdictRefusal::StaleNonce => Cause::OtherAlgorithms,
+        VerdictRefusal::Unauthorized => Cause::OtherAlgorithms,
+    }
+}

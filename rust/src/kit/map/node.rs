@@ -1,0 +1,351 @@
+//! The nodes of a B-tree, and the ways that lead to them.
+
+use crate::kit::alloc::{AllocError, Allocator};
+use ::alloc::vec::Vec;
+use core::borrow::Borrow;
+use core::cmp::Ordering;
+use core::mem;
+
+/// The maximum number of entries of a node. Each node has the capacity for that many.
+pub(super) const MOST: usize = 32;
+
+/// The number of keys that a search of a node passes over at once.
+const STEP: usize = 4;
+
+/// The maximum number of nodes above a leaf. A node is split only if it is full, so 2^64 calls do
+/// not make a tree that is higher.
+pub(super) const HIGHEST: usize = 32;
+
+/// The number of bits of an index in a way.
+const INDEX_BITS: u32 = 6;
+
+/// The way from the root to an entry of a leaf: the index of the child in each node above the leaf,
+/// and then the index of the entry, the first index in the lowest bits. The indices that the bits
+/// have no room for are cut off, so whoever follows a way looks at the key where it ends.
+#[derive(Clone, Copy)]
+pub(super) struct Way {
+    pub(super) indices: usize,
+    bits: u32,
+}
+
+impl Way {
+    pub(super) const ROOT: Way = Way {
+        indices: 0,
+        bits: 0,
+    };
+
+    /// Goes on at an index.
+    pub(super) fn push(&mut self, at: usize) {
+        self.indices |= at.checked_shl(self.bits).unwrap_or(0);
+        self.bits += INDEX_BITS;
+    }
+
+    /// Follows a way by one index.
+    pub(super) fn first(indices: usize) -> (usize, usize) {
+        (indices & ((1 << INDEX_BITS) - 1), indices >> INDEX_BITS)
+    }
+}
+
+/// A node of the tree: a leaf, or one with a child before, between and after its entries. All
+/// leaves have the same number of nodes above them.
+///
+/// Two neighbors that together fill at most half a node are merged when an entry of them is
+/// removed. A node can still be empty if its neighbors are full.
+pub(super) struct Node<K, V> {
+    pub(super) keys: Vec<K>,
+    pub(super) values: Vec<V>,
+    pub(super) children: Vec<Node<K, V>>,
+}
+
+impl<K: Ord, V> Node<K, V> {
+    /// Creates a leaf without memory.
+    pub(super) const fn none() -> Self {
+        Node {
+            keys: Vec::new(),
+            values: Vec::new(),
+            children: Vec::new(),
+        }
+    }
+
+    /// Allocates the memory of an empty node.
+    pub(super) fn new<A: Allocator>(is_leaf: bool, alloc: &A) -> Result<Self, AllocError> {
+        let mut node = Node::none();
+        alloc.allocate(Self::bytes(is_leaf), align_of::<(K, V)>())?;
+        let mut reserved = node.keys.try_reserve_exact(MOST);
+        reserved = reserved.and_then(|()| node.values.try_reserve_exact(MOST));
+        if !is_leaf {
+            reserved = reserved.and_then(|()| node.children.try_reserve_exact(MOST + 1));
+        }
+        if reserved.is_err() {
+            alloc.deallocate(Self::bytes(is_leaf), align_of::<(K, V)>());
+            return Err(AllocError);
+        }
+        Ok(node)
+    }
+
+    /// Returns the bytes that an allocator is asked for.
+    const fn bytes(is_leaf: bool) -> usize {
+        let children = if is_leaf { 0 } else { MOST + 1 };
+        MOST * (size_of::<K>() + size_of::<V>()) + children * size_of::<Self>()
+    }
+
+    /// Tells the allocator that the memory of this node and of all below it is no longer used.
+    pub(super) fn leave<A: Allocator>(&self, alloc: &A) {
+        self.children.iter().for_each(|child| child.leave(alloc));
+        if self.keys.capacity() > 0 {
+            let is_leaf = self.children.capacity() == 0;
+            alloc.deallocate(Self::bytes(is_leaf), align_of::<(K, V)>());
+        }
+    }
+
+    pub(super) fn len(&self) -> usize {
+        self.keys.len()
+    }
+
+    pub(super) fn is_leaf(&self) -> bool {
+        self.children.is_empty()
+    }
+
+    /// Returns the index of a key, or else the index of the first entry behind it, which is also
+    /// that of the child where the key would be.
+    pub(super) fn search<Q: Ord + ?Sized>(&self, key: &Q) -> Result<usize, usize>
+    where
+        K: Borrow<Q>,
+    {
+        // A processor reads ahead in these loops. In a binary search each step waits for the one
+        // before, which takes longer at so few keys.
+        let mut at = 0;
+        while self
+            .keys
+            .get(at + STEP - 1)
+            .is_some_and(|k| k.borrow() < key)
+        {
+            at += STEP;
+        }
+        for k in &self.keys[at..] {
+            match k.borrow().cmp(key) {
+                Ordering::Less => at += 1,
+                Ordering::Equal => return Ok(at),
+                Ordering::Greater => break,
+            }
+        }
+        Err(at)
+    }
+
+    /// Returns the leaf that a way leads to, and the index of an entry that it may have.
+    pub(super) fn follow(&self, mut indices: usize) -> Option<(&Self, usize)> {
+        let mut node = self;
+        loop {
+            let (at, next) = Way::first(indices);
+            if node.is_leaf() {
+                return Some((node, at));
+            }
+            node = node.children.get(at)?;
+            indices = next;
+        }
+    }
+
+    /// Returns `true` if the key is in this node or below, or if the leaf where it would be has
+    /// room. Then no node has to be split for it.
+    pub(super) fn has_room(&self, key: &K) -> bool {
+        let mut node = self;
+        loop {
+            match node.search(key) {
+                Ok(_) => return true,
+                Err(_) if node.is_leaf() => return node.len() < MOST,
+                Err(at) => node = &node.children[at],
+            }
+        }
+    }
+
+    /// Inserts an entry at an index. The node is not full.
+    pub(super) fn put(&mut self, at: usize, (key, value): (K, V)) {
+        self.keys.insert(at, key);
+        self.values.insert(at, value);
+    }
+
+    /// Removes the entry at an index.
+    pub(super) fn take(&mut self, at: usize) -> (K, V) {
+        (self.keys.remove(at), self.values.remove(at))
+    }
+
+    /// Moves entries of a leaf that is full to a neighbor with room, so that both have as many. If
+    /// both neighbors are nearly full, it returns `false`, and no entry moves.
+    pub(super) fn share(&mut self, at: usize) -> bool {
+        let room = |child: Option<&Self>| child.map_or(0, |child| MOST - child.len());
+        let before = at
+            .checked_sub(1)
+            .map_or(0, |before| room(self.children.get(before)));
+        let after = room(self.children.get(at + 1));
+        let count = before.max(after) / 2;
+        if count < 1 || !self.children[at].is_leaf() {
+            return false;
+        }
+        let middle = if before < after { at } else { at - 1 };
+        let (upper, lower) = self.children.split_at_mut(middle + 1);
+        let (Some(left), Some(right)) = (upper.last_mut(), lower.first_mut()) else {
+            return false;
+        };
+        let (key, value) = (&mut self.keys[middle], &mut self.values[middle]);
+        if middle == at {
+            let from = left.len() - count;
+            let mut keys = left.keys.drain(from..);
+            let mut values = left.values.drain(from..);
+            if let Some((next, item)) = keys.next().zip(values.next()) {
+                let (key, value) = (mem::replace(key, next), mem::replace(value, item));
+                right.keys.splice(..0, keys.chain([key]));
+                right.values.splice(..0, values.chain([value]));
+            }
+        } else {
+            let mut keys = right.keys.drain(..count);
+            let mut values = right.values.drain(..count);
+            if let Some((next, item)) = keys.next_back().zip(values.next_back()) {
+                left.keys.push(mem::replace(key, next));
+                left.values.push(mem::replace(value, item));
+                left.keys.extend(keys);
+                left.values.extend(values);
+            }
+        }
+        true
+    }
+
+    /// Splits a child that is full, so that `key` can be inserted in it. This node is not full. If
+    /// the allocation fails, no entry moves.
+    pub(super) fn split<A: Allocator>(
+        &mut self,
+        at: usize,
+        key: &K,
+        alloc: &A,
+    ) -> Result<(), AllocError> {
+        let is_last = at == self.len();
+        let child = &mut self.children[at];
+        let mut next = Node::new(child.is_leaf(), alloc)?;
+        // If the keys are inserted in ascending order, the nodes are left nearly full.
+        let is_ascending = is_last && child.keys.last().is_some_and(|last| last < key);
+        let middle = if is_ascending { MOST - 2 } else { MOST / 2 };
+        next.keys.extend(child.keys.drain(middle + 1..));
+        next.values.extend(child.values.drain(middle + 1..));
+        if !child.is_leaf() {
+            next.children.extend(child.children.drain(middle + 1..));
+        }
+        let between = child.take(middle);
+        self.put(at, between);
+        self.children.insert(at + 1, next);
+        Ok(())
+    }
+
+    /// Merges the children before and after an entry with that entry if together they fill at most
+    /// half a node, or if one of them is empty and the other has room for the entry.
+    fn merge<A: Allocator>(&mut self, at: usize, alloc: &A) {
+        let (before, after) = (self.children[at].len(), self.children[at + 1].len());
+        let most = if before.min(after) == 0 {
+            MOST
+        } else {
+            MOST / 2
+        };
+        if before + 1 + after > most {
+            return;
+        }
+        let (key, value) = self.take(at);
+        let mut next = self.children.remove(at + 1);
+        let child = &mut self.children[at];
+        child.keys.push(key);
+        child.values.push(value);
+        child.keys.append(&mut next.keys);
+        child.values.append(&mut next.values);
+        child.children.append(&mut next.children);
+        next.leave(alloc);
+    }
+
+    /// Merges a child with its neighbors if they are small.
+    fn tidy<A: Allocator>(&mut self, at: usize, alloc: &A) {
+        if at < self.len() {
+            self.merge(at, alloc);
+        }
+        if at > 0 {
+            self.merge(at - 1, alloc);
+        }
+    }
+
+    /// Removes the last entry of this node and those below it.
+    fn pop<A: Allocator>(&mut self, alloc: &A) -> Option<(K, V)> {
+        if let Some(last) = self.children.last_mut() {
+            if let Some(entry) = last.pop(alloc) {
+                self.tidy(self.len(), alloc);
+                return Some(entry);
+            }
+            if self.keys.is_empty() {
+                return None;
+            }
+            self.children.pop()?.leave(alloc);
+        }
+        self.keys.pop().zip(self.values.pop())
+    }
+
+    /// Removes the entry at an index of a node that is no leaf. The last entry before it takes its
+    /// place.
+    fn take_between<A: Allocator>(&mut self, at: usize, alloc: &A) -> (K, V) {
+        let Some((key, value)) = self.children[at].pop(alloc) else {
+            self.children.remove(at).leave(alloc);
+            return self.take(at);
+        };
+        (
+            mem::replace(&mut self.keys[at], key),
+            mem::replace(&mut self.values[at], value),
+        )
+    }
+
+    pub(super) fn remove<Q: Ord + ?Sized, A: Allocator>(
+        &mut self,
+        key: &Q,
+        alloc: &A,
+    ) -> Option<(K, V)>
+    where
+        K: Borrow<Q>,
+    {
+        let (at, entry) = match self.search(key) {
+            Ok(at) if self.is_leaf() => return Some(self.take(at)),
+            Ok(at) => (at, self.take_between(at, alloc)),
+            Err(at) => (at, self.children.get_mut(at)?.remove(key, alloc)?),
+        };
+        self.tidy(at, alloc);
+        Some(entry)
+    }
+
+    pub(super) fn retain<A: Allocator>(
+        &mut self,
+        condition: &mut impl FnMut(&K, &mut V) -> bool,
+        alloc: &A,
+    ) {
+        if self.is_leaf() {
+            let mut kept = 0;
+            for at in 0..self.len() {
+                if condition(&self.keys[at], &mut self.values[at]) {
+                    if kept < at {
+                        self.keys.swap(kept, at);
+                        self.values.swap(kept, at);
+                    }
+                    kept += 1;
+                }
+            }
+            self.keys.truncate(kept);
+            self.values.truncate(kept);
+            return;
+        }
+        let mut is_kept = [true; MOST];
+        for (at, child) in self.children.iter_mut().enumerate() {
+            child.retain(condition, alloc);
+            if let Some(key) = self.keys.get(at) {
+                is_kept[at] = condition(key, &mut self.values[at]);
+            }
+        }
+        for at in (0..self.len()).rev() {
+            if !is_kept[at] {
+                self.take_between(at, alloc);
+            }
+            if at < self.len() {
+                self.merge(at, alloc);
+            }
+        }
+    }
+}

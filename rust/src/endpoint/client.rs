@@ -6,7 +6,6 @@ use super::client_outcomes::{
 use super::client_settings::{ClientBuilder, Kind};
 use super::{Body, DropReason};
 use crate::Instant;
-use crate::agent::StunError;
 use crate::copies::{granted, text};
 use crate::exported::stun_client::challenge::Challenge;
 use crate::exported::stun_agent::agent::StunAgent;
@@ -17,6 +16,7 @@ use crate::exported::stun_client::judged::{Distrust, Judged, Outcome};
 use crate::exported::stun_client_endpoint::form::Form;
 use crate::exported::stun_client_endpoint::numbers::free_number;
 use crate::exported::stun_client_loop::client_loop::{ClientLoop, Timed};
+use crate::exported::stun_client_loop::refusal::LoopRefusal;
 use crate::exported::stun_extra::attribute::{AlternateDomain, AlternateServer};
 use crate::exported::stun_types::message::{
     IntegrityAlgorithm, IntegrityKey, MessageClass, Method, PreparedKey, StunWriteError,
@@ -155,11 +155,8 @@ impl Client {
         let (id, next_id) = self.new_id()?;
         let bytes = self.written(method, &body, id, self.core().challenge().as_ref())?;
         self.reserve(bytes.len())?;
-        self.send(&bytes, now)?;
-        let Ok(number) = self.state.start(method, id.0) else {
-            self.state.cancel(id.0);
-            return Err(RequestError::OutOfMemory);
-        };
+        let number = self.state.request(&bytes, now).map_err(unsent)?;
+        event!(to = %self.settings.server, bytes = bytes.len(), "sent a request");
         let (request, drops) = (RequestId(number), Drops::default());
         if self.requests.insert(request, Sent { body, id, drops }).is_err() {
             self.state.cancel(id.0);
@@ -330,12 +327,12 @@ impl Client {
         message: &Message<'_>,
         now: Instant,
     ) -> Input<'static> {
-        let id = message.transaction_id();
-        match self.send_again(request, id, challenge, now) {
-            Ok(()) => self.state.forget(&message.0, now),
+        match self.send_again(request, message, challenge, now) {
+            Ok(()) => {}
             Err(RequestError::Unauthorized) => {
-                self.state.forget(&message.0, now);
-                self.state.cancel(id.0);
+                if self.state.answer(&message.0, now).is_err() {
+                    self.state.cancel(message.transaction_id().0);
+                }
                 self.end(request, Err(RequestError::Unauthorized));
             }
             // The request stays as it was.
@@ -383,26 +380,16 @@ impl Client {
         Ok((TransactionId(id_of(&self.seed, number)), next))
     }
 
-    /// Has the agent send a request.
-    fn send(&mut self, bytes: &[u8], now: Instant) -> Result<(), RequestError> {
-        match self.state.send(bytes, now) {
-            Ok(()) => {
-                event!(to = %self.settings.server, bytes = bytes.len(), "sent a request");
-                Ok(())
-            }
-            Err(StunError::OutOfMemory) => Err(RequestError::OutOfMemory),
-            Err(_) => Err(RequestError::NoId),
-        }
-    }
-
-    /// Sends the request with this ID again under another one, signed for this challenge or unsigned.
+    /// Sends the request that a message answers again under another ID, signed for this challenge or
+    /// unsigned.
     fn send_again(
         &mut self,
         request: RequestId,
-        id: TransactionId,
+        message: &Message<'_>,
         challenge: Option<Challenge<Global>>,
         now: Instant,
     ) -> Result<(), RequestError> {
+        let id = message.transaction_id();
         let (Some(asked), Some(sent)) = (self.core().get(id.0), self.requests.get(&request)) else {
             return Err(RequestError::NoId);
         };
@@ -412,11 +399,9 @@ impl Client {
         let (new_id, next_id) = self.new_id()?;
         let bytes = self.written(asked.method(), &sent.body, new_id, challenge.as_ref())?;
         self.reserve(bytes.len())?;
-        self.send(&bytes, now)?;
-        if self.state.renew(id.0, new_id.0, challenge).is_err() {
-            self.state.cancel(new_id.0);
-            return Err(RequestError::OutOfMemory);
-        }
+        let again = self.state.again(&message.0, &bytes, challenge, now);
+        again.map_err(unsent)?;
+        event!(to = %self.settings.server, bytes = bytes.len(), "sent a request");
         self.next_id = next_id;
         if let Some(sent) = self.requests.get_mut(&request) {
             sent.id = new_id;
@@ -459,6 +444,14 @@ fn credentials_of(settings: &mut ClientBuilder) -> Credentials<Global> {
             preferences: settings.preferences,
             accepts_unsigned: settings.accepts_unsigned,
         }),
+    }
+}
+
+/// Returns why a request was not sent. Only an ID that the agent still has is refused.
+fn unsent(refusal: LoopRefusal) -> RequestError {
+    match refusal {
+        LoopRefusal::NotSent(_) => RequestError::NoId,
+        LoopRefusal::NotStarted(_) | LoopRefusal::OutOfMemory => RequestError::OutOfMemory,
     }
 }
 

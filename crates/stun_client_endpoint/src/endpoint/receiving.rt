@@ -1,6 +1,7 @@
 //! What comes of a datagram.
 ghost use Rattle.std.specs.Option.{option_copied};
-ghost use Rattle.std.specs.Prelude.{◌≡◌, ◌⊎◌, ℕ, Ok, true};
+ghost use Rattle.std.specs.Prelude.{◌≡◌, ◌⊎◌, ℕ, None, Ok, true};
+ghost use Rattle.stun_types.specs.Message.{refusal};
 ghost use Rattle.stun_client.specs.Ids.{id_of};
 ghost use Rattle.stun_client.specs.Judging.{verdict_of};
 ghost use Rattle.stun_client_endpoint.specs.Endpoints.{UnlessMemory, answered_by, by_verdict};
@@ -41,17 +42,19 @@ impl<A: Allocator + Copy> ClientEndpoint<A> {
             bytes.now self.old (result, self.new) }
     {
         match self.state.receive(bytes, from) {
-            Ok(Heard::NotOurs) => Received::NotOurs,
             Ok(Heard::Indication(message)) => Received::Indication(message),
             Ok(Heard::Response(message, number, judged)) => {
                 self.judged(number, judged, &message, now)
             }
+            Ok(_) => Received::NotOurs,
             Err(_) => self.unread(bytes),
         }
     }
 
     /// Drops a response for which there is no memory.
-    fn unread(&mut self, bytes: &[u8]) -> Received<'static> {
+    fn unread(&mut self, bytes: &[u8]) -> Received<'static>
+        ensures { refusal bytes.now ≡ None → (result, self.new) ≡ out_of_memory bytes.now self.old }
+    {
         match Message::from_bytes(bytes) {
             Ok(message) => self.forgo(&message),
             Err(_) => Received::NotOurs,

@@ -95,7 +95,8 @@ impl<A: Allocator + Copy> ClientEndpoint<A> {
         bytes: Vec<u8, A>,
         now: Instant,
     ) -> Result<u64, RequestError>
-        requires { id ≡ id_of self.old.seed number }
+        requires named { id ≡ id_of self.old.seed number }
+        requires low { number < LAST_NUMBER }
         ensures refused { MatchOption (request_refused self.old.state bytes.items)
             (IsOkUnless result RequestError.OutOfMemory)
             (λ _. (result ≡ Err RequestError.NoId)

@@ -1,3 +1,5 @@
 pub mod BodyLemmas
 pub mod FormLemmas
 pub mod NumberLemmas
+pub mod PendingLemmas
+pub mod PollLemmas

@@ -161,16 +161,22 @@ Answer = Received × Endpoint
 
 -- a response to a request is dropped
 abbrev pub dropping : ℕ → DropReason → List ℕ → Endpoint → Answer
-dropping number why bytes e = (Dropped why, record e {
-  requests = changed_at (noting why (code_in bytes)) number e.requests;
-})
+dropping number why bytes e = (
+  Dropped why,
+  record e {
+    requests = changed_at (noting why (code_in bytes)) number e.requests;
+  },
+)
 
 -- a response ends a request so. The bytes are what is stored of it
 abbrev pub ended_by : ℕ → RequestEnd → List ℕ → List ℕ → ℕ → Endpoint → Answer
-ended_by number end stored bytes now e = (Consumed, record e {
-  state = after_answer bytes now e.state;
-  requests = changed_at (ending end stored) number e.requests;
-})
+ended_by number end stored bytes now e = (
+  Consumed,
+  record e {
+    state = after_answer bytes now e.state;
+    requests = changed_at (ending end stored) number e.requests;
+  },
+)
 
 -- a response that is believed, signed so, ends its request
 abbrev pub answered_by : ℕ → Option IntegrityAlgorithm → List ℕ → ℕ → Endpoint → Answer
@@ -198,11 +204,14 @@ UnlessMemory expected bytes e answer =
 -- the request is sent again by these bytes, with the ID of this number. The agent hears of the
 -- response, or has no memory for that
 abbrev pub resent : Bool → ℕ → Option Answered → List ℕ → ℕ → ℕ → List ℕ → Endpoint → Answer
-resent is_heard number challenge response now id_number bytes e = (Consumed, record e {
-  next_id = id_number + 1;
-  state = after_again is_heard response bytes challenge now e.state;
-  requests = changed_at (sending (id_of e.seed id_number) bytes) number e.requests;
-})
+resent is_heard number challenge response now id_number bytes e = (
+  Consumed,
+  record e {
+    next_id = id_number + 1;
+    state = after_again is_heard response bytes challenge now e.state;
+    requests = changed_at (sending (id_of e.seed id_number) bytes) number e.requests;
+  },
+)
 
 -- a request that would be too long stays as it was
 abbrev pub resent_by : Bool → ℕ → Option Answered → List ℕ → ℕ → Endpoint → ℕ → Page? → Answer
@@ -285,9 +294,10 @@ until_of until (p ∷ others) = Some until
 abbrev pub timed : Endpoint → Timed → Step
 timed e (WaitUntil until) = (Some (waits (until_of until e.requests)), e)
 timed e Forgotten = (None, e)
-timed e (TimedOut number) =
-    (option_map (λ p. ends (timed_out number p)) (request_at number e.requests),
-    with_requests (without_request number e.requests) e)
+timed e (TimedOut number) = (
+  option_map (λ p. ends (timed_out number p)) (request_at number e.requests),
+  with_requests (without_request number e.requests) e,
+)
 
 abbrev pub timers_step : ℕ → Endpoint → Step
 timers_step now e = timed (record e { state = after_timers now e.state })

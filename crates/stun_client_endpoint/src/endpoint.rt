@@ -142,10 +142,7 @@ impl<A: Allocator + Copy> ClientEndpoint<A> {
     pub fn outstanding(&self) -> usize
         ensures { result ≡ count_by (λ e. is_none e.1.end) self.now.requests }
     {
-        self.requests
-            .iter()
-            .filter(|e| e.1.end().is_none())
-            .count()
+        self.requests.iter().filter(|e| e.1.end().is_none()).count()
     }
 
     /// Ends a request as canceled, which `poll` then returns. Returns `false` if it has ended

@@ -1,17 +1,20 @@
 //! What comes of a datagram.
-ghost use Rattle.std.specs.Option.{option_copied};
-ghost use Rattle.std.specs.Prelude.{◌≡◌, ◌⊎◌, ℕ, None, Ok, true};
+ghost use Rattle.std.specs.Option.{IfSome, option_copied, option_map};
+ghost use Rattle.std.specs.Prelude.{◌≡◌, ◌<◌, ◌⊎◌, ℕ, IfErr, IfOk, IsErr, None, Ok, Some, true};
 ghost use Rattle.stun_types.specs.Message.{refusal};
 ghost use Rattle.stun_client.specs.Ids.{id_of};
 ghost use Rattle.stun_client.specs.Judging.{verdict_of};
+ghost use Rattle.stun_client.specs.Requests.{LAST_NUMBER};
 ghost use Rattle.stun_client_endpoint.specs.Endpoints.{UnlessMemory, answered_by, by_verdict};
 ghost use Rattle.stun_client_endpoint.specs.Endpoints.{challenged, dropping, ended_by};
 ghost use Rattle.stun_client_endpoint.specs.Endpoints.{out_of_memory, received, resent_by};
 ghost use Rattle.stun_client_endpoint.specs.Endpoints.{resent_if, unauthorized_by};
 ghost use Rattle.stun_client_endpoint.specs.Pendings.{request_at};
+ghost use Rattle.stun_client_endpoint.specs.Written.{request_bytes};
 
 use crate::ended::{DropReason, RequestEnd, reason_of};
 use crate::endpoint::ClientEndpoint;
+use crate::endpoint::requesting::message;
 use crate::pending::{finish, get, note, send};
 use crate::reading::code_of;
 use crate::told::{Received, RequestError};
@@ -32,12 +35,7 @@ impl<A: Allocator + Copy> ClientEndpoint<A> {
     /// it again under another transaction ID, or ends it if that was done as often as it may be. If
     /// an allocation fails, the response is dropped as `OutOfMemory`.
     #[tactic(auto, unfolding(crate::specs::Endpoints::received))]
-    pub fn receive<'a>(
-        &mut self,
-        bytes: &'a [u8],
-        from: SocketAddr,
-        now: Instant,
-    ) -> Received<'a>
+    pub fn receive<'a>(&mut self, bytes: &'a [u8], from: SocketAddr, now: Instant) -> Received<'a>
         ensures { UnlessMemory (λ is_heard. received is_heard from bytes.now now self.old)
             bytes.now self.old (result, self.new) }
     {
@@ -75,12 +73,7 @@ impl<A: Allocator + Copy> ClientEndpoint<A> {
     }
 
     /// Drops a response to a request.
-    fn drop_for(
-        &mut self,
-        number: u64,
-        why: DropReason,
-        message: &Message<'_>,
-    ) -> Received<'static>
+    fn drop_for(&mut self, number: u64, why: DropReason, message: &Message<'_>) -> Received<'static>
         ensures { (result, self.new) ≡ dropping number why message.now self.old }
     {
         note(&mut self.requests, number, why, code_of(message));
@@ -194,19 +187,42 @@ impl<A: Allocator + Copy> ClientEndpoint<A> {
             (request_at number self.old.requests))
             message.now self.old (result, self.new) }
     {
-        let Some(pending) = get(&self.requests, number) else {
-            return self.forgo(message);
-        };
         let Some(id_number) = self.chosen() else {
             return self.forgo(message);
         };
         let id = id_of(&self.seed, id_number);
-        match self.message(challenge.as_ref(), method, id, pending.body()) {
+        match self.bytes_for(number, method, challenge.as_ref(), id) {
             Ok(bytes) => self.send_again(number, id_number, id, bytes, challenge, message, now),
             Err(RequestError::TooLarge) => {
                 self.drop_for(number, DropReason::UnanswerableChallenge, message)
             }
             Err(_) => self.forgo(message),
+        }
+    }
+
+    /// Writes a request that is sent again. If nothing is stored of it, there is no memory for it.
+    fn bytes_for(
+        &self,
+        number: u64,
+        method: Method,
+        signed_for: Option<&Challenge<A>>,
+        id: TransactionId,
+    ) -> Result<Vec<u8, A>, RequestError>
+        ensures ok { IfOk result (λ bytes. option_map (λ p. request_bytes self.now.form
+            self.now.state.client.identity (option_copied signed_for.entry) method id p.body)
+            (request_at number self.now.requests) ≡ Some (Ok bytes.items)) }
+        ensures refused { IfErr result (λ why. (why ≡ RequestError.OutOfMemory)
+            ⊎ ((why ≡ RequestError.TooLarge) × IfSome (request_at number self.now.requests)
+            (λ p. IsErr (request_bytes self.now.form self.now.state.client.identity
+            (option_copied signed_for.entry) method id p.body)))) }
+    {
+        match get(&self.requests, number) {
+            Some(pending) => {
+                let client = self.state.client();
+                let body = pending.body();
+                message(self.alloc, &self.form, client, signed_for, method, id, body)
+            }
+            None => Err(RequestError::OutOfMemory),
         }
     }
 
@@ -221,7 +237,8 @@ impl<A: Allocator + Copy> ClientEndpoint<A> {
         message: &Message<'_>,
         now: Instant,
     ) -> Received<'static>
-        requires { id ≡ id_of self.old.seed id_number }
+        requires named { id ≡ id_of self.old.seed id_number }
+        requires low { id_number < LAST_NUMBER }
         ensures { UnlessMemory
             (λ is_heard. resent_by is_heard number challenge message.now now self.old id_number
             (Ok bytes.items))

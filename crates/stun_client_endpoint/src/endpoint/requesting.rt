@@ -1,24 +1,28 @@
 //! Starting requests.
-ghost use Rattle.std.specs.Option.{option_copied};
-ghost use Rattle.std.specs.Prelude.{◌≡◌, ◌⊎◌, ℕ, Err, IfErr, IfOk, IsErr, IsOkUnless, MatchOption};
-ghost use Rattle.std.specs.Prelude.{Ok, OnErr, OnOk};
+ghost use Rattle.std.specs.Option.{IfSome, option_copied};
+ghost use Rattle.std.specs.Prelude.{◌≡◌, ◌<◌, ◌⊎◌, ℕ, Err, IfErr, IfOk, IsErr, IsOkUnless};
+ghost use Rattle.std.specs.Prelude.{MatchOption, None, Ok, OnErr, OnOk};
 ghost use Rattle.stun_client.specs.Ids.{id_of};
+ghost use Rattle.stun_client.specs.Requests.{LAST_NUMBER};
 ghost use Rattle.stun_client_loop.specs.Loops.{after_request, request_refused};
 ghost use Rattle.stun_client_endpoint.specs.Endpoints.{after_start, chosen, next_number};
 ghost use Rattle.stun_client_endpoint.specs.Endpoints.{refusal_to_start, started};
-ghost use Rattle.stun_client_endpoint.specs.Pendings.{changed_at, new_pending, sending};
+ghost use Rattle.stun_client_endpoint.specs.Pendings.{changed_at, new_pending, request_at, sending};
 ghost use Rattle.stun_client_endpoint.specs.Pendings.{with_request};
 ghost use Rattle.stun_client_endpoint.specs.Written.{request_bytes};
 
 use crate::body::Body;
 use crate::endpoint::ClientEndpoint;
+use crate::form::Form;
 use crate::numbers::free_number;
-use crate::pending::{Pending, put, send, take};
+use crate::pending::{Pending, Pendings, put, send, take};
 use crate::told::RequestError;
 use std::alloc::Allocator;
 use stun_base::instant::Instant;
 use stun_client::challenge::Challenge;
+use stun_client::client::Client;
 use stun_client::ids::id_of;
+use stun_client_loop::client_loop::ClientLoop;
 use stun_client_loop::refusal::LoopRefusal;
 use stun_types::message::{Method, StunWriteError, TransactionId};
 
@@ -49,41 +53,20 @@ impl<A: Allocator + Copy> ClientEndpoint<A> {
             return Err(RequestError::NoId);
         };
         let id = id_of(&self.seed, number);
-        let signed_for = self.state.client().challenge().as_ref();
-        let bytes = self.message(signed_for, method, id, &body)?;
+        let client = self.state.client();
+        let signed_for = client.challenge().as_ref();
+        let bytes = message(
+            self.alloc, &self.form, client, signed_for, method, id, &body,
+        )?;
         self.start(number, id, body, bytes, now)
     }
 
     /// Returns the number of the transaction ID of the next message.
     pub(crate) fn chosen(&self) -> Option<u64>
-        ensures { result ≡ chosen self.now }
+        ensures chosen { result ≡ chosen self.now }
+        ensures low { IfSome result (λ number. number < LAST_NUMBER) }
     {
         free_number(&self.seed, self.state.agent(), self.next_id)
-    }
-
-    /// Writes a message that is signed for this challenge.
-    pub(crate) fn message(
-        &self,
-        signed_for: Option<&Challenge<A>>,
-        method: Method,
-        id: TransactionId,
-        body: &Body<A>,
-    ) -> Result<Vec<u8, A>, RequestError>
-        ensures ok { IfOk result (λ bytes. request_bytes self.now.form self.now.state.client.identity
-            (option_copied signed_for.entry) method id body.now ≡ Ok bytes.items) }
-        ensures refused { IfErr result (λ why. (why ≡ RequestError.OutOfMemory)
-            ⊎ ((why ≡ RequestError.TooLarge) × IsErr (request_bytes self.now.form
-            self.now.state.client.identity (option_copied signed_for.entry) method id body.now))) }
-    {
-        let credentials = self.state.client().credentials();
-        match self
-            .form
-            .written(self.alloc, credentials, signed_for, method, id, body)
-        {
-            Ok(bytes) => Ok(bytes),
-            Err(StunWriteError::OutOfMemory) => Err(RequestError::OutOfMemory),
-            Err(_) => Err(RequestError::TooLarge),
-        }
     }
 
     /// Starts a request that is sent by these bytes, with the ID of this number.
@@ -108,26 +91,88 @@ impl<A: Allocator + Copy> ClientEndpoint<A> {
     {
         let request = self.next;
         let pending = Pending::new(self.alloc, body);
-        if put(&mut self.requests, request, pending).is_err() {
-            return Err(RequestError::OutOfMemory);
+        register(
+            &mut self.requests,
+            &mut self.state,
+            request,
+            id,
+            pending,
+            bytes,
+            now,
+        )?;
+        self.next = request + 1;
+        self.next_id = number + 1;
+        Ok(request)
+    }
+}
+
+/// Writes a message that is signed for this challenge.
+pub(crate) fn message<A: Allocator + Copy>(
+    alloc: A,
+    form: &Form<A>,
+    client: &Client<A>,
+    signed_for: Option<&Challenge<A>>,
+    method: Method,
+    id: TransactionId,
+    body: &Body<A>,
+) -> Result<Vec<u8, A>, RequestError>
+    ensures ok { IfOk result (λ bytes. request_bytes form.now client.now.identity
+        (option_copied signed_for.entry) method id body.now ≡ Ok bytes.items) }
+    ensures refused { IfErr result (λ why. (why ≡ RequestError.OutOfMemory)
+        ⊎ ((why ≡ RequestError.TooLarge) × IsErr (request_bytes form.now client.now.identity
+        (option_copied signed_for.entry) method id body.now))) }
+{
+    let credentials = client.credentials();
+    match form.written(alloc, credentials, signed_for, method, id, body) {
+        Ok(bytes) => Ok(bytes),
+        Err(StunWriteError::OutOfMemory) => Err(RequestError::OutOfMemory),
+        Err(_) => Err(RequestError::TooLarge),
+    }
+}
+
+/// Stores a new request under the next number and sends it by these bytes, under this transaction
+/// ID.
+fn register<A: Allocator + Copy>(
+    all: &mut Pendings<A>,
+    state: &mut ClientLoop<A>,
+    number: u64,
+    id: TransactionId,
+    pending: Pending<A>,
+    bytes: Vec<u8, A>,
+    now: Instant,
+) -> Result<(), RequestError>
+    requires next { number ≡ state.old.client.requests.next }
+    requires free { request_at number all.old.entries ≡ None }
+    ensures refused { MatchOption (request_refused state.old bytes.items)
+        (IsOkUnless result RequestError.OutOfMemory)
+        (λ _. (result ≡ Err RequestError.NoId) ⊎ (result ≡ Err RequestError.OutOfMemory)) }
+    ensures stored { OnOk result (all.new.entries ≡ changed_at (sending id bytes.items) number
+        (with_request number pending all.old.entries)) }
+    ensures sent { OnOk result (state.new ≡ after_request bytes.items now state.old) }
+    ensures low { OnOk result (number < LAST_NUMBER) }
+    ensures same { OnErr result (all.new.entries ≡ all.old.entries) }
+    ensures unsent { OnErr result (state.new ≡ state.old) }
+{
+    if put(all, number, pending).is_err() {
+        return Err(RequestError::OutOfMemory);
+    }
+    match state.request(bytes.as_slice(), now) {
+        Ok(_number) => {
+            send(all, number, id, bytes);
+            Ok(())
         }
-        match self.state.request(bytes.as_slice(), now) {
-            Ok(_number) => {
-                send(&mut self.requests, request, id, bytes);
-                self.next = request + 1;
-                self.next_id = number + 1;
-                Ok(request)
-            }
-            Err(refusal) => {
-                take(&mut self.requests, request);
-                Err(error_of(refusal))
-            }
+        Err(refusal) => {
+            take(all, number);
+            Err(error_of(refusal))
         }
     }
 }
 
 /// Returns why a request is not started, from why it is not sent.
-fn error_of(refusal: LoopRefusal) -> RequestError {
+fn error_of(refusal: LoopRefusal) -> RequestError
+    ensures memory { refusal ≡ LoopRefusal.OutOfMemory → result ≡ RequestError.OutOfMemory }
+    ensures either { (result ≡ RequestError.NoId) ⊎ (result ≡ RequestError.OutOfMemory) }
+{
     match refusal {
         LoopRefusal::OutOfMemory => RequestError::OutOfMemory,
         _ => RequestError::NoId,

@@ -3,3 +3,4 @@ pub mod FormLemmas
 pub mod NumberLemmas
 pub mod PendingLemmas
 pub mod PollLemmas
+pub mod RequestingLemmas

@@ -1,5 +1,5 @@
 //! Starting requests.
-ghost use Rattle.std.specs.Option.{IfSome, option_copied};
+ghost use Rattle.std.specs.Option.{IfSome, IsSome, option_copied};
 ghost use Rattle.std.specs.Prelude.{◌≡◌, ◌<◌, ◌⊎◌, ℕ, Err, IfErr, IfOk, IsErr, IsOkUnless};
 ghost use Rattle.std.specs.Prelude.{MatchOption, None, Ok, OnErr, OnOk};
 ghost use Rattle.stun_client.specs.Ids.{id_of};
@@ -80,10 +80,10 @@ impl<A: Allocator + Copy> ClientEndpoint<A> {
     ) -> Result<u64, RequestError>
         requires named { id ≡ id_of self.old.seed number }
         requires low { number < LAST_NUMBER }
-        ensures refused { MatchOption (request_refused self.old.state bytes.items)
-            (IsOkUnless result RequestError.OutOfMemory)
-            (λ _. (result ≡ Err RequestError.NoId)
-            ⊎ (result ≡ Err RequestError.OutOfMemory)) }
+        ensures refused { IfErr result (λ why. (why ≡ RequestError.OutOfMemory)
+            ⊎ ((why ≡ RequestError.NoId)
+            × IsSome (request_refused self.old.state bytes.items))) }
+        ensures ok { OnOk result (request_refused self.old.state bytes.items ≡ None) }
         ensures number { IfOk result (λ number. number ≡ next_number self.old) }
         ensures after { OnOk result
             (self.new ≡ after_start number body bytes.items now self.old) }
@@ -143,9 +143,9 @@ fn register<A: Allocator + Copy>(
 ) -> Result<(), RequestError>
     requires next { number ≡ state.old.client.requests.next }
     requires free { request_at number all.old.entries ≡ None }
-    ensures refused { MatchOption (request_refused state.old bytes.items)
-        (IsOkUnless result RequestError.OutOfMemory)
-        (λ _. (result ≡ Err RequestError.NoId) ⊎ (result ≡ Err RequestError.OutOfMemory)) }
+    ensures refused { IfErr result (λ why. (why ≡ RequestError.OutOfMemory)
+        ⊎ ((why ≡ RequestError.NoId) × IsSome (request_refused state.old bytes.items))) }
+    ensures ok { OnOk result (request_refused state.old bytes.items ≡ None) }
     ensures stored { OnOk result (all.new.entries ≡ changed_at (sending id bytes.items) number
         (with_request number pending all.old.entries)) }
     ensures sent { OnOk result (state.new ≡ after_request bytes.items now state.old) }
@@ -153,9 +153,9 @@ fn register<A: Allocator + Copy>(
     ensures same { OnErr result (all.new.entries ≡ all.old.entries) }
     ensures unsent { OnErr result (state.new ≡ state.old) }
 {
-    if put(all, number, pending).is_err() {
+    let Ok(()) = put(all, number, pending) else {
         return Err(RequestError::OutOfMemory);
-    }
+    };
     match state.request(bytes.as_slice(), now) {
         Ok(_number) => {
             send(all, number, id, bytes);

@@ -1,0 +1,99 @@
+-- Why a request is not started, and what starting it makes of a client.
+use Rattle.std.proofs.Common.{◌≡◌, ◌∙◌, ◌⊎◌, ◌<◌, ◌≤◌, ℕ, Bool, true, false, List, Option, Some, None}
+use Rattle.std.proofs.Common.{Result, Ok, Err, ap, arith, cond, inl, inr, refl, sym}
+use Rattle.std.specs.Option.{IsSome, MatchOption, is_some, option_map, option_or}
+use Rattle.std.specs.Prelude.{◌==◌}
+use Rattle.std.specs.Result.{IsErr, IsOkUnless}
+use Rattle.std.proofs.lemmas.Bool.{eqb-false}
+use Rattle.stun_agent.specs.Agent.{request_refusal}
+use Rattle.stun_agent.specs.declared.error.StunError.{StunError}
+use Rattle.stun_base.specs.Header.{transaction_id_field}
+use Rattle.stun_client.specs.Requests.{LAST_NUMBER, at}
+use Rattle.stun_client.specs.declared.requests.RequestRefusal.TheVariants.{IdTaken, NoNumber}
+use Rattle.stun_client_loop.specs.Loops.{LoopSeen, of_client, request_refused}
+use Rattle.stun_client_loop.specs.declared.refusal.LoopRefusal.{LoopRefusal}
+use Rattle.stun_client_loop.specs.declared.refusal.LoopRefusal.TheVariants as Loop
+use Rattle.stun_client_endpoint.specs.Bodies.{Body}
+use Rattle.stun_client_endpoint.specs.Endpoints.{Endpoint, after_start, chosen, first_message}
+use Rattle.stun_client_endpoint.specs.Endpoints.{refusal_of_bytes, refusal_of_number, refusal_to_start}
+use Rattle.stun_client_endpoint.specs.Endpoints.{started, started_at, started_by}
+use Rattle.stun_client_endpoint.specs.Written.{Page?}
+use Rattle.stun_client_endpoint.specs.declared.told.RequestError.{RequestError}
+use Rattle.stun_client_endpoint.specs.declared.told.RequestError.TheVariants.{NoId, OutOfMemory}
+use Rattle.stun_client_endpoint.specs.declared.told.RequestError.TheVariants.{TooLarge}
+
+-- ---- what the loop refuses
+
+-- what is said of a request that the loop refuses
+pub told_of_refusal : (o : Option LoopRefusal) (refusal : LoopRefusal) (why : RequestError)
+    → MatchOption o (refusal ≡ Loop.OutOfMemory)
+    (λ other. Err {T = ℕ} {E = LoopRefusal} refusal ≡ Err other)
+    → (refusal ≡ Loop.OutOfMemory → why ≡ OutOfMemory) → (why ≡ NoId) ⊎ (why ≡ OutOfMemory)
+    → (why ≡ OutOfMemory) ⊎ ((why ≡ NoId) × IsSome o)
+told_of_refusal None refusal why is memory either = inl (memory is)
+told_of_refusal (Some r) refusal why is memory (inl id) = inr (id, refl)
+told_of_refusal (Some r) refusal why is memory (inr none) = inl none
+
+-- a loop that sends a request has a number for it
+pub low_next : (l : LoopSeen) (bytes : List ℕ) → request_refused l bytes ≡ None
+    → (l.client.requests.next == LAST_NUMBER) ≡ false
+low_next l bytes none =
+    by (request_refusal l.agent bytes l.server)
+    (is_some (at (transaction_id_field bytes) l.client.requests.asked))
+    (l.client.requests.next == LAST_NUMBER) none
+  where
+    by : (o : Option StunError) (taken last : Bool)
+        → option_or (option_map Loop.NotSent o)
+        (option_map of_client (cond taken (Some IdTaken) (cond last (Some NoNumber) None))) ≡ None
+        → last ≡ false
+    by (Some x) taken last none = cc
+    by None true last none = cc
+    by None false true none = cc
+    by None false false none = refl
+
+pub below_last : (l : LoopSeen) (bytes : List ℕ) (number : ℕ) → request_refused l bytes ≡ None
+    → number ≡ l.client.requests.next → number ≤ LAST_NUMBER → number < LAST_NUMBER
+below_last l bytes number none is low = by (low_next l bytes none)
+  where
+    by : (l.client.requests.next == LAST_NUMBER) ≡ false → number < LAST_NUMBER
+    by apart =
+        let no : l.client.requests.next ≡ LAST_NUMBER → ⊥ =
+        eqb-false l.client.requests.next LAST_NUMBER apart in
+        let same : number ≡ l.client.requests.next = is in
+        omega (arith, no)
+
+-- ---- why a request is not started
+
+pub no_id : (e : Endpoint) (method : ℕ) (body : Body) → chosen e ≡ None
+    → refusal_to_start e method body ≡ Some NoId
+no_id e method body none = ap (λ (o : Option ℕ). refusal_of_number e method body o) none
+
+pub by_bytes : (e : Endpoint) (method number : ℕ) (body : Body) → chosen e ≡ Some number
+    → refusal_to_start e method body ≡ refusal_of_bytes e (first_message e method number body)
+by_bytes e method number body is = ap (λ (o : Option ℕ). refusal_of_number e method body o) is
+
+pub too_large : (e : Endpoint) (page : Page?) → IsErr page → refusal_of_bytes e page ≡ Some TooLarge
+too_large e (Err why) is = refl
+too_large e (Ok bytes) is = cc
+
+pub refused_by : (e : Endpoint) (page : Page?) (bytes : List ℕ) → page ≡ Ok bytes
+    → IsSome (request_refused e.state bytes) → refusal_of_bytes e page ≡ Some NoId
+refused_by e page bytes is some =
+    ap (λ (p : Page?). refusal_of_bytes e p) is
+    ∙ ap (λ (b : Bool). cond b (Some NoId) None) some
+
+pub sent_by : (e : Endpoint) (page : Page?) (bytes : List ℕ) → page ≡ Ok bytes
+    → request_refused e.state bytes ≡ None → refusal_of_bytes e page ≡ None
+sent_by e page bytes is none =
+    ap (λ (p : Page?). refusal_of_bytes e p) is
+    ∙ ap (λ (o : Option LoopRefusal). cond (is_some o) (Some NoId) None) none
+
+-- ---- a client once a request is started
+
+pub started_so : (e after : Endpoint) (method number now : ℕ) (body : Body) (bytes : List ℕ)
+    → chosen e ≡ Some number → first_message e method number body ≡ Ok bytes
+    → after ≡ after_start number body bytes now e → after ≡ started method body now e
+started_so e after method number now body bytes is written made =
+    made
+    ∙ sym (ap (λ (o : Option ℕ). started_at e method body now o) is
+    ∙ ap (λ (p : Page?). started_by e body now number p) written)

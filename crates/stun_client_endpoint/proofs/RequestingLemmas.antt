@@ -1,6 +1,7 @@
 -- Why a request is not started, and what starting it makes of a client.
 use Rattle.std.proofs.Common.{◌≡◌, ◌∙◌, ◌⊎◌, ◌<◌, ◌≤◌, ℕ, Bool, true, false, List, Option, Some, None}
 use Rattle.std.proofs.Common.{Result, Ok, Err, ap, arith, cond, inl, inr, refl, sym}
+use Rattle.std.specs.Bool.{⊤}
 use Rattle.std.specs.Option.{IsSome, MatchOption, is_some, option_map, option_or}
 use Rattle.std.specs.Prelude.{◌==◌}
 use Rattle.std.specs.Result.{IsErr, IsOkUnless}
@@ -24,10 +25,16 @@ use Rattle.stun_client_endpoint.specs.declared.told.RequestError.TheVariants.{To
 
 -- ---- what the loop refuses
 
+-- a loop that sends a request has refused nothing
+pub not_refused : {T : Type 0} (o : Option LoopRefusal) (x : T)
+    → MatchOption o ⊤ (λ r. Ok {T = T} {E = LoopRefusal} x ≡ Err r) → o ≡ None
+not_refused None x is = refl
+not_refused (Some r) x is = cc
+
 -- what is said of a request that the loop refuses
-pub told_of_refusal : (o : Option LoopRefusal) (refusal : LoopRefusal) (why : RequestError)
+pub told_of_refusal : {T : Type 0} (o : Option LoopRefusal) (refusal : LoopRefusal) (why : RequestError)
     → MatchOption o (refusal ≡ Loop.OutOfMemory)
-    (λ other. Err {T = ℕ} {E = LoopRefusal} refusal ≡ Err other)
+    (λ other. Err {T = T} {E = LoopRefusal} refusal ≡ Err other)
     → (refusal ≡ Loop.OutOfMemory → why ≡ OutOfMemory) → (why ≡ NoId) ⊎ (why ≡ OutOfMemory)
     → (why ≡ OutOfMemory) ⊎ ((why ≡ NoId) × IsSome o)
 told_of_refusal None refusal why is memory either = inl (memory is)

@@ -27,19 +27,19 @@ use Rattle.stun_client_endpoint.specs.declared.told.RequestError.TheVariants.{To
 
 -- a loop that sends a request has refused nothing
 pub not_refused : {T : Type 0} (o : Option LoopRefusal) (x : T)
-    → MatchOption o ⊤ (λ r. Ok {T = T} {E = LoopRefusal} x ≡ Err r) → o ≡ None
+    → MatchOption o ⊤ (λ r. ◌≡◌ {A = Result T LoopRefusal} (Ok x) (Err r)) → o ≡ None
 not_refused None x is = refl
 not_refused (Some r) x is = cc
 
 -- what is said of a request that the loop refuses
-pub told_of_refusal : {T : Type 0} (o : Option LoopRefusal) (refusal : LoopRefusal) (why : RequestError)
+pub told_of_refusal : (T : Type 0) (o : Option LoopRefusal) (refusal : LoopRefusal) (why : RequestError)
     → MatchOption o (refusal ≡ Loop.OutOfMemory)
-    (λ other. Err {T = T} {E = LoopRefusal} refusal ≡ Err other)
+    (λ other. ◌≡◌ {A = Result T LoopRefusal} (Err refusal) (Err other))
     → (refusal ≡ Loop.OutOfMemory → why ≡ OutOfMemory) → (why ≡ NoId) ⊎ (why ≡ OutOfMemory)
     → (why ≡ OutOfMemory) ⊎ ((why ≡ NoId) × IsSome o)
-told_of_refusal None refusal why is memory either = inl (memory is)
-told_of_refusal (Some r) refusal why is memory (inl id) = inr (id, refl)
-told_of_refusal (Some r) refusal why is memory (inr none) = inl none
+told_of_refusal T None refusal why is memory either = inl (memory is)
+told_of_refusal T (Some r) refusal why is memory (inl id) = inr (id, refl)
+told_of_refusal T (Some r) refusal why is memory (inr none) = inl none
 
 -- a loop that sends a request has a number for it
 pub low_next : (l : LoopSeen) (bytes : List ℕ) → request_refused l bytes ≡ None

@@ -129,11 +129,13 @@ impl<A: Allocator + Copy> ClientEndpoint<A> {
         ensures { ((result, self.new) ≡ ended_by number end stored.items message.now now self.old)
             ⊎ ((result, self.new) ≡ out_of_memory message.now self.old) }
     {
-        if self.state.answer(message, now).is_err() {
-            return self.forgo(message);
+        match self.state.answer(message, now) {
+            Ok(_ended) => {
+                finish(&mut self.requests, number, end, stored);
+                Received::Consumed
+            }
+            Err(_) => self.forgo(message),
         }
-        finish(&mut self.requests, number, end, stored);
-        Received::Consumed
     }
 
     /// Sends a request again, signed for this challenge or not at all, or ends it if that was done
@@ -244,15 +246,13 @@ impl<A: Allocator + Copy> ClientEndpoint<A> {
             (Ok bytes.items))
             message.now self.old (result, self.new) }
     {
-        if self
-            .state
-            .again(message, bytes.as_slice(), challenge, now)
-            .is_err()
-        {
-            return self.forgo(message);
+        match self.state.again(message, bytes.as_slice(), challenge, now) {
+            Ok(()) => {
+                send(&mut self.requests, number, id, bytes);
+                self.next_id = id_number + 1;
+                Received::Consumed
+            }
+            Err(_) => self.forgo(message),
         }
-        send(&mut self.requests, number, id, bytes);
-        self.next_id = id_number + 1;
-        Received::Consumed
     }
 }

@@ -27,7 +27,7 @@ returns-in-Ok-request-clause-low g c =
 
 pub returns-in-Err-clause-refused : goal.returns-in-Err-clause-refused
 returns-in-Err-clause-refused g c =
-    told_of_refusal (request_refused c.args.state.now c.args.bytes.items) c.in-Err.refusal
+    told_of_refusal _ (request_refused c.args.state.now c.args.bytes.items) c.in-Err.refusal
     c.error_of.result (rw c.as_slice.ensures.value at c.in-Err.ensures.refused)
     c.error_of.ensures.memory c.error_of.ensures.either
 

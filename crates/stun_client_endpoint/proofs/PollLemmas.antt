@@ -1,13 +1,13 @@
 -- What polls leave: the number of the next request, and fewer transactions of the agent where they say
 -- nothing.
-use Rattle.std.proofs.Common.{◌≡◌, ◌∙◌, ◌+◌, ◌<◌, ◌≤◌, ℕ, Bool, true, false, Option, Some, None}
-use Rattle.std.proofs.Common.{List, ap, arith, cond, length, map, refl, sym}
+use Rattle.std.proofs.Common.{◌≡◌, ◌∙◌, ◌+◌, ◌≤◌, ℕ, Bool, Option, Some, None}
+use Rattle.std.proofs.Common.{List, ap, arith, length, refl, sym}
 use Rattle.std.specs.Option.{option_map, option_map_or}
 use Rattle.std.proofs.lemmas.List.{length-map}
 use Rattle.stun_agent.specs.Agent.{Agent, after_poll, after_poll_transmit, end_of, ended_by_poll}
 use Rattle.stun_agent.specs.Agent.{poll_answer, sent_by_poll, tally_of_end, tally_of_sent, with_tally}
 use Rattle.stun_agent.specs.Agent.{with_transactions}
-use Rattle.stun_agent.specs.Transactions.{Transaction, Transactions, after_slots, is_over, repeats}
+use Rattle.stun_agent.specs.Transactions.{Transaction, after_slots, is_over}
 use Rattle.stun_agent.specs.Transactions.{slot_passed, wake_up, without}
 use Rattle.stun_agent.specs.declared.agent.StunAgentPollRet.{StunAgentPollRet}
 use Rattle.stun_agent.specs.declared.agent.StunAgentPollRet.TheVariants.{TransactionTimedOut}
@@ -24,7 +24,7 @@ use Rattle.stun_client_loop.specs.declared.client_loop.Timed.{Timed}
 use Rattle.stun_client_loop.specs.declared.client_loop.Timed.TheVariants.{TimedOut, Forgotten}
 use Rattle.stun_client_loop.specs.declared.client_loop.Timed.TheVariants.{WaitUntil}
 use Rattle.stun_client_endpoint.specs.Ends.{Ended}
-use Rattle.stun_client_endpoint.specs.Endpoints.{Endpoint, Step, Told, ends_or, ends_step, repeated}
+use Rattle.stun_client_endpoint.specs.Endpoints.{Endpoint, Step, ends_or, ends_step, repeated}
 use Rattle.stun_client_endpoint.specs.Endpoints.{repeats_or, repeats_step, step, timed, timers_step}
 use Rattle.stun_client_endpoint.specs.Endpoints.{transmit, unsent_or, with_requests}
 use Rattle.stun_client_endpoint.specs.Pendings.{end_of_first, first_unsent, without_first}

@@ -4,7 +4,7 @@ use Rattle.std.proofs.Common.{Result, Ok, Err, ap, arith, cond, inl, inr, refl, 
 use Rattle.std.specs.Bool.{⊤}
 use Rattle.std.specs.Option.{IsSome, MatchOption, is_some, option_map, option_or}
 use Rattle.std.specs.Prelude.{◌==◌}
-use Rattle.std.specs.Result.{IsErr, IsOkUnless}
+use Rattle.std.specs.Result.{IsErr}
 use Rattle.std.proofs.lemmas.Bool.{eqb-false}
 use Rattle.stun_agent.specs.Agent.{request_refusal}
 use Rattle.stun_agent.specs.declared.error.StunError.{StunError}

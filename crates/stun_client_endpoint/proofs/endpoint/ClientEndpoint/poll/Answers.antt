@@ -1,7 +1,7 @@
 -- A step says what the poll says, or the poll goes on with fewer transactions.
 use Rattle.std.proofs.Common.{◌≡◌, ◌∙◌, ◌+◌, ◌≤◌, Option, None, ap, arith, length, rules, sym}
 use Rattle.std.specs.Option.{option_map}
-use Rattle.stun_client_endpoint.specs.Endpoints.{Step, goes_on, says, step, told_of}
+use Rattle.stun_client_endpoint.specs.Endpoints.{goes_on, says, step, told_of}
 use Rattle.stun_client_endpoint.specs.declared.told.Polled.{Polled}
 use Rattle.stun_client_endpoint.proofs.PollLemmas.{step_fewer}
 use Rattle.stun_client_endpoint.proofs.endpoint.ClientEndpoint.poll.Goals as goal

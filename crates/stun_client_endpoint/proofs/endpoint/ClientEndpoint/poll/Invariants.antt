@@ -1,6 +1,6 @@
 -- What a poll says from here on it says from the start, and each step that says nothing leaves the
 -- agent with fewer transactions.
-use Rattle.std.proofs.Common.{◌≡◌, ℕ, length}
+use Rattle.std.proofs.Common.{length}
 use Rattle.stun_client_endpoint.specs.Endpoints.{Endpoint, Polls, Told}
 use Rattle.stun_client_endpoint.proofs.endpoint.ClientEndpoint.poll.Given as goal
 

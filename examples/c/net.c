@@ -260,9 +260,10 @@ int open_client(const char *host, const char *port, struct peer *server, stunp_a
     return fd;
 }
 
-enum arrival wait_for(int socket, uint64_t nanoseconds) {
+enum arrival wait_until(int socket, uint64_t until) {
     struct pollfd one = {socket, POLLIN, 0};
-    struct timespec most = {(time_t)(nanoseconds / SECOND), (long)(nanoseconds % SECOND)};
+    uint64_t now = moment(), left = until > now ? until - now : 0;
+    struct timespec most = {(time_t)(left / SECOND), (long)(left % SECOND)};
     if (ppoll(&one, 1, &most, NULL) <= 0) return NOTHING;
     return (one.revents & POLLERR) != 0 ? ERROR_REPORT : DATAGRAM;
 }

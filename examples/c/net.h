@@ -76,10 +76,10 @@ int open_own(const struct peer *at, stunp_address *own);
  * printed the reason on standard error. */
 int open_client(const char *host, const char *port, struct peer *server, stunp_address *own);
 
-/* What arrives at a socket within so many nanoseconds: a datagram, or an error report about one
- * that was sent. */
+/* What arrives at a socket until a time of `moment`: a datagram, or an error report about one that
+ * was sent. */
 enum arrival { NOTHING, DATAGRAM, ERROR_REPORT };
-enum arrival wait_for(int socket, uint64_t nanoseconds);
+enum arrival wait_until(int socket, uint64_t until);
 
 /* Reads what ICMP reported about the datagrams that a client sent. Returns the error if none of
  * them will ever be answered, such as from a closed port, or 0. */

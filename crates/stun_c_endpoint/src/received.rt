@@ -77,7 +77,7 @@ pub struct Received {
 }
 
 /// No more than so many bytes at the front of a place, and zeros after them.
-fn front<const N: usize>(bytes: &[u8], most: usize) -> [u8; N]
+pub fn front<const N: usize>(bytes: &[u8], most: usize) -> [u8; N]
     requires { most ≤ N }
     ensures { result ≡ at_front N most bytes.now }
 {
@@ -97,7 +97,7 @@ pub fn id_bytes(id: TransactionId) -> [u8; 12]
 }
 
 /// The number of an integrity attribute, and 0 of none.
-fn integrity_number(algorithm: Option<IntegrityAlgorithm>) -> u8
+pub fn integrity_number(algorithm: Option<IntegrityAlgorithm>) -> u8
     ensures { result ≡ integrity_number algorithm }
 {
     match algorithm {

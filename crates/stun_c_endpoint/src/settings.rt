@@ -79,7 +79,7 @@ fn nonce_seconds(seconds: u64) -> u64
 }
 
 /// The types of numbers.
-fn types(alloc: Global, numbers: &[u16]) -> Result<Vec<AttributeType, Global>, AllocError>
+pub fn types(alloc: Global, numbers: &[u16]) -> Result<Vec<AttributeType, Global>, AllocError>
     ensures { IfOk result (λ types. types.items ≡ types_of numbers.now) }
 {
     let mut types = Vec::new(alloc);
@@ -99,7 +99,7 @@ fn copy_types(types: &mut [AttributeType], numbers: &[u16])
 }
 
 /// A text, if it has bytes.
-fn text_if_any(alloc: Global, text: &str) -> Result<Option<String<Global>>, AllocError>
+pub fn text_if_any(alloc: Global, text: &str) -> Result<Option<String<Global>>, AllocError>
     ensures { IfOk result (λ copy. option_map string_bytes copy ≡ if_any text.now) }
 {
     if text.len() == 0 {

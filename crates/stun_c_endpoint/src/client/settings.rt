@@ -1,0 +1,259 @@
+//! The client that a caller makes.
+
+ghost use Rattle.std.specs.Prelude.{◌≡◌, ◌++◌, IfOk, IsOkUnless, MatchOption, None, Some, Err, length};
+ghost use Rattle.std.specs.Prelude.{string_bytes};
+ghost use Rattle.std.specs.Option.{option_map};
+ghost use Rattle.stun_extra.specs.Unknown.{types_of};
+ghost use Rattle.stun_client.specs.Judging.{identity_of};
+ghost use Rattle.stun_c_endpoint.specs.ClientsGiven.{agent_given, algorithm_given};
+ghost use Rattle.stun_c_endpoint.specs.ClientsGiven.{feature_given, has_user, identity_given};
+ghost use Rattle.stun_c_endpoint.specs.ClientsGiven.{is_out_of_range, long_term_given, or_else};
+ghost use Rattle.stun_c_endpoint.specs.ClientsGiven.{preferences_given, transport_given};
+
+use crate::settings::types;
+use std::alloc::{AllocError, Global};
+use std::marker::Model;
+use std::net::SocketAddr;
+use std::time::Duration;
+use stun_agent::agent::StunAgent;
+use stun_auth::auth::Feature;
+use stun_base::attribute_type::AttributeType;
+use stun_base::key::IntegrityKey;
+use stun_base::transport::TransportType;
+use stun_client::credentials::{Credentials, LongTerm, ShortTerm};
+use stun_client::preferences::Preferences;
+use stun_handles::address::Address;
+use stun_handles::text::copied;
+use stun_types::message::{IntegrityAlgorithm, LongTermCredentials, PreparedKey};
+
+/// The types of attributes that must be understood and that the header names. Each client
+/// understands them in responses.
+pub const UNDERSTOOD: [AttributeType; 28] = [
+    AttributeType(0x0001),
+    AttributeType(0x0003),
+    AttributeType(0x0006),
+    AttributeType(0x0008),
+    AttributeType(0x0009),
+    AttributeType(0x000A),
+    AttributeType(0x000C),
+    AttributeType(0x000D),
+    AttributeType(0x0012),
+    AttributeType(0x0013),
+    AttributeType(0x0014),
+    AttributeType(0x0015),
+    AttributeType(0x0016),
+    AttributeType(0x0017),
+    AttributeType(0x0018),
+    AttributeType(0x0019),
+    AttributeType(0x001A),
+    AttributeType(0x001B),
+    AttributeType(0x001C),
+    AttributeType(0x001D),
+    AttributeType(0x001E),
+    AttributeType(0x0020),
+    AttributeType(0x0022),
+    AttributeType(0x0024),
+    AttributeType(0x0025),
+    AttributeType(0x0026),
+    AttributeType(0x0027),
+    AttributeType(0x002A),
+];
+
+/// The waits of RFC 8489, section 6.2.1, in nanoseconds, and how often a request is sent.
+const INITIAL: u64 = 500_000_000;
+const LONGEST: u64 = 18_446_744_073_709_551_615;
+const LAST: u64 = 8_000_000_000;
+const TRANSMISSIONS: u32 = 7;
+
+/// For how many challenges a request is sent again.
+const CHALLENGES: u32 = 6;
+
+/// The number of short-term credentials.
+const SHORT_TERM: u32 = 1;
+
+/// The numbers of algorithms: each alone, and both.
+const ONLY_SHA1: u32 = 1;
+const ONLY_SHA256: u32 = 2;
+const BOTH: u32 = 3;
+
+/// The greatest number of a feature.
+const DISABLED: u32 = 2;
+
+/// The numbers among the settings of a client. One that is 0 takes its default.
+#[repr(C)]
+#[derive(Clone, Copy)]
+pub struct ClientOptions {
+    /// The wait after the first transmission of a request, in nanoseconds.
+    pub initial: u64,
+    /// The longest wait between two transmissions.
+    pub longest: u64,
+    /// The wait after the last transmission.
+    pub last: u64,
+    /// How often a request is sent.
+    pub transmissions: u32,
+    /// For how many challenges a request is sent again.
+    pub challenges: u32,
+    /// Of which kind the credentials are.
+    pub credentials: u32,
+    /// Which algorithms are supported.
+    pub algorithms: u32,
+    /// Whether the user name is sent as a hash.
+    pub anonymous_username: u32,
+    /// Whether messages go over a stream.
+    pub is_stream: bool,
+    /// Whether an unsigned response to an unsigned request is accepted.
+    pub accepts_unsigned: bool,
+    /// Whether requests end with FINGERPRINT.
+    pub has_fingerprint: bool,
+}
+
+/// What a caller gives. Contracts see bytes and numbers.
+#[derive(Drop)]
+pub struct ClientGiven<'a> {
+    pub server: &'a Address,
+    pub seed: &'a [u8; 32],
+    pub name: &'a [u8],
+    pub password: &'a [u8],
+    pub software: &'a [u8],
+    pub understood: &'a [u16],
+    pub options: &'a ClientOptions,
+}
+
+impl<'a> Model for ClientGiven<'a> {
+    ghost use Rattle.stun_c_endpoint.specs.ClientsGiven.{ClientGiven as GivenSeen};
+
+    ghost Value = { GivenSeen };
+
+    ghost view = { λ given. record {
+      server = given.server.now;
+      seed = given.seed.now;
+      name = given.name.now;
+      password = given.password.now;
+      software = given.software.now;
+      understood = given.understood.now;
+      options = given.options.now;
+    } };
+}
+
+/// A number, or its default where it is 0.
+fn or_else(number: u64, default: u64) -> u64
+    ensures { result ≡ or_else number default }
+{
+    if number == 0 { default } else { number }
+}
+
+/// The same of a smaller number.
+fn or_else_small(number: u32, default: u32) -> u32
+    ensures { result ≡ or_else number default }
+{
+    if number == 0 { default } else { number }
+}
+
+/// Whether the user name is sent as a hash.
+fn feature(number: u32) -> Feature
+    ensures { result ≡ feature_given number }
+{
+    match number {
+        1 => Feature::Required,
+        2 => Feature::Disabled,
+        _ => Feature::Auto,
+    }
+}
+
+/// The algorithm that short-term credentials are used with.
+fn algorithm(number: u32) -> IntegrityAlgorithm
+    ensures { result ≡ algorithm_given number }
+{
+    if number == ONLY_SHA256 {
+        IntegrityAlgorithm::Sha256
+    } else {
+        IntegrityAlgorithm::Sha1
+    }
+}
+
+impl ClientOptions {
+    /// What long-term credentials are used with.
+    fn preferences(&self) -> Preferences
+        ensures { result ≡ preferences_given self.now }
+    {
+        Preferences {
+            hmac_sha1: self.algorithms != ONLY_SHA256,
+            hmac_sha256: self.algorithms != ONLY_SHA1,
+            anonymous_username: feature(self.anonymous_username),
+        }
+    }
+
+    /// Whether a number is none that is taken, of a client with a user or without one.
+    fn is_out_of_range(&self, has_user: bool) -> bool
+        ensures { result ≡ is_out_of_range has_user self.now }
+    {
+        self.algorithms > BOTH
+            || self.anonymous_username > DISABLED
+            || (has_user && self.credentials > SHORT_TERM)
+            || (has_user && self.credentials == SHORT_TERM && self.algorithms == BOTH)
+    }
+
+    /// What carries the messages.
+    fn transport(&self) -> TransportType
+        ensures { result ≡ transport_given self.now.is_stream }
+    {
+        if self.is_stream {
+            TransportType::Tcp
+        } else {
+            TransportType::Udp
+        }
+    }
+
+    /// The agent of a client, which tells no address of its own.
+    fn agent(&self, alloc: Global, server: SocketAddr) -> StunAgent<Global>
+        ensures { result ≡ agent_given server self.now }
+    {
+        StunAgent::builder(alloc, self.transport(), server)
+            .request_retransmits(
+                Duration::from_nanos(or_else(self.initial, INITIAL)),
+                Duration::from_nanos(or_else(self.longest, LONGEST)),
+                or_else_small(self.transmissions, TRANSMISSIONS),
+                Duration::from_nanos(or_else(self.last, LAST)),
+            )
+            .build()
+    }
+
+    /// The credentials of a user.
+    fn credentials(
+        &self,
+        alloc: Global,
+        name: &str,
+        password: &str,
+    ) -> Result<Credentials<Global>, AllocError>
+        ensures { IfOk result (λ made. identity_of made
+            ≡ identity_given name.now password.now self.now) }
+    {
+        if name.is_empty() {
+            return Ok(Credentials::Unsigned);
+        }
+        let name = copied(alloc, name)?;
+        if self.credentials == SHORT_TERM {
+            let algorithm = algorithm(self.algorithms);
+            let key = IntegrityKey::from_bytes(alloc, password.as_bytes())?;
+            return Ok(Credentials::ShortTerm(ShortTerm {
+                name,
+                password: PreparedKey::new(key, algorithm),
+                algorithm,
+            }));
+        }
+        Ok(Credentials::LongTerm(LongTerm {
+            user: LongTermCredentials::new(name, copied(alloc, password)?),
+            preferences: self.preferences(),
+            accepts_unsigned: self.accepts_unsigned,
+        }))
+    }
+}
+
+/// The types that a client understands.
+fn understood(alloc: Global, numbers: &[u16]) -> Result<Vec<AttributeType, Global>, AllocError>
+    ensures { IfOk result (λ types. types.items ≡ types_of numbers.now ++ UNDERSTOOD) }
+{
+    let mut types = types(alloc, numbers)?;
+    types.extend_from_slice(&UNDERSTOOD)?;
+    Ok(types)
+}

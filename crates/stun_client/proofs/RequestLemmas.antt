@@ -1,18 +1,22 @@
 -- What starting, renewing and ending requests leaves of them: each has its own number, and the
 -- number of one that has ended is never in use again.
 use Rattle.std.proofs.Common.{◌≡◌, ◌⊎◌, ◌+◌, ◌<◌, ◌≤◌, ℕ, Bool, true, false, cond, Option, Some, None}
-use Rattle.std.proofs.Common.{◌∙◌, Bor, ap, arith, inl, inr, refl, subst, sym}
-use Rattle.std.specs.BTreeMap.{is_at}
+use Rattle.std.proofs.Common.{◌∙◌, ◌∷◌, [], Bor, ap, arith, inl, inr, refl, subst, sym}
+use Rattle.std.specs.BTreeMap.{insert_entry, is_at}
 use Rattle.std.specs.Cmp.{nat_cmp_is}
 use Rattle.std.specs.FinMap.{nat_cmp-IsAntisymmetric}
-use Rattle.std.specs.Option.{IfSome, option_copied, option_map, option_map_or}
-use Rattle.std.specs.Ordering.{is_eq, nat_cmp}
-use Rattle.std.specs.Prelude.{Err, Ok, OnOk, Result}
+use Rattle.std.specs.Map.{remove_entry}
+use Rattle.std.specs.Option.{IfSome, is_some, option_copied, option_map, option_map_or}
+use Rattle.std.specs.Ordering.{is_eq, match_ordering, nat_cmp}
+use Rattle.std.specs.Prelude.{◌==◌, Err, Ok, OnOk, Result, nat_le}
 use Rattle.std.specs.Result.{is_err}
 use Rattle.std.specs.declared.cmp.Ordering.{Ordering}
 use Rattle.std.specs.declared.cmp.Ordering.TheVariants.{Less, Equal, Greater}
 use Rattle.stun_client.specs.Requests.{AllAsked, AskedSeen, IsMoved, IsOver, IsSole, IsWith, IsWithout, at}
+use Rattle.stun_client.specs.Requests.{LAST_NUMBER, RequestsSeen, renewal_refusal, renewal_refusal_of}
+use Rattle.stun_client.specs.Requests.{start_refusal}
 use Rattle.stun_client.specs.code.Requests.{AreNumbered, parts_renewed}
+use Rattle.stun_client.specs.declared.requests.RequestRefusal.TheVariants.{IdTaken, NoNumber, TooOften}
 
 -- ---- keys
 
@@ -237,3 +241,55 @@ pub found_sole : (most next id : ℕ) (all : AllAsked) → AreNumbered most next
 found_sole most next id all kept None here = tt
 found_sole most next id all kept (Some a) here =
     λ other b there same. kept.distinct other id b a.now there (sym here) same
+
+-- ---- taking back
+
+-- what was put at a free ID is taken out again
+pub taken_back : (id : ℕ) (v : AskedSeen) (m : AllAsked) → at id m ≡ None
+    → remove_entry (is_at (nat_cmp id)) (insert_entry nat_cmp m id v) ≡ m
+taken_back id v [] free = ap (λ b. cond b [] ((id, v) ∷ [])) (own_key id)
+taken_back id v (e ∷ es) free = by (nat_cmp id e.0) refl free (taken_back id v es)
+  where
+    by : (r : Ordering) → nat_cmp id e.0 ≡ r → cond (is_at (nat_cmp id) e.0) (Some e.1) (at id es) ≡ None
+        → (at id es ≡ None → remove_entry (is_at (nat_cmp id)) (insert_entry nat_cmp es id v) ≡ es)
+        → remove_entry (is_at (nat_cmp id))
+        (match_ordering r ((id, v) ∷ e ∷ es) ((e.0, v) ∷ es) (e ∷ insert_entry nat_cmp es id v))
+        ≡ e ∷ es
+    by Less is free rest =
+        ap (λ b. cond b (e ∷ es) ((id, v) ∷ remove_entry (is_at (nat_cmp id)) (e ∷ es))) (own_key id)
+    by Equal is free rest = let there : is_at (nat_cmp id) e.0 ≡ true = ap is_eq is in cc
+    by Greater is free rest =
+        let apart : is_at (nat_cmp id) e.0 ≡ false = ap is_eq is in
+        let left : at id es ≡ None = sym (ap (λ b. cond b (Some e.1) (at id es)) apart) ∙ free in
+        ap (λ b. cond b es
+        (e ∷ remove_entry (is_at (nat_cmp id)) (insert_entry nat_cmp es id v))) apart
+        ∙ ap (λ xs. e ∷ xs) (rest left)
+
+pub start_is_free : (s : RequestsSeen) (id : ℕ) → start_refusal s id ≡ None → at id s.asked ≡ None
+start_is_free s id none = by (at id s.asked) none
+  where
+    by : (found : Option AskedSeen)
+        → cond (is_some found) (Some IdTaken) (cond (s.next == LAST_NUMBER) (Some NoNumber) None) ≡ None
+        → found ≡ None
+    by None h = refl
+    by (Some a) h = cc
+
+pub renewal_is_free : (s : RequestsSeen) (id new_id : ℕ) → renewal_refusal s id new_id ≡ None
+    → at new_id s.asked ≡ None
+renewal_is_free s id new_id none = by (at id s.asked) none
+  where
+    taken : (found : Option AskedSeen) → cond (is_some found) (Some IdTaken) None ≡ None
+        → found ≡ None
+    taken None h = refl
+    taken (Some a) h = cc
+
+    often : (b : Bool)
+        → cond b (Some TooOften) (cond (is_some (at new_id s.asked)) (Some IdTaken) None) ≡ None
+        → at new_id s.asked ≡ None
+    often true h = cc
+    often false h = taken (at new_id s.asked) h
+
+    by : (found : Option AskedSeen) → renewal_refusal_of s new_id found ≡ None
+        → at new_id s.asked ≡ None
+    by None h = cc
+    by (Some a) h = often (nat_le s.most a.challenges) h

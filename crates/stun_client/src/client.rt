@@ -1,6 +1,7 @@
 //! A client of one server: what it has asked, and what a datagram comes to.
+ghost use Rattle.std.specs.Fn.{FnOnceReturnsAtMut};
 ghost use Rattle.std.specs.Option.{IfSome, option_copied, option_map};
-ghost use Rattle.std.specs.Prelude.{◌≡◌, ◌≤◌, ℕ, false, Err, IfOk, IsOk, IsOkUnless};
+ghost use Rattle.std.specs.Prelude.{◌≡◌, ◌≤◌, ◌⊎◌, ℕ, true, false, Err, IfOk, IsOk, IsOkUnless};
 ghost use Rattle.std.specs.Prelude.{MatchOption, OnErr, OnOk, Some};
 ghost use Rattle.stun_base.specs.MessageType.{class_in};
 ghost use Rattle.stun_client.specs.Addresses.{is_same_address};
@@ -213,6 +214,39 @@ impl<A: Allocator + Copy> Client<A> {
         self.requests.start(method, id, signed_for)
     }
 
+    /// Like `start`, but only once `send` has sent the request, which it does to `sender`. `send` is
+    /// called only if there is no other reason to fail. If it returns `false`, the call fails with
+    /// `OutOfMemory`.
+    pub fn start_with<S, F: FnOnce(&mut S) -> bool>(
+        &mut self,
+        method: Method,
+        id: TransactionId,
+        sender: &mut S,
+        send: F,
+    ) -> Result<u64, RequestRefusal>
+        requires { F.IsAlwaysCallable send }
+        ensures refused { MatchOption (start_refusal self.old.requests id)
+            (IsOkUnless result RequestRefusal.OutOfMemory) (λ refusal. result ≡ Err refusal) }
+        ensures number { IfOk result (λ number. number ≡ self.old.requests.next) }
+        ensures after { OnOk result (self.new ≡ after_starting self.old method id) }
+        ensures same { OnErr result (self.new ≡ self.old) }
+        ensures over { (number : ℕ) → IsOver number self.old.requests
+            → IsOver number self.new.requests }
+        ensures sent { OnOk result
+            (FnOnceReturnsAtMut F.FnOnce send sender.old true sender.new) }
+        ensures unsent { OnErr result ((sender.new ≡ sender.old)
+            ⊎ FnOnceReturnsAtMut F.FnOnce send sender.old false sender.new) }
+    {
+        if let Some(refusal) = self.requests.start_refusal(id) {
+            return Err(refusal);
+        }
+        let Ok(signed_for) = copied(self.standing.current()) else {
+            return Err(RequestRefusal::OutOfMemory);
+        };
+        self.requests
+            .start_with(method, id, signed_for, sender, send)
+    }
+
     /// Gives a request a new transaction ID, and signs it and new requests for this challenge from
     /// now on. Without a challenge the request is not signed.
     ///
@@ -238,6 +272,46 @@ impl<A: Allocator + Copy> Client<A> {
             return Err(RequestRefusal::OutOfMemory);
         };
         self.requests.renew(id, new_id, signed_for)?;
+        match challenge {
+            Some(challenge) => {
+                self.standing.answer(challenge);
+                Ok(())
+            }
+            None => Ok(()),
+        }
+    }
+
+    /// Like `renew`, but only once `send` has sent the request, which it does to `sender`. `send` is
+    /// called only if there is no other reason to fail. If it returns `false`, the call fails with
+    /// `OutOfMemory`.
+    pub fn renew_with<S, F: FnOnce(&mut S) -> bool>(
+        &mut self,
+        id: TransactionId,
+        new_id: TransactionId,
+        challenge: Option<Challenge<A>>,
+        sender: &mut S,
+        send: F,
+    ) -> Result<(), RequestRefusal>
+        requires { F.IsAlwaysCallable send }
+        ensures refused { MatchOption (renewal_refusal self.old.requests id new_id)
+            (IsOkUnless result RequestRefusal.OutOfMemory) (λ refusal. result ≡ Err refusal) }
+        ensures after { OnOk result (self.new ≡ after_renewing self.old id new_id challenge) }
+        ensures same { OnErr result (self.new ≡ self.old) }
+        ensures over { (number : ℕ) → IsOver number self.old.requests
+            → IsOver number self.new.requests }
+        ensures sent { OnOk result
+            (FnOnceReturnsAtMut F.FnOnce send sender.old true sender.new) }
+        ensures unsent { OnErr result ((sender.new ≡ sender.old)
+            ⊎ FnOnceReturnsAtMut F.FnOnce send sender.old false sender.new) }
+    {
+        if let Some(refusal) = self.requests.renewal_refusal(id, new_id) {
+            return Err(refusal);
+        }
+        let Ok(signed_for) = copied(&challenge) else {
+            return Err(RequestRefusal::OutOfMemory);
+        };
+        self.requests
+            .renew_with(id, new_id, signed_for, sender, send)?;
         match challenge {
             Some(challenge) => {
                 self.standing.answer(challenge);

@@ -1,10 +1,11 @@
 //! The outstanding requests of a client, each under the transaction ID that it has now.
 ghost use Rattle.std.specs.BTreeMap.{insert_entry, is_at};
+ghost use Rattle.std.specs.Fn.{FnOnceReturnsAtMut};
 ghost use Rattle.std.specs.Map.{remove_entry};
 ghost use Rattle.std.specs.Option.{is_some, option_copied, option_map};
 ghost use Rattle.std.specs.Ordering.{nat_cmp};
-ghost use Rattle.std.specs.Prelude.{◌≡◌, ◌≤◌, ℕ, IfErr, IfOk, IsOkUnless, MatchOption, OnErr, OnOk};
-ghost use Rattle.std.specs.Prelude.{Err, None, Some, IfSome, length};
+ghost use Rattle.std.specs.Prelude.{◌≡◌, ◌≤◌, ◌⊎◌, ℕ, IfErr, IfOk, IsOkUnless, MatchOption, OnErr};
+ghost use Rattle.std.specs.Prelude.{OnOk, Err, None, Some, IfSome, length, true, false};
 ghost use Rattle.stun_client.specs.Requests.{IsOver, after_end, after_renewal};
 ghost use Rattle.stun_client.specs.Requests.{after_replacing, after_start, answered, at, is_answer};
 ghost use Rattle.stun_client.specs.Requests.{new_requests, renewal_refusal};
@@ -183,6 +184,42 @@ impl<A: Allocator + Copy> Requests<A> {
         }
     }
 
+    /// Starts a request under a transaction ID once `send` has sent it, and returns its number.
+    ///
+    /// # Errors
+    ///
+    /// The first of these that applies. Nothing has changed here then. `send` is called only if no
+    /// other reason applies.
+    ///
+    /// - `IdTaken`: an outstanding request has the transaction ID.
+    /// - `NoNumber`: 2^64 - 1 requests were started.
+    /// - `OutOfMemory`: an allocation failed, or `send` returned `false`.
+    pub fn start_with<S, F: FnOnce(&mut S) -> bool>(
+        &mut self,
+        method: Method,
+        id: TransactionId,
+        signed_for: Option<Challenge<A>>,
+        sender: &mut S,
+        send: F,
+    ) -> Result<u64, RequestRefusal>
+        requires { F.IsAlwaysCallable send }
+        ensures refused { MatchOption (start_refusal self.old id)
+            (IsOkUnless result RequestRefusal.OutOfMemory) (λ refusal. result ≡ Err refusal) }
+        ensures number { IfOk result (λ number. number ≡ self.old.next) }
+        ensures after { OnOk result (self.new ≡ after_start self.old method id signed_for) }
+        ensures same { OnErr result (self.new ≡ self.old) }
+        ensures over { (number : ℕ) → IsOver number self.old → IsOver number self.new }
+        ensures sent { OnOk result
+            (FnOnceReturnsAtMut F.FnOnce send sender.old true sender.new) }
+        ensures unsent { OnErr result ((sender.new ≡ sender.old)
+            ⊎ FnOnceReturnsAtMut F.FnOnce send sender.old false sender.new) }
+    {
+        match self.start_refusal(id) {
+            Some(refusal) => Err(refusal),
+            None => self.started_with(method, id, signed_for, sender, send),
+        }
+    }
+
     /// Returns why no request is started under a transaction ID.
     pub(crate) fn start_refusal(&self, id: TransactionId) -> Option<RequestRefusal>
         ensures { result ≡ start_refusal self.now id }
@@ -226,6 +263,45 @@ impl<A: Allocator + Copy> Requests<A> {
         Ok(number)
     }
 
+    /// Starts a request for which there is no refusal, once `send` has sent it.
+    fn started_with<S, F: FnOnce(&mut S) -> bool>(
+        &mut self,
+        method: Method,
+        id: TransactionId,
+        signed_for: Option<Challenge<A>>,
+        sender: &mut S,
+        send: F,
+    ) -> Result<u64, RequestRefusal>
+        requires free { start_refusal self.old id ≡ None }
+        requires callable { F.IsAlwaysCallable send }
+        ensures refused { IsOkUnless result RequestRefusal.OutOfMemory }
+        ensures number { IfOk result (λ number. number ≡ self.old.next) }
+        ensures after { OnOk result (self.new ≡ after_start self.old method id signed_for) }
+        ensures same { OnErr result (self.new ≡ self.old) }
+        ensures over { (number : ℕ) → IsOver number self.old → IsOver number self.new }
+        ensures sent { OnOk result
+            (FnOnceReturnsAtMut F.FnOnce send sender.old true sender.new) }
+        ensures unsent { OnErr result ((sender.new ≡ sender.old)
+            ⊎ FnOnceReturnsAtMut F.FnOnce send sender.old false sender.new) }
+    {
+        let number = self.next;
+        let asked = Asked {
+            number,
+            method,
+            signed_for,
+            challenges: 0,
+        };
+        if put(&mut self.asked, id, asked).is_err() {
+            return Err(RequestRefusal::OutOfMemory);
+        }
+        if !send(sender) {
+            take(&mut self.asked, id);
+            return Err(RequestRefusal::OutOfMemory);
+        }
+        self.next = number + 1;
+        Ok(number)
+    }
+
     /// Gives a request a new transaction ID and the challenge that it is signed for from now on.
     ///
     /// # Errors
@@ -259,6 +335,51 @@ impl<A: Allocator + Copy> Requests<A> {
                     challenges,
                 };
                 self.replace(id, new_id, renewed)
+            }
+            Err(refusal) => Err(refusal),
+        }
+    }
+
+    /// Gives a request a new transaction ID and the challenge that it is signed for from now on, once
+    /// `send` has sent it.
+    ///
+    /// # Errors
+    ///
+    /// The first of these that applies. Nothing has changed here then. `send` is called only if no
+    /// other reason applies.
+    ///
+    /// - `NotOutstanding`: no outstanding request has the transaction ID.
+    /// - `TooOften`: the request was challenged as often as it may be.
+    /// - `IdTaken`: an outstanding request has the new transaction ID.
+    /// - `OutOfMemory`: an allocation failed, or `send` returned `false`.
+    pub fn renew_with<S, F: FnOnce(&mut S) -> bool>(
+        &mut self,
+        id: TransactionId,
+        new_id: TransactionId,
+        signed_for: Option<Challenge<A>>,
+        sender: &mut S,
+        send: F,
+    ) -> Result<(), RequestRefusal>
+        requires { F.IsAlwaysCallable send }
+        ensures refused { MatchOption (renewal_refusal self.old id new_id)
+            (IsOkUnless result RequestRefusal.OutOfMemory) (λ refusal. result ≡ Err refusal) }
+        ensures after { OnOk result (self.new ≡ after_renewal self.old id new_id signed_for) }
+        ensures same { OnErr result (self.new ≡ self.old) }
+        ensures over { (number : ℕ) → IsOver number self.old → IsOver number self.new }
+        ensures sent { OnOk result
+            (FnOnceReturnsAtMut F.FnOnce send sender.old true sender.new) }
+        ensures unsent { OnErr result ((sender.new ≡ sender.old)
+            ⊎ FnOnceReturnsAtMut F.FnOnce send sender.old false sender.new) }
+    {
+        match self.renewal_of(id, new_id) {
+            Ok((number, method, challenges)) => {
+                let renewed = Asked {
+                    number,
+                    method,
+                    signed_for,
+                    challenges,
+                };
+                self.replace_with(id, new_id, renewed, sender, send)
             }
             Err(refusal) => Err(refusal),
         }
@@ -342,6 +463,40 @@ impl<A: Allocator + Copy> Requests<A> {
         ensures over { (number : ℕ) → IsOver number self.old → IsOver number self.new }
     {
         if put(&mut self.asked, new_id, renewed).is_err() {
+            return Err(RequestRefusal::OutOfMemory);
+        }
+        take(&mut self.asked, id);
+        Ok(())
+    }
+
+    /// Stores a request under a new transaction ID in place of the one before, once `send` has sent it.
+    fn replace_with<S, F: FnOnce(&mut S) -> bool>(
+        &mut self,
+        id: TransactionId,
+        new_id: TransactionId,
+        renewed: Asked<A>,
+        sender: &mut S,
+        send: F,
+    ) -> Result<(), RequestRefusal>
+        requires free { renewal_refusal self.old id new_id ≡ None }
+        requires few { renewed.challenges ≤ self.old.most }
+        requires parts { Some (renewed.number, renewed.method, renewed.challenges)
+            ≡ option_map parts_renewed (at id self.old.asked) }
+        requires callable { F.IsAlwaysCallable send }
+        ensures refused { IsOkUnless result RequestRefusal.OutOfMemory }
+        ensures after { OnOk result (self.new ≡ after_replacing self.old id new_id renewed) }
+        ensures same { OnErr result (self.new ≡ self.old) }
+        ensures over { (number : ℕ) → IsOver number self.old → IsOver number self.new }
+        ensures sent { OnOk result
+            (FnOnceReturnsAtMut F.FnOnce send sender.old true sender.new) }
+        ensures unsent { OnErr result ((sender.new ≡ sender.old)
+            ⊎ FnOnceReturnsAtMut F.FnOnce send sender.old false sender.new) }
+    {
+        if put(&mut self.asked, new_id, renewed).is_err() {
+            return Err(RequestRefusal::OutOfMemory);
+        }
+        if !send(sender) {
+            take(&mut self.asked, new_id);
             return Err(RequestRefusal::OutOfMemory);
         }
         take(&mut self.asked, id);

@@ -1,31 +1,31 @@
 //! A client of one server with its timers.
 ghost use Rattle.std.specs.Borrow.{sem};
 ghost use Rattle.std.specs.Option.{IfSome, option_map};
-ghost use Rattle.std.specs.Prelude.{◌≡◌, ◌⊎◌, ℕ, Err, IfOk, IsErrOf, IsOk, IsOkUnless, MatchOption};
-ghost use Rattle.std.specs.Prelude.{OnErr, OnOk, false};
-ghost use Rattle.stun_agent.specs.Agent.{after_send_request, datagram_of, poll_answer};
-ghost use Rattle.stun_agent.specs.Agent.{request_refusal, sent_by_poll};
+ghost use Rattle.std.specs.Prelude.{◌≡◌, ◌⊎◌, ℕ, Err, IfOk, IsOk, IsOkUnless, MatchOption};
+ghost use Rattle.std.specs.Prelude.{OnErr, OnOk, true, false};
+ghost use Rattle.stun_agent.specs.Agent.{datagram_of, poll_answer, sent_by_poll};
 ghost use Rattle.stun_agent.specs.Datagrams.{lent_datagram};
 ghost use Rattle.stun_base.specs.Header.{transaction_id_field};
-ghost use Rattle.stun_client.specs.Clients.{after_renewing, after_starting};
 ghost use Rattle.stun_client.specs.Clients.{heard, heard_of, needs_memory_for, not_ours};
 ghost use Rattle.stun_client.specs.Judging.{identity_of};
 ghost use Rattle.stun_client.specs.Requests.{IsOver, answered, at, new_requests};
-ghost use Rattle.stun_client.specs.Requests.{renewal_refusal, start_refusal};
 ghost use Rattle.stun_client.specs.Standing.{new_standing};
-ghost use Rattle.stun_client_loop.specs.Loops.{after_answer, after_cancel, after_timers, timed_of};
-ghost use Rattle.stun_client_loop.specs.Loops.{withdrawn};
+ghost use Rattle.stun_client_loop.specs.Loops.{after_again, after_answer, after_cancel};
+ghost use Rattle.stun_client_loop.specs.Loops.{after_request, after_timers, again_refused};
+ghost use Rattle.stun_client_loop.specs.Loops.{request_refused, timed_of};
+ghost use Rattle.stun_client_loop.specs.Timed.{AreTimed};
 
+use crate::refusal::{LoopRefusal, of_client};
+use crate::sending::{asked_in, forget, send, withdraw};
 use std::alloc::{AllocError, Allocator, Global};
 use std::marker::Model;
 use std::net::SocketAddr;
-use stun_agent::agent::{StunAgent, StunAgentPollRet, StunError, Transmit};
+use stun_agent::agent::{StunAgent, StunAgentPollRet, Transmit};
 use stun_base::instant::Instant;
 use stun_client::challenge::Challenge;
 use stun_client::client::{Client, Heard};
 use stun_client::credentials::Credentials;
-use stun_client::requests::RequestRefusal;
-use stun_types::message::{Message, MessageClass, Method, TransactionId};
+use stun_types::message::{Message, MessageClass, TransactionId};
 
 /// What the timers of a client say.
 #[derive(Clone, Copy, Debug, PartialEq, Eq)]
@@ -38,9 +38,10 @@ pub enum Timed {
     WaitUntil(Instant),
 }
 
-/// A client of one server with the agent that has its timers. `answer`, `cancel` and a timeout end a
-/// request in both. `send` and `forget` are of the agent alone, and `start` and `renew` of the client
-/// alone: make `send` and then one of these, and `cancel` what was sent if it fails.
+/// A client of one server with the agent that has its timers. Each call is one step of both: `request`
+/// and `again` start a transaction of the agent for a request of the client, and `answer`, `cancel` and
+/// a timeout end both. So each outstanding request has a transaction of the agent, which sends it
+/// again until it is answered, canceled or times out.
 ///
 /// Contracts: they see all of it. There is a password in it, so it has no `Debug`.
 #[derive(Drop)]
@@ -52,6 +53,7 @@ pub struct ClientLoop<A: Allocator = Global> {
 
 impl<A: Allocator> Model for ClientLoop<A> {
     ghost use Rattle.stun_client_loop.specs.Loops.{LoopSeen};
+    ghost use Rattle.stun_client_loop.specs.Timed.{AreTimed};
 
     ghost Value = { LoopSeen };
 
@@ -60,11 +62,14 @@ impl<A: Allocator> Model for ClientLoop<A> {
       client = l.client;
       agent = l.agent;
     } };
+
+    ghost invariant = { λ l.
+        AreTimed l.server l.client.requests.asked l.agent.transactions };
 }
 
 impl<A: Allocator + Copy> ClientLoop<A> {
     ghost use Rattle.stun_client_loop.specs.LoopLends.{ends_as};
-    ghost use Rattle.stun_client_loop.specs.Loops.{after_forgetting, after_transmit, after_withdrawing};
+    ghost use Rattle.stun_client_loop.specs.Loops.{after_transmit};
 
     /// Creates a client of this server that has asked nothing, over an agent. A request is sent
     /// again for at most so many challenges.
@@ -86,6 +91,8 @@ impl<A: Allocator + Copy> ClientLoop<A> {
           agent = agent;
         } }
     {
+        // The proof needs to know that the agent's transactions ascend by their IDs.
+        let _awaited = agent.next_awaited();
         ClientLoop {
             server,
             client: Client::new(alloc, server, credentials, challenges),
@@ -93,9 +100,12 @@ impl<A: Allocator + Copy> ClientLoop<A> {
         }
     }
 
-    /// Returns the client, to read it.
+    /// Returns the client, to read it. Each of its outstanding requests has a transaction of the agent
+    /// under its transaction ID, which was sent to the server and is sent again.
     pub fn client(&self) -> &Client<A>
-        ensures { result.now ≡ self.now.client }
+        ensures client { result.now ≡ self.now.client }
+        ensures timed { AreTimed self.now.server self.now.client.requests.asked
+            self.now.agent.transactions }
     {
         &self.client
     }
@@ -118,52 +128,89 @@ impl<A: Allocator + Copy> ClientLoop<A> {
         self.client.receive(bytes, from)
     }
 
-    /// Has the agent send a request to the server (see `StunAgent::send_request`). After an error
-    /// nothing has changed.
-    pub fn send(&mut self, request: &[u8], now: Instant) -> Result<(), StunError>
-        ensures refused { MatchOption (request_refusal self.old.agent request.now self.old.server)
-            (IsOkUnless result StunError.OutOfMemory) (IsErrOf result) }
-        ensures after { OnOk result (self.new ≡ record self.old {
-          agent = after_send_request self.old.agent request.now self.old.server now;
-        }) }
-        ensures same { OnErr result (self.new ≡ self.old) }
-    {
-        send(&mut self.agent, request, self.server, now)
-    }
-
-    /// Starts a request that was sent (see `Client::start`). After an error nothing has changed.
-    pub fn start(&mut self, method: Method, id: TransactionId) -> Result<u64, RequestRefusal>
-        ensures refused { MatchOption (start_refusal self.old.client.requests id)
-            (IsOkUnless result RequestRefusal.OutOfMemory) (λ refusal. result ≡ Err refusal) }
+    /// Sends a request to the server and starts it: the agent sends the bytes, and the client has a
+    /// request with their method and transaction ID, signed for the challenge that new requests are
+    /// signed for. Returns the number of the request.
+    ///
+    /// # Errors
+    ///
+    /// The first of these that applies. Nothing has changed then.
+    ///
+    /// - `NotSent`: the agent refuses the bytes (see `StunAgent::send_request`).
+    /// - `NotStarted`: the client has no number left (see `Client::start`).
+    /// - `OutOfMemory`: an allocation failed.
+    pub fn request(&mut self, request: &[u8], now: Instant) -> Result<u64, LoopRefusal>
+        ensures refused { MatchOption (request_refused self.old request.now)
+            (IsOkUnless result LoopRefusal.OutOfMemory) (λ refusal. result ≡ Err refusal) }
         ensures number { IfOk result (λ number. number ≡ self.old.client.requests.next) }
-        ensures after { OnOk result (self.new ≡ record self.old {
-          client = after_starting self.old.client method id;
-        }) }
+        ensures after { OnOk result (self.new ≡ after_request request.now now self.old) }
         ensures same { OnErr result (self.new ≡ self.old) }
         ensures over { (number : ℕ) → IsOver number self.old.client.requests
             → IsOver number self.new.client.requests }
     {
-        self.client.start(method, id)
+        let (method, id) = match asked_in(&self.agent, request, self.server) {
+            Ok(asked) => asked,
+            Err(error) => return Err(LoopRefusal::NotSent(error)),
+        };
+        let server = self.server;
+        let started = self.client.start_with(method, id, &mut self.agent, |agent| {
+            send(agent, request, server, now)
+        });
+        match started {
+            Ok(number) => Ok(number),
+            Err(refusal) => Err(of_client(refusal)),
+        }
     }
 
-    /// Gives a request the transaction ID under which it was sent again (see `Client::renew`). After
-    /// an error nothing has changed.
-    pub fn renew(
+    /// Sends an outstanding request again for the challenge that a response is, under the transaction
+    /// ID of its new bytes. The agent sends these, and the earlier ones no more. The request and new
+    /// ones are signed for this challenge from now on. Without one the request is not signed.
+    ///
+    /// The new bytes are to have the method of the request.
+    ///
+    /// # Errors
+    ///
+    /// The first of these that applies. Nothing has changed then.
+    ///
+    /// - `NotSent`: the agent refuses the bytes (see `StunAgent::send_request`).
+    /// - `NotStarted`: the response is to no outstanding request, or the request was challenged as
+    ///   often as it may be (see `Client::renew`).
+    /// - `OutOfMemory`: an allocation failed.
+    pub fn again(
         &mut self,
-        id: TransactionId,
-        new_id: TransactionId,
+        response: &Message<'_>,
+        request: &[u8],
         challenge: Option<Challenge<A>>,
-    ) -> Result<(), RequestRefusal>
-        ensures refused { MatchOption (renewal_refusal self.old.client.requests id new_id)
-            (IsOkUnless result RequestRefusal.OutOfMemory) (λ refusal. result ≡ Err refusal) }
-        ensures after { OnOk result (self.new ≡ record self.old {
-          client = after_renewing self.old.client id new_id challenge;
-        }) }
+        now: Instant,
+    ) -> Result<(), LoopRefusal>
+        ensures refused { MatchOption (again_refused self.old response.now request.now)
+            (IsOkUnless result LoopRefusal.OutOfMemory) (λ refusal. result ≡ Err refusal) }
+
+        // The agent hears of the response, or cancels the earlier transaction if there is no memory.
+        ensures after { OnOk result
+            ((self.new ≡ after_again true response.now request.now challenge now self.old)
+            ⊎ (self.new ≡ after_again false response.now request.now challenge now self.old)) }
         ensures same { OnErr result (self.new ≡ self.old) }
         ensures over { (number : ℕ) → IsOver number self.old.client.requests
             → IsOver number self.new.client.requests }
     {
-        self.client.renew(id, new_id, challenge)
+        let new_id = match asked_in(&self.agent, request, self.server) {
+            Ok((_method, id)) => id,
+            Err(error) => return Err(LoopRefusal::NotSent(error)),
+        };
+        let (server, id) = (self.server, response.transaction_id());
+        let renewed = self
+            .client
+            .renew_with(id, new_id, challenge, &mut self.agent, |agent| {
+                send(agent, request, server, now)
+            });
+        match renewed {
+            Ok(()) => {
+                forget(&mut self.agent, response, server, now);
+                Ok(())
+            }
+            Err(refusal) => Err(of_client(refusal)),
+        }
     }
 
     /// Ends a request by a response that is believed, and returns its number: the agent sends it no
@@ -189,21 +236,6 @@ impl<A: Allocator + Copy> ClientLoop<A> {
             .handle_stun_message_with_time(response, self.server, now)?;
         let is_success = response.class() == MessageClass::Success;
         Ok(self.client.end(response.transaction_id(), is_success))
-    }
-
-    /// Passes a challenge to the agent, which then sends the request that it answers no more, also if
-    /// an allocation fails.
-    pub fn forget(&mut self, response: &Message<'_>, now: Instant)
-        ensures { (self.new ≡ after_forgetting response.now now self.old)
-            ⊎ (self.new ≡ after_withdrawing (transaction_id_field response.now) self.old) }
-    {
-        if self
-            .agent
-            .handle_stun_message_with_time(response, self.server, now)
-            .is_err()
-        {
-            withdraw(&mut self.agent, response.transaction_id());
-        }
     }
 
     /// Ends a request without a response, and returns its number. Returns `None` if no outstanding
@@ -246,32 +278,5 @@ impl<A: Allocator + Copy> ClientLoop<A> {
             StunAgentPollRet::TransactionCancelled(_) => Timed::Forgotten,
             StunAgentPollRet::WaitUntil(until) => Timed::WaitUntil(until),
         }
-    }
-}
-
-/// Has an agent send a request.
-fn send<A: Allocator + Copy>(
-    agent: &mut StunAgent<A>,
-    request: &[u8],
-    to: SocketAddr,
-    now: Instant,
-) -> Result<(), StunError>
-    ensures refused { MatchOption (request_refusal agent.old request.now to)
-        (IsOkUnless result StunError.OutOfMemory) (IsErrOf result) }
-    ensures after { OnOk result (agent.new ≡ after_send_request agent.old request.now to now) }
-    ensures same { OnErr result (agent.new ≡ agent.old) }
-{
-    match agent.send_request(request, to, now) {
-        Ok(_) => Ok(()),
-        Err(error) => Err(error),
-    }
-}
-
-/// Has an agent send a request no more.
-fn withdraw<A: Allocator + Copy>(agent: &mut StunAgent<A>, id: TransactionId)
-    ensures { agent.new ≡ withdrawn id agent.old }
-{
-    if let Some(mut request) = agent.mut_request_transaction(id) {
-        request.cancel();
     }
 }

@@ -4,8 +4,9 @@
 //!
 //! `seatcrane_stun::endpoint::Client` is built over it.
 //!
-//! Contracts: they do not say that each outstanding request has a transaction of the agent, what the
-//! bytes of a request are, or what several calls come to.
+//! Contracts: they do not say what the bytes of a request are beside their method and transaction ID.
 #![tactic(auto)]
 
 pub mod client_loop;
+pub mod refusal;
+mod sending;

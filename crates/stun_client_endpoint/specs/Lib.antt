@@ -1,0 +1,16 @@
+-- What the contracts of this crate say, in the order to read it.
+
+-- the body of a request
+pub mod Bodies
+-- the bytes of a request
+pub mod Written
+-- the transaction ID of the next request
+pub mod Numbers
+-- how requests end, and what is dropped for them
+pub mod Ends
+-- what is stored of requests until their ends are handed out
+pub mod Pendings
+-- a client, and what each call makes of it
+pub mod Endpoints
+-- what no clause of a public call cites: views of the code's own structs
+pub mod code

@@ -1,0 +1,35 @@
+//! The transaction ID of the next request.
+ghost use Rattle.std.specs.Prelude.{◌≡◌};
+ghost use Rattle.stun_client_endpoint.specs.Numbers.{free_number, is_taken};
+
+use std::alloc::Allocator;
+use stun_agent::agent::StunAgent;
+use stun_client::ids::id_of;
+use stun_types::message::PreparedKey;
+
+/// Returns whether the ID of a number is that of a transaction of the agent.
+fn is_taken<A: Allocator + Copy>(
+    seed: &PreparedKey<A>,
+    agent: &StunAgent<A>,
+    number: u64,
+) -> bool
+    ensures { result ≡ is_taken seed.now agent.now number }
+{
+    agent.request_transaction(id_of(seed, number)).is_some()
+}
+
+/// Returns the first number from `next` on whose ID is not taken.
+pub(crate) fn free_number<A: Allocator + Copy>(
+    seed: &PreparedKey<A>,
+    agent: &StunAgent<A>,
+    next: u64,
+) -> Option<u64>
+    ensures { result ≡ free_number seed.now agent.now next }
+{
+    for number in next..u64::MAX {
+        if !is_taken(seed, agent, number) {
+            return Some(number);
+        }
+    }
+    None
+}

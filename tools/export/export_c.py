@@ -58,6 +58,8 @@ def write(out, exported, places, root):
     border = ("//! The calls that `include/stunp.h`, `include/stunp_state.h` and\n"
               "//! `include/stunp_endpoint.h` declare.\n\n"
               "use super::stun_c::header::Header;\nuse super::stun_c::walk::Cursor;\n"
+              "use super::stun_c_endpoint::client::event::{Dropped, Event};\n"
+              "use super::stun_c_endpoint::client::settings::ClientOptions;\n"
               "use super::stun_c_endpoint::ice::told::{IceCheck, IceReceived};\n"
               "use super::stun_c_endpoint::received::Received;\n"
               "use super::stun_handles::address::Address as EndpointAddress;\n"

@@ -12,8 +12,20 @@ use Rattle.stun_auth.specs.declared.feature.Feature.TheVariants.{Auto, Disabled,
 use Rattle.stun_agent.specs.Agent.{Agent, new_agent}
 use Rattle.stun_client.specs.Judging.{Identity, long_term, short_term, unsigned}
 use Rattle.stun_client.specs.declared.preferences.Preferences.{Preferences}
+use Rattle.stun_client_endpoint.specs.Endpoints.{Endpoint, new_endpoint}
+use Rattle.stun_extra.specs.Unknown.{types_of}
+use Rattle.stun_types.specs.Limits.{TEXT_LIMIT, USERNAME_LIMIT}
+use Rattle.stun_handles.specs.Addresses.{socket_address}
 use Rattle.stun_handles.specs.declared.address.Address.{Address}
+use Rattle.stun_numbers.specs.Refusals.{refusal_number}
+use Rattle.stun_numbers.specs.declared.refusal.Refusal.{Refusal}
+use Rattle.stun_numbers.specs.declared.refusal.Refusal.TheVariants.{BadArgument, NotText}
+use Rattle.stun_numbers.specs.declared.refusal.Refusal.TheVariants.{TextTooLong}
+use Rattle.stun_c_endpoint.specs.Given.{Makes, if_any}
 use Rattle.stun_c_endpoint.specs.declared.client.settings.ClientOptions.{ClientOptions}
+use Rattle.stun_c_endpoint.specs.declared.client.settings.TheConstants.{UNDERSTOOD}
+use Rattle.stun_c_endpoint.specs.declared.handle.endpoint.Kept.{Kept}
+use Rattle.stun_c_endpoint.specs.declared.handle.endpoint.Kept.TheVariants.{Client}
 
 -- what a caller gives: the addresses, texts and keys as bytes, types as numbers
 pub record ClientGiven : Type 0 where
@@ -86,3 +98,33 @@ agent_given server o = record (new_agent (transport_given o.is_stream) server) {
     last_wait = or_else o.last 8000000000;
   };
 }
+
+-- ---- the client
+
+-- why no client is made at an address, the first reason that holds
+abbrev pub client_refusal : ClientGiven → Option Refusal
+client_refusal g =
+    if is_out_of_range (has_user g.name) g.options then Some BadArgument
+    else if not (is_utf8 g.name && is_utf8 g.password && is_utf8 g.software) then Some NotText
+    else if nat_lt USERNAME_LIMIT (length g.name) || nat_lt TEXT_LIMIT (length g.software)
+    then Some TextTooLong
+    else None
+
+-- the client of what is given, of the server at an address
+abbrev pub client_given : ClientGiven → SocketAddr → Endpoint
+client_given g server =
+    new_endpoint (agent_given server g.options) server
+    (identity_given g.name g.password g.options)
+    (record { software = if_any g.software; has_fingerprint = g.options.has_fingerprint })
+    (types_of g.understood ++ UNDERSTOOD) (or_else g.options.challenges 6) g.seed
+
+-- an address that is none is refused first
+abbrev pub MakesAt : Option SocketAddr → ClientGiven → ℤ → Option Kept → Type 0
+MakesAt None g result now = (result ≡ refusal_number BadArgument) × (now ≡ None)
+MakesAt (Some server) g result now =
+    Makes (client_refusal g) (Client (client_given g server)) result now
+
+-- a call makes the client of what is given in an empty handle and returns 0, or returns the first
+-- refusal; or an allocation failed
+abbrev pub MakesClient : ClientGiven → ℤ → Option Kept → Type 0
+MakesClient g result now = MakesAt (socket_address g.server) g result now

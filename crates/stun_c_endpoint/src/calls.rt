@@ -1,5 +1,6 @@
 //! What a program in C calls, in the order of `include/stunp_endpoint.h`.
 
+mod client;
 mod ice;
 mod server;
 mod users;

@@ -109,7 +109,7 @@ pub fn text_if_any(alloc: Global, text: &str) -> Result<Option<String<Global>>, 
 }
 
 /// Puts a server into an empty handle, or returns the number of the refusal.
-fn placed(alloc: Global, handle: &mut EndpointHandle, server: Kept) -> i64
+pub fn placed(alloc: Global, handle: &mut EndpointHandle, server: Kept) -> i64
     requires { handle.old.kept ≡ None }
     ensures { OrOutOfMemory result None handle.new.kept (pos 0) (Some server) }
 {

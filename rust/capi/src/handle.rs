@@ -79,15 +79,16 @@ pub mod client {
 }
 
 pub mod endpoint {
-    //! The handle of a server or of a table of users, of the endpoint, or of an agent of ICE.
+    //! The handle of a server, a table of users or a client, of the endpoint, or of an agent of ICE.
 
+    use crate::exported::stun_client_endpoint::endpoint::ClientEndpoint;
     use crate::exported::stun_endpoint::open::OpenServer;
     use crate::exported::stun_endpoint::server::Server;
     use crate::exported::stun_endpoint::short_term::{ShortTermServer, ShortTermUsers};
     use crate::exported::stun_endpoint::users::Users;
     use crate::exported::stun_ice::checker::Checker;
 
-    /// A value of the heap: a server, a table of users, or an agent of ICE.
+    /// A value of the heap: a server, a table of users, an agent of ICE, or a client.
     #[allow(clippy::large_enum_variant, reason = "a handle keeps it on the heap, and there are few")]
     pub enum Kept {
         Server(Server),
@@ -96,6 +97,7 @@ pub mod endpoint {
         ShortTermUsers(ShortTermUsers),
         Open(OpenServer),
         Checker(Checker),
+        Client(ClientEndpoint),
     }
 
     /// What a caller keeps of any.

@@ -5,12 +5,13 @@ ghost use Rattle.std.specs.Prelude.{string_bytes};
 ghost use Rattle.std.specs.Option.{option_map};
 ghost use Rattle.stun_extra.specs.Unknown.{types_of};
 ghost use Rattle.stun_client.specs.Judging.{identity_of};
-ghost use Rattle.stun_c_endpoint.specs.ClientsGiven.{agent_given, algorithm_given};
-ghost use Rattle.stun_c_endpoint.specs.ClientsGiven.{feature_given, has_user, identity_given};
-ghost use Rattle.stun_c_endpoint.specs.ClientsGiven.{is_out_of_range, long_term_given, or_else};
+ghost use Rattle.stun_c_endpoint.specs.ClientsGiven.{MakesClient, agent_given, algorithm_given};
+ghost use Rattle.stun_c_endpoint.specs.ClientsGiven.{client_given, client_refusal, feature_given};
+ghost use Rattle.stun_c_endpoint.specs.ClientsGiven.{identity_given, is_out_of_range, or_else};
 ghost use Rattle.stun_c_endpoint.specs.ClientsGiven.{preferences_given, transport_given};
 
-use crate::settings::types;
+use crate::handle::endpoint::{EndpointHandle, Kept};
+use crate::settings::{placed, text_if_any, types};
 use std::alloc::{AllocError, Global};
 use std::marker::Model;
 use std::net::SocketAddr;
@@ -22,8 +23,13 @@ use stun_base::key::IntegrityKey;
 use stun_base::transport::TransportType;
 use stun_client::credentials::{Credentials, LongTerm, ShortTerm};
 use stun_client::preferences::Preferences;
+use stun_client_endpoint::endpoint::{ClientEndpoint, Settings};
+use stun_client_endpoint::form::Form;
 use stun_handles::address::Address;
 use stun_handles::text::copied;
+use stun_numbers::refusal::Refusal;
+use stun_numbers::text::text;
+use stun_types::limits::{TEXT_LIMIT, USERNAME_LIMIT};
 use stun_types::message::{IntegrityAlgorithm, LongTermCredentials, PreparedKey};
 
 /// The types of attributes that must be understood and that the header names. Each client
@@ -256,4 +262,66 @@ fn understood(alloc: Global, numbers: &[u16]) -> Result<Vec<AttributeType, Globa
     let mut types = types(alloc, numbers)?;
     types.extend_from_slice(&UNDERSTOOD)?;
     Ok(types)
+}
+
+impl<'a> ClientGiven<'a> {
+    /// Makes the client in an empty handle, and returns 0 or the number of the refusal.
+    pub fn place(&self, alloc: Global, handle: &mut EndpointHandle) -> i64
+        requires { handle.old.kept ≡ None }
+        ensures { MakesClient self.now result handle.new.kept }
+    {
+        match self.server.socket() {
+            Ok(server) => match self.client(alloc, server) {
+                Ok(client) => placed(alloc, handle, Kept::Client(client)),
+                Err(refusal) => refusal.code(),
+            },
+            Err(refusal) => refusal.code(),
+        }
+    }
+
+    /// Makes the client of a server.
+    fn client(&self, alloc: Global, server: SocketAddr) -> Result<ClientEndpoint<Global>, Refusal>
+        ensures refused { MatchOption (client_refusal self.now)
+            (IsOkUnless result Refusal.OutOfMemory) (λ refusal. result ≡ Err refusal) }
+        ensures made { IfOk result (λ client. client ≡ client_given self.now server) }
+    {
+        if self.options.is_out_of_range(!self.name.is_empty()) {
+            return Err(Refusal::BadArgument);
+        }
+        let name = text(self.name)?;
+        let password = text(self.password)?;
+        let software = text(self.software)?;
+        if name.len() > USERNAME_LIMIT || software.len() > TEXT_LIMIT {
+            return Err(Refusal::TextTooLong);
+        }
+        match self.made(alloc, server, name, password, software) {
+            Ok(client) => Ok(client),
+            Err(_) => Err(Refusal::OutOfMemory),
+        }
+    }
+
+    /// Makes the client of these texts.
+    fn made(
+        &self,
+        alloc: Global,
+        server: SocketAddr,
+        name: &str,
+        password: &str,
+        software: &str,
+    ) -> Result<ClientEndpoint<Global>, AllocError>
+        requires name { name.now ≡ self.now.name }
+        requires password { password.now ≡ self.now.password }
+        requires software { software.now ≡ self.now.software }
+        ensures { IfOk result (λ client. client ≡ client_given self.now server) }
+    {
+        let agent = self.options.agent(alloc, server);
+        let credentials = self.options.credentials(alloc, name, password)?;
+        let software = text_if_any(alloc, software)?;
+        let settings = Settings {
+            form: Form::new(software, self.options.has_fingerprint),
+            understood: understood(alloc, self.understood)?,
+            challenges: or_else_small(self.options.challenges, CHALLENGES),
+        };
+        ClientEndpoint::new(alloc, agent, server, credentials, settings, self.seed)
+    }
 }

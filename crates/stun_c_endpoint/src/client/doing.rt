@@ -1,0 +1,283 @@
+//! What the calls on a client do.
+
+ghost use Rattle.std.specs.Prelude.{◌≡◌, ◌⊎◌, ◌<◌, ◌^◌, IfErr, IfOk, None, Ok, Some, nat_lt, length};
+ghost use Rattle.stun_handles.specs.Numbers.{done_answer, number_answer};
+ghost use Rattle.stun_client_endpoint.specs.Bodies.{body_of_bytes};
+ghost use Rattle.stun_client_endpoint.specs.Endpoints.{told_of};
+ghost use Rattle.stun_c_endpoint.specs.Clients.{AsksAs, CancelsAs, HearsAs, HearsFrom, PollsAs};
+ghost use Rattle.stun_c_endpoint.specs.Clients.{StartsAs, TellsDropped, WritesTold, client_of};
+ghost use Rattle.stun_c_endpoint.specs.Clients.{or_for_ever, received_number, refusal_of_attribute};
+ghost use Rattle.stun_c_endpoint.specs.Clients.{refusal_of_body, refusal_of_request, why_told};
+ghost use Rattle.stun_c_endpoint.specs.declared.handle.endpoint.Kept.TheVariants as kind;
+
+use crate::client::event::{Dropped, EVENT_SIZE, Event, drop_number};
+use crate::handle::endpoint::Kept;
+use std::alloc::Global;
+use stun_base::instant::Instant;
+use stun_client_endpoint::body::{Body, BodyBytesError, BodyError};
+use stun_client_endpoint::endpoint::ClientEndpoint;
+use stun_client_endpoint::told::{Polled, Received, RequestError};
+use stun_handles::address::Address;
+use stun_numbers::buffer::put;
+use stun_numbers::refusal::Refusal;
+use stun_types::message::Method;
+
+/// When no request is outstanding.
+const FOR_EVER: u64 = 18_446_744_073_709_551_615;
+
+/// The refusal of an attribute of a body.
+fn refusal_of_attribute(error: BodyError) -> Refusal
+    ensures { result ≡ refusal_of_attribute error }
+{
+    match error {
+        BodyError::NotAllowed => Refusal::NotAllowed,
+        BodyError::TooLarge => Refusal::MessageTooLong,
+        BodyError::OutOfMemory => Refusal::OutOfMemory,
+        // There is no other one in this release.
+        _ => Refusal::BadArgument,
+    }
+}
+
+/// The refusal of the bytes of a body.
+fn refusal_of_body(error: BodyBytesError) -> Refusal
+    ensures { result ≡ refusal_of_body error }
+{
+    match error {
+        BodyBytesError::Malformed => Refusal::BadArgument,
+        BodyBytesError::Refused(error) => refusal_of_attribute(error),
+        // There is no other one in this release.
+        _ => Refusal::BadArgument,
+    }
+}
+
+/// The refusal of a request.
+fn refusal_of_request(error: RequestError) -> Refusal
+    ensures { result ≡ refusal_of_request error }
+{
+    match error {
+        RequestError::NoId => Refusal::AlreadyInProgress,
+        RequestError::TooLarge => Refusal::MessageTooLong,
+        RequestError::OutOfMemory => Refusal::OutOfMemory,
+        // There is no other one in this release.
+        _ => Refusal::BadArgument,
+    }
+}
+
+/// The body of these bytes.
+fn body_of(alloc: Global, bytes: &[u8]) -> Result<Body<Global>, Refusal>
+    ensures ok { IfOk result (λ body. body_of_bytes bytes.now ≡ Ok body) }
+    ensures refused { IfErr result (λ refusal. (refusal ≡ Refusal.OutOfMemory)
+        ⊎ (IfErr (body_of_bytes bytes.now) (λ error. refusal ≡ refusal_of_body error))) }
+{
+    match Body::from_bytes(alloc, bytes) {
+        Ok(body) => Ok(body),
+        Err(error) => Err(refusal_of_body(error)),
+    }
+}
+
+/// Starts a request of the client of a handle, and writes its number.
+pub fn ask(
+    alloc: Global,
+    kept: &mut Kept,
+    method: u32,
+    body: &[u8],
+    now: u64,
+    request: &mut u64,
+) -> Result<(), Refusal>
+    ensures { AsksAs (client_of kept.old) method body.now now (done_answer result) request.old
+        request.new (Some kept.old) (Some kept.new) }
+{
+    match kept {
+        Kept::Client(client) => ask_of(alloc, client, method, body, now, request),
+        _ => Err(Refusal::WrongHandle),
+    }
+}
+
+/// The same of the client.
+fn ask_of(
+    alloc: Global,
+    client: &mut ClientEndpoint<Global>,
+    method: u32,
+    body: &[u8],
+    now: u64,
+    request: &mut u64,
+) -> Result<(), Refusal>
+    ensures { AsksAs (Ok client.old) method body.now now (done_answer result) request.old
+        request.new (Some (kind.Client client.old)) (Some (kind.Client client.new)) }
+{
+    if method > 4095 {
+        return Err(Refusal::BadArgument);
+    }
+    let Some(method) = Method::new(method as u16) else {
+        return Err(Refusal::BadArgument);
+    };
+    let body = body_of(alloc, body)?;
+    match client.request(method, body, Instant::from_nanos(now)) {
+        Ok(number) => {
+            *request = number;
+            Ok(())
+        }
+        Err(error) => Err(refusal_of_request(error)),
+    }
+}
+
+/// Tells what a datagram is.
+fn told(received: &Received<'_>, why: &mut u32) -> u32
+    ensures number { result ≡ received_number received.now }
+    ensures why { why.new ≡ why_told received.now why.old }
+{
+    match received {
+        Received::Consumed => 4,
+        Received::Indication(_) => 3,
+        Received::NotOurs => 6,
+        Received::Dropped(reason) => {
+            *why = drop_number(*reason);
+            0
+        }
+        // There is no other one in this release.
+        _ => 0,
+    }
+}
+
+/// Has the client of a handle read a datagram, and tells what it is.
+pub fn hear(
+    kept: &mut Kept,
+    message: &[u8],
+    from: &Address,
+    now: u64,
+    why: &mut u32,
+) -> Result<u32, Refusal>
+    ensures { HearsAs (client_of kept.old) from.now message.now now (number_answer result) why.old
+        why.new (Some kept.old) (Some kept.new) }
+{
+    match kept {
+        Kept::Client(client) => hear_by(client, message, from, now, why),
+        _ => Err(Refusal::WrongHandle),
+    }
+}
+
+/// The same of the client.
+fn hear_by(
+    client: &mut ClientEndpoint<Global>,
+    message: &[u8],
+    from: &Address,
+    now: u64,
+    why: &mut u32,
+) -> Result<u32, Refusal>
+    ensures { HearsAs (Ok client.old) from.now message.now now (number_answer result) why.old
+        why.new (Some (kind.Client client.old)) (Some (kind.Client client.new)) }
+{
+    let from = from.socket()?;
+    let received = client.receive(message, from, Instant::from_nanos(now));
+    Ok(told(&received, why))
+}
+
+/// Until when to wait.
+fn until_told(until: Option<Instant>) -> u64
+    ensures { result ≡ or_for_ever until }
+{
+    match until {
+        Some(until) => until.as_nanos(),
+        None => FOR_EVER,
+    }
+}
+
+/// Writes bytes to the front of the buffer, and returns this number, if they have room.
+fn written(bytes: &[u8], number: u32, out: &mut [u8]) -> Result<u32, Refusal>
+    ensures { WritesTold (nat_lt (length out.old) (length bytes.now)) bytes.now number
+        (number_answer result) out.old out.new }
+{
+    if out.len() < bytes.len() {
+        return Err(Refusal::BufferTooSmall);
+    }
+    put(out, bytes);
+    Ok(number)
+}
+
+/// Polls the client of a handle, and tells what it says.
+pub fn poll(
+    kept: &mut Kept,
+    now: u64,
+    out: &mut [u8],
+    event: &mut Event,
+) -> Result<u32, Refusal>
+    ensures { PollsAs (client_of kept.old) now (number_answer result) out.old out.new event.old
+        event.new (Some kept.old) (Some kept.new) }
+{
+    match kept {
+        Kept::Client(client) => poll_by(client, now, out, event),
+        _ => Err(Refusal::WrongHandle),
+    }
+}
+
+/// The same of the client.
+fn poll_by(
+    client: &mut ClientEndpoint<Global>,
+    now: u64,
+    out: &mut [u8],
+    event: &mut Event,
+) -> Result<u32, Refusal>
+    ensures { PollsAs (Ok client.old) now (number_answer result) out.old out.new event.old
+        event.new (Some (kind.Client client.old)) (Some (kind.Client client.new)) }
+{
+    if event.size != EVENT_SIZE {
+        return Err(Refusal::BadArgument);
+    }
+    match client.poll(Instant::from_nanos(now)) {
+        Polled::Transmit(number) => transmit(client, number, out, event),
+        Polled::Ended(ended) => {
+            event.ends(&ended);
+            written(ended.response(), 2, out)
+        }
+        Polled::Wait(until) => {
+            event.waits(until_told(until));
+            Ok(0)
+        }
+        // There is no other one in this release.
+        _ => Err(Refusal::BadArgument),
+    }
+}
+
+/// Tells of the bytes of a request.
+fn transmit(
+    client: &ClientEndpoint<Global>,
+    number: u64,
+    out: &mut [u8],
+    event: &mut Event,
+) -> Result<u32, Refusal> {
+    let bytes = match client.bytes_of(number) {
+        Some(bytes) => bytes,
+        None => &[],
+    };
+    event.sends(bytes.len());
+    written(bytes, 1, out)
+}
+
+/// Cancels a request of the client of a handle, and returns 1, or 0 if it has ended.
+pub fn cancel(kept: &mut Kept, number: u64) -> Result<u32, Refusal>
+    ensures { CancelsAs (client_of kept.old) number (number_answer result) (Some kept.old)
+        (Some kept.new) }
+{
+    match kept {
+        Kept::Client(client) => Ok(u32::from(client.cancel(number))),
+        _ => Err(Refusal::WrongHandle),
+    }
+}
+
+/// Tells what was dropped for a request of the client of a handle, and returns 1, or 0 if it has
+/// ended.
+pub fn tell_dropped(kept: &Kept, number: u64, dropped: &mut Dropped) -> Result<u32, Refusal>
+    ensures { TellsDropped (client_of kept.now) number (number_answer result) dropped.old
+        dropped.new }
+{
+    match kept {
+        Kept::Client(client) => match client.dropped(number) {
+            Some(drops) => {
+                *dropped = Dropped::of(drops);
+                Ok(1)
+            }
+            None => Ok(0),
+        },
+        _ => Err(Refusal::WrongHandle),
+    }
+}

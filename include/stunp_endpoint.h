@@ -1388,8 +1388,8 @@ STUNP_INLINED int64_t stunp_body_add_number(stunp_body *body, uint32_t type, uin
                                             size_t size) {
     uint8_t value[8];
     if (body->refusal == 0 && size > sizeof value) body->refusal = STUNP_BAD_ARGUMENT;
-    for (size_t i = 0; i < sizeof value; i++)
-        value[i] = i < size ? (uint8_t)(number >> 8 * ((size - 1 - i) % 8)) : 0;
+    for (size_t i = sizeof value; i-- > 0; number = i < size ? number >> 8 : number)
+        value[i] = (uint8_t)(i < size ? number & 255 : 0);
     return stunp_body_add(body, type, value, size);
 }
 

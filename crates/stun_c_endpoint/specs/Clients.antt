@@ -4,15 +4,11 @@ use Rattle.std.specs.Prelude.{length, drop, nat_lt, if◌then◌else◌, Option,
 use Rattle.std.specs.Prelude.{Result, Ok, Err}
 use Rattle.std.specs.Option.{is_some, option_map, option_map_or}
 use Rattle.std.specs.declared.net.socket_addr.SocketAddr.{SocketAddr}
-use Rattle.stun_client_endpoint.specs.Bodies.{Body, body_of_bytes}
+use Rattle.stun_client_endpoint.specs.Bodies.{Body}
 use Rattle.stun_client_endpoint.specs.Endpoints.{Answer, Endpoint, Polls, Told, cancelled, ends}
 use Rattle.stun_client_endpoint.specs.Endpoints.{next_number, out_of_memory, received}
 use Rattle.stun_client_endpoint.specs.Endpoints.{refusal_to_start, started, transmit, waits}
 use Rattle.stun_client_endpoint.specs.Pendings.{outstanding_at}
-use Rattle.stun_client_endpoint.specs.declared.body.BodyBytesError.{BodyBytesError}
-use Rattle.stun_client_endpoint.specs.declared.body.BodyBytesError.TheVariants.{Malformed, Refused}
-use Rattle.stun_client_endpoint.specs.declared.body.BodyError.{BodyError}
-use Rattle.stun_client_endpoint.specs.declared.body.BodyError.TheVariants as BodyErrors
 use Rattle.stun_client_endpoint.specs.declared.told.Received.{Received}
 use Rattle.stun_client_endpoint.specs.declared.told.Received.TheVariants.{Consumed, Dropped}
 use Rattle.stun_client_endpoint.specs.declared.told.Received.TheVariants.{Indication, NotOurs}
@@ -27,6 +23,7 @@ use Rattle.stun_numbers.specs.declared.refusal.Refusal.TheVariants.{AlreadyInPro
 use Rattle.stun_numbers.specs.declared.refusal.Refusal.TheVariants.{BufferTooSmall}
 use Rattle.stun_numbers.specs.declared.refusal.Refusal.TheVariants.{MessageTooLong, NotAllowed}
 use Rattle.stun_numbers.specs.declared.refusal.Refusal.TheVariants.{OutOfMemory, WrongHandle}
+use Rattle.stun_c_endpoint.specs.Attributes.{Reads}
 use Rattle.stun_c_endpoint.specs.Events.{drop_told, drops_told, ended_told, sent_told, wait_told}
 use Rattle.stun_c_endpoint.specs.Kept.{at_handle}
 use Rattle.stun_c_endpoint.specs.declared.client.event.Dropped.{Dropped as DroppedTold}
@@ -51,15 +48,6 @@ client_in handle = at_handle handle (λ kept. client_of kept)
 
 -- ---- requests
 
-abbrev pub refusal_of_attribute : BodyError → Refusal
-refusal_of_attribute BodyErrors.NotAllowed = NotAllowed
-refusal_of_attribute BodyErrors.TooLarge = MessageTooLong
-refusal_of_attribute BodyErrors.OutOfMemory = OutOfMemory
-
-abbrev pub refusal_of_body : BodyBytesError → Refusal
-refusal_of_body Malformed = BadArgument
-refusal_of_body (Refused error) = refusal_of_attribute error
-
 abbrev pub refusal_of_request : RequestError → Refusal
 refusal_of_request Errors.NoId = AlreadyInProgress
 refusal_of_request Errors.TooLarge = MessageTooLong
@@ -74,8 +62,8 @@ start_unless None number e = Ok (number, e)
 start_unless (Some error) number e = Err (refusal_of_request error)
 
 -- the refusals of the body come first
-abbrev pub starting : ℕ → ℕ → Endpoint → Result Body BodyBytesError → Start
-starting method now e (Err error) = Err (refusal_of_body error)
+abbrev pub starting : ℕ → ℕ → Endpoint → Result Body Refusal → Start
+starting method now e (Err refusal) = Err refusal
 starting method now e (Ok body) =
     start_unless (refusal_to_start e method body) (next_number e) (started method body now e)
 
@@ -90,6 +78,13 @@ StartsAs (Ok s) result id id' before after =
 StartsAs (Err refusal) result id id' before after =
     LeavesAsked refusal result id id' before after
 
+-- a request is started with the body of these bytes, or it is refused
+pub record StartsBy (method : ℕ) (bytes : List ℕ) (now : ℕ) (e : Endpoint) (result : ℤ)
+    (id id' : ℕ) (before after : Option Kept) : Type 0 where
+  pub body : Result Body Refusal
+  pub reads : Reads [] bytes body
+  pub starts : StartsAs (starting method now e body) result id id' before after
+
 -- what a call that starts a request with these bytes as its body returns, writes and leaves: the
 -- refusals of the handle come first, and that of a method of more than 12 bits; or an allocation failed
 abbrev pub AsksAs : Result Endpoint Refusal → ℕ → List ℕ → ℕ → ℤ → ℕ → ℕ → Option Kept → Option Kept
@@ -98,7 +93,7 @@ AsksAs (Err refusal) method bytes now result id id' before after =
     LeavesAsked refusal result id id' before after
 AsksAs (Ok e) method bytes now result id id' before after =
     if nat_lt 4095 method then LeavesAsked BadArgument result id id' before after
-    else (StartsAs (starting method now e (body_of_bytes bytes)) result id id' before after
+    else (StartsBy method bytes now e result id id' before after
     ⊎ LeavesAsked OutOfMemory result id id' before after)
 
 -- ---- datagrams

@@ -20,6 +20,8 @@ pub mod Judged
 pub mod ClientsGiven
 -- what it is to do next, as a caller gets it
 pub mod Events
+-- the body of a request that a caller gives
+pub mod Attributes
 -- what the calls on it return, write and leave
 pub mod Clients
 -- what no clause of a public call cites: what representations alone use

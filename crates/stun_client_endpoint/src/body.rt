@@ -10,8 +10,7 @@ use crate::piece::Piece;
 use std::alloc::{AllocError, Allocator, Global};
 use std::marker::Model;
 use std::net::SocketAddr;
-use stun_extra::attribute::PlainAddress;
-use stun_types::attribute::{AttributeType, RawAttribute, attribute_length};
+use stun_types::attribute::{AttributeType, attribute_length};
 use stun_types::message::{MessageWriteVec, StunWriteError, TransactionId};
 use stun_types::prelude::*;
 use thiserror::Error;
@@ -34,16 +33,6 @@ pub enum BodyError {
     /// An allocation failed.
     #[error("an allocation failed")]
     OutOfMemory,
-}
-
-/// TEMPORARY
-#[derive(Clone, Copy, Debug, PartialEq, Eq, Error)]
-#[non_exhaustive]
-pub enum BodyBytesError {
-    #[error("malformed")]
-    Malformed,
-    #[error("refused")]
-    Refused(BodyError),
 }
 
 /// The types that a client writes itself, those whose values depend on the transaction ID, and
@@ -163,31 +152,6 @@ impl<A: Allocator + Copy> Body<A> {
         }
         self.length += attribute_length(length);
         Ok(())
-    }
-
-    /// TEMPORARY: of these bytes.
-    pub fn from_bytes(alloc: A, attributes: &[u8]) -> Result<Body<A>, BodyBytesError> {
-        let mut body = Body::new(alloc);
-        let mut place = 0;
-        while let Some(attribute) = RawAttribute::at(attributes, place) {
-            let padded = attribute.padded_len();
-            let done = if attribute.get_type().value() == 0x0012 {
-                match PlainAddress::<0x0012>::from_raw(attribute) {
-                    Ok(read) => body.add_xor_peer_address(read.addr()),
-                    Err(_) => return Err(BodyBytesError::Malformed),
-                }
-            } else {
-                body.add(attribute.get_type(), attribute.value())
-            };
-            if let Err(error) = done {
-                return Err(BodyBytesError::Refused(error));
-            }
-            place += padded;
-        }
-        if place < attributes.len() {
-            return Err(BodyBytesError::Malformed);
-        }
-        Ok(body)
     }
 
     /// Copies the body. Fails if an allocation fails.

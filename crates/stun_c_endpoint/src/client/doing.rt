@@ -2,19 +2,17 @@
 
 ghost use Rattle.std.specs.Prelude.{◌≡◌, ◌⊎◌, ◌<◌, ◌^◌, IfErr, IfOk, None, Ok, Some, nat_lt, length};
 ghost use Rattle.stun_handles.specs.Numbers.{done_answer, number_answer};
-ghost use Rattle.stun_client_endpoint.specs.Bodies.{body_of_bytes};
 ghost use Rattle.stun_client_endpoint.specs.Endpoints.{told_of};
 ghost use Rattle.stun_c_endpoint.specs.Clients.{AsksAs, CancelsAs, HearsAs, HearsFrom, PollsAs};
 ghost use Rattle.stun_c_endpoint.specs.Clients.{StartsAs, TellsDropped, WritesTold, client_of};
-ghost use Rattle.stun_c_endpoint.specs.Clients.{or_for_ever, received_number, refusal_of_attribute};
-ghost use Rattle.stun_c_endpoint.specs.Clients.{refusal_of_body, refusal_of_request, why_told};
+ghost use Rattle.stun_c_endpoint.specs.Clients.{or_for_ever, received_number, refusal_of_request, why_told};
 ghost use Rattle.stun_c_endpoint.specs.declared.handle.endpoint.Kept.TheVariants as kind;
 
+use crate::client::body::body_of;
 use crate::client::event::{Dropped, EVENT_SIZE, Event, drop_number};
 use crate::handle::endpoint::Kept;
 use std::alloc::Global;
 use stun_base::instant::Instant;
-use stun_client_endpoint::body::{Body, BodyBytesError, BodyError};
 use stun_client_endpoint::endpoint::ClientEndpoint;
 use stun_client_endpoint::told::{Polled, Received, RequestError};
 use stun_handles::address::Address;
@@ -24,31 +22,6 @@ use stun_types::message::Method;
 
 /// When no request is outstanding.
 const FOR_EVER: u64 = 18_446_744_073_709_551_615;
-
-/// The refusal of an attribute of a body.
-fn refusal_of_attribute(error: BodyError) -> Refusal
-    ensures { result ≡ refusal_of_attribute error }
-{
-    match error {
-        BodyError::NotAllowed => Refusal::NotAllowed,
-        BodyError::TooLarge => Refusal::MessageTooLong,
-        BodyError::OutOfMemory => Refusal::OutOfMemory,
-        // There is no other one in this release.
-        _ => Refusal::BadArgument,
-    }
-}
-
-/// The refusal of the bytes of a body.
-fn refusal_of_body(error: BodyBytesError) -> Refusal
-    ensures { result ≡ refusal_of_body error }
-{
-    match error {
-        BodyBytesError::Malformed => Refusal::BadArgument,
-        BodyBytesError::Refused(error) => refusal_of_attribute(error),
-        // There is no other one in this release.
-        _ => Refusal::BadArgument,
-    }
-}
 
 /// The refusal of a request.
 fn refusal_of_request(error: RequestError) -> Refusal
@@ -60,18 +33,6 @@ fn refusal_of_request(error: RequestError) -> Refusal
         RequestError::OutOfMemory => Refusal::OutOfMemory,
         // There is no other one in this release.
         _ => Refusal::BadArgument,
-    }
-}
-
-/// The body of these bytes.
-fn body_of(alloc: Global, bytes: &[u8]) -> Result<Body<Global>, Refusal>
-    ensures ok { IfOk result (λ body. body_of_bytes bytes.now ≡ Ok body) }
-    ensures refused { IfErr result (λ refusal. (refusal ≡ Refusal.OutOfMemory)
-        ⊎ (IfErr (body_of_bytes bytes.now) (λ error. refusal ≡ refusal_of_body error))) }
-{
-    match Body::from_bytes(alloc, bytes) {
-        Ok(body) => Ok(body),
-        Err(error) => Err(refusal_of_body(error)),
     }
 }
 

@@ -1,0 +1,93 @@
+//! The body of a request, as a caller gives it.
+
+ghost use Rattle.std.specs.Prelude.{◌≡◌, ◌⊎◌, Err, IfErr, IfOk, Ok, OnErr, OnOk, [], drop};
+ghost use Rattle.stun_c_endpoint.specs.Attributes.{Reads, peer_of, refusal_of_attribute};
+ghost use Rattle.stun_c_endpoint.specs.Attributes.{with_attribute};
+
+use byteorder::{BigEndian, ByteOrder};
+use std::alloc::Global;
+use std::net::{Ipv4Addr, Ipv6Addr, SocketAddr, SocketAddrV4, SocketAddrV6};
+use stun_client_endpoint::body::{Body, BodyError};
+use stun_numbers::refusal::Refusal;
+use stun_types::attribute::RawAttribute;
+
+/// XOR-PEER-ADDRESS, whose value depends on the transaction ID.
+const XOR_PEER_ADDRESS: u16 = 0x0012;
+
+/// The refusal of an attribute of a body.
+fn refusal_of_attribute(error: BodyError) -> Refusal
+    ensures { result ≡ refusal_of_attribute error }
+{
+    match error {
+        BodyError::NotAllowed => Refusal::NotAllowed,
+        BodyError::TooLarge => Refusal::MessageTooLong,
+        BodyError::OutOfMemory => Refusal::OutOfMemory,
+        // There is no other one in this release.
+        _ => Refusal::BadArgument,
+    }
+}
+
+/// The address of a peer, which is not XORed yet.
+fn peer_of(value: &[u8]) -> Option<SocketAddr>
+    ensures { result ≡ peer_of value.now }
+{
+    if value.len() == 8 && BigEndian::read_u16(value) == 1 {
+        let mut octets = [0; 4];
+        octets.copy_from_slice(&value[4..]);
+        let port = BigEndian::read_u16(&value[2..]);
+        return Some(SocketAddr::V4(SocketAddrV4::new(
+            Ipv4Addr::from_octets(octets),
+            port,
+        )));
+    }
+    if value.len() == 20 && BigEndian::read_u16(value) == 2 {
+        let mut octets = [0; 16];
+        octets.copy_from_slice(&value[4..]);
+        let port = BigEndian::read_u16(&value[2..]);
+        return Some(SocketAddr::V6(SocketAddrV6::new(
+            Ipv6Addr::from_octets(octets),
+            port,
+            0,
+            0,
+        )));
+    }
+    None
+}
+
+/// Adds an attribute to a body.
+fn add(body: &mut Body<Global>, attribute: &RawAttribute<'_>) -> Result<(), Refusal>
+    ensures ok { OnOk result (with_attribute body.old attribute.now ≡ Ok body.new) }
+    ensures refused { IfErr result (λ refusal. (refusal ≡ Refusal.OutOfMemory)
+        ⊎ (with_attribute body.old attribute.now ≡ Err refusal)) }
+{
+    let added = if attribute.get_type().value() == XOR_PEER_ADDRESS {
+        match peer_of(attribute.value()) {
+            Some(address) => body.add_xor_peer_address(address),
+            None => return Err(Refusal::BadArgument),
+        }
+    } else {
+        body.add(attribute.get_type(), attribute.value())
+    };
+    match added {
+        Ok(()) => Ok(()),
+        Err(error) => Err(refusal_of_attribute(error)),
+    }
+}
+
+/// The body of these bytes.
+pub fn body_of(alloc: Global, bytes: &[u8]) -> Result<Body<Global>, Refusal>
+    ensures ok { IfOk result (λ body. Reads [] bytes.now (Ok body)) }
+    ensures refused { IfErr result (λ refusal. (refusal ≡ Refusal.OutOfMemory)
+        ⊎ Reads [] bytes.now (Err refusal)) }
+{
+    let mut body = Body::new(alloc);
+    let mut place = 0;
+    while let Some(attribute) = RawAttribute::at(bytes, place) {
+        add(&mut body, &attribute)?;
+        place += attribute.padded_len();
+    }
+    if place < bytes.len() {
+        return Err(Refusal::BadArgument);
+    }
+    Ok(body)
+}

@@ -4,7 +4,7 @@ use Rattle.std.specs.Prelude.{length, drop, if◌then◌else◌, Option, Some, N
 use Rattle.std.specs.declared.net.socket_addr.SocketAddr.{SocketAddr}
 use Rattle.byteorder.specs.Endian.{big_number}
 use Rattle.stun_types.specs.Attribute.{TypedValue, attribute_length, first_attribute}
-use Rattle.stun_types.specs.Attribute.{has_attribute, value_length_field}
+use Rattle.stun_types.specs.Attribute.{has_attribute}
 use Rattle.stun_client_endpoint.specs.Bodies.{Body, XOR_PEER_ADDRESS, body_refusal, of_peer}
 use Rattle.stun_client_endpoint.specs.Bodies.{size_refusal, with_value}
 use Rattle.stun_client_endpoint.specs.declared.body.BodyError.{BodyError}
@@ -52,5 +52,5 @@ pub data Reads : Body → List ℕ → Result Body Refusal → Type 0 where
       → with_attribute body (first_attribute bytes) ≡ Err refusal → Reads body bytes (Err refusal)
   goes_on : (body next : Body) (bytes : List ℕ) (result : Result Body Refusal)
       → has_attribute bytes ≡ true → with_attribute body (first_attribute bytes) ≡ Ok next
-      → Reads next (drop (attribute_length (value_length_field bytes)) bytes) result
+      → Reads next (drop (attribute_length (length (first_attribute bytes).value)) bytes) result
       → Reads body bytes result

@@ -24,11 +24,11 @@ use Rattle.stun_numbers.specs.declared.refusal.Refusal.TheVariants.{BufferTooSma
 use Rattle.stun_numbers.specs.declared.refusal.Refusal.TheVariants.{MessageTooLong, NotAllowed}
 use Rattle.stun_numbers.specs.declared.refusal.Refusal.TheVariants.{OutOfMemory, WrongHandle}
 use Rattle.stun_c_endpoint.specs.Attributes.{Reads}
-use Rattle.stun_c_endpoint.specs.Events.{drop_told, drops_told, ended_told, sent_told, wait_told}
+use Rattle.stun_c_endpoint.specs.Events.{EVENT_SIZE, drop_told, drops_told, ended_told, sent_told}
+use Rattle.stun_c_endpoint.specs.Events.{wait_told}
 use Rattle.stun_c_endpoint.specs.Kept.{at_handle}
 use Rattle.stun_c_endpoint.specs.declared.client.event.Dropped.{Dropped as DroppedTold}
 use Rattle.stun_c_endpoint.specs.declared.client.event.Event.{Event}
-use Rattle.stun_c_endpoint.specs.declared.client.event.TheConstants.{EVENT_SIZE}
 use Rattle.stun_c_endpoint.specs.declared.handle.endpoint.Kept.{Kept}
 use Rattle.stun_c_endpoint.specs.declared.handle.endpoint.Kept.TheVariants.{Checker, Client, Open}
 use Rattle.stun_c_endpoint.specs.declared.handle.endpoint.Kept.TheVariants.{Server, ShortTerm, Users}
@@ -85,16 +85,23 @@ pub record StartsBy (method : ℕ) (bytes : List ℕ) (now : ℕ) (e : Endpoint)
   pub reads : Reads [] bytes body
   pub starts : StartsAs (starting method now e body) result id id' before after
 
+-- a method of more than 12 bits is refused first; or an allocation failed
+abbrev pub AsksBy : Bool → ℕ → List ℕ → ℕ → Endpoint → ℤ → ℕ → ℕ → Option Kept → Option Kept
+    → Type 0
+AsksBy true method bytes now e result id id' before after =
+    LeavesAsked BadArgument result id id' before after
+AsksBy false method bytes now e result id id' before after =
+    StartsBy method bytes now e result id id' before after
+    ⊎ LeavesAsked OutOfMemory result id id' before after
+
 -- what a call that starts a request with these bytes as its body returns, writes and leaves: the
--- refusals of the handle come first, and that of a method of more than 12 bits; or an allocation failed
+-- refusals of the handle come first
 abbrev pub AsksAs : Result Endpoint Refusal → ℕ → List ℕ → ℕ → ℤ → ℕ → ℕ → Option Kept → Option Kept
     → Type 0
 AsksAs (Err refusal) method bytes now result id id' before after =
     LeavesAsked refusal result id id' before after
 AsksAs (Ok e) method bytes now result id id' before after =
-    if nat_lt 4095 method then LeavesAsked BadArgument result id id' before after
-    else (StartsBy method bytes now e result id id' before after
-    ⊎ LeavesAsked OutOfMemory result id id' before after)
+    AsksBy (nat_lt 4095 method) method bytes now e result id id' before after
 
 -- ---- datagrams
 
@@ -141,10 +148,14 @@ HearsAs (Ok e) from bytes now result why why' before after =
 
 -- ---- polling
 
+abbrev pub or_no_bytes : Option (List ℕ) → List ℕ
+or_no_bytes None = []
+or_no_bytes (Some bytes) = bytes
+
 -- the bytes that go with what a client says: a request to send, or the response that ended one
 abbrev pub bytes_told : Endpoint → Told → List ℕ
 bytes_told e (transmit number) =
-    option_map_or (λ p. p.bytes) (outstanding_at number e.requests) []
+    or_no_bytes (option_map (λ p. p.bytes) (outstanding_at number e.requests))
 bytes_told e (ends x) = x.response
 bytes_told e (waits until) = []
 
@@ -170,21 +181,34 @@ WritesTold true bytes number result out out' =
 WritesTold false bytes number result out out' =
     (result ≡ pos number) × (out' ≡ bytes ++ drop (length bytes) out)
 
--- a call polls the client: what it says is written
+-- what a client says is written
+abbrev pub Tells : Endpoint → Told → ℤ → List ℕ → List ℕ → Event → Event → Type 0
+Tells e told result out out' v v' =
+    (v' ≡ event_told e told v)
+    × WritesTold (nat_lt (length out) (length (bytes_told e told))) (bytes_told e told)
+    (event_number told) result out out'
+
+-- a call polls the client, and writes what it says
 pub record IsPolled (now : ℕ) (e : Endpoint) (result : ℤ) (out out' : List ℕ) (v v' : Event)
     (left : Option Kept) : Type 0 where
   pub told : Told
   pub after : Endpoint
   pub polls : Polls now e told after
   pub left_is : left ≡ Some (Client after)
-  pub event : v' ≡ event_told after told v
-  pub written : WritesTold (nat_lt (length out) (length (bytes_told after told)))
-      (bytes_told after told) (event_number told) result out out'
+  pub tells : Tells after told result out out' v v'
 
 abbrev pub LeavesPolled : Refusal → ℤ → List ℕ → List ℕ → Event → Event → Option Kept → Option Kept
     → Type 0
 LeavesPolled refusal result out out' v v' before after =
     (result ≡ refusal_number refusal) × (out' ≡ out) × (v' ≡ v) × (after ≡ before)
+
+-- an event of another size is refused
+abbrev pub PollsBy : Bool → ℕ → Endpoint → ℤ → List ℕ → List ℕ → Event → Event → Option Kept
+    → Option Kept → Type 0
+PollsBy true now e result out out' v v' before after =
+    IsPolled now e result out out' v v' after
+PollsBy false now e result out out' v v' before after =
+    LeavesPolled BadArgument result out out' v v' before after
 
 -- what a call that polls returns, writes and leaves
 abbrev pub PollsAs : Result Endpoint Refusal → ℕ → ℤ → List ℕ → List ℕ → Event → Event → Option Kept
@@ -192,8 +216,7 @@ abbrev pub PollsAs : Result Endpoint Refusal → ℕ → ℤ → List ℕ → Li
 PollsAs (Err refusal) now result out out' v v' before after =
     LeavesPolled refusal result out out' v v' before after
 PollsAs (Ok e) now result out out' v v' before after =
-    if v.size == EVENT_SIZE then IsPolled now e result out out' v v' after
-    else LeavesPolled BadArgument result out out' v v' before after
+    PollsBy (v.size == EVENT_SIZE) now e result out out' v v' before after
 
 -- ---- outstanding requests
 

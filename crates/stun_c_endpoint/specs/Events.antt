@@ -19,6 +19,10 @@ use Rattle.stun_c_endpoint.specs.Told.{integrity_number}
 use Rattle.stun_c_endpoint.specs.declared.client.event.Dropped.{Dropped}
 use Rattle.stun_c_endpoint.specs.declared.client.event.Event.{Event}
 
+-- how many bytes a caller's event has, with which it begins
+abbrev pub EVENT_SIZE : ℕ
+EVENT_SIZE = 64
+
 -- the numbers of the reasons to drop a response
 abbrev pub drop_told : DropReason → ℕ
 drop_told WrongFingerprint = 3

@@ -1,6 +1,7 @@
 //! The body of a request, as a caller gives it.
 
-ghost use Rattle.std.specs.Prelude.{◌≡◌, ◌⊎◌, Err, IfErr, IfOk, Ok, OnErr, OnOk, [], drop};
+ghost use Rattle.std.specs.Prelude.{◌≡◌, ◌⊎◌, Err, IfErr, IfOk, Ok, OnOk, [], drop, length};
+ghost use Rattle.stun_types.specs.Attribute.{attribute_length};
 ghost use Rattle.stun_c_endpoint.specs.Attributes.{Reads, peer_of, refusal_of_attribute};
 ghost use Rattle.stun_c_endpoint.specs.Attributes.{with_attribute};
 
@@ -74,6 +75,16 @@ fn add(body: &mut Body<Global>, attribute: &RawAttribute<'_>) -> Result<(), Refu
     }
 }
 
+/// The bytes after an attribute with which bytes begin.
+fn after<'a>(bytes: &'a [u8], attribute: &RawAttribute<'_>) -> &'a [u8]
+    ensures { result.now ≡ drop (attribute_length (length attribute.now.value)) bytes.now }
+{
+    match bytes.get(attribute.padded_len()..) {
+        Some(after) => after,
+        None => &[],
+    }
+}
+
 /// The body of these bytes.
 pub fn body_of(alloc: Global, bytes: &[u8]) -> Result<Body<Global>, Refusal>
     ensures ok { IfOk result (λ body. Reads [] bytes.now (Ok body)) }
@@ -81,13 +92,16 @@ pub fn body_of(alloc: Global, bytes: &[u8]) -> Result<Body<Global>, Refusal>
         ⊎ Reads [] bytes.now (Err refusal)) }
 {
     let mut body = Body::new(alloc);
-    let mut place = 0;
-    while let Some(attribute) = RawAttribute::at(bytes, place) {
-        add(&mut body, &attribute)?;
-        place += attribute.padded_len();
-    }
-    if place < bytes.len() {
-        return Err(Refusal::BadArgument);
+    let mut rest = bytes;
+    while !rest.is_empty() {
+        let Some(attribute) = RawAttribute::at(rest, 0) else {
+            return Err(Refusal::BadArgument);
+        };
+        match add(&mut body, &attribute) {
+            Ok(()) => {}
+            Err(refusal) => return Err(refusal),
+        }
+        rest = after(rest, &attribute);
     }
     Ok(body)
 }

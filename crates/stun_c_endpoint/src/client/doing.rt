@@ -2,9 +2,9 @@
 
 ghost use Rattle.std.specs.Prelude.{◌≡◌, ◌⊎◌, ◌<◌, ◌^◌, IfErr, IfOk, None, Ok, Some, nat_lt, length};
 ghost use Rattle.stun_handles.specs.Numbers.{done_answer, number_answer};
-ghost use Rattle.stun_client_endpoint.specs.Endpoints.{told_of};
+ghost use Rattle.stun_client_endpoint.specs.Endpoints.{told_of, transmit as transmitted};
 ghost use Rattle.stun_c_endpoint.specs.Clients.{AsksAs, CancelsAs, HearsAs, HearsFrom, PollsAs};
-ghost use Rattle.stun_c_endpoint.specs.Clients.{StartsAs, TellsDropped, WritesTold, client_of};
+ghost use Rattle.stun_c_endpoint.specs.Clients.{StartsAs, Tells, TellsDropped, WritesTold, client_of};
 ghost use Rattle.stun_c_endpoint.specs.Clients.{or_for_ever, received_number, refusal_of_request, why_told};
 ghost use Rattle.stun_c_endpoint.specs.declared.handle.endpoint.Kept.TheVariants as kind;
 
@@ -184,15 +184,29 @@ fn poll_by(
     if event.size != EVENT_SIZE {
         return Err(Refusal::BadArgument);
     }
-    match client.poll(Instant::from_nanos(now)) {
-        Polled::Transmit(number) => transmit(client, number, out, event),
+    let polled = client.poll(Instant::from_nanos(now));
+    tell(client, &polled, out, event)
+}
+
+/// Tells what the client says.
+fn tell(
+    client: &ClientEndpoint<Global>,
+    polled: &Polled<Global>,
+    out: &mut [u8],
+    event: &mut Event,
+) -> Result<u32, Refusal>
+    ensures { Tells client.now (told_of polled.now) (number_answer result) out.old out.new
+        event.old event.new }
+{
+    match polled {
+        Polled::Transmit(number) => transmit(client, *number, out, event),
         Polled::Ended(ended) => {
-            event.ends(&ended);
+            event.ends(ended);
             written(ended.response(), 2, out)
         }
         Polled::Wait(until) => {
-            event.waits(until_told(until));
-            Ok(0)
+            event.waits(until_told(*until));
+            written(&[], 0, out)
         }
         // There is no other one in this release.
         _ => Err(Refusal::BadArgument),
@@ -205,13 +219,20 @@ fn transmit(
     number: u64,
     out: &mut [u8],
     event: &mut Event,
-) -> Result<u32, Refusal> {
-    let bytes = match client.bytes_of(number) {
-        Some(bytes) => bytes,
-        None => &[],
-    };
-    event.sends(bytes.len());
-    written(bytes, 1, out)
+) -> Result<u32, Refusal>
+    ensures { Tells client.now (transmitted number) (number_answer result) out.old out.new
+        event.old event.new }
+{
+    match client.bytes_of(number) {
+        Some(bytes) => {
+            event.sends(bytes.len());
+            written(bytes, 1, out)
+        }
+        None => {
+            event.sends(0);
+            written(&[], 1, out)
+        }
+    }
 }
 
 /// Cancels a request of the client of a handle, and returns 1, or 0 if it has ended.

@@ -6,12 +6,11 @@ ghost use Rattle.stun_c_endpoint.specs.Events.{event_blank, outcome_told, sent_t
 
 use crate::received::integrity_number;
 use std::alloc::Global;
-use std::mem::size_of;
 use stun_client::judged::Outcome;
 use stun_client_endpoint::ended::{DropReason, Drops, Ended, RequestEnd};
 
 /// The bytes of a caller's event, with which it begins.
-pub const EVENT_SIZE: usize = size_of::<Event>();
+pub const EVENT_SIZE: usize = 64;
 
 /// What was dropped for a request.
 #[repr(C)]

@@ -22,10 +22,13 @@ static int64_t ask(int fd, const struct peer *server, stunp_address *seen, stunp
     while (kind >= 0 && kind != STUNP_ENDED) {
         kind = stunp_endpoint_client_poll(&client, moment(), got.bytes, sizeof got.bytes, event);
         if (kind == STUNP_TRANSMIT) send_to(fd, got.bytes, event->length, server);
-        if (kind == STUNP_WAIT && wait_until(fd, event->until) == DATAGRAM && receive(fd, &got))
+        if (kind != STUNP_WAIT) continue;
+        enum arrival came = wait_until(fd, event->until);
+        if (came == ERROR_REPORT && hard_error(fd) != 0) break; /* nobody is there */
+        if (came == DATAGRAM && receive(fd, &got))
             stunp_endpoint_client_receive(&client, got.bytes, got.length, &got.from, moment(), NULL);
     }
-    if (kind == STUNP_ENDED) kind = 0;
+    if (kind > 0) kind = 0;
     if (event->result == STUNP_RESULT_SUCCESS)
         kind = stunp_xor_mapped_address(got.bytes, event->length, seen->octets, 16, &seen->port);
     stunp_endpoint_client_free(&client);
@@ -46,6 +49,7 @@ int main(int count, char **words) {
     seen.length = octets == 4 ? 4 : 16;
     if (octets > 0) return puts(text_of(&seen)) < 0;
     fprintf(stderr, "%s\n",
-            octets < 0 ? stunp_strerror(octets) : stunp_result_text(event.result));
+            octets < 0 ? stunp_strerror(octets) : event.result == 0 ? "nobody answers there"
+            : stunp_result_text(event.result));
     return 1;
 }

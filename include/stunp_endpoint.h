@@ -1382,8 +1382,9 @@ STUNP_INLINED int64_t stunp_body_add(stunp_body *body, uint32_t type, const void
 
 /* Adds an attribute with a number of `size` bytes, 0 to 8, in network order, like stunp_body_add.
  *
- * Returns 0, or the first error of any call with this body. Errors: those of stunp_body_add, and
- *   STUNP_BAD_ARGUMENT  `size` is above 8 */
+ * Returns 0, or the first error of any call with this body. Errors:
+ *   STUNP_BAD_ARGUMENT  `size` is above 8
+ * and then those of stunp_body_add. */
 STUNP_INLINED int64_t stunp_body_add_number(stunp_body *body, uint32_t type, uint64_t number,
                                             size_t size) {
     uint8_t value[8];
@@ -1396,8 +1397,9 @@ STUNP_INLINED int64_t stunp_body_add_number(stunp_body *body, uint32_t type, uin
 /* Adds STUNP_XOR_PEER_ADDRESS with this address (RFC 8656, section 18.3), like stunp_body_add. It is
  * XORed when the request is written.
  *
- * Returns 0, or the first error of any call with this body. Errors: those of stunp_body_add, and
- *   STUNP_BAD_ARGUMENT  it is not an IPv4 or IPv6 address */
+ * Returns 0, or the first error of any call with this body. Errors:
+ *   STUNP_BAD_ARGUMENT  it is not an IPv4 or IPv6 address
+ * and then those of stunp_body_add. */
 STUNP_INLINED int64_t stunp_body_add_peer(stunp_body *body, const stunp_address *peer) {
     uint8_t family = peer->length == 4 ? 1 : 2;
     uint8_t value[20] = {0, family, (uint8_t)(peer->port >> 8), (uint8_t)peer->port};

@@ -36,21 +36,13 @@ fn peer_of(value: &[u8]) -> Option<SocketAddr>
         let mut octets = [0; 4];
         octets.copy_from_slice(&value[4..]);
         let port = BigEndian::read_u16(&value[2..]);
-        return Some(SocketAddr::V4(SocketAddrV4::new(
-            Ipv4Addr::from_octets(octets),
-            port,
-        )));
+        return Some(SocketAddr::V4(SocketAddrV4::new(Ipv4Addr::from_octets(octets), port)));
     }
     if value.len() == 20 && BigEndian::read_u16(value) == 2 {
         let mut octets = [0; 16];
         octets.copy_from_slice(&value[4..]);
         let port = BigEndian::read_u16(&value[2..]);
-        return Some(SocketAddr::V6(SocketAddrV6::new(
-            Ipv6Addr::from_octets(octets),
-            port,
-            0,
-            0,
-        )));
+        return Some(SocketAddr::V6(SocketAddrV6::new(Ipv6Addr::from_octets(octets), port, 0, 0)));
     }
     None
 }

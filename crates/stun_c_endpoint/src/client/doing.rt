@@ -156,12 +156,7 @@ fn written(bytes: &[u8], number: u32, out: &mut [u8]) -> Result<u32, Refusal>
 }
 
 /// Polls the client of a handle, and tells what it says.
-pub fn poll(
-    kept: &mut Kept,
-    now: u64,
-    out: &mut [u8],
-    event: &mut Event,
-) -> Result<u32, Refusal>
+pub fn poll(kept: &mut Kept, now: u64, out: &mut [u8], event: &mut Event) -> Result<u32, Refusal>
     ensures { PollsAs (client_of kept.old) now (number_answer result) out.old out.new event.old
         event.new (Some kept.old) (Some kept.new) }
 {

@@ -5,6 +5,8 @@ ghost use Rattle.std.specs.Prelude.{string_bytes};
 ghost use Rattle.std.specs.Option.{option_map};
 ghost use Rattle.stun_extra.specs.Unknown.{types_of};
 ghost use Rattle.stun_client.specs.Judging.{identity_of};
+ghost use Rattle.stun_c_endpoint.specs.Given.{Makes};
+ghost use Rattle.stun_c_endpoint.specs.declared.handle.endpoint.Kept.TheVariants as kind;
 ghost use Rattle.stun_c_endpoint.specs.ClientsGiven.{MakesClient, agent_given, algorithm_given};
 ghost use Rattle.stun_c_endpoint.specs.ClientsGiven.{client_given, client_refusal, feature_given};
 ghost use Rattle.stun_c_endpoint.specs.ClientsGiven.{identity_given, is_out_of_range, or_else};
@@ -67,8 +69,11 @@ pub const UNDERSTOOD: [AttributeType; 28] = [
 
 /// The waits of RFC 8489, section 6.2.1, in nanoseconds, and how often a request is sent.
 const INITIAL: u64 = 500_000_000;
+
 const LONGEST: u64 = 18_446_744_073_709_551_615;
+
 const LAST: u64 = 8_000_000_000;
+
 const TRANSMISSIONS: u32 = 7;
 
 /// For how many challenges a request is sent again.
@@ -79,7 +84,9 @@ const SHORT_TERM: u32 = 1;
 
 /// The numbers of algorithms: each alone, and both.
 const ONLY_SHA1: u32 = 1;
+
 const ONLY_SHA256: u32 = 2;
+
 const BOTH: u32 = 3;
 
 /// The greatest number of a feature.
@@ -271,10 +278,19 @@ impl<'a> ClientGiven<'a> {
         ensures { MakesClient self.now result handle.new.kept }
     {
         match self.server.socket() {
-            Ok(server) => match self.client(alloc, server) {
-                Ok(client) => placed(alloc, handle, Kept::Client(client)),
-                Err(refusal) => refusal.code(),
-            },
+            Ok(server) => self.place_at(alloc, server, handle),
+            Err(refusal) => refusal.code(),
+        }
+    }
+
+    /// The same of a server at an address.
+    fn place_at(&self, alloc: Global, server: SocketAddr, handle: &mut EndpointHandle) -> i64
+        requires { handle.old.kept ≡ None }
+        ensures { Makes (client_refusal self.now) (kind.Client (client_given self.now server)) result
+            handle.new.kept }
+    {
+        match self.client(alloc, server) {
+            Ok(client) => placed(alloc, handle, Kept::Client(client)),
             Err(refusal) => refusal.code(),
         }
     }

@@ -1,0 +1,163 @@
+//! Makes 1,000 Binding requests and reads their responses, some times over, so that
+//! `bench/endpoint.py` can count the instructions of one:
+//!
+//! ```text
+//! valgrind --tool=callgrind --callgrind-out-file=/dev/null client_cost endpoint signed 3
+//! ```
+//!
+//! The difference between 3 and 1 times, divided by 2,000, is the cost of one request and its
+//! response. The client is `endpoint` (`endpoint::Client`), or `calls`: the calls of `agent` and
+//! `auth` that it makes, in a row. With `signed` it has long-term credentials, with `unsigned` none.
+//! The responses are made before, by an `endpoint::Server`.
+
+use seatcrane_stun::Instant;
+use seatcrane_stun::agent::{StunAgent, StunAgentPollRet};
+use seatcrane_stun::auth::{LongTermClientAuth, LongTermClientValidation};
+use seatcrane_stun::endpoint::*;
+use seatcrane_stun::extra::{Fingerprint, check_fingerprint, has_unknown};
+use seatcrane_stun::types::attribute::*;
+use seatcrane_stun::types::message::*;
+use seatcrane_stun::types::prelude::*;
+use seatcrane_stun::types::{STUN, TransportType};
+use std::hint::black_box;
+use std::net::SocketAddr;
+
+const REQUESTS: u32 = 1000;
+
+/// What answers a request.
+type Peer<'a> = dyn FnMut(&[u8]) -> Vec<u8> + 'a;
+
+fn server_address() -> SocketAddr {
+    ([192, 0, 2, 1], 3478).into()
+}
+
+/// The requests of an `endpoint::Client`, each started when the one before has ended.
+fn by_endpoint(is_signed: bool, peer: &mut Peer<'_>) {
+    let (server, now) = (server_address(), Instant::ZERO);
+    let mut client = Client::builder(server);
+    if is_signed {
+        client = client.credentials(Credentials::long_term("alice", "wonderland"));
+    }
+    let mut client = client.build([7; 32]).unwrap();
+    for _ in 0..REQUESTS {
+        client.request(BINDING, Body::new(), now).unwrap();
+        loop {
+            let response = match client.poll(now) {
+                Output::Transmit(bytes) => peer(bytes),
+                Output::Ended(_, result) => {
+                    black_box(result.unwrap().message().xor_mapped_address().unwrap());
+                    continue;
+                }
+                _ => break,
+            };
+            client.receive(&response, server, now);
+        }
+    }
+}
+
+/// The agent and the authenticator of a client that has no endpoint.
+struct Calls {
+    agent: StunAgent,
+    auth: LongTermClientAuth,
+    next_id: u128,
+}
+
+impl Calls {
+    fn new(is_signed: bool) -> Calls {
+        let agent = StunAgent::builder(TransportType::Udp, ([192, 0, 2, 2], 4000).into());
+        let mut auth = LongTermClientAuth::new();
+        if is_signed {
+            let (name, password) = ("alice".to_string(), "wonderland".to_string());
+            auth.set_credentials(LongTermCredentials::new(name, password));
+            auth.add_supported_integrity(IntegrityAlgorithm::Sha256);
+        }
+        Calls {
+            agent: agent.remote_addr(server_address()).stats(true).build(),
+            auth,
+            next_id: 0,
+        }
+    }
+
+    /// Sends one request, and returns its response.
+    fn response(&mut self, peer: &mut Peer<'_>, now: Instant) -> Vec<u8> {
+        self.next_id += 1;
+        let id = TransactionId::from_u128(self.next_id).unwrap();
+        let page = Message::builder_request_with_id(BINDING, id, MessageWriteVec::new());
+        let bytes = self.auth.sign_outgoing_message(page).unwrap().finish();
+        let sent = self.agent.send_request(bytes, server_address(), now);
+        peer(sent.unwrap().data.as_ref())
+    }
+
+    /// Reads a response. Returns false if the request is to be sent again.
+    fn read(&mut self, response: &[u8], is_signed: bool, now: Instant) -> bool {
+        let message = Message::from_bytes(response).unwrap();
+        assert_ne!(check_fingerprint(&message), Fingerprint::Wrong);
+        let verdict = is_signed.then(|| self.auth.validate_incoming_message(&message).unwrap());
+        assert!(
+            self.agent
+                .handle_stun_message_with_time(&message, server_address(), now)
+        );
+        if let Some(LongTermClientValidation::ResendRequest(_)) = verdict {
+            return false;
+        }
+        assert!(!has_unknown(&message, STUN));
+        black_box(message.attribute::<XorMappedAddress>().unwrap());
+        true
+    }
+}
+
+fn by_calls(is_signed: bool, peer: &mut Peer<'_>) {
+    let (mut client, now) = (Calls::new(is_signed), Instant::ZERO);
+    for _ in 0..REQUESTS {
+        loop {
+            let response = client.response(peer, now);
+            if client.read(&response, is_signed, now) {
+                break;
+            }
+        }
+        assert!(client.agent.poll_transmit(now).is_none());
+        assert!(matches!(
+            client.agent.poll(now),
+            StunAgentPollRet::WaitUntil(_)
+        ));
+    }
+}
+
+fn main() {
+    let words: Vec<String> = std::env::args().skip(1).collect();
+    let [kind, credentials, times] = &words[..] else {
+        panic!("usage: client_cost endpoint|calls signed|unsigned TIMES");
+    };
+    let is_signed = credentials == "signed";
+    let run = |peer: &mut Peer<'_>| match kind.as_str() {
+        "calls" => by_calls(is_signed, peer),
+        _ => by_endpoint(is_signed, peer),
+    };
+    let settings = LongTerm::new("example.org", [9; 32]);
+    let server = Server::builder(settings).answer_binding().build().unwrap();
+    let mut users = server.users();
+    let alice = LongTermCredentials::new("alice".to_string(), "wonderland".to_string());
+    users.add(alice).unwrap();
+    let open = OpenServer::new(ResponseSettings::new().answer_binding()).unwrap();
+    let (from, mut responses) = (SocketAddr::from(([192, 0, 2, 2], 4000)), Vec::new());
+    run(&mut |bytes| {
+        let now = UnixTime::from_secs(7200);
+        let answer = if is_signed {
+            match server.receive(bytes, from, now, &users) {
+                Received::Answer(answer) => answer.bytes().to_vec(),
+                other => panic!("{other:?}"),
+            }
+        } else {
+            match open.receive(bytes, from) {
+                OpenReceived::Answer(answer) => answer.bytes().to_vec(),
+                other => panic!("{other:?}"),
+            }
+        };
+        responses.push(answer.clone());
+        answer
+    });
+    for _ in 0..times.parse::<u32>().expect("a number") {
+        let mut next = responses.iter();
+        run(&mut |_| next.next().expect("as many as before").clone());
+    }
+}

@@ -1,0 +1,88 @@
+//! The body of a request, as a caller gives it.
+
+use crate::calls::stun_numbers::refusal::Refusal;
+use crate::exported::stun_client_endpoint::body::{Body, BodyError};
+use crate::exported::stun_types::attribute::RawAttribute;
+use crate::kit::alloc::Global;
+use crate::kit::bytes::{BigEndian, ByteOrder};
+use core::net::{Ipv4Addr, Ipv6Addr, SocketAddr, SocketAddrV4, SocketAddrV6};
+
+/// XOR-PEER-ADDRESS, whose value depends on the transaction ID.
+const XOR_PEER_ADDRESS: u16 = 0x0012;
+
+/// The refusal of an attribute of a body.
+fn refusal_of_attribute(error: BodyError) -> Refusal {
+    match error {
+        BodyError::NotAllowed => Refusal::NotAllowed,
+        BodyError::TooLarge => Refusal::MessageTooLong,
+        BodyError::OutOfMemory => Refusal::OutOfMemory,
+        // There is no other one in this release.
+        _ => Refusal::BadArgument,
+    }
+}
+
+/// The address of a peer, which is not XORed yet.
+fn peer_of(value: &[u8]) -> Option<SocketAddr> {
+    if value.len() == 8 && BigEndian::read_u16(value) == 1 {
+        let mut octets = [0; 4];
+        octets.copy_from_slice(&value[4..]);
+        let port = BigEndian::read_u16(&value[2..]);
+        return Some(SocketAddr::V4(SocketAddrV4::new(
+            Ipv4Addr::from(octets),
+            port,
+        )));
+    }
+    if value.len() == 20 && BigEndian::read_u16(value) == 2 {
+        let mut octets = [0; 16];
+        octets.copy_from_slice(&value[4..]);
+        let port = BigEndian::read_u16(&value[2..]);
+        return Some(SocketAddr::V6(SocketAddrV6::new(
+            Ipv6Addr::from(octets),
+            port,
+            0,
+            0,
+        )));
+    }
+    None
+}
+
+/// Adds an attribute to a body.
+fn add(body: &mut Body<Global>, attribute: &RawAttribute<'_>) -> Result<(), Refusal> {
+    let added = if attribute.get_type().value() == XOR_PEER_ADDRESS {
+        match peer_of(attribute.value()) {
+            Some(address) => body.add_xor_peer_address(address),
+            None => return Err(Refusal::BadArgument),
+        }
+    } else {
+        body.add(attribute.get_type(), attribute.value())
+    };
+    match added {
+        Ok(()) => Ok(()),
+        Err(error) => Err(refusal_of_attribute(error)),
+    }
+}
+
+/// The bytes after an attribute with which bytes begin.
+fn after<'a>(bytes: &'a [u8], attribute: &RawAttribute<'_>) -> &'a [u8] {
+    match bytes.get(attribute.padded_len()..) {
+        Some(after) => after,
+        None => &[],
+    }
+}
+
+/// The body of these bytes.
+pub fn body_of(alloc: Global, bytes: &[u8]) -> Result<Body<Global>, Refusal> {
+    let mut body = Body::new(alloc);
+    let mut rest = bytes;
+    while !rest.is_empty() {
+        let Some(attribute) = RawAttribute::at(rest, 0) else {
+            return Err(Refusal::BadArgument);
+        };
+        match add(&mut body, &attribute) {
+            Ok(()) => {}
+            Err(refusal) => return Err(refusal),
+        }
+        rest = after(rest, &attribute);
+    }
+    Ok(body)
+}

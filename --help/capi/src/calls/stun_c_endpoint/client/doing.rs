@@ -1,0 +1,212 @@
+//! What the calls on a client do.
+
+use crate::calls::stun_c_endpoint::client::body::body_of;
+use crate::calls::stun_c_endpoint::client::event::{Dropped, EVENT_SIZE, Event, drop_number};
+use crate::calls::stun_c_endpoint::handle::endpoint::Kept;
+use crate::calls::stun_handles::address::Address;
+use crate::calls::stun_numbers::buffer::put;
+use crate::calls::stun_numbers::refusal::Refusal;
+use crate::exported::stun_base::instant::Instant;
+use crate::exported::stun_client_endpoint::endpoint::ClientEndpoint;
+use crate::exported::stun_client_endpoint::told::{Polled, Received, RequestError};
+use crate::exported::stun_types::message::Method;
+use crate::kit::alloc::Global;
+
+/// When no request is outstanding.
+const FOR_EVER: u64 = 18_446_744_073_709_551_615;
+
+/// The refusal of a request.
+fn refusal_of_request(error: RequestError) -> Refusal {
+    match error {
+        RequestError::NoId => Refusal::AlreadyInProgress,
+        RequestError::TooLarge => Refusal::MessageTooLong,
+        RequestError::OutOfMemory => Refusal::OutOfMemory,
+        // There is no other one in this release.
+        _ => Refusal::BadArgument,
+    }
+}
+
+/// Starts a request of the client of a handle, and writes its number.
+pub fn ask(
+    alloc: Global,
+    kept: &mut Kept,
+    method: u32,
+    body: &[u8],
+    now: u64,
+    request: &mut u64,
+) -> Result<(), Refusal> {
+    match kept {
+        Kept::Client(client) => ask_of(alloc, client, method, body, now, request),
+        _ => Err(Refusal::WrongHandle),
+    }
+}
+
+/// The same of the client.
+fn ask_of(
+    alloc: Global,
+    client: &mut ClientEndpoint<Global>,
+    method: u32,
+    body: &[u8],
+    now: u64,
+    request: &mut u64,
+) -> Result<(), Refusal> {
+    if method > 4095 {
+        return Err(Refusal::BadArgument);
+    }
+    let Some(method) = Method::new(method as u16) else {
+        return Err(Refusal::BadArgument);
+    };
+    let body = body_of(alloc, body)?;
+    match client.request(method, body, Instant::from_nanos(now)) {
+        Ok(number) => {
+            *request = number;
+            Ok(())
+        }
+        Err(error) => Err(refusal_of_request(error)),
+    }
+}
+
+/// Tells what a datagram is.
+fn told(received: &Received<'_>, why: &mut u32) -> u32 {
+    match received {
+        Received::Consumed => 4,
+        Received::Indication(_) => 3,
+        Received::NotOurs => 6,
+        Received::Dropped(reason) => {
+            *why = drop_number(*reason);
+            0
+        }
+        // There is no other one in this release.
+        _ => 0,
+    }
+}
+
+/// Has the client of a handle read a datagram, and tells what it is.
+pub fn hear(
+    kept: &mut Kept,
+    message: &[u8],
+    from: &Address,
+    now: u64,
+    why: &mut u32,
+) -> Result<u32, Refusal> {
+    match kept {
+        Kept::Client(client) => hear_by(client, message, from, now, why),
+        _ => Err(Refusal::WrongHandle),
+    }
+}
+
+/// The same of the client.
+fn hear_by(
+    client: &mut ClientEndpoint<Global>,
+    message: &[u8],
+    from: &Address,
+    now: u64,
+    why: &mut u32,
+) -> Result<u32, Refusal> {
+    let from = from.socket()?;
+    let received = client.receive(message, from, Instant::from_nanos(now));
+    Ok(told(&received, why))
+}
+
+/// Until when to wait.
+fn until_told(until: Option<Instant>) -> u64 {
+    match until {
+        Some(until) => until.as_nanos(),
+        None => FOR_EVER,
+    }
+}
+
+/// Writes bytes to the front of the buffer, and returns this number, if they have room.
+fn written(bytes: &[u8], number: u32, out: &mut [u8]) -> Result<u32, Refusal> {
+    if out.len() < bytes.len() {
+        return Err(Refusal::BufferTooSmall);
+    }
+    put(out, bytes);
+    Ok(number)
+}
+
+/// Polls the client of a handle, and tells what it says.
+pub fn poll(kept: &mut Kept, now: u64, out: &mut [u8], event: &mut Event) -> Result<u32, Refusal> {
+    match kept {
+        Kept::Client(client) => poll_by(client, now, out, event),
+        _ => Err(Refusal::WrongHandle),
+    }
+}
+
+/// The same of the client.
+fn poll_by(
+    client: &mut ClientEndpoint<Global>,
+    now: u64,
+    out: &mut [u8],
+    event: &mut Event,
+) -> Result<u32, Refusal> {
+    if event.size != EVENT_SIZE {
+        return Err(Refusal::BadArgument);
+    }
+    let polled = client.poll(Instant::from_nanos(now));
+    tell(client, &polled, out, event)
+}
+
+/// Tells what the client says.
+fn tell(
+    client: &ClientEndpoint<Global>,
+    polled: &Polled<Global>,
+    out: &mut [u8],
+    event: &mut Event,
+) -> Result<u32, Refusal> {
+    match polled {
+        Polled::Transmit(number) => transmit(client, *number, out, event),
+        Polled::Ended(ended) => {
+            event.ends(ended);
+            written(ended.response(), 2, out)
+        }
+        Polled::Wait(until) => {
+            event.waits(until_told(*until));
+            written(&[], 0, out)
+        }
+        // There is no other one in this release.
+        _ => Err(Refusal::BadArgument),
+    }
+}
+
+/// Tells of the bytes of a request.
+fn transmit(
+    client: &ClientEndpoint<Global>,
+    number: u64,
+    out: &mut [u8],
+    event: &mut Event,
+) -> Result<u32, Refusal> {
+    match client.bytes_of(number) {
+        Some(bytes) => {
+            event.sends(bytes.len());
+            written(bytes, 1, out)
+        }
+        None => {
+            event.sends(0);
+            written(&[], 1, out)
+        }
+    }
+}
+
+/// Cancels a request of the client of a handle, and returns 1, or 0 if it has ended.
+pub fn cancel(kept: &mut Kept, number: u64) -> Result<u32, Refusal> {
+    match kept {
+        Kept::Client(client) => Ok(u32::from(client.cancel(number))),
+        _ => Err(Refusal::WrongHandle),
+    }
+}
+
+/// Tells what was dropped for a request of the client of a handle, and returns 1, or 0 if it has
+/// ended.
+pub fn tell_dropped(kept: &Kept, number: u64, dropped: &mut Dropped) -> Result<u32, Refusal> {
+    match kept {
+        Kept::Client(client) => match client.dropped(number) {
+            Some(drops) => {
+                *dropped = Dropped::of(drops);
+                Ok(1)
+            }
+            None => Ok(0),
+        },
+        _ => Err(Refusal::WrongHandle),
+    }
+}

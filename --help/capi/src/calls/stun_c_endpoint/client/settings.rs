@@ -1,0 +1,272 @@
+//! The client that a caller makes.
+
+use crate::calls::stun_c_endpoint::handle::endpoint::{EndpointHandle, Kept};
+use crate::calls::stun_c_endpoint::settings::{placed, text_if_any, types};
+use crate::calls::stun_handles::address::Address;
+use crate::calls::stun_handles::text::copied;
+use crate::calls::stun_numbers::refusal::Refusal;
+use crate::calls::stun_numbers::text::text;
+use crate::exported::stun_agent::agent::StunAgent;
+use crate::exported::stun_auth::auth::Feature;
+use crate::exported::stun_base::attribute_type::AttributeType;
+use crate::exported::stun_base::key::IntegrityKey;
+use crate::exported::stun_base::transport::TransportType;
+use crate::exported::stun_client::credentials::{Credentials, LongTerm, ShortTerm};
+use crate::exported::stun_client::preferences::Preferences;
+use crate::exported::stun_client_endpoint::endpoint::{ClientEndpoint, Settings};
+use crate::exported::stun_client_endpoint::form::Form;
+use crate::exported::stun_types::limits::{TEXT_LIMIT, USERNAME_LIMIT};
+use crate::exported::stun_types::message::{IntegrityAlgorithm, LongTermCredentials, PreparedKey};
+use crate::kit::alloc::{AllocError, Global};
+use crate::kit::prelude::Vec;
+use core::net::SocketAddr;
+use core::time::Duration;
+
+/// The types of attributes that must be understood and that the header names. Each client
+/// understands them in responses.
+pub const UNDERSTOOD: [AttributeType; 28] = [
+    AttributeType(0x0001),
+    AttributeType(0x0003),
+    AttributeType(0x0006),
+    AttributeType(0x0008),
+    AttributeType(0x0009),
+    AttributeType(0x000A),
+    AttributeType(0x000C),
+    AttributeType(0x000D),
+    AttributeType(0x0012),
+    AttributeType(0x0013),
+    AttributeType(0x0014),
+    AttributeType(0x0015),
+    AttributeType(0x0016),
+    AttributeType(0x0017),
+    AttributeType(0x0018),
+    AttributeType(0x0019),
+    AttributeType(0x001A),
+    AttributeType(0x001B),
+    AttributeType(0x001C),
+    AttributeType(0x001D),
+    AttributeType(0x001E),
+    AttributeType(0x0020),
+    AttributeType(0x0022),
+    AttributeType(0x0024),
+    AttributeType(0x0025),
+    AttributeType(0x0026),
+    AttributeType(0x0027),
+    AttributeType(0x002A),
+];
+
+/// The waits of RFC 8489, section 6.2.1, in nanoseconds, and how often a request is sent.
+const INITIAL: u64 = 500_000_000;
+
+const LONGEST: u64 = 18_446_744_073_709_551_615;
+
+const LAST: u64 = 8_000_000_000;
+
+const TRANSMISSIONS: u32 = 7;
+
+/// For how many challenges a request is sent again.
+const CHALLENGES: u32 = 6;
+
+/// The number of short-term credentials.
+const SHORT_TERM: u32 = 1;
+
+/// The numbers of algorithms: each alone, and both.
+const ONLY_SHA1: u32 = 1;
+
+const ONLY_SHA256: u32 = 2;
+
+const BOTH: u32 = 3;
+
+/// The greatest number of a feature.
+const DISABLED: u32 = 2;
+
+/// The numbers among the settings of a client. One that is 0 takes its default.
+#[repr(C)]
+#[derive(Clone, Copy)]
+pub struct ClientOptions {
+    /// The wait after the first transmission of a request, in nanoseconds.
+    pub initial: u64,
+    /// The longest wait between two transmissions.
+    pub longest: u64,
+    /// The wait after the last transmission.
+    pub last: u64,
+    /// How often a request is sent.
+    pub transmissions: u32,
+    /// For how many challenges a request is sent again.
+    pub challenges: u32,
+    /// Of which kind the credentials are.
+    pub credentials: u32,
+    /// Which algorithms are supported.
+    pub algorithms: u32,
+    /// Whether the user name is sent as a hash.
+    pub anonymous_username: u32,
+    /// Whether messages go over a stream.
+    pub is_stream: bool,
+    /// Whether an unsigned response to an unsigned request is accepted.
+    pub accepts_unsigned: bool,
+    /// Whether requests end with FINGERPRINT.
+    pub has_fingerprint: bool,
+}
+
+/// What a caller gives.
+pub struct ClientGiven<'a> {
+    pub server: &'a Address,
+    pub seed: &'a [u8; 32],
+    pub name: &'a [u8],
+    pub password: &'a [u8],
+    pub software: &'a [u8],
+    pub understood: &'a [u16],
+    pub options: &'a ClientOptions,
+}
+
+/// A number, or its default where it is 0.
+fn or_else(number: u64, default: u64) -> u64 {
+    if number == 0 { default } else { number }
+}
+
+/// The same of a smaller number.
+fn or_else_small(number: u32, default: u32) -> u32 {
+    if number == 0 { default } else { number }
+}
+
+/// Whether the user name is sent as a hash.
+fn feature(number: u32) -> Feature {
+    match number {
+        1 => Feature::Required,
+        2 => Feature::Disabled,
+        _ => Feature::Auto,
+    }
+}
+
+/// The algorithm that short-term credentials are used with.
+fn algorithm(number: u32) -> IntegrityAlgorithm {
+    if number == ONLY_SHA256 {
+        IntegrityAlgorithm::Sha256
+    } else {
+        IntegrityAlgorithm::Sha1
+    }
+}
+
+impl ClientOptions {
+    /// What long-term credentials are used with.
+    fn preferences(&self) -> Preferences {
+        Preferences {
+            hmac_sha1: self.algorithms != ONLY_SHA256,
+            hmac_sha256: self.algorithms != ONLY_SHA1,
+            anonymous_username: feature(self.anonymous_username),
+        }
+    }
+
+    /// Whether a number is none that is taken, of a client with a user or without one.
+    fn is_out_of_range(&self, has_user: bool) -> bool {
+        self.algorithms > BOTH
+            || self.anonymous_username > DISABLED
+            || (has_user && self.credentials > SHORT_TERM)
+            || (has_user && self.credentials == SHORT_TERM && self.algorithms == BOTH)
+    }
+
+    /// What carries the messages.
+    fn transport(&self) -> TransportType {
+        if self.is_stream {
+            TransportType::Tcp
+        } else {
+            TransportType::Udp
+        }
+    }
+
+    /// The agent of a client, which tells no address of its own.
+    fn agent(&self, alloc: Global, server: SocketAddr) -> StunAgent<Global> {
+        StunAgent::builder(alloc, self.transport(), server)
+            .request_retransmits(
+                Duration::from_nanos(or_else(self.initial, INITIAL)),
+                Duration::from_nanos(or_else(self.longest, LONGEST)),
+                or_else_small(self.transmissions, TRANSMISSIONS),
+                Duration::from_nanos(or_else(self.last, LAST)),
+            )
+            .build()
+    }
+
+    /// The credentials of a user.
+    fn credentials(
+        &self,
+        alloc: Global,
+        name: &str,
+        password: &str,
+    ) -> Result<Credentials<Global>, AllocError> {
+        if name.is_empty() {
+            return Ok(Credentials::Unsigned);
+        }
+        let name = copied(alloc, name)?;
+        if self.credentials == SHORT_TERM {
+            let algorithm = algorithm(self.algorithms);
+            let key = IntegrityKey::from_bytes(alloc, password.as_bytes())?;
+            return Ok(Credentials::ShortTerm(ShortTerm {
+                name,
+                password: PreparedKey::new(key, algorithm),
+                algorithm,
+            }));
+        }
+        Ok(Credentials::LongTerm(LongTerm {
+            user: LongTermCredentials::new(name, copied(alloc, password)?),
+            preferences: self.preferences(),
+            accepts_unsigned: self.accepts_unsigned,
+        }))
+    }
+}
+
+/// The types that a client understands.
+fn understood(alloc: Global, numbers: &[u16]) -> Result<Vec<AttributeType, Global>, AllocError> {
+    let mut types = types(alloc, numbers)?;
+    types.extend_from_slice(&UNDERSTOOD)?;
+    Ok(types)
+}
+
+impl<'a> ClientGiven<'a> {
+    /// Makes the client in an empty handle, and returns 0 or the number of the refusal.
+    pub fn place(&self, alloc: Global, handle: &mut EndpointHandle) -> i64 {
+        match self.server.socket() {
+            Ok(server) => match self.client(alloc, server) {
+                Ok(client) => placed(alloc, handle, Kept::Client(client)),
+                Err(refusal) => refusal.code(),
+            },
+            Err(refusal) => refusal.code(),
+        }
+    }
+
+    /// Makes the client of a server.
+    fn client(&self, alloc: Global, server: SocketAddr) -> Result<ClientEndpoint<Global>, Refusal> {
+        if self.options.is_out_of_range(!self.name.is_empty()) {
+            return Err(Refusal::BadArgument);
+        }
+        let name = text(self.name)?;
+        let password = text(self.password)?;
+        let software = text(self.software)?;
+        if name.len() > USERNAME_LIMIT || software.len() > TEXT_LIMIT {
+            return Err(Refusal::TextTooLong);
+        }
+        match self.made(alloc, server, name, password, software) {
+            Ok(client) => Ok(client),
+            Err(_) => Err(Refusal::OutOfMemory),
+        }
+    }
+
+    /// Makes the client of these texts.
+    fn made(
+        &self,
+        alloc: Global,
+        server: SocketAddr,
+        name: &str,
+        password: &str,
+        software: &str,
+    ) -> Result<ClientEndpoint<Global>, AllocError> {
+        let agent = self.options.agent(alloc, server);
+        let credentials = self.options.credentials(alloc, name, password)?;
+        let software = text_if_any(alloc, software)?;
+        let settings = Settings {
+            form: Form::new(software, self.options.has_fingerprint),
+            understood: understood(alloc, self.understood)?,
+            challenges: or_else_small(self.options.challenges, CHALLENGES),
+        };
+        ClientEndpoint::new(alloc, agent, server, credentials, settings, self.seed)
+    }
+}

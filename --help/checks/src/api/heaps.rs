@@ -1,0 +1,228 @@
+//! How many bytes an agent, a server and a client take of a heap, in blocks of 16. What they tell
+//! takes none. Each text is at the heap that it came with.
+
+use crate::exported::stun_agent::agent::StunAgent;
+use crate::exported::stun_auth::auth::{Feature, LongTermClientAuth, LongTermServerAuth};
+use crate::exported::stun_base::transport::TransportType;
+use crate::exported::stun_types::message::{IntegrityAlgorithm, MessageClass};
+use crate::host::Abort;
+use crate::host::Fail;
+use crate::host::HostRuntime;
+use crate::host::LocalHeap;
+use crate::kit::alloc::{Allocator, Global};
+use crate::kit::prelude::String;
+use crate::programs::fail_alloc::RefusingAllocator;
+use crate::test_support::client::{RESEND, sha1_client, told};
+use crate::test_support::datagrams::{REQUEST, at, id, local, message, peer};
+use crate::test_support::parts::{self, PLAIN_NONCE, Part};
+use crate::test_support::server::{
+    FULL_REQUEST, SHA256, ZEROS, address, asked, knocked, offering_server, user,
+};
+
+type Heap = RefusingAllocator<Global>;
+
+/// A challenge with a nonce of 16 bytes and a realm of five.
+const CHALLENGE: [Part<'static>; 3] = [
+    Part::Code(401),
+    Part::Nonce(PLAIN_NONCE),
+    Part::Realm("realm"),
+];
+
+/// Another nonce in place of that one.
+const STALE: [Part<'static>; 3] = [
+    Part::Code(438),
+    Part::Nonce("BBBBBBBBBBBBBBBB"),
+    Part::Realm("realm"),
+];
+
+/// Sends the request of this number.
+fn ask<A: Allocator + Copy>(agent: &mut StunAgent<A>, number: u8) -> Result<(), Fail> {
+    let _sent = agent.send_request(message(REQUEST, number), peer(), at(0))?;
+    Ok(())
+}
+
+/// A server of both algorithms validates its user.
+fn accept<A: Allocator + Copy>(
+    rt: &impl Abort,
+    alloc: Global,
+    server: &mut LongTermServerAuth<A>,
+) -> Result<(), Fail> {
+    let request = parts::message(alloc, MessageClass::Request, &FULL_REQUEST)?;
+    let answer = asked(server, request.as_slice(), (address(1), 0), ZEROS)?;
+    assert_eq!(answer, SHA256);
+    Ok(())
+}
+
+/// A client takes up a challenge.
+fn take_up<A: Allocator + Copy>(
+    rt: &impl Abort,
+    alloc: Global,
+    client: &mut LongTermClientAuth<A>,
+    challenge: &[Part<'_>],
+) -> Result<(), Fail> {
+    let challenge = parts::message(alloc, MessageClass::Error, challenge)?;
+    assert_eq!(told(client, challenge.as_slice())?, RESEND);
+    Ok(())
+}
+
+/// A request that follows another takes its own 20 bytes, and a node for what it awaits.
+#[test]
+fn a_request_takes_its_bytes_and_a_node() {
+    crate::host::run(|rt: HostRuntime| -> Result<(), Fail> {
+        let heap = LocalHeap::new(rt.alloc(), 16384)?;
+        let mut agent = StunAgent::builder(&heap, TransportType::Udp, local()).build();
+        ask(&mut agent, 1)?;
+        let used = heap.used();
+        ask(&mut agent, 2)?;
+        let taken = heap.used().saturating_sub(used);
+        assert!(taken > 32 && taken <= 160);
+        Ok(())
+    });
+}
+
+/// A client of a server takes its name of four bytes.
+#[test]
+fn a_client_of_a_server_takes_its_name() {
+    crate::host::run(|rt: HostRuntime| -> Result<(), Fail> {
+        let heap = LocalHeap::new(rt.alloc(), 32768)?;
+        let mut server = offering_server(rt.alloc(), &heap)?;
+        let used = heap.used();
+        accept(&rt, rt.alloc(), &mut server)?;
+        assert_eq!(heap.used().saturating_sub(used), 16);
+        Ok(())
+    });
+}
+
+/// A challenge that is kept takes the name, the realm and the nonce.
+#[test]
+fn a_challenge_takes_its_texts() {
+    crate::host::run(|rt: HostRuntime| -> Result<(), Fail> {
+        let heap = LocalHeap::new(rt.alloc(), 4096)?;
+        let mut client = sha1_client(&heap, Feature::Auto)?;
+        let used = heap.used();
+        take_up(&rt, rt.alloc(), &mut client, &CHALLENGE)?;
+        assert_eq!(heap.used().saturating_sub(used), 48);
+        Ok(())
+    });
+}
+
+/// What an agent tells of a request and of an address.
+fn expect_told_by_agent(rt: &impl Abort, agent: &StunAgent<&Heap>) -> Result<(), Fail> {
+    assert_eq!(agent.next_awaited(), Some(at(500)));
+    assert!(agent.request_transaction(id(1)?).is_some());
+    assert!(!agent.is_validated_peer(peer()));
+    assert!(agent.stats().is_none());
+    Ok(())
+}
+
+#[test]
+fn what_an_agent_tells_takes_none() {
+    crate::host::run(|rt: HostRuntime| -> Result<(), Fail> {
+        let heap = RefusingAllocator::new(rt.alloc());
+        let mut agent = StunAgent::builder(&heap, TransportType::Udp, local()).build();
+        ask(&mut agent, 1)?;
+        let before = heap.allocations();
+        expect_told_by_agent(&rt, &agent)?;
+        assert_eq!(heap.allocations(), before);
+        Ok(())
+    });
+}
+
+/// What a server tells of itself and of an address.
+fn expect_told_by_server(rt: &impl Abort, server: &LongTermServerAuth<&Heap>) {
+    assert_eq!(server.realm(), "realm");
+    assert_eq!(server.supported_integrity().len(), 2);
+    assert_eq!(server.anonymous_username(), Feature::Auto);
+    assert!(server.nonce_for_client(address(1)).is_some());
+    let client = Some(("user", IntegrityAlgorithm::Sha256));
+    assert_eq!(server.client(address(1)), client);
+    assert_eq!(server.message_signature_bytes(address(1), true), 44);
+}
+
+#[test]
+fn what_a_server_tells_takes_none() {
+    crate::host::run(|rt: HostRuntime| -> Result<(), Fail> {
+        let heap = RefusingAllocator::new(rt.alloc());
+        let mut server = offering_server(rt.alloc(), &heap)?;
+        accept(&rt, rt.alloc(), &mut server)?;
+        let before = heap.allocations();
+        expect_told_by_server(&rt, &server);
+        assert_eq!(heap.allocations(), before);
+        Ok(())
+    });
+}
+
+/// What a client tells of itself.
+fn expect_told_by_client(rt: &impl Abort, client: &LongTermClientAuth<&Heap>) {
+    assert!(client.credentials().is_some());
+    assert_eq!(client.supported_integrity().len(), 1);
+    assert_eq!(client.anonymous_username(), Feature::Auto);
+    // NONCE 20, REALM 12, USERNAME 8, MESSAGE-INTEGRITY 24.
+    assert_eq!(client.message_signature_bytes(), 64);
+}
+
+#[test]
+fn what_a_client_tells_takes_none() {
+    crate::host::run(|rt: HostRuntime| -> Result<(), Fail> {
+        let heap = RefusingAllocator::new(rt.alloc());
+        let mut client = sha1_client(&heap, Feature::Auto)?;
+        take_up(&rt, rt.alloc(), &mut client, &CHALLENGE)?;
+        let before = heap.allocations();
+        expect_told_by_client(&rt, &client);
+        assert_eq!(heap.allocations(), before);
+        Ok(())
+    });
+}
+
+/// A client keeps a challenge at its own heap, and its user at another. What a stale nonce replaces
+/// is given back.
+fn expect_client_at<'a>(
+    rt: &impl Abort,
+    alloc: Global,
+    heap: &'a Heap,
+    users: &'a Heap,
+) -> Result<(), Fail> {
+    let mut client = LongTermClientAuth::new(heap);
+    client.set_credentials(user(users, "pass")?);
+    take_up(rt, alloc, &mut client, &CHALLENGE)?;
+    assert_eq!((heap.live(), users.allocations()), (3, 2));
+    take_up(rt, alloc, &mut client, &STALE)?;
+    assert_eq!(heap.live(), 3);
+    Ok(())
+}
+
+#[test]
+fn a_client_keeps_a_challenge_at_its_heap() {
+    crate::host::run(|rt: HostRuntime| -> Result<(), Fail> {
+        let heap = RefusingAllocator::new(rt.alloc());
+        let users = RefusingAllocator::new(rt.alloc());
+        expect_client_at(&rt, rt.alloc(), &heap, &users)
+    });
+}
+
+/// A server keeps its records at its own heap, and its realm at another. Its user is at a third,
+/// with the copy of the name and the keys.
+fn expect_server_at<'a>(
+    rt: &impl Abort,
+    alloc: Global,
+    heap: &'a Heap,
+    (realms, users): (&'a Heap, &'a Heap),
+) -> Result<(), Fail> {
+    let mut server = LongTermServerAuth::new(heap, String::from_str(realms, "realm")?);
+    server.add_user(user(users, "pass")?)?;
+    let before = heap.live();
+    let _refused = knocked(alloc, &mut server, address(1), ZEROS)?;
+    assert!(heap.live() > before);
+    assert_eq!((realms.allocations(), users.allocations()), (1, 4));
+    Ok(())
+}
+
+#[test]
+fn a_server_keeps_places_at_its_heap() {
+    crate::host::run(|rt: HostRuntime| -> Result<(), Fail> {
+        let heap = RefusingAllocator::new(rt.alloc());
+        let realms = RefusingAllocator::new(rt.alloc());
+        let users = RefusingAllocator::new(rt.alloc());
+        expect_server_at(&rt, rt.alloc(), &heap, (&realms, &users))
+    });
+}

@@ -1,0 +1,20 @@
+//! The programs and tests that are exported with the crate, over the same files as the crate.
+#![forbid(unsafe_code)]
+// The sources of programs and tests may have what nobody calls or reads. They may import traits
+// that Rust finds without, and take a process that a macro is no longer handed.
+#![allow(dead_code, unused_imports, unused_variables)]
+// The crate's own files are for Rust 1.85, which has no such call.
+#![allow(clippy::manual_is_multiple_of)]
+
+extern crate alloc;
+
+#[cfg(test)]
+mod api;
+#[path = "../../src/exported/mod.rs"]
+pub mod exported;
+pub mod host;
+#[path = "../../src/kit/mod.rs"]
+pub mod kit;
+pub mod programs;
+#[cfg(test)]
+mod test_support;

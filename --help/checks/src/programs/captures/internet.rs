@@ -1,0 +1,195 @@
+// Written by tools/export from crates/captures/src/internet.rt, commit 90cb8b2b07bb, with changes: change that file, not this one.
+//! What a packet of IPv4 or IPv6 carries.
+
+use crate::programs::captures::numbers::{Order, number_16};
+use std::net::{IpAddr, Ipv4Addr, Ipv6Addr, SocketAddr};
+
+/// A UDP datagram, or a segment of TCP.
+#[derive(Clone, Copy)]
+pub struct Datagram<'a> {
+    pub from: SocketAddr,
+    pub to: SocketAddr,
+    /// What it carries, as far as that was captured.
+    pub payload: &'a [u8],
+    /// Whether it carried more than was captured.
+    pub is_cut: bool,
+}
+
+/// What a packet carries.
+#[derive(Clone, Copy)]
+pub enum Carried<'a> {
+    Udp(Datagram<'a>),
+    Tcp(Datagram<'a>),
+    /// A part of a packet.
+    Fragment,
+    /// Something else.
+    Other,
+    /// Its headers were not captured whole.
+    Cut,
+}
+
+/// The number of UDP among the protocols of IP.
+const UDP: u8 = 17;
+
+/// The number of TCP among the protocols of IP.
+const TCP: u8 = 6;
+
+/// How many bytes a header of IPv6 has.
+const IPV6_LENGTH: usize = 40;
+
+/// How many bytes a header of UDP has.
+const UDP_LENGTH: usize = 8;
+
+/// How many bytes a header of TCP has, or more.
+const TCP_LENGTH: usize = 20;
+
+/// What a packet of IPv4 or IPv6 carries, by its version. `None` if the headers are not whole, here
+/// and below.
+pub fn internet(bytes: &[u8]) -> Option<Carried<'_>> {
+    match *bytes.first()? >> 4 {
+        4 => ipv4(bytes),
+        6 => ipv6(bytes),
+        _ => Some(Carried::Other),
+    }
+}
+
+/// What a packet of IPv4 carries (RFC 791, section 3.1).
+pub fn ipv4(bytes: &[u8]) -> Option<Carried<'_>> {
+    let first = *bytes.first()?;
+    let header = usize::from(first & 15) * 4;
+    if first >> 4 != 4 || header < 20 {
+        return Some(Carried::Other);
+    }
+    let total = usize::from(number_16(Order::Big, bytes, 2)?);
+    let fragment = number_16(Order::Big, bytes, 6)?;
+    let protocol = *bytes.get(9)?;
+    let from = ipv4_at(bytes, 12)?;
+    let to = ipv4_at(bytes, 16)?;
+    if protocol != UDP && protocol != TCP {
+        return Some(Carried::Other);
+    }
+    if fragment & 0x3FFF != 0 {
+        return Some(Carried::Fragment);
+    }
+    let body = up_to(bytes, total).get(header..)?;
+    if protocol == UDP {
+        udp(from, to, body)
+    } else {
+        tcp(from, to, body, total > bytes.len())
+    }
+}
+
+/// The address of IPv4 at a place.
+fn ipv4_at(bytes: &[u8], place: usize) -> Option<IpAddr> {
+    let [a, b, c, d, ..] = bytes.get(place..)? else {
+        return None;
+    };
+    Some(IpAddr::V4(Ipv4Addr::new(*a, *b, *c, *d)))
+}
+
+/// The first `length` bytes. It is all of them if `length` is 0, as where the network card cuts
+/// what is sent, or if there are fewer.
+fn up_to(bytes: &[u8], length: usize) -> &[u8] {
+    if length == 0 {
+        return bytes;
+    }
+    bytes.get(..length).unwrap_or(bytes)
+}
+
+/// What a packet of IPv6 carries (RFC 8200, section 3).
+pub fn ipv6(bytes: &[u8]) -> Option<Carried<'_>> {
+    let first = *bytes.first()?;
+    if first >> 4 != 6 {
+        return Some(Carried::Other);
+    }
+    let length = usize::from(number_16(Order::Big, bytes, 4)?);
+    let next = *bytes.get(6)?;
+    let from = address_at(bytes, 8)?;
+    let to = address_at(bytes, 24)?;
+    let behind = bytes.get(IPV6_LENGTH..)?;
+    let is_cut = length > behind.len();
+    behind_extensions(from, to, next, up_to(behind, length), is_cut)
+}
+
+/// The address of IPv6 at a place.
+fn address_at(bytes: &[u8], place: usize) -> Option<IpAddr> {
+    let octets = bytes.get(place..)?.get(..16)?;
+    let mut ipv6 = [0; 16];
+    if octets.len() != 16 {
+        return None;
+    }
+    ipv6.copy_from_slice(octets);
+    Some(IpAddr::V6(Ipv6Addr::from(ipv6)))
+}
+
+/// What follows the extension headers (RFC 8200, section 4), the first of which is of this kind.
+/// The packet was captured whole, or not.
+fn behind_extensions<'a>(
+    from: IpAddr,
+    to: IpAddr,
+    next: u8,
+    bytes: &'a [u8],
+    is_cut: bool,
+) -> Option<Carried<'a>> {
+    let mut kind = next;
+    let mut rest = bytes;
+    for _header in 0..bytes.len().saturating_add(1) {
+        let length = match kind {
+            UDP => return udp(from, to, rest),
+            TCP => return tcp(from, to, rest, is_cut),
+            // Options from hop to hop, routing, options of the destination, mobility, HIP, Shim6.
+            0 | 43 | 60 | 135 | 139 | 140 => (usize::from(*rest.get(1)?) + 1) * 8,
+            // Authentication (RFC 4302, section 2.2).
+            51 => (usize::from(*rest.get(1)?) + 2) * 4,
+            44 if is_whole(rest)? => 8,
+            44 => return Some(Carried::Fragment),
+            _ => return Some(Carried::Other),
+        };
+        kind = *rest.first()?;
+        rest = rest.get(length..)?;
+    }
+    None
+}
+
+/// Whether a header of a fragment is of one that has the whole packet (RFC 6946).
+fn is_whole(bytes: &[u8]) -> Option<bool> {
+    Some(number_16(Order::Big, bytes, 2)? & 0xFFF9 == 0)
+}
+
+/// The UDP datagram that these bytes are (RFC 768). A length of 0 means all of them. One that is
+/// shorter than the header is no datagram's.
+fn udp(from: IpAddr, to: IpAddr, bytes: &[u8]) -> Option<Carried<'_>> {
+    let from = SocketAddr::new(from, number_16(Order::Big, bytes, 0)?);
+    let to = SocketAddr::new(to, number_16(Order::Big, bytes, 2)?);
+    let length = usize::from(number_16(Order::Big, bytes, 4)?);
+    if length > 0 && length < UDP_LENGTH {
+        return Some(Carried::Other);
+    }
+    let payload = up_to(bytes, length).get(UDP_LENGTH..)?;
+    Some(Carried::Udp(Datagram {
+        from,
+        to,
+        payload,
+        is_cut: length > bytes.len(),
+    }))
+}
+
+/// The segment of TCP that these bytes are (RFC 9293, section 3.1). A header that is shorter than
+/// its fixed part is no segment's.
+fn tcp(from: IpAddr, to: IpAddr, bytes: &[u8], is_cut: bool) -> Option<Carried<'_>> {
+    if bytes.len() < TCP_LENGTH && !is_cut {
+        return Some(Carried::Other);
+    }
+    let from = SocketAddr::new(from, number_16(Order::Big, bytes, 0)?);
+    let to = SocketAddr::new(to, number_16(Order::Big, bytes, 2)?);
+    let header = usize::from(*bytes.get(12)? >> 4) * 4;
+    if header < TCP_LENGTH {
+        return Some(Carried::Other);
+    }
+    Some(Carried::Tcp(Datagram {
+        from,
+        to,
+        payload: bytes.get(header..)?,
+        is_cut,
+    }))
+}

@@ -1,0 +1,66 @@
+// Written by tools/export from crates/captures/src/link.rt, commit 90cb8b2b07bb, with changes: change that file, not this one.
+//! What a packet carries, by the type of its link.
+
+use crate::programs::captures::internet::{Carried, internet, ipv4, ipv6};
+use crate::programs::captures::numbers::{Order, number_16};
+
+/// Ethernet.
+pub const ETHERNET: u32 = 1;
+
+/// A packet of IPv4 or IPv6 without a header before it.
+pub const RAW: u32 = 101;
+
+/// What a packet of a link of this type carries. `None` if links of the type are not read, or the
+/// headers are not whole.
+pub fn carried(link: u32, bytes: &[u8]) -> Option<Carried<'_>> {
+    let found = match link {
+        ETHERNET => behind_type(bytes, 12),
+        // Linux cooked, version 1 and version 2.
+        113 => behind_type(bytes, 14),
+        276 => cooked_2(bytes),
+        RAW | 12 | 14 => internet(bytes),
+        228 => ipv4(bytes),
+        229 => ipv6(bytes),
+        // Loopback: the family, whose number differs from system to system, and then the packet.
+        0 | 108 => loopback(bytes),
+        _ => return None,
+    };
+    Some(found.unwrap_or(Carried::Cut))
+}
+
+/// What follows a type of Ethernet at this place. The type may be that of a tag of a VLAN, after
+/// which another type follows.
+fn behind_type(bytes: &[u8], place: usize) -> Option<Carried<'_>> {
+    let mut rest = bytes.get(place..)?;
+    for _tag in 0..bytes.len() {
+        let kind = number_16(Order::Big, rest, 0)?;
+        match kind {
+            0x8100 | 0x88A8 | 0x9100 | 0x9200 => rest = rest.get(4..)?,
+            _ => return of_type(kind, rest.get(2..)?),
+        }
+    }
+    None
+}
+
+/// What a frame of this type carries.
+fn of_type(kind: u16, bytes: &[u8]) -> Option<Carried<'_>> {
+    match kind {
+        0x0800 => ipv4(bytes),
+        0x86DD => ipv6(bytes),
+        _ => Some(Carried::Other),
+    }
+}
+
+/// Linux cooked, version 2: the type comes first, and its packet behind 20 bytes.
+fn cooked_2(bytes: &[u8]) -> Option<Carried<'_>> {
+    let kind = number_16(Order::Big, bytes, 0)?;
+    let rest = bytes.get(20..)?;
+    match kind {
+        0x8100 | 0x88A8 | 0x9100 | 0x9200 => behind_type(rest, 2),
+        _ => of_type(kind, rest),
+    }
+}
+
+fn loopback(bytes: &[u8]) -> Option<Carried<'_>> {
+    internet(bytes.get(4..)?)
+}

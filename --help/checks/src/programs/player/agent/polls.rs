@@ -1,0 +1,114 @@
+// Written by tools/export from crates/player/src/agent/polls.rt, commit 90cb8b2b07bb, with changes: change that file, not this one.
+//! Polls: what ends, what is to be sent again, and until when to wait.
+
+use crate::exported::stun_agent::agent::StunAgentPollRet;
+use crate::exported::stun_base::instant::Instant;
+use crate::kit::alloc::Global;
+use crate::kit::prelude::String;
+use crate::programs::player::agent::Agent;
+use crate::programs::player::agent::answers::{push_id, push_moment};
+use crate::programs::player::agent::asked::push_lent;
+use crate::programs::player::scene::Scene;
+use crate::programs::player::trouble::Trouble;
+use crate::programs::player::words::size;
+
+/// `agent poll`: `wait MOMENT`, `timed out ID` or `cancelled ID`.
+pub fn poll(scene: &mut Scene<'_>, answer: &mut String) -> Result<(), Trouble> {
+    let now = scene.stage.now;
+    scene.stage.begin();
+    match scene.agent.agent.poll(now) {
+        StunAgentPollRet::WaitUntil(moment) => {
+            answer.push_str("wait ")?;
+            push_moment(moment, answer)
+        }
+        StunAgentPollRet::TransactionTimedOut(id) => {
+            answer.push_str("timed out ")?;
+            push_id(id, answer)
+        }
+        StunAgentPollRet::TransactionCancelled(id) => {
+            answer.push_str("cancelled ")?;
+            push_id(id, answer)
+        }
+    }
+}
+
+impl Agent<'_> {
+    /// Adds what the agent lends to be sent again.
+    fn push_transmit(
+        &mut self,
+        alloc: Global,
+        now: Instant,
+        answer: &mut String,
+    ) -> Result<(), Trouble> {
+        let lent = self.agent.poll_transmit(now);
+        push_lent(alloc, lent, self.way, &self.asked, answer)
+    }
+
+    /// The same, if there is room for `room` bytes.
+    fn push_transmit_within(
+        &mut self,
+        alloc: Global,
+        now: Instant,
+        room: usize,
+        answer: &mut String,
+    ) -> Result<(), Trouble> {
+        match self.agent.poll_transmit_within(now, room) {
+            Ok(lent) => push_lent(alloc, lent, self.way, &self.asked, answer),
+            Err(_) => Ok(answer.push_str("NoRoom")?),
+        }
+    }
+
+    /// Adds what it would lend.
+    fn push_next_transmit(
+        &self,
+        alloc: Global,
+        now: Instant,
+        answer: &mut String,
+    ) -> Result<(), Trouble> {
+        push_lent(
+            alloc,
+            self.agent.next_transmit(now),
+            self.way,
+            &self.asked,
+            answer,
+        )
+    }
+}
+
+/// `agent transmit`: the id of the request that is sent again, or `none`.
+pub fn transmit(scene: &mut Scene<'_>, answer: &mut String) -> Result<(), Trouble> {
+    let (alloc, now) = (scene.stage.source.alloc, scene.stage.now);
+    scene.stage.begin();
+    scene.agent.push_transmit(alloc, now, answer)
+}
+
+/// `agent transmit-within NUMBER`: the same, or `NoRoom` where it has more bytes.
+pub fn transmit_within(
+    scene: &mut Scene<'_>,
+    words: &[&str],
+    answer: &mut String,
+) -> Result<(), Trouble> {
+    let [room] = words else {
+        return Err(Trouble::Words);
+    };
+    let room = size(room)?;
+    let (alloc, now) = (scene.stage.source.alloc, scene.stage.now);
+    scene.stage.begin();
+    scene.agent.push_transmit_within(alloc, now, room, answer)
+}
+
+/// `agent next-transmit`: what `transmit` would answer.
+pub fn next_transmit(scene: &mut Scene<'_>, answer: &mut String) -> Result<(), Trouble> {
+    let (alloc, now) = (scene.stage.source.alloc, scene.stage.now);
+    scene.stage.begin();
+    scene.agent.push_next_transmit(alloc, now, answer)
+}
+
+/// `agent next-awaited`: the least moment that a request awaits, or `none`.
+pub fn next_awaited(scene: &mut Scene<'_>, answer: &mut String) -> Result<(), Trouble> {
+    scene.stage.begin();
+    match scene.agent.agent.next_awaited() {
+        Some(moment) => push_moment(moment, answer),
+        None => Ok(answer.push_str("none")?),
+    }
+}

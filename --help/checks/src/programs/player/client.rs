@@ -1,0 +1,190 @@
+// Written by tools/export from crates/player/src/client.rt, commit 90cb8b2b07bb, with changes: change that file, not this one.
+//! The calls of a client with long-term credentials: `client NAME WORDS`. Each adds what is
+//! answered to a text.
+
+use crate::exported::stun_auth::auth::{
+    LongTermClientAuth, LongTermClientAuthErrorReason, LongTermClientValidation,
+};
+use crate::exported::stun_types::message::{IntegrityAlgorithm, LongTermCredentials, Message};
+use crate::kit::prelude::String;
+use crate::programs::player::kept::message;
+use crate::programs::player::names::{OUT_OF_MEMORY, algorithm_name, feature_name};
+use crate::programs::player::signing::{Side, sign, sign_in_slice, sign_length};
+use crate::programs::player::stage::Stage;
+use crate::programs::player::trouble::Trouble;
+use crate::programs::player::unchecked::sign_unchecked;
+use crate::programs::player::words::{algorithm, feature};
+
+/// What has words, or may have some.
+pub fn call(
+    stage: &mut Stage<'_>,
+    name: &str,
+    words: &[&str],
+    answer: &mut String,
+) -> Result<(), Trouble> {
+    match name {
+        "user" => user(stage, words, answer),
+        "support" => add_algorithm(stage, words),
+        "support-only" => set_algorithm(stage, words),
+        "hashes" => hashes(stage, words, answer),
+        "hears" => hear(stage, words, answer),
+        "signs" => sign(stage, Side::Client, words, answer),
+        "signs-length" => sign_length(stage, Side::Client, words, answer),
+        "signs-in" => sign_in_slice(stage, Side::Client, words, answer),
+        "signs-unchecked" => sign_unchecked(stage, Side::Client, words, answer),
+        name => tell(stage, name, words, answer),
+    }
+}
+
+/// What has no words.
+fn tell(
+    stage: &mut Stage<'_>,
+    name: &str,
+    words: &[&str],
+    answer: &mut String,
+) -> Result<(), Trouble> {
+    if !words.is_empty() {
+        return Err(Trouble::Words);
+    }
+    match name {
+        "new" => begin(stage),
+        "supported" => supported(stage, answer)?,
+        "size" => size(stage, answer)?,
+        "algorithm" => signing_algorithm(stage, answer)?,
+        _ => return Err(Trouble::Words),
+    }
+    Ok(())
+}
+
+/// `client new`: a new client, in the place of the one before.
+fn begin(stage: &mut Stage<'_>) {
+    stage.begin();
+    stage.client = LongTermClientAuth::new(stage.heap);
+}
+
+/// `client user NAME PASSWORD`, or `client user` alone, which tells both, or `none`.
+fn user(stage: &mut Stage<'_>, words: &[&str], answer: &mut String) -> Result<(), Trouble> {
+    match words {
+        [] => tell_user(stage, answer),
+        [name, password] => set_user(stage, name, password),
+        _ => Err(Trouble::Words),
+    }
+}
+
+fn set_user(stage: &mut Stage<'_>, name: &str, password: &str) -> Result<(), Trouble> {
+    let name = stage.text(name)?;
+    let password = stage.text(password)?;
+    stage.begin();
+    stage
+        .client
+        .set_credentials(LongTermCredentials::new(name, password));
+    Ok(())
+}
+
+fn tell_user(stage: &Stage<'_>, answer: &mut String) -> Result<(), Trouble> {
+    match stage.client.credentials() {
+        Some(user) => {
+            answer.push_str(user.username())?;
+            answer.push(' ')?;
+            Ok(answer.push_str(user.password())?)
+        }
+        None => Ok(answer.push_str("none")?),
+    }
+}
+
+/// `client hashes auto | required | disabled`, or `client hashes` alone, which tells it.
+fn hashes(stage: &mut Stage<'_>, words: &[&str], answer: &mut String) -> Result<(), Trouble> {
+    match words {
+        [] => answer.push_str(feature_name(stage.client.anonymous_username()))?,
+        [word] => {
+            let feature = feature(word)?;
+            stage.begin();
+            stage.client.set_anonymous_username(feature);
+        }
+        _ => return Err(Trouble::Words),
+    }
+    Ok(())
+}
+
+/// `client support ALGORITHM`: this one too.
+fn add_algorithm(stage: &mut Stage<'_>, words: &[&str]) -> Result<(), Trouble> {
+    let [word] = words else {
+        return Err(Trouble::Words);
+    };
+    let algorithm = algorithm(word)?;
+    stage.begin();
+    stage.client.add_supported_integrity(algorithm);
+    Ok(())
+}
+
+/// `client support-only ALGORITHM`
+fn set_algorithm(stage: &mut Stage<'_>, words: &[&str]) -> Result<(), Trouble> {
+    let [word] = words else {
+        return Err(Trouble::Words);
+    };
+    let algorithm = algorithm(word)?;
+    stage.begin();
+    stage.client.set_supported_integrity(algorithm);
+    Ok(())
+}
+
+/// `client supported`: the algorithms, in the order of their adding.
+fn supported(stage: &Stage<'_>, answer: &mut String) -> Result<(), Trouble> {
+    for algorithm in stage.client.supported_integrity() {
+        if !answer.as_str().is_empty() {
+            answer.push(' ')?;
+        }
+        answer.push_str(algorithm_name(*algorithm))?;
+    }
+    Ok(())
+}
+
+/// `client size`: how many bytes signing adds to a request.
+fn size(stage: &Stage<'_>, answer: &mut String) -> Result<(), Trouble> {
+    let size = stage.client.message_signature_bytes();
+    Ok(write!(answer, "{size}")?)
+}
+
+/// `client algorithm`: the one that a signing would use, or `none`.
+fn signing_algorithm(stage: &Stage<'_>, answer: &mut String) -> Result<(), Trouble> {
+    match stage.client.signing_algorithm() {
+        Some(algorithm) => Ok(answer.push_str(algorithm_name(algorithm))?),
+        None => Ok(answer.push_str("none")?),
+    }
+}
+
+pub fn reason_name(reason: LongTermClientAuthErrorReason) -> &'static str {
+    match reason {
+        LongTermClientAuthErrorReason::Unauthorized => "Unauthorized",
+        LongTermClientAuthErrorReason::IntegrityFailed => "IntegrityFailed",
+        LongTermClientAuthErrorReason::UnsupportedFeature => "UnsupportedFeature",
+        LongTermClientAuthErrorReason::OutOfMemory => OUT_OF_MEMORY,
+    }
+}
+
+fn resend_name(digest: Option<IntegrityAlgorithm>) -> &'static str {
+    match digest {
+        None => "resend",
+        Some(IntegrityAlgorithm::Sha1) => "resend Sha1",
+        Some(IntegrityAlgorithm::Sha256) => "resend Sha256",
+    }
+}
+
+/// `client hears MESSAGE`: what the client answers to it.
+fn hear(stage: &mut Stage<'_>, words: &[&str], answer: &mut String) -> Result<(), Trouble> {
+    let bytes = message(stage, words)?;
+    let Ok(message) = Message::from_bytes(bytes.as_slice()) else {
+        return Err(Trouble::Words);
+    };
+    let name = answer_name(stage, &message);
+    Ok(answer.push_str(name)?)
+}
+
+fn answer_name(stage: &mut Stage<'_>, message: &Message<'_>) -> &'static str {
+    stage.begin();
+    match stage.client.validate_incoming_message(message) {
+        Ok(LongTermClientValidation::ResendRequest(digest)) => resend_name(digest),
+        Ok(LongTermClientValidation::Validated(algorithm)) => algorithm_name(algorithm),
+        Err(error) => reason_name(error.reason()),
+    }
+}

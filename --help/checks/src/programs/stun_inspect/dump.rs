@@ -1,0 +1,291 @@
+// Written by tools/export from crates/stun_inspect/src/dump.rt, commit 90cb8b2b07bb, with changes: change that file, not this one.
+//! Dumps with a column of offsets: those of `xxd`, `hexdump -C`, `od -A x -t x1`, `tcpdump -x` and
+//! Wireshark.
+
+use crate::kit::alloc::Allocator;
+use crate::kit::prelude::Vec;
+use crate::programs::stun_inspect::digits::{bad_input, byte_of, digit, push};
+use crate::programs::stun_inspect::failure::{Failure, Wanted};
+use crate::programs::stun_inspect::layout::{Spelled, push_spelled};
+use std::mem;
+
+/// The place of the first blank of a row, which ends its first word.
+pub fn first_blank(row: &[u8]) -> Option<usize> {
+    row.iter().position(|byte| *byte == b' ')
+}
+
+/// The digits of an offset, if the first word of a row is one:
+///
+/// - a word that ends in a colon, without that colon, and without `0x` before the digits;
+/// - else a whole word, after which two blanks come;
+/// - else a whole word of six letters, after which a word of two comes, as `od` writes them.
+///
+/// A colon that comes later, as one in the column of characters, ends no offset.
+pub fn offset_digits<'a>(word: &'a [u8], rest: &[u8]) -> Option<&'a [u8]> {
+    if !word.is_empty() && word[word.len() - 1] == b':' {
+        Some(without_prefix(&word[..word.len() - 1]))
+    } else if !rest.is_empty() && rest[0] == b' ' {
+        Some(word)
+    } else if is_before_byte(word, rest) {
+        Some(word)
+    } else {
+        None
+    }
+}
+
+/// Whether a word has six letters, and the word after it has two.
+fn is_before_byte(word: &[u8], rest: &[u8]) -> bool {
+    word.len() == 6 && (rest.len() == 2 || rest.len() > 2 && rest[2] == b' ')
+}
+
+/// The digits after `0x`, if that comes first.
+fn without_prefix(digits: &[u8]) -> &[u8] {
+    if digits.len() >= 2 && digits[0] == b'0' && digits[1] == b'x' {
+        &digits[2..]
+    } else {
+        digits
+    }
+}
+
+/// The offset at the front of a row, and what follows the blank after it.
+fn offset_of(row: &str) -> Option<(usize, &str)> {
+    let row = row.trim_start();
+    let blank = first_blank(row.as_bytes())?;
+    let (word, rest) = (row.get(..blank)?, row.get(blank + 1..)?);
+    let digits = offset_digits(word.as_bytes(), rest.as_bytes())?;
+    Some((number_of(digits)?, rest))
+}
+
+/// The number of four to eight hexadecimal digits.
+fn number_of(digits: &[u8]) -> Option<usize> {
+    if digits.len() < 4 || digits.len() > 8 {
+        return None;
+    }
+    let mut number: usize = 0;
+    for byte in digits {
+        number = (number << 4) | usize::from(digit(*byte)?);
+    }
+    Some(number)
+}
+
+/// Whether one of the lines is the first row of a dump, whose offset is 0.
+pub fn has_dump(text: &str) -> bool {
+    for line in text.split('\n') {
+        if let Some((0, _)) = offset_of(line) {
+            return true;
+        }
+    }
+    false
+}
+
+/// The bytes of each dump, which begins with a row of the offset 0. Lines before a dump and blank
+/// lines are skipped. The offset of each row is the number of bytes before it. A line after the
+/// last row may be that number.
+pub fn read_dumps<A: Allocator + Copy>(
+    alloc: A,
+    text: &str,
+) -> Result<Vec<Spelled<A>, A>, Failure> {
+    let mut dumps = Dumps {
+        dumps: Vec::new(alloc),
+        bytes: Vec::new(alloc),
+        first: 1,
+        stray: None,
+    };
+    let mut number: usize = 0;
+    for line in text.split('\n') {
+        number = number.saturating_add(1);
+        dumps.take_line(alloc, line, number)?;
+    }
+    dumps.end(number)
+}
+
+/// What was read of dumps.
+struct Dumps<A: Allocator> {
+    /// The dumps before the last one.
+    dumps: Vec<Spelled<A>, A>,
+    /// The bytes of the last dump.
+    bytes: Vec<u8, A>,
+    /// The line of the last dump's first row.
+    first: usize,
+    /// The first line after the last dump's rows that belongs to no dump.
+    stray: Option<usize>,
+}
+
+impl<A: Allocator + Copy> Dumps<A> {
+    fn take_line(&mut self, alloc: A, line: &str, number: usize) -> Result<(), Failure> {
+        let found = offset_of(line);
+        if let Some((0, _)) = found {
+            self.begin(alloc, number)?;
+        }
+        match found {
+            Some((offset, rest)) => self.take_row(line, offset, rest, number),
+            None => {
+                let is_skipped = line.trim_start().is_empty() || self.bytes.is_empty();
+                if !is_skipped && self.stray.is_none() && !is_end(line, self.bytes.len()) {
+                    self.stray = Some(number);
+                }
+                Ok(())
+            }
+        }
+    }
+
+    /// Takes a row of this offset, or skips it before the first dump. Fails if the offset is not
+    /// the number of the bytes before it, or if a line that belongs to no dump is before it.
+    fn take_row(
+        &mut self,
+        line: &str,
+        offset: usize,
+        rest: &str,
+        number: usize,
+    ) -> Result<(), Failure> {
+        let wanted = Wanted::Offset(self.bytes.len());
+        match self.stray {
+            Some(stray) => Err(bad_input(stray, 1, wanted)),
+            None if offset == self.bytes.len() => {
+                let before = line.len().saturating_sub(rest.len());
+                read_row_of(&mut self.bytes, line, rest, number, before)
+            }
+            None if self.bytes.is_empty() => Ok(()),
+            None => Err(bad_input(number, 1, wanted)),
+        }
+    }
+
+    /// Begins the next dump.
+    fn begin(&mut self, alloc: A, number: usize) -> Result<(), Failure> {
+        if !self.bytes.is_empty() {
+            let bytes = mem::replace(&mut self.bytes, Vec::new(alloc));
+            push_spelled(&mut self.dumps, self.first, bytes)?;
+        }
+        self.first = number;
+        self.stray = None;
+        Ok(())
+    }
+
+    /// The dumps, after the last line of the text.
+    fn end(self, number: usize) -> Result<Vec<Spelled<A>, A>, Failure> {
+        let Dumps {
+            mut dumps,
+            bytes,
+            first,
+            stray,
+        } = self;
+        if let Some(stray) = stray {
+            return Err(bad_input(stray, 1, Wanted::Offset(bytes.len())));
+        }
+        if bytes.is_empty() {
+            return Err(bad_input(number, 1, Wanted::Bytes));
+        }
+        push_spelled(&mut dumps, first, bytes)?;
+        Ok(dumps)
+    }
+}
+
+/// Whether a line is the number of a dump's bytes alone, with which `hexdump` and `od` end.
+fn is_end(line: &str, length: usize) -> bool {
+    let line = line.trim_end();
+    line.len() >= 6 && number_of(line.as_bytes()) == Some(length)
+}
+
+/// The place of the characters in a row of `hexdump -C`.
+const CHARACTERS: usize = 60;
+
+/// Appends the bytes of a row. In a row of `hexdump -C` they lie between two blanks and a bar at a
+/// fixed place. In other rows two blanks end them.
+fn read_row_of<A: Allocator>(
+    bytes: &mut Vec<u8, A>,
+    line: &str,
+    rest: &str,
+    number: usize,
+    before: usize,
+) -> Result<(), Failure> {
+    match canonical_row(line) {
+        Some(row) => read_row(bytes, row, number, 10, Gap::InRow),
+        None => read_row(bytes, rest, number, before, Gap::AtEnd),
+    }
+}
+
+/// The digits of a row of `hexdump -C`. Eight digits and two blanks come before them, and a bar at
+/// a fixed place after them.
+fn canonical_row(line: &str) -> Option<&str> {
+    let _offset = number_of(line.get(..8)?.as_bytes())?;
+    match (line.get(8..10)?, line.as_bytes().get(CHARACTERS)?) {
+        ("  ", b'|') => line.get(10..CHARACTERS),
+        _ => None,
+    }
+}
+
+/// Where two blanks may stand in a row: among its bytes, or after them.
+#[derive(Clone, Copy)]
+enum Gap {
+    InRow,
+    AtEnd,
+}
+
+/// How far the digits of a row were read.
+#[derive(Clone, Copy)]
+enum Column {
+    /// Before the first digit.
+    Front,
+    /// After a whole byte.
+    Byte,
+    /// After the first digit of a byte.
+    High(u8),
+    /// After a blank that follows a byte.
+    Blank,
+}
+
+/// What one byte of a row does.
+enum Step {
+    To(Column),
+    Byte(u8),
+    End,
+    Wrong(Wanted),
+}
+
+/// Takes the next byte of a row.
+fn next_of(at: Column, byte: u8, gap: Gap) -> Step {
+    match digit(byte) {
+        Some(low) => match at {
+            Column::High(high) => Step::Byte(byte_of(high, low)),
+            _ => Step::To(Column::High(low)),
+        },
+        None => match at {
+            Column::High(_) => Step::Wrong(Wanted::SecondDigit),
+            _ if !byte.is_ascii_whitespace() => Step::Wrong(Wanted::Digit),
+            Column::Front => Step::To(Column::Front),
+            Column::Byte => Step::To(Column::Blank),
+            Column::Blank => match gap {
+                Gap::InRow => Step::To(Column::Blank),
+                Gap::AtEnd => Step::End,
+            },
+        },
+    }
+}
+
+/// Appends the bytes of a row. Where two blanks end them, the row's characters may follow.
+fn read_row<A: Allocator>(
+    bytes: &mut Vec<u8, A>,
+    row: &str,
+    line: usize,
+    before: usize,
+    gap: Gap,
+) -> Result<(), Failure> {
+    let mut column = before;
+    let mut at = Column::Front;
+    for byte in row.bytes() {
+        column = column.saturating_add(1);
+        match next_of(at, byte, gap) {
+            Step::To(next) => at = next,
+            Step::Byte(read) => {
+                push(bytes, read)?;
+                at = Column::Byte;
+            }
+            Step::End => return Ok(()),
+            Step::Wrong(wanted) => return Err(bad_input(line, column, wanted)),
+        }
+    }
+    match at {
+        Column::High(_) => Err(bad_input(line, column, Wanted::SecondDigit)),
+        _ => Ok(()),
+    }
+}

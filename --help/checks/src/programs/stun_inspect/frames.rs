@@ -1,0 +1,117 @@
+// Written by tools/export from crates/stun_inspect/src/frames.rt, commit 90cb8b2b07bb, with changes: change that file, not this one.
+//! What a UDP datagram or a segment of TCP has: messages, and ChannelData of TURN (RFC 8656,
+//! section 12.4).
+
+use crate::exported::stun_extra::framing::{
+    CHANNEL_HEADER_LENGTH, Frame, next_packet_frame, next_turn_frame,
+};
+use crate::programs::captures::numbers::{Order, number_16};
+use crate::programs::stun_inspect::layout::is_raw;
+
+/// A message, or ChannelData.
+#[derive(Clone, Copy)]
+pub enum Part<'a> {
+    Message(&'a [u8]),
+    Channel(ChannelData<'a>),
+}
+
+/// The number of a channel, and the data on it.
+#[derive(Clone, Copy)]
+pub struct ChannelData<'a> {
+    pub channel: u16,
+    pub bytes: &'a [u8],
+}
+
+/// A part of a segment, and what follows it.
+#[derive(Clone, Copy)]
+pub struct Cut<'a> {
+    pub part: Part<'a>,
+    pub rest: &'a [u8],
+}
+
+/// The ChannelData at the front of bytes, if it is whole. The first two bits of its channel are 01
+/// (RFC 5766, section 11).
+fn channel_data(bytes: &[u8]) -> Option<ChannelData<'_>> {
+    let channel = number_16(Order::Big, bytes, 0)?;
+    let length = usize::from(number_16(Order::Big, bytes, 2)?);
+    if channel < 0x4000 || channel >= 0x8000 {
+        return None;
+    }
+    let bytes = bytes.get(CHANNEL_HEADER_LENGTH..)?.get(..length)?;
+    Some(ChannelData { channel, bytes })
+}
+
+/// What a UDP datagram has. ChannelData fills it, with padding or without (RFC 8656, section 12.5).
+pub fn part_of(datagram: &[u8]) -> Option<Part<'_>> {
+    if is_raw(datagram) {
+        return Some(Part::Message(datagram));
+    }
+    let found = channel_data(datagram)?;
+    let behind = datagram.get(CHANNEL_HEADER_LENGTH..)?.len();
+    let length = found.bytes.len();
+    if behind == length || behind == length.next_multiple_of(4) {
+        Some(Part::Channel(found))
+    } else {
+        None
+    }
+}
+
+/// The part at the front of a stream, if it is whole. It is a message or ChannelData (RFC 8656,
+/// section 12.5), or a message behind its length in 2 bytes (RFC 4571).
+pub fn cut_of(stream: &[u8]) -> Option<Cut<'_>> {
+    if let Frame::Message(length) = next_turn_frame(stream) {
+        let rest = stream.get(length..)?;
+        let part = match channel_data(stream) {
+            Some(found) => Part::Channel(found),
+            None => Part::Message(stream.get(..length)?),
+        };
+        return Some(Cut { part, rest });
+    }
+    match next_packet_frame(stream) {
+        Frame::Message(length) => {
+            let message = stream.get(..length)?.get(2..)?;
+            let rest = stream.get(length..)?;
+            is_raw(message).then_some(Cut {
+                part: Part::Message(message),
+                rest,
+            })
+        }
+        _ => None,
+    }
+}
+
+/// How much of a segment is read.
+#[derive(Clone, Copy, PartialEq, Eq)]
+pub enum Read {
+    /// All of it.
+    Whole,
+    /// Its front, or nothing, and then a message begins that another segment goes on with.
+    Begun,
+    /// Nothing: it is of another protocol, or goes on with a message of another segment.
+    Nothing,
+}
+
+/// How much of a segment is read.
+pub fn read_of(segment: &[u8]) -> Read {
+    let mut rest = segment;
+    for _part in 0..segment.len() {
+        match cut_of(rest) {
+            Some(cut) => rest = cut.rest,
+            None => break,
+        }
+    }
+    if segment.is_empty() {
+        Read::Nothing
+    } else if rest.is_empty() {
+        Read::Whole
+    } else if is_begun(rest) {
+        Read::Begun
+    } else {
+        Read::Nothing
+    }
+}
+
+/// Whether a message begins that is not there whole, perhaps behind its length.
+fn is_begun(stream: &[u8]) -> bool {
+    is_raw(stream) || is_raw(stream.get(2..).unwrap_or(&[]))
+}

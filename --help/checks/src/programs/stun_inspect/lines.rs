@@ -1,0 +1,74 @@
+// Written by tools/export from crates/stun_inspect/src/lines.rt, commit 90cb8b2b07bb, with changes: change that file, not this one.
+//! Texts that have one message a line, as `tshark -T fields -e udp.payload` prints them.
+
+use crate::exported::stun_base::header::HEADER_LENGTH;
+use crate::kit::alloc::Allocator;
+use crate::kit::bytes::{BigEndian, ByteOrder};
+use crate::kit::prelude::Vec;
+use crate::programs::stun_inspect::digits::bad_input;
+use crate::programs::stun_inspect::failure::Failure;
+use crate::programs::stun_inspect::layout::{
+    Spelled, is_raw, message_of, push_spelled, read_digits,
+};
+
+/// Whether bytes, or what they carry over UDP, are as long as their header says that they are.
+fn is_whole(bytes: &[u8]) -> bool {
+    let Ok(message) = message_of(bytes) else {
+        return false;
+    };
+    is_raw(message)
+        && message.len() >= HEADER_LENGTH
+        && usize::from(BigEndian::read_u16(&message[2..])) == message.len() - HEADER_LENGTH
+}
+
+/// Whether a text spells a whole message. Fails if an allocation fails.
+fn spells_whole<A: Allocator + Copy>(alloc: A, text: &str) -> Result<bool, Failure> {
+    match read_digits(alloc, text) {
+        Ok(bytes) => Ok(is_whole(bytes.as_slice())),
+        Err(Failure::Memory) => Err(Failure::Memory),
+        Err(_) => Ok(false),
+    }
+}
+
+/// Whether each line of a text is read by itself: one line spells a whole message, and the whole
+/// text does not. Fails if an allocation fails.
+pub fn has_lines<A: Allocator + Copy>(alloc: A, text: &str) -> Result<bool, Failure> {
+    if spells_whole(alloc, text)? {
+        return Ok(false);
+    }
+    for line in text.split('\n') {
+        if spells_whole(alloc, line)? {
+            return Ok(true);
+        }
+    }
+    Ok(false)
+}
+
+/// What each line spells that is not blank.
+pub fn read_lines<A: Allocator + Copy>(
+    alloc: A,
+    text: &str,
+) -> Result<Vec<Spelled<A>, A>, Failure> {
+    let mut spelled = Vec::new(alloc);
+    let mut number: usize = 0;
+    for line in text.split('\n') {
+        number = number.saturating_add(1);
+        if !line.trim_start().is_empty() {
+            let bytes = read_line(alloc, line, number)?;
+            push_spelled(&mut spelled, number, bytes)?;
+        }
+    }
+    Ok(spelled)
+}
+
+/// What a line spells.
+fn read_line<A: Allocator + Copy>(
+    alloc: A,
+    line: &str,
+    number: usize,
+) -> Result<Vec<u8, A>, Failure> {
+    match read_digits(alloc, line) {
+        Err(Failure::Input(bad)) => Err(bad_input(number, bad.column, bad.wanted)),
+        read => read,
+    }
+}

@@ -1,0 +1,41 @@
+// Written by tools/export from crates/stun_inspect/src/usage.rt, commit 90cb8b2b07bb, with changes: change that file, not this one.
+//! What is printed for `--help`, for `--version` and for wrong words.
+
+use crate::kit::prelude::String;
+
+/// What `--help` prints.
+pub const HELP: &str = "\
+stun_inspect decode [FILE]                      messages, attribute by attribute
+stun_inspect verify PASSWORD [FILE]             their integrity under a password
+stun_inspect verify NAME REALM PASSWORD [FILE]  their integrity under a long-term key
+stun_inspect key sha1|sha256 NAME REALM PASSWORD
+stun_inspect userhash NAME REALM
+stun_inspect nonce NONCE                        the security bits of a nonce
+FILE, or standard input without one, is a capture (pcap, pcapng), or has a message:
+raw, in hexadecimal, in base64, one message a line, or dumped by xxd, hexdump -Cv,
+od -v -A x -t x1, tcpdump -x, tshark -x or Wireshark. The password - is the first
+line of standard input.
+Status: 0 good, 1 not a message or invalid, 2 not judged or not read to the end.
+";
+
+/// What `--version` prints.
+pub const VERSION: &str = "stun_inspect 0.2.0\n";
+
+/// What is written for words that are none of a command: the words of the command that was meant,
+/// or all commands.
+pub fn usage_of(words: &[String]) -> &'static str {
+    let Some(command) = words.first() else {
+        return ALL;
+    };
+    match command.as_str() {
+        "decode" => "usage: stun_inspect decode [FILE]\n",
+        "verify" => "usage: stun_inspect verify [NAME REALM] PASSWORD [FILE]\n",
+        "key" => "usage: stun_inspect key sha1|sha256 NAME REALM PASSWORD\n",
+        "userhash" => "usage: stun_inspect userhash NAME REALM\n",
+        "nonce" => "usage: stun_inspect nonce NONCE\n",
+        _ => ALL,
+    }
+}
+
+/// The commands.
+const ALL: &str = "usage: stun_inspect decode|verify|key|userhash|nonce ..; -h tells more\n";

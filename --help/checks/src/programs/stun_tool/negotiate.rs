@@ -1,0 +1,177 @@
+// Written by tools/export from crates/stun_tool/src/negotiate.rt, commit 90cb8b2b07bb, with changes: change that file, not this one.
+//! The command `negotiate`.
+
+use crate::exported::stun_proto::auth::{Feature, LongTermClientAuth, LongTermServerAuth};
+use crate::exported::stun_proto::replay::Outcome;
+use crate::exported::stun_proto::{Instant, replay};
+use crate::exported::stun_types::message::{
+    IntegrityAlgorithm, LongTermCredentials, TransactionId,
+};
+use crate::host::io::Write;
+use crate::kit::alloc::{AllocError, Allocator};
+use crate::kit::prelude::String;
+use crate::programs::stun_cli::failure::Failure;
+use crate::programs::stun_cli::input::CountedRead;
+use crate::programs::stun_cli::output::write_text;
+use crate::programs::stun_cli::status::Status;
+use crate::programs::stun_tool::names::{algorithm_name, client_reason_name, server_reason_name};
+use crate::programs::stun_tool::words::{algorithm, feature};
+use std::net::{IpAddr, Ipv4Addr, SocketAddr};
+
+/// The name of the one user.
+const NAME: &str = "user";
+
+/// The user's password, at both sides.
+const PASSWORD: &str = "pass";
+
+/// The realm of the server.
+const REALM: &str = "realm";
+
+/// The settings of a side.
+#[derive(Clone, Copy, Debug, PartialEq, Eq)]
+pub struct Side {
+    /// The algorithm that is added first.
+    first: IntegrityAlgorithm,
+    /// The algorithm that is added after it, if one is.
+    second: Option<IntegrityAlgorithm>,
+    /// Whether users are named by a hash.
+    feature: Feature,
+}
+
+/// Prints how a new client and a new server with one user agree (RFC 8489, section 9.2). They make
+/// no other calls. Both requests are read at time 0, and all random numbers are 0.
+///
+/// The arguments are first those of the client, and then those of the server:
+///
+/// - the algorithms of the side: `sha1`, `sha256`, or both with a comma between them, in the order
+///   in which they are added;
+/// - whether a client sends a hash in place of its user name: `auto`, `required` or `disabled`.
+///
+/// If the sides agree, the line is `validated` and the algorithm, or `already validated` if the
+/// first request is accepted. Otherwise it is `refused` and the reason for which a side gives up.
+///
+/// Returns `NotJudged` for other arguments, and prints nothing. Returns `Failed` if a write or an
+/// allocation fails, and prints nothing more. It reads nothing.
+pub fn negotiate<R: CountedRead, W: Write, A: Allocator + Copy>(
+    alloc: A,
+    words: &[String],
+    _reader: &mut R,
+    writer: &mut W,
+) -> Status {
+    let Some((client, server)) = sides_of(words) else {
+        return Status::NotJudged;
+    };
+    let Ok(outcome) = outcome_of(alloc, client, server) else {
+        return Status::Failed;
+    };
+    match print_outcome(alloc, outcome, writer) {
+        Ok(status) => status,
+        Err(_) => Status::Failed,
+    }
+}
+
+/// The client and the server that the words name, if they name some.
+fn sides_of(words: &[String]) -> Option<(Side, Side)> {
+    let [
+        client_algorithms,
+        client_feature,
+        server_algorithms,
+        server_feature,
+    ] = words
+    else {
+        return None;
+    };
+    let client = side_of(client_algorithms.as_str(), client_feature.as_str())?;
+    let server = side_of(server_algorithms.as_str(), server_feature.as_str())?;
+    Some((client, server))
+}
+
+fn side_of(algorithms: &str, hashing: &str) -> Option<Side> {
+    let (first, second) = match algorithms {
+        "sha1,sha256" => (IntegrityAlgorithm::Sha1, Some(IntegrityAlgorithm::Sha256)),
+        "sha256,sha1" => (IntegrityAlgorithm::Sha256, Some(IntegrityAlgorithm::Sha1)),
+        single => (algorithm(single)?, None),
+    };
+    Some(Side {
+        first,
+        second,
+        feature: feature(hashing)?,
+    })
+}
+
+/// The outcome of the meeting of both sides.
+fn outcome_of<A: Allocator + Copy>(
+    alloc: A,
+    client: Side,
+    server: Side,
+) -> Result<Outcome, Failure> {
+    let mut client = new_client(alloc, client)?;
+    let mut server = new_server(alloc, server)?;
+    let from = SocketAddr::new(IpAddr::V4(Ipv4Addr::new(10, 0, 0, 1)), 12345);
+    let first = TransactionId::from_u128(1).ok_or(Failure::Memory)?;
+    let second = TransactionId::from_u128(2).ok_or(Failure::Memory)?;
+    replay::negotiate(
+        alloc,
+        &mut client,
+        &mut server,
+        from,
+        [first, second],
+        [Instant::ZERO, Instant::ZERO],
+        [[0; 16], [0; 16]],
+        [&[], &[]],
+    )
+    .map_err(|_| Failure::Memory)
+}
+
+fn credentials<A: Allocator + Copy>(alloc: A) -> Result<LongTermCredentials<A>, AllocError> {
+    let name = String::from_str(alloc, NAME)?;
+    let password = String::from_str(alloc, PASSWORD)?;
+    Ok(LongTermCredentials::new(name, password))
+}
+
+fn new_client<A: Allocator + Copy>(
+    alloc: A,
+    side: Side,
+) -> Result<LongTermClientAuth<A>, AllocError> {
+    let mut client = LongTermClientAuth::new(alloc);
+    client.set_supported_integrity(side.first);
+    if let Some(second) = side.second {
+        client.add_supported_integrity(second);
+    }
+    client.set_anonymous_username(side.feature);
+    client.set_credentials(credentials(alloc)?);
+    Ok(client)
+}
+
+fn new_server<A: Allocator + Copy>(
+    alloc: A,
+    side: Side,
+) -> Result<LongTermServerAuth<A>, AllocError> {
+    let mut server = LongTermServerAuth::new(alloc, String::from_str(alloc, REALM)?);
+    server.set_supported_integrity(side.first);
+    if let Some(second) = side.second {
+        server.add_supported_integrity(second);
+    }
+    server.set_anonymous_username(side.feature)?;
+    server.add_user(credentials(alloc)?)?;
+    Ok(server)
+}
+
+/// Prints a line for the outcome, and returns the status that goes with it.
+fn print_outcome<W: Write, A: Allocator>(
+    alloc: A,
+    outcome: Outcome,
+    writer: &mut W,
+) -> Result<Status, Failure> {
+    let (text, name, status) = match outcome {
+        Outcome::Validated(algorithm) => ("validated", algorithm_name(algorithm), Status::Good),
+        Outcome::AlreadyValidated(algorithm) => {
+            ("already validated", algorithm_name(algorithm), Status::Good)
+        }
+        Outcome::ServerRefused(reason) => ("refused", server_reason_name(reason), Status::Bad),
+        Outcome::ClientRefused(reason) => ("refused", client_reason_name(reason), Status::Bad),
+    };
+    let line = crate::host::format_in!(alloc; "{text} {name}\n")?;
+    write_text(writer, line.as_bytes())?;
+    Ok(status)
+}

@@ -1,0 +1,229 @@
+// Written by tools/export from crates/stun_tool/src/schedule.rt, commit 90cb8b2b07bb, with changes: change that file, not this one.
+//! The command `schedule`.
+
+use crate::exported::stun_proto::Instant;
+use crate::exported::stun_proto::agent::StunAgent;
+use crate::exported::stun_proto::replay::{AgentEvent, AgentStep, drive};
+use crate::exported::stun_types::TransportType;
+use crate::exported::stun_types::message::{
+    BINDING, Message, MessageClass, MessageType, MessageWriteVec, TransactionId,
+};
+use crate::exported::stun_types::prelude::MessageWrite;
+use crate::host::io::Write;
+use crate::kit::alloc::{Allocator, Global};
+use crate::kit::prelude::String;
+use crate::kit::prelude::Vec;
+use crate::programs::stun_cli::failure::Failure;
+use crate::programs::stun_cli::input::CountedRead;
+use crate::programs::stun_cli::output::write_text;
+use crate::programs::stun_cli::status::Status;
+use crate::programs::stun_tool::words::{address, moment, number};
+use std::net::{IpAddr, Ipv4Addr, SocketAddr};
+use std::time::Duration;
+
+/// The greatest number of transmissions that the command takes.
+const MOST_TRANSMISSIONS: u64 = 1000;
+
+/// When a request is sent again and when it times out, and the response that arrives, if one does.
+#[derive(Clone, Copy, Debug, PartialEq, Eq)]
+pub struct Settings {
+    transport: TransportType,
+    initial: Duration,
+    max: Duration,
+    retransmits: u32,
+    final_wait: Duration,
+    response: Option<Response>,
+}
+
+/// When a response arrives, and from where.
+#[derive(Clone, Copy, Debug, PartialEq, Eq)]
+pub struct Response {
+    at: Instant,
+    from: SocketAddr,
+}
+
+/// Prints when a Binding request is sent, and when it times out (RFC 8489, sections 6.2.1 and
+/// 6.2.2). The request has transaction ID 1, and is sent at time 0 from 10.0.0.1:12345 to
+/// 10.0.0.2:3478. There is a line `sent MS` for each transmission, and a last line `timed out MS`,
+/// in whole milliseconds rounded down.
+///
+/// These are the arguments, with times in milliseconds:
+///
+/// - the transport, `udp` or `tcp`;
+/// - the wait after the first transmission;
+/// - the longest wait between two transmissions, or `-` for no limit;
+/// - the number of transmissions, at most 1000;
+/// - the wait after the last transmission.
+///
+/// They may be followed by `answer`, a time up to `Instant::MAX`, and an IPv4 address with a port.
+/// At that time a success response with transaction ID 1 arrives from there. If it ends the
+/// request, there is a line `received MS` for it, and nothing after that. Otherwise the line is
+/// `ignored MS`.
+///
+/// Returns `NotJudged` for other arguments, and prints nothing. Returns `Failed` if a write or an
+/// allocation fails, and prints nothing more. It reads nothing.
+pub fn schedule<R: CountedRead, W: Write>(
+    alloc: Global,
+    words: &[String],
+    _reader: &mut R,
+    writer: &mut W,
+) -> Status {
+    let Some(settings) = settings_of(words) else {
+        return Status::NotJudged;
+    };
+    let (Ok(request), Ok(response)) = (
+        binding_message(alloc, MessageClass::Request),
+        binding_message(alloc, MessageClass::Success),
+    ) else {
+        return Status::Failed;
+    };
+    match print_schedule(alloc, settings, request, response, writer) {
+        Ok(()) => Status::Good,
+        Err(_) => Status::Failed,
+    }
+}
+
+/// The settings that the words name, if they name some.
+fn settings_of(words: &[String]) -> Option<Settings> {
+    let [
+        transport,
+        initial,
+        max,
+        retransmits,
+        final_wait,
+        others @ ..,
+    ] = words
+    else {
+        return None;
+    };
+    let response = match others {
+        [] => None,
+        [answer, at, from] if answer.as_str() == "answer" => {
+            Some(response_of(at.as_str(), from.as_str())?)
+        }
+        _ => return None,
+    };
+    let transport = match transport.as_str() {
+        "udp" => TransportType::Udp,
+        "tcp" => TransportType::Tcp,
+        _ => return None,
+    };
+    let retransmits = number(retransmits.as_str())?;
+    if retransmits > MOST_TRANSMISSIONS {
+        return None;
+    }
+    Some(Settings {
+        transport,
+        initial: milliseconds(initial.as_str())?,
+        max: longest_wait(max.as_str())?,
+        retransmits: retransmits as u32,
+        final_wait: milliseconds(final_wait.as_str())?,
+        response,
+    })
+}
+
+fn milliseconds(word: &str) -> Option<Duration> {
+    Some(Duration::from_millis(number(word)?))
+}
+
+/// Milliseconds, or `-` for no limit.
+fn longest_wait(word: &str) -> Option<Duration> {
+    if word == "-" {
+        Some(Duration::MAX)
+    } else {
+        milliseconds(word)
+    }
+}
+
+fn response_of(at: &str, from: &str) -> Option<Response> {
+    Some(Response {
+        at: moment(at)?,
+        from: address(from)?,
+    })
+}
+
+/// Prints a line for each step of a request, and for the response if one comes.
+fn print_schedule<W: Write, A: Allocator + Copy>(
+    alloc: A,
+    settings: Settings,
+    request: Vec<u8>,
+    response: Vec<u8>,
+    writer: &mut W,
+) -> Result<(), Failure> {
+    let steps = steps_of(alloc, settings, request, response)?;
+    for step in &steps {
+        match step {
+            AgentStep::Transmitted { at, .. } => {
+                print_line(alloc, "sent", *at, writer)?;
+            }
+            AgentStep::TimedOut { at, .. } => {
+                print_line(alloc, "timed out", *at, writer)?;
+            }
+            AgentStep::Received { at, accepted: true } => {
+                print_line(alloc, "received", *at, writer)?;
+            }
+            AgentStep::Received { at, .. } => {
+                print_line(alloc, "ignored", *at, writer)?;
+            }
+            _ => {}
+        }
+    }
+    Ok(())
+}
+
+/// What an agent does that sends the request at 0, and gets the response if the settings name one.
+fn steps_of<A: Allocator + Copy>(
+    alloc: A,
+    settings: Settings,
+    request: Vec<u8>,
+    response: Vec<u8>,
+) -> Result<Vec<AgentStep<A>, A>, Failure> {
+    let local = SocketAddr::new(IpAddr::V4(Ipv4Addr::new(10, 0, 0, 1)), 12345);
+    let to = SocketAddr::new(IpAddr::V4(Ipv4Addr::new(10, 0, 0, 2)), 3478);
+    let mut agent = StunAgent::builder(alloc, settings.transport, local)
+        .request_retransmits(
+            settings.initial,
+            settings.max,
+            settings.retransmits,
+            settings.final_wait,
+        )
+        .build();
+    let sending = AgentEvent::SendRequest { bytes: request, to };
+    let driven = match settings.response {
+        None => {
+            let events = [(Instant::ZERO, sending)];
+            drive(alloc, &mut agent, &events, Instant::MAX)
+        }
+        Some(Response { at, from }) => {
+            let receiving = AgentEvent::Receive {
+                bytes: response,
+                from,
+            };
+            let events = [(Instant::ZERO, sending), (at, receiving)];
+            drive(alloc, &mut agent, &events, Instant::MAX)
+        }
+    };
+    driven.map_err(|_| Failure::Memory)
+}
+
+/// A Binding message of this class with id 1, without attributes.
+fn binding_message(alloc: Global, class: MessageClass) -> Result<Vec<u8>, Failure> {
+    let id = TransactionId::from_u128(1).ok_or(Failure::Memory)?;
+    let kind = MessageType::from_class_method(class, BINDING);
+    match Message::builder(kind, id, MessageWriteVec::new(alloc)) {
+        Ok(writer) => Ok(writer.finish()),
+        Err(_) => Err(Failure::Memory),
+    }
+}
+
+/// Prints a line of a word and a moment in milliseconds.
+fn print_line<W: Write, A: Allocator>(
+    alloc: A,
+    word: &str,
+    moment: Instant,
+    writer: &mut W,
+) -> Result<(), Failure> {
+    let milliseconds = moment.as_nanos() / 1_000_000;
+    let line = crate::host::format_in!(alloc; "{word} {milliseconds}\n")?;
+    write_text(writer, line.as_bytes())
+}

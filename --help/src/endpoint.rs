@@ -1,0 +1,206 @@
+//! STUN servers and clients, each as one value: what to do with a datagram.
+//!
+//! [`Server::receive`] takes a datagram, and returns a response to send, an accepted request for
+//! you, an indication, a response, or why the datagram is dropped. It has no record of any address.
+//! [`OpenServer`] answers everybody, and [`ShortTermServer`] has short-term credentials.
+//! [`Client::poll`] says what to send and how requests ended, and [`Client::receive`] takes what
+//! arrives. You own the sockets and the clocks.
+//!
+//! # Examples
+//!
+//! [`Client`] has an example of a client. A server that answers Binding requests of its users:
+//!
+//! ```no_run
+//! use seatcrane_stun::endpoint::{LongTerm, Received, Server, UnixTime};
+//! use seatcrane_stun::types::message::LongTermCredentials;
+//! use std::net::UdpSocket;
+//!
+//! # fn random_bytes() -> [u8; 32] { [7; 32] }
+//! # fn main() -> Result<(), Box<dyn std::error::Error>> {
+//! let secret: [u8; 32] = random_bytes();
+//! let server = Server::builder(LongTerm::new("example.org", secret)).answer_binding().build()?;
+//! let mut users = server.users(); // keys depend on the realm, so the server makes the table
+//! users.add(LongTermCredentials::new("alice".to_string(), "wonderland".to_string()))?;
+//!
+//! let socket = UdpSocket::bind("0.0.0.0:3478")?;
+//! let mut buffer = [0; 2048];
+//! loop {
+//!     let (length, from) = socket.recv_from(&mut buffer)?;
+//!     match server.receive(&buffer[..length], from, UnixTime::now(), &users) {
+//!         Received::Answer(answer) => drop(socket.send_to(answer.bytes(), answer.to())),
+//!         Received::Dropped(why) => eprintln!("dropped: {why}"),
+//!         _ => {} // an indication, a response, or a request with another method than Binding
+//!     }
+//! }
+//! # }
+//! ```
+
+use crate::exported::stun_base::attribute_type::AttributeType;
+use crate::exported::stun_endpoint::received;
+use core::fmt;
+
+mod body;
+mod client;
+mod client_outcomes;
+mod client_settings;
+#[cfg(feature = "std")]
+mod clock;
+mod open;
+mod server;
+mod stream;
+
+pub mod ice;
+
+pub use crate::exported::stun_endpoint::received::Refusal;
+pub use crate::exported::stun_endpoint::server::{
+    BuildError, DEFAULT_NONCE_LIFETIME, SHORTEST_NONCE_LIFETIME,
+};
+pub use crate::exported::stun_endpoint::unix_time::UnixTime;
+pub use body::{BODY_LIMIT, Body, BodyError};
+pub use client::Client;
+pub use client_outcomes::{
+    Drops, ErrorResponse, Input, Output, Redirect, RequestError, RequestId, Response,
+};
+pub use client_settings::{
+    ClientBuildError, ClientBuilder, Credentials, Retransmission, Transport,
+};
+#[cfg(feature = "std")]
+#[cfg_attr(docsrs, doc(cfg(feature = "std")))]
+pub use clock::Clock;
+pub use open::{
+    OpenReceived, OpenRequest, OpenServer, ResponseSettings, ShortTermIndication,
+    ShortTermReceived, ShortTermServer, ShortTermUsers,
+};
+pub use server::{
+    Answer, Identified, LongTerm, Lookup, Received, Reply, ReplyWriter, Request, Server,
+    ServerBuilder, User, UserError, Users,
+};
+pub use stream::{FrameBuffer, NotStun};
+
+/// Types of attributes to pass to [`ServerBuilder::understands`], and to the other builders. Unlike
+/// those of [`crate::types`], these lists leave out the types of STUN itself.
+pub mod types {
+    use super::AttributeType;
+
+    /// The attributes of ICE that a receiver must understand (RFC 8445, section 16.1).
+    pub const ICE: &[AttributeType] = &[AttributeType(0x0024), AttributeType(0x0025)];
+
+    /// The attributes of TURN that a receiver must understand (RFC 8656, section 18).
+    pub const TURN: &[AttributeType] = &[
+        AttributeType(0x000C),
+        AttributeType(0x000D),
+        AttributeType(0x0012),
+        AttributeType(0x0013),
+        AttributeType(0x0016),
+        AttributeType(0x0017),
+        AttributeType(0x0018),
+        AttributeType(0x0019),
+        AttributeType(0x001A),
+        AttributeType(0x0022),
+    ];
+}
+
+impl UnixTime {
+    /// Returns the current time, or the beginning of 1970 if the clock says that it is earlier.
+    #[cfg(feature = "std")]
+    #[cfg_attr(docsrs, doc(cfg(feature = "std")))]
+    pub fn now() -> UnixTime {
+        UnixTime::from(std::time::SystemTime::now())
+    }
+}
+
+/// The whole seconds since the beginning of 1970. An earlier time becomes the beginning of 1970.
+#[cfg(feature = "std")]
+impl From<std::time::SystemTime> for UnixTime {
+    fn from(time: std::time::SystemTime) -> UnixTime {
+        let since = time.duration_since(std::time::UNIX_EPOCH);
+        UnixTime::from_secs(since.unwrap_or_default().as_secs())
+    }
+}
+
+/// Why a datagram is dropped.
+#[derive(Clone, Copy, Debug, PartialEq, Eq, Hash)]
+#[non_exhaustive]
+pub enum DropReason {
+    /// It does not begin with the header of a STUN message.
+    NotStun,
+    /// Its length or its attributes are not what its header says.
+    Malformed,
+    /// It has a FINGERPRINT that is wrong: it is damaged, or belongs to another protocol.
+    WrongFingerprint,
+    /// It is an indication with an attribute that must be understood and is not.
+    UnknownAttribute,
+    /// It is a response without the valid signature that it must have.
+    NotVerified,
+    /// It is a 401 or a 438 that the client cannot answer: without realm or nonce, with no algorithm
+    /// that the client supports, with a nonce that does not allow hashed names although the client
+    /// must send one, or with a list so long that the request would not fit in a message.
+    UnanswerableChallenge,
+    /// It is a 401 or a 438 with a weaker algorithm, or without hashed names, although a request
+    /// succeeded with the stronger one.
+    WeakerChallenge,
+    /// An allocation failed. Whoever sent the request sends it again.
+    OutOfMemory,
+}
+
+impl DropReason {
+    /// All reasons, each at its [`index`](Self::index).
+    pub const ALL: [DropReason; DropReason::COUNT] = [
+        DropReason::NotStun,
+        DropReason::Malformed,
+        DropReason::WrongFingerprint,
+        DropReason::UnknownAttribute,
+        DropReason::NotVerified,
+        DropReason::UnanswerableChallenge,
+        DropReason::WeakerChallenge,
+        DropReason::OutOfMemory,
+    ];
+
+    /// How many reasons there are.
+    pub const COUNT: usize = 8;
+
+    /// Returns a number below [`COUNT`](Self::COUNT), for counters of yours.
+    pub fn index(self) -> usize {
+        self as usize
+    }
+
+    /// Returns the name of the reason, as in the source.
+    pub fn name(self) -> &'static str {
+        match self {
+            DropReason::NotStun => "NotStun",
+            DropReason::Malformed => "Malformed",
+            DropReason::WrongFingerprint => "WrongFingerprint",
+            DropReason::UnknownAttribute => "UnknownAttribute",
+            DropReason::NotVerified => "NotVerified",
+            DropReason::UnanswerableChallenge => "UnanswerableChallenge",
+            DropReason::WeakerChallenge => "WeakerChallenge",
+            DropReason::OutOfMemory => "OutOfMemory",
+        }
+    }
+}
+
+impl fmt::Display for DropReason {
+    fn fmt(&self, f: &mut fmt::Formatter<'_>) -> fmt::Result {
+        f.write_str(match self {
+            DropReason::NotStun => "the datagram has no STUN header",
+            DropReason::Malformed => "the message is not what its header says",
+            DropReason::WrongFingerprint => "the FINGERPRINT is wrong",
+            DropReason::UnknownAttribute => "an indication has an attribute that is not understood",
+            DropReason::NotVerified => "it is not signed as its request is",
+            DropReason::UnanswerableChallenge => "its challenge cannot be answered",
+            DropReason::WeakerChallenge => "its challenge asks for less than one before",
+            DropReason::OutOfMemory => "an allocation failed",
+        })
+    }
+}
+
+impl From<received::DropReason> for DropReason {
+    fn from(why: received::DropReason) -> DropReason {
+        match why {
+            received::DropReason::NotStun => DropReason::NotStun,
+            received::DropReason::Malformed => DropReason::Malformed,
+            received::DropReason::WrongFingerprint => DropReason::WrongFingerprint,
+            received::DropReason::UnknownAttribute => DropReason::UnknownAttribute,
+        }
+    }
+}

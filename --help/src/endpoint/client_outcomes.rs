@@ -1,0 +1,225 @@
+//! What a client returns.
+
+use super::DropReason;
+use crate::Instant;
+use crate::exported::stun_types::attribute::AttributeType;
+use crate::exported::stun_types::message::IntegrityAlgorithm;
+use crate::message::Message;
+use alloc::string::String;
+use alloc::vec::Vec;
+use core::fmt;
+use core::net::SocketAddr;
+
+/// Identifies a request, also after it is sent again under another transaction ID.
+#[derive(Clone, Copy, Debug, PartialEq, Eq, PartialOrd, Ord, Hash)]
+pub struct RequestId(pub(super) u64);
+
+/// A response that the client accepted.
+#[derive(Clone, PartialEq, Eq)]
+pub struct Response {
+    pub(super) bytes: Vec<u8>,
+    pub(super) signed_by: Option<IntegrityAlgorithm>,
+}
+
+impl fmt::Debug for Response {
+    fn fmt(&self, f: &mut fmt::Formatter<'_>) -> fmt::Result {
+        let message = self.message();
+        write!(f, "Response({message}, signed by {:?})", self.signed_by)
+    }
+}
+
+impl Response {
+    /// Returns the message.
+    #[expect(clippy::missing_panics_doc, reason = "the bytes were read before")]
+    pub fn message(&self) -> Message<'_> {
+        Message::from_bytes(&self.bytes).expect("it was read before")
+    }
+
+    /// Returns the algorithm of its signature, or `None` if nobody signed it.
+    pub fn signed_by(&self) -> Option<IntegrityAlgorithm> {
+        self.signed_by
+    }
+
+    /// Returns the bytes of the message.
+    pub fn into_bytes(self) -> Vec<u8> {
+        self.bytes
+    }
+}
+
+/// An error response that the client accepted.
+#[derive(Clone, Debug, PartialEq, Eq)]
+pub struct ErrorResponse {
+    pub(super) response: Response,
+    pub(super) code: u16,
+}
+
+impl ErrorResponse {
+    /// Returns the code of the error.
+    pub fn code(&self) -> u16 {
+        self.code
+    }
+
+    /// Returns the message.
+    pub fn message(&self) -> Message<'_> {
+        self.response.message()
+    }
+
+    /// Returns the algorithm of its signature, or `None` if nobody signed it.
+    pub fn signed_by(&self) -> Option<IntegrityAlgorithm> {
+        self.response.signed_by
+    }
+}
+
+/// A response that names another server (300; RFC 8489, section 10).
+#[derive(Clone, Debug, PartialEq, Eq)]
+pub struct Redirect {
+    pub(super) server: Option<SocketAddr>,
+    pub(super) domain: Option<String>,
+    pub(super) signed_by: Option<IntegrityAlgorithm>,
+}
+
+impl Redirect {
+    /// Returns the address of the other server.
+    pub fn server(&self) -> Option<SocketAddr> {
+        self.server
+    }
+
+    /// Returns the domain that the certificate of the other server must have, for TLS.
+    pub fn domain(&self) -> Option<&str> {
+        self.domain.as_deref()
+    }
+
+    /// Returns the algorithm of the signature, or `None` if nobody signed the response.
+    pub fn signed_by(&self) -> Option<IntegrityAlgorithm> {
+        self.signed_by
+    }
+}
+
+/// What was dropped for one request. Show it to people, but never act on it, because anybody can
+/// send it.
+#[derive(Clone, Copy, Debug, Default, PartialEq, Eq)]
+pub struct Drops {
+    count: u32,
+    last: Option<DropReason>,
+    code: Option<u16>,
+}
+
+impl Drops {
+    /// Returns how many responses were dropped.
+    pub fn count(&self) -> u32 {
+        self.count
+    }
+
+    /// Returns why the last of them was.
+    pub fn last(&self) -> Option<DropReason> {
+        self.last
+    }
+
+    /// Returns the error code of the last of them, if it had one.
+    pub fn code(&self) -> Option<u16> {
+        self.code
+    }
+
+    pub(super) fn note(&mut self, why: DropReason, code: Option<u16>) {
+        self.count = self.count.saturating_add(1);
+        (self.last, self.code) = (Some(why), code);
+    }
+}
+
+impl fmt::Display for Drops {
+    fn fmt(&self, f: &mut fmt::Formatter<'_>) -> fmt::Result {
+        let Some(last) = self.last else {
+            return f.write_str("nothing dropped");
+        };
+        write!(f, "{} dropped, the last because {last}", self.count)?;
+        match self.code {
+            Some(code) => write!(f, " (error {code})"),
+            None => Ok(()),
+        }
+    }
+}
+
+/// How a request ended without a success.
+#[derive(Clone, Debug, PartialEq, Eq)]
+#[non_exhaustive]
+pub enum RequestError {
+    /// The server answered with an error.
+    Refused(ErrorResponse),
+    /// The server names another one (300). Make another client, if you trust it.
+    Redirected(Redirect),
+    /// No acceptable response arrived in time.
+    TimedOut(Drops),
+    /// The request was challenged too often: the password is wrong, or somebody forges challenges.
+    Unauthorized,
+    /// The response has an attribute that must be understood and is not.
+    NotUnderstood(AttributeType),
+    /// The response is an error without a code.
+    MalformedResponse,
+    /// You called [`Client::cancel`](super::Client::cancel).
+    Cancelled,
+    /// The body does not fit a message.
+    TooLarge,
+    /// The seed has no transaction ID left.
+    NoId,
+    /// An allocation failed.
+    OutOfMemory,
+}
+
+impl fmt::Display for RequestError {
+    fn fmt(&self, f: &mut fmt::Formatter<'_>) -> fmt::Result {
+        match self {
+            RequestError::Refused(error) => write!(f, "refused {}", error.code),
+            RequestError::Redirected(to) => match to.server {
+                Some(server) => write!(f, "redirected to {server}"),
+                None => f.write_str("redirected to nowhere"),
+            },
+            RequestError::TimedOut(drops) if drops.count == 0 => f.write_str("no answer in time"),
+            RequestError::TimedOut(drops) => write!(f, "no answer in time; {drops}"),
+            RequestError::Unauthorized => f.write_str("challenged too often"),
+            RequestError::NotUnderstood(kind) => {
+                write!(
+                    f,
+                    "the response has an attribute of type {:#06x}",
+                    kind.value()
+                )?;
+                f.write_str(", which is not understood")
+            }
+            RequestError::MalformedResponse => f.write_str("the response is an error without code"),
+            RequestError::Cancelled => f.write_str("cancelled"),
+            RequestError::TooLarge => f.write_str("the body does not fit a message"),
+            RequestError::NoId => f.write_str("no transaction ID is left"),
+            RequestError::OutOfMemory => f.write_str("an allocation failed"),
+        }
+    }
+}
+
+impl core::error::Error for RequestError {}
+
+/// What to do next.
+#[derive(Clone, Debug, PartialEq, Eq)]
+#[non_exhaustive]
+pub enum Output<'c> {
+    /// Send these bytes to the server.
+    Transmit(&'c [u8]),
+    /// This request ended, with this result.
+    Ended(RequestId, Result<Response, RequestError>),
+    /// Wait until a datagram arrives, or until this time; `None`: no request is outstanding.
+    Wait(Option<Instant>),
+}
+
+/// What a datagram was.
+#[derive(Debug)]
+#[non_exhaustive]
+pub enum Input<'a> {
+    /// A response to a request of this client. `poll` returns what comes of it.
+    Consumed,
+    /// An indication from the server. Neither signature, FINGERPRINT nor unknown attributes are
+    /// checked: drop it if [`extra::has_unknown`](crate::extra::has_unknown) says so.
+    Indication(Message<'a>),
+    /// Not for this client: no STUN message (such as ChannelData or media), a message from another
+    /// address, a request, or a response to no outstanding request. Offer it to the next client on
+    /// the socket.
+    NotOurs,
+    /// A response to a request of this client that was dropped. The request goes on.
+    Dropped(DropReason),
+}

@@ -1,0 +1,316 @@
+//! The settings of a client.
+
+use super::client::Client;
+use crate::credentials::{LongTermCredentials, ShortTermCredentials};
+use crate::exported::stun_agent::agent::StunAgent;
+use crate::exported::stun_auth::auth::Feature;
+use crate::exported::stun_client::preferences::Preferences;
+use crate::exported::stun_extra::attribute::Software;
+use crate::exported::stun_types::attribute::{AttributeType, Username};
+use crate::exported::stun_types::message::IntegrityAlgorithm;
+use crate::kit::alloc::Global;
+use crate::types::TransportType;
+use alloc::string::String;
+use alloc::vec::Vec;
+use core::fmt;
+use core::net::SocketAddr;
+use core::time::Duration;
+
+/// How a client proves who it is.
+#[derive(Clone)]
+pub struct Credentials(pub(super) Kind);
+
+#[derive(Clone)]
+pub(super) enum Kind {
+    None,
+    Short(String, ShortTermCredentials, IntegrityAlgorithm),
+    Long(LongTermCredentials),
+}
+
+impl fmt::Debug for Credentials {
+    fn fmt(&self, f: &mut fmt::Formatter<'_>) -> fmt::Result {
+        f.write_str("Credentials { .. }")
+    }
+}
+
+impl Credentials {
+    /// Requests are not signed.
+    pub fn none() -> Credentials {
+        Credentials(Kind::None)
+    }
+
+    /// Each request is signed with this password, and so is each response that is accepted, by the
+    /// same algorithm (RFC 8489, section 9.1).
+    pub fn short_term(
+        name: impl Into<String>,
+        password: impl Into<String>,
+        algorithm: IntegrityAlgorithm,
+    ) -> Credentials {
+        let password = ShortTermCredentials::new(password.into());
+        Credentials(Kind::Short(name.into(), password, algorithm))
+    }
+
+    /// Requests are signed once the server asks for it (RFC 8489, section 9.2).
+    pub fn long_term(name: impl Into<String>, password: impl Into<String>) -> Credentials {
+        Credentials(Kind::Long(LongTermCredentials::new(
+            name.into(),
+            password.into(),
+        )))
+    }
+}
+
+/// When a request is sent, and how long the client waits for its response (RFC 8489, section
+/// 6.2.1).
+#[derive(Clone, Copy, Debug, PartialEq, Eq)]
+pub struct Retransmission {
+    first: Duration,
+    most: Duration,
+    sends: u32,
+    last: Duration,
+}
+
+impl Retransmission {
+    /// Returns a plan: the wait after the first transmission, which doubles with each, the longest
+    /// wait, the number of transmissions, and the wait after the last of them.
+    pub fn new(first: Duration, most: Duration, sends: u32, last: Duration) -> Retransmission {
+        Retransmission {
+            first,
+            most,
+            sends,
+            last,
+        }
+    }
+}
+
+impl Default for Retransmission {
+    /// 500 ms, no longest wait, 7 transmissions, and 8 s.
+    fn default() -> Retransmission {
+        let [first, last] = [500, 8000].map(Duration::from_millis);
+        Retransmission::new(first, Duration::MAX, 7, last)
+    }
+}
+
+/// What carries the messages of a client.
+#[derive(Clone, Copy, Debug, PartialEq, Eq, Default)]
+pub enum Transport {
+    /// Datagrams, which may be lost: a request is sent as often as the builder's `retransmission`
+    /// says, and up to seven times unless you call that.
+    #[default]
+    Datagram,
+    /// A stream: a request is sent once, and the client waits as long as for a datagram in total
+    /// (39.5 seconds, unless you set other timeouts).
+    Stream,
+}
+
+/// Builds a [`Client`]. All calls but [`build`](Self::build) are optional.
+#[derive(Clone, Debug)]
+pub struct ClientBuilder {
+    pub(super) server: SocketAddr,
+    pub(super) transport: Transport,
+    pub(super) credentials: Credentials,
+    pub(super) preferences: Preferences,
+    pub(super) plan: Retransmission,
+    pub(super) challenges: u32,
+    pub(super) accepts_unsigned: bool,
+    pub(super) understood: Vec<AttributeType>,
+    pub(super) software: Option<String>,
+    pub(super) has_fingerprint: bool,
+}
+
+/// Why a client was not built.
+#[derive(Clone, Copy, Debug, PartialEq, Eq)]
+#[non_exhaustive]
+pub enum ClientBuildError {
+    /// The user name has more than 513 bytes.
+    NameTooLong,
+    /// The text of SOFTWARE has more than 763 bytes.
+    SoftwareTooLong,
+    /// The list of algorithms is empty.
+    NoAlgorithm,
+}
+
+impl fmt::Display for ClientBuildError {
+    fn fmt(&self, f: &mut fmt::Formatter<'_>) -> fmt::Result {
+        f.write_str(match self {
+            ClientBuildError::NameTooLong => "the user name has more than 513 bytes",
+            ClientBuildError::SoftwareTooLong => "the text of SOFTWARE has more than 763 bytes",
+            ClientBuildError::NoAlgorithm => "the list of algorithms is empty",
+        })
+    }
+}
+
+impl core::error::Error for ClientBuildError {}
+
+impl ClientBuilder {
+    pub(super) fn new(server: SocketAddr) -> ClientBuilder {
+        ClientBuilder {
+            server,
+            transport: Transport::Datagram,
+            credentials: Credentials::none(),
+            preferences: Preferences {
+                hmac_sha1: true,
+                hmac_sha256: true,
+                anonymous_username: Feature::Auto,
+            },
+            plan: Retransmission::default(),
+            challenges: 6,
+            accepts_unsigned: false,
+            understood: UNDERSTOOD.to_vec(),
+            software: None,
+            has_fingerprint: false,
+        }
+    }
+
+    /// Sets the credentials. Without them requests are not signed.
+    pub fn credentials(mut self, credentials: Credentials) -> ClientBuilder {
+        self.credentials = credentials;
+        self
+    }
+
+    /// Sets what carries the messages: datagrams, unless you call this.
+    pub fn transport(mut self, transport: Transport) -> ClientBuilder {
+        self.transport = transport;
+        self
+    }
+
+    /// Sets the algorithms that long-term credentials may be used with: both, unless you call this.
+    pub fn algorithms(mut self, list: &[IntegrityAlgorithm]) -> ClientBuilder {
+        self.preferences.hmac_sha1 = list.contains(&IntegrityAlgorithm::Sha1);
+        self.preferences.hmac_sha256 = list.contains(&IntegrityAlgorithm::Sha256);
+        self
+    }
+
+    /// Sets whether a hash is sent in place of the user name: if the server allows it, unless you
+    /// call this.
+    pub fn anonymous_username(mut self, feature: Feature) -> ClientBuilder {
+        self.preferences.anonymous_username = feature;
+        self
+    }
+
+    /// Sets the retransmission timeouts.
+    pub fn retransmission(mut self, plan: Retransmission) -> ClientBuilder {
+        self.plan = plan;
+        self
+    }
+
+    /// Sets for how many challenges a request is sent again: 6, unless you call this. The next one
+    /// ends it with [`RequestError::Unauthorized`](super::RequestError::Unauthorized). A restart of
+    /// the server, a new address and the end of a nonce take one each, and so do forged ones.
+    pub fn challenges(mut self, most: u32) -> ClientBuilder {
+        self.challenges = most;
+        self
+    }
+
+    /// Accepts unsigned responses to requests that the client sent unsigned. Only long-term
+    /// credentials use this: without credentials unsigned responses are always accepted, and with
+    /// short-term ones never.
+    ///
+    /// A request is unsigned until it is challenged, and again after its challenge was repeated or a
+    /// challenged request timed out. So an attacker who can forge challenges can then also forge the
+    /// response.
+    pub fn accept_unsigned(mut self) -> ClientBuilder {
+        self.accepts_unsigned = true;
+        self
+    }
+
+    /// Adds types of attributes that you understand in responses, beside all that this crate can
+    /// read.
+    pub fn understands(mut self, types: &[AttributeType]) -> ClientBuilder {
+        self.understood.extend_from_slice(types);
+        self
+    }
+
+    /// Sets the text of SOFTWARE in each request.
+    pub fn software(mut self, text: impl Into<String>) -> ClientBuilder {
+        self.software = Some(text.into());
+        self
+    }
+
+    /// Adds FINGERPRINT to each request.
+    pub fn fingerprint(mut self) -> ClientBuilder {
+        self.has_fingerprint = true;
+        self
+    }
+
+    /// Builds the client.
+    ///
+    /// `seed` must be 32 unpredictable bytes that are used for this client alone, because the
+    /// transaction IDs are derived from it. An attacker who can guess them can forge responses to
+    /// requests that nobody signs.
+    ///
+    /// # Errors
+    ///
+    /// The first of these that applies:
+    ///
+    /// - [`ClientBuildError::NameTooLong`]: the user name has more than 513 bytes.
+    /// - [`ClientBuildError::SoftwareTooLong`]: the text of SOFTWARE has more than 763 bytes.
+    /// - [`ClientBuildError::NoAlgorithm`]: the list of algorithms is empty.
+    pub fn build(self, seed: [u8; 32]) -> Result<Client, ClientBuildError> {
+        let name = match &self.credentials.0 {
+            Kind::None => "",
+            Kind::Short(name, ..) => name,
+            Kind::Long(user) => user.username(),
+        };
+        if Username::new(name).is_err() {
+            return Err(ClientBuildError::NameTooLong);
+        }
+        if self
+            .software
+            .as_deref()
+            .is_some_and(|text| Software::new(text).is_err())
+        {
+            return Err(ClientBuildError::SoftwareTooLong);
+        }
+        if !self.preferences.hmac_sha1 && !self.preferences.hmac_sha256 {
+            return Err(ClientBuildError::NoAlgorithm);
+        }
+        let transport = match self.transport {
+            Transport::Datagram => TransportType::Udp,
+            Transport::Stream => TransportType::Tcp,
+        };
+        let Retransmission {
+            first,
+            most,
+            sends,
+            last,
+        } = self.plan;
+        // The agent tells this address alone, so that any will do.
+        let agent = StunAgent::builder(Global, transport, self.server)
+            .request_retransmits(first, most, sends, last)
+            .stats(true)
+            .build();
+        Ok(Client::new(self, agent, seed))
+    }
+}
+
+/// The types that must be understood (below 0x8000) and that this crate can read.
+const UNDERSTOOD: [AttributeType; 28] = [
+    AttributeType(0x0001),
+    AttributeType(0x0003),
+    AttributeType(0x0006),
+    AttributeType(0x0008),
+    AttributeType(0x0009),
+    AttributeType(0x000A),
+    AttributeType(0x000C),
+    AttributeType(0x000D),
+    AttributeType(0x0012),
+    AttributeType(0x0013),
+    AttributeType(0x0014),
+    AttributeType(0x0015),
+    AttributeType(0x0016),
+    AttributeType(0x0017),
+    AttributeType(0x0018),
+    AttributeType(0x0019),
+    AttributeType(0x001A),
+    AttributeType(0x001B),
+    AttributeType(0x001C),
+    AttributeType(0x001D),
+    AttributeType(0x001E),
+    AttributeType(0x0020),
+    AttributeType(0x0022),
+    AttributeType(0x0024),
+    AttributeType(0x0025),
+    AttributeType(0x0026),
+    AttributeType(0x0027),
+    AttributeType(0x002A),
+];

@@ -1,0 +1,47 @@
+//! The clock of a client.
+
+use crate::Instant;
+use core::time::Duration;
+
+/// A monotonic clock for clients.
+///
+/// # Examples
+///
+/// ```
+/// use seatcrane_stun::Instant;
+/// use seatcrane_stun::endpoint::Clock;
+/// use std::time::Duration;
+///
+/// let clock = Clock::start();
+/// let due = clock.now() + Duration::from_secs(1);
+/// assert!(clock.timeout(Some(due)).unwrap() <= Duration::from_secs(1));
+/// assert!(clock.timeout(Some(Instant::ZERO)).unwrap() > Duration::ZERO); // never zero
+/// assert_eq!(clock.timeout(None), None);
+/// ```
+#[derive(Clone, Copy, Debug)]
+pub struct Clock(std::time::Instant);
+
+impl Clock {
+    /// Starts a clock.
+    pub fn start() -> Clock {
+        Clock(std::time::Instant::now())
+    }
+
+    /// Returns the current time.
+    pub fn now(&self) -> Instant {
+        Instant::from_std(self.0)
+    }
+
+    /// Converts a time of this clock to one of the standard library, such as for a timer.
+    pub fn to_std(&self, at: Instant) -> std::time::Instant {
+        at.to_std(self.0)
+    }
+
+    /// Returns how long it is until this time, at least a millisecond, as
+    /// [`UdpSocket::set_read_timeout`](std::net::UdpSocket::set_read_timeout) needs it. Without a
+    /// time it returns `None`, which means to wait without limit.
+    pub fn timeout(&self, until: Option<Instant>) -> Option<Duration> {
+        let left = until?.saturating_duration_since(self.now());
+        Some(left.max(Duration::from_millis(1)))
+    }
+}

@@ -1,0 +1,389 @@
+//! Connectivity checks of ICE: one check and its answer, in both roles (RFC 8445, sections 7.2 and
+//! 7.3).
+//!
+//! A [`Checker`] has the credentials of both sides, the tie-breaker and the role of one agent. It
+//! writes checks, judges those of the peer and writes their answers, and judges the answers to its
+//! own. Candidates, pairs, their order and pacing, and retransmissions are yours.
+//!
+//! # Examples
+//!
+//! Two agents, a check of one at the other, and its answer:
+//!
+//! ```
+//! use seatcrane_stun::endpoint::ice::{Checker, Judged, Outcome, Received, Role};
+//! use seatcrane_stun::types::message::TransactionId;
+//!
+//! // What each side tells the other over signalling. Make both texts of random characters.
+//! let (left, right) = (("evtj", "asd88fgpdd777uzjYhagZg"), ("h6vY", "VOkJxbRl1RmTxUk/WvJxBt"));
+//! let mut here = Checker::new(left, right, 0x0123_4567_89ab_cdef, Role::Controlling)?;
+//! let mut there = Checker::new(right, left, 0xfedc_ba98_7654_3210, Role::Controlled)?;
+//!
+//! let id = TransactionId::from([7; 12]); // must be random: `TransactionId::generate`
+//! let check = here.check(id, "198.51.100.7:3478".parse()?, 0x6e00_01ff, true);
+//!
+//! // At the other side, where a translator has changed the source address:
+//! let seen = "203.0.113.9:4242".parse()?;
+//! let Received::Check { answer, judged } = there.receive(check.bytes(), seen, None) else {
+//!     panic!("no check")
+//! };
+//! assert_eq!(
+//!     judged,
+//!     Judged::Accepted { priority: 0x6e00_01ff, nominated: true, switched: false }
+//! );
+//!
+//! // Back here, the answer is judged with the check that has its transaction ID.
+//! let received = here.receive(&answer, check.to(), Some(&check));
+//! assert!(matches!(received, Received::Response(Outcome::Valid { mapped }) if mapped == seen));
+//! # Ok::<(), Box<dyn std::error::Error>>(())
+//! ```
+//!
+//! In a program the checks are stored with their pairs, and a `StunAgent` says when to send them
+//! again until they end:
+//!
+//! ```ignore
+//! let check = checker.check(TransactionId::generate(), pair.remote, priority, nominate);
+//! let sent = agent.send_request(check.bytes(), check.to(), now)?;
+//! socket.send_to(&sent.data, sent.to)?;
+//! pairs.store(check); // then send what `poll_transmit` returns, and call `poll`
+//! // .. later, a datagram arrives:
+//! match checker.receive(&bytes, from, pairs.check_of(&bytes)) {
+//!     Received::Check { answer, judged } => {
+//!         socket.send_to(&answer, from)?;
+//!         pairs.triggered(from, judged);
+//!     }
+//!     Received::Response(outcome) => pairs.ended(outcome), // also end the request in `agent`
+//!     Received::Dropped(why) => dropped[why.index()] += 1,
+//!     _ => {} // an indication, which keeps the path open
+//! }
+//! ```
+
+use crate::copies::{copy, granted};
+use crate::exported::stun_base::attribute_type::AttributeType;
+use crate::exported::stun_ice::{check, checker, received};
+use crate::kit::alloc::Global;
+use crate::message::Message;
+use crate::transaction::TransactionId;
+use alloc::vec::Vec;
+use core::fmt;
+use core::net::SocketAddr;
+
+pub use crate::exported::stun_ice::checker::BuildError;
+pub use crate::exported::stun_ice::received::{Judged, Refusal};
+pub use crate::exported::stun_ice::role::Role;
+
+/// One agent in a session with one peer: the credentials of both sides, the tie-breaker, and the
+/// role that the agent has now.
+///
+/// The [module](self) has an example.
+pub struct Checker(checker::Checker<Global>);
+
+impl fmt::Debug for Checker {
+    fn fmt(&self, f: &mut fmt::Formatter<'_>) -> fmt::Result {
+        f.write_str("Checker { .. }")
+    }
+}
+
+impl Checker {
+    /// Creates an agent. `local` and `remote` are the username fragment and the password of each
+    /// side, the tie-breaker is a random number, and `role` is the one to begin with.
+    ///
+    /// # Errors
+    ///
+    /// The first of these that applies:
+    ///
+    /// - [`BuildError::NameLength`]: a username fragment has fewer than 4 or more than 256 bytes.
+    /// - [`BuildError::ColonInName`]: a username fragment has a colon.
+    /// - [`BuildError::PasswordLength`]: a password has fewer than 22 or more than 256 bytes.
+    /// - [`BuildError::OutOfMemory`]: an allocation failed.
+    pub fn new(
+        local: (&str, &str),
+        remote: (&str, &str),
+        tie_breaker: u64,
+        role: Role,
+    ) -> Result<Checker, BuildError> {
+        let [local, remote] =
+            [local, remote].map(|(name, password)| checker::Credentials { name, password });
+        checker::Checker::new(Global, local, remote, tie_breaker, role).map(Checker)
+    }
+
+    /// Returns the role that the agent has now.
+    pub fn role(&self) -> Role {
+        self.0.role()
+    }
+
+    /// Returns the tie-breaker.
+    pub fn tie_breaker(&self) -> u64 {
+        self.0.tie_breaker()
+    }
+
+    /// Sets another tie-breaker. After [`Outcome::RoleConflict`] an agent must have a new random
+    /// one before its next check (RFC 8445, section 16.1).
+    pub fn set_tie_breaker(&mut self, tie_breaker: u64) {
+        self.0.set_tie_breaker(tie_breaker);
+    }
+
+    /// Writes a check to an address, which you send, and send again until its answer arrives (RFC
+    /// 8445, section 7.2.4).
+    ///
+    /// The transaction ID must be random and new. `priority` is the one that a peer-reflexive
+    /// candidate would have that the peer learns from this check (section 7.1.1). The check
+    /// nominates its pair if `nominate` is true and this agent controls.
+    pub fn check(&self, id: TransactionId, to: SocketAddr, priority: u32, nominate: bool) -> Check {
+        Check(granted(self.0.check(id.0, to, priority, nominate)))
+    }
+
+    /// Judges a datagram, and writes the answer if it is a check.
+    ///
+    /// `from` is the address that it came from, and `check` is the check of this agent whose
+    /// transaction ID the datagram has, if it has one of those that you have stored. An IPv4
+    /// address is the same in both spellings, `a.b.c.d` and `::ffff:a.b.c.d`.
+    ///
+    /// - Bytes that are not a message, messages without a valid FINGERPRINT, and methods other than
+    ///   Binding are dropped.
+    /// - A check is accepted if its USERNAME has the names of this agent and its peer in this
+    ///   order, and it is signed with the password of this agent. It must have no attribute that
+    ///   must be understood and is not, and it must have PRIORITY. If it says that the peer has the
+    ///   role of this agent, the agent with the larger tie-breaker becomes controlling, and this one
+    ///   if they are equal (RFC 8445, section 7.3.1.1): either this agent switches its role, or its
+    ///   answer is a 487.
+    /// - A response is dropped if it does not answer `check`, or is not signed by the peer.
+    ///   Otherwise it ends the check. After a 487 this agent has the other role than the one that
+    ///   the check was sent in (section 7.2.5.1).
+    /// - An indication with an attribute that must be understood and is not is dropped.
+    pub fn receive<'a>(
+        &mut self,
+        bytes: &'a [u8],
+        from: SocketAddr,
+        check: Option<&Check>,
+    ) -> Received<'a> {
+        match self.0.receive(bytes, from, check.map(|check| &check.0)) {
+            Ok(received::Received::Check { answer, judged }) => Received::Check {
+                answer: answer.into_std(),
+                judged,
+            },
+            Ok(received::Received::Response(outcome)) => Received::Response(outcome.into()),
+            Ok(received::Received::Indication(message)) => Received::Indication(Message(message)),
+            Ok(received::Received::Dropped(why)) => Received::Dropped(why.into()),
+            Err(_) => Received::Dropped(DropReason::OutOfMemory),
+        }
+    }
+}
+
+/// A check: the bytes to send, and what is needed to judge the answer. Store it until its answer
+/// arrives or it times out. [`Checker::check`] makes it.
+pub struct Check(check::Check<Global>);
+
+impl Clone for Check {
+    fn clone(&self) -> Check {
+        Check(copy(&self.0))
+    }
+}
+
+impl fmt::Debug for Check {
+    fn fmt(&self, f: &mut fmt::Formatter<'_>) -> fmt::Result {
+        f.debug_struct("Check")
+            .field("id", &self.id())
+            .field("to", &self.to())
+            .field("role", &self.role())
+            .field("nominates", &self.nominates())
+            .finish_non_exhaustive()
+    }
+}
+
+impl Check {
+    /// Returns the transaction ID, which the answer has too.
+    pub fn id(&self) -> TransactionId {
+        TransactionId(self.0.id())
+    }
+
+    /// Returns the address to send the check to, as it was passed to [`Checker::check`].
+    pub fn to(&self) -> SocketAddr {
+        self.0.to()
+    }
+
+    /// Returns the role that the check says its sender has.
+    pub fn role(&self) -> Role {
+        self.0.role()
+    }
+
+    /// Returns `true` if the check nominates its pair.
+    pub fn nominates(&self) -> bool {
+        self.0.nominates()
+    }
+
+    /// Returns the bytes to send.
+    pub fn bytes(&self) -> &[u8] {
+        self.0.bytes()
+    }
+}
+
+/// The result of [`Checker::receive`].
+#[derive(Debug)]
+#[non_exhaustive]
+pub enum Received<'a> {
+    /// A check of the peer. Send the answer to the address that the check came from.
+    Check {
+        /// The bytes to send.
+        answer: Vec<u8>,
+        /// What the check comes to.
+        judged: Judged,
+    },
+    /// The answer to a check of yours, which ends it.
+    Response(Outcome),
+    /// A Binding indication, as peers send to keep a path open (RFC 8445, section 11). It is not
+    /// signed, and needs no answer.
+    Indication(Message<'a>),
+    /// The datagram is dropped, for this reason. A check of yours that it may belong to goes on.
+    Dropped(DropReason),
+}
+
+/// How the answer of the peer ends a check.
+#[derive(Clone, Copy, Debug, PartialEq, Eq)]
+#[non_exhaustive]
+pub enum Outcome {
+    /// The check succeeded, and the pair is valid.
+    Valid {
+        /// The address that the peer saw the check come from. If it is none of your candidates, it
+        /// is a new peer-reflexive one (RFC 8445, section 7.2.5.3.1).
+        mapped: SocketAddr,
+    },
+    /// The peer has the role that the check was sent in, and does not switch. This agent has the
+    /// other role now. Set a new tie-breaker, and send a new check (RFC 8445, section 7.2.5.1).
+    RoleConflict {
+        /// Whether this agent has switched its role because of the answer, and not before.
+        switched: bool,
+    },
+    /// The check failed.
+    Failed(Failure),
+}
+
+impl From<received::Outcome> for Outcome {
+    fn from(outcome: received::Outcome) -> Outcome {
+        match outcome {
+            received::Outcome::Valid(mapped) => Outcome::Valid {
+                mapped: mapped.address(),
+            },
+            received::Outcome::RoleConflict { switched } => Outcome::RoleConflict { switched },
+            received::Outcome::Failed(failure) => Outcome::Failed(failure.into()),
+        }
+    }
+}
+
+/// Why a check failed.
+#[derive(Clone, Copy, Debug, PartialEq, Eq, Hash)]
+#[non_exhaustive]
+pub enum Failure {
+    /// The answer is an error with this code.
+    Error(u16),
+    /// The answer did not come from the address that the check was sent to (RFC 8445, section
+    /// 7.2.5.2.1).
+    OtherPath,
+    /// The answer has an attribute of this type, which must be understood and is not.
+    NotUnderstood(AttributeType),
+    /// The answer has no well-formed XOR-MAPPED-ADDRESS, or no well-formed ERROR-CODE if it is an
+    /// error.
+    Malformed,
+}
+
+impl From<received::Failure> for Failure {
+    fn from(failure: received::Failure) -> Failure {
+        match failure {
+            received::Failure::Error(code) => Failure::Error(code),
+            received::Failure::OtherPath => Failure::OtherPath,
+            received::Failure::NotUnderstood(kind) => Failure::NotUnderstood(kind),
+            received::Failure::Malformed => Failure::Malformed,
+        }
+    }
+}
+
+impl fmt::Display for Failure {
+    fn fmt(&self, f: &mut fmt::Formatter<'_>) -> fmt::Result {
+        match self {
+            Failure::Error(code) => write!(f, "the peer answered with the error {code}"),
+            Failure::OtherPath => f.write_str("the answer came from another address"),
+            Failure::NotUnderstood(kind) => {
+                write!(
+                    f,
+                    "the answer has attribute {kind}, which is not understood"
+                )
+            }
+            Failure::Malformed => f.write_str("the answer is malformed"),
+        }
+    }
+}
+
+/// Why a datagram is dropped.
+#[derive(Clone, Copy, Debug, PartialEq, Eq, Hash)]
+#[non_exhaustive]
+pub enum DropReason {
+    /// It does not begin with the header of a STUN message.
+    NotStun,
+    /// Its length or its attributes are not what its header says.
+    Malformed,
+    /// It has no FINGERPRINT, or a wrong one: it is damaged, or belongs to another protocol.
+    WrongFingerprint,
+    /// It has another method than Binding.
+    OtherMethod,
+    /// It is an indication with an attribute that must be understood and is not.
+    UnknownAttribute,
+    /// It is a response, and not to the check that was passed.
+    NotAsked,
+    /// It is a response whose signature is missing or invalid. A refusal by 400 or 401 is not
+    /// signed, so such a check ends by its timeout.
+    WrongSignature,
+    /// An allocation failed. Whoever sent the check sends it again.
+    OutOfMemory,
+}
+
+impl DropReason {
+    /// How many reasons there are.
+    pub const COUNT: usize = 8;
+
+    /// Returns a number below [`COUNT`](Self::COUNT), for counters of yours.
+    pub fn index(self) -> usize {
+        self as usize
+    }
+
+    /// Returns the name of the reason, as in the source.
+    pub fn name(self) -> &'static str {
+        match self {
+            DropReason::NotStun => "NotStun",
+            DropReason::Malformed => "Malformed",
+            DropReason::WrongFingerprint => "WrongFingerprint",
+            DropReason::OtherMethod => "OtherMethod",
+            DropReason::UnknownAttribute => "UnknownAttribute",
+            DropReason::NotAsked => "NotAsked",
+            DropReason::WrongSignature => "WrongSignature",
+            DropReason::OutOfMemory => "OutOfMemory",
+        }
+    }
+}
+
+impl fmt::Display for DropReason {
+    fn fmt(&self, f: &mut fmt::Formatter<'_>) -> fmt::Result {
+        f.write_str(match self {
+            DropReason::NotStun => "the datagram has no STUN header",
+            DropReason::Malformed => "the message is not what its header says",
+            DropReason::WrongFingerprint => "the FINGERPRINT is missing or wrong",
+            DropReason::OtherMethod => "the method is not Binding",
+            DropReason::UnknownAttribute => "an indication has an attribute that is not understood",
+            DropReason::NotAsked => "the response answers no check",
+            DropReason::WrongSignature => "the signature of the response is missing or invalid",
+            DropReason::OutOfMemory => "an allocation failed",
+        })
+    }
+}
+
+impl From<received::DropReason> for DropReason {
+    fn from(why: received::DropReason) -> DropReason {
+        match why {
+            received::DropReason::NotStun => DropReason::NotStun,
+            received::DropReason::Malformed => DropReason::Malformed,
+            received::DropReason::WrongFingerprint => DropReason::WrongFingerprint,
+            received::DropReason::OtherMethod => DropReason::OtherMethod,
+            received::DropReason::UnknownAttribute => DropReason::UnknownAttribute,
+            received::DropReason::NotAsked => DropReason::NotAsked,
+            received::DropReason::WrongSignature => DropReason::WrongSignature,
+        }
+    }
+}

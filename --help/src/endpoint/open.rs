@@ -1,0 +1,373 @@
+//! Servers without a realm: one without credentials, and one with short-term credentials.
+
+use super::server::{Request, answer_of, request_of, shared};
+use super::{Answer, BuildError, DropReason, Refusal, Reply, UserError};
+use crate::copies::text;
+use crate::credentials::ShortTermCredentials;
+use crate::exported::stun_base::attribute_type::AttributeType;
+use crate::exported::stun_endpoint::{open, responder, short_term};
+use crate::exported::stun_types::message::{IntegrityAlgorithm, Method};
+use crate::kit::alloc::Global;
+use crate::kit::prelude::Vec as KitVec;
+use crate::message::Message;
+use alloc::string::String;
+use alloc::vec::Vec;
+use core::fmt;
+use core::net::SocketAddr;
+
+/// What an [`OpenServer`] or a [`ShortTermServer`] understands, and what it adds to its responses:
+/// no further attributes, no SOFTWARE, and Binding requests for you, unless you change them.
+#[derive(Clone, Debug, Default)]
+pub struct ResponseSettings {
+    understood: Vec<AttributeType>,
+    software: Option<String>,
+    answers_binding: bool,
+}
+
+impl ResponseSettings {
+    /// Returns the settings.
+    pub fn new() -> ResponseSettings {
+        ResponseSettings::default()
+    }
+
+    /// Adds types of attributes that you understand, beside those of STUN. [`types`](super::types)
+    /// has lists.
+    pub fn understands(mut self, types: &[AttributeType]) -> ResponseSettings {
+        self.understood.extend_from_slice(types);
+        self
+    }
+
+    /// Sets the text of SOFTWARE in each response.
+    pub fn software(mut self, text: impl Into<String>) -> ResponseSettings {
+        self.software = Some(text.into());
+        self
+    }
+
+    /// Makes the server respond to each accepted Binding request by itself.
+    pub fn answer_binding(mut self) -> ResponseSettings {
+        self.answers_binding = true;
+        self
+    }
+
+    /// The settings as the core has them.
+    fn core(self) -> Result<responder::ResponseSettings<Global>, BuildError> {
+        let mut understood = KitVec::new(Global);
+        understood
+            .extend_from_slice(&self.understood)
+            .map_err(|_| BuildError::OutOfMemory)?;
+        Ok(responder::ResponseSettings {
+            understood,
+            software: self.software.map(text),
+            answers_binding: self.answers_binding,
+        })
+    }
+}
+
+/// A STUN server without credentials: it answers everybody, and signs nothing. It stores nothing
+/// about its clients, so a flood of datagrams uses no memory, and threads share it without a lock.
+///
+/// # Examples
+///
+/// A server that tells everybody the address that it sees:
+///
+/// ```no_run
+/// use seatcrane_stun::endpoint::{OpenReceived, OpenServer, ResponseSettings};
+/// use std::net::UdpSocket;
+///
+/// # fn main() -> Result<(), Box<dyn std::error::Error>> {
+/// let server = OpenServer::new(ResponseSettings::new().answer_binding())?;
+/// let socket = UdpSocket::bind("0.0.0.0:3478")?;
+/// let mut buffer = [0; 2048];
+/// loop {
+///     let (length, from) = socket.recv_from(&mut buffer)?;
+///     match server.receive(&buffer[..length], from) {
+///         OpenReceived::Answer(answer) => drop(socket.send_to(answer.bytes(), answer.to())),
+///         OpenReceived::Dropped(why) => eprintln!("dropped: {why}"),
+///         _ => {} // an indication, a response, or a request with another method than Binding
+///     }
+/// }
+/// # }
+/// ```
+pub struct OpenServer(open::OpenServer<Global>);
+
+impl fmt::Debug for OpenServer {
+    fn fmt(&self, f: &mut fmt::Formatter<'_>) -> fmt::Result {
+        f.write_str("OpenServer { .. }")
+    }
+}
+
+impl OpenServer {
+    /// Builds a server.
+    ///
+    /// # Errors
+    ///
+    /// The first of these that applies:
+    ///
+    /// - [`BuildError::SoftwareTooLong`]: the text of SOFTWARE has more than 763 bytes.
+    /// - [`BuildError::OutOfMemory`]: an allocation failed.
+    pub fn new(settings: ResponseSettings) -> Result<OpenServer, BuildError> {
+        open::OpenServer::new(Global, settings.core()?).map(OpenServer)
+    }
+
+    /// Judges a datagram, and writes the response if it gets one at once.
+    ///
+    /// `from` is the address that it came from. An IPv4 address is the same in both spellings,
+    /// `a.b.c.d` and `::ffff:a.b.c.d`.
+    ///
+    /// - Bytes that are not a message, and messages with a wrong FINGERPRINT, are dropped.
+    /// - A request gets a 420 if it has an attribute that is not understood, and the answer to
+    ///   Binding if the server is to give it. All others are for you. Signatures are not looked at.
+    /// - An indication with an attribute that is not understood is dropped. Other indications, and
+    ///   responses, are for you.
+    pub fn receive<'a>(&self, bytes: &'a [u8], from: SocketAddr) -> OpenReceived<'a> {
+        match self.0.receive(bytes, from) {
+            Ok(open::OpenReceived::Answer(answer)) => OpenReceived::Answer(answer_of(answer)),
+            Ok(open::OpenReceived::Request(request)) => {
+                let message = Message(crate::copies::copy(request.message()));
+                match shared(request.into_reply()) {
+                    Some(reply) => OpenReceived::Request(OpenRequest {
+                        message,
+                        reply: Reply(reply),
+                    }),
+                    None => OpenReceived::Dropped(DropReason::OutOfMemory),
+                }
+            }
+            Ok(open::OpenReceived::Indication(message)) => {
+                OpenReceived::Indication(Message(message))
+            }
+            Ok(open::OpenReceived::Response(message)) => OpenReceived::Response(Message(message)),
+            Ok(open::OpenReceived::Dropped(why)) => OpenReceived::Dropped(why.into()),
+            Err(_) => OpenReceived::Dropped(DropReason::OutOfMemory),
+        }
+    }
+}
+
+/// What a datagram comes to at an [`OpenServer`].
+#[derive(Debug)]
+#[non_exhaustive]
+pub enum OpenReceived<'a> {
+    /// Send this response.
+    Answer(Answer),
+    /// A request whose attributes are understood. Respond to it, now or later.
+    Request(OpenRequest<'a>),
+    /// An indication whose attributes are understood. Anybody may have sent it.
+    Indication(Message<'a>),
+    /// A response, for a client on the same socket.
+    Response(Message<'a>),
+    /// The datagram is dropped, for this reason.
+    Dropped(DropReason),
+}
+
+/// A request to an [`OpenServer`]. Anybody may have sent it.
+#[derive(Debug)]
+pub struct OpenRequest<'a> {
+    message: Message<'a>,
+    reply: Reply,
+}
+
+impl<'a> OpenRequest<'a> {
+    /// Returns the message.
+    pub fn message(&self) -> &Message<'a> {
+        &self.message
+    }
+
+    /// Returns the method of the request.
+    pub fn method(&self) -> Method {
+        self.message.method()
+    }
+
+    /// Returns the address that the request came from.
+    pub fn from(&self) -> SocketAddr {
+        self.reply.to()
+    }
+
+    /// Returns the means to respond, without a signature. Clone it to respond later.
+    pub fn reply(&self) -> &Reply {
+        &self.reply
+    }
+}
+
+/// A STUN server with short-term credentials (RFC 8489, section 9.1): each request and each
+/// indication has the name of a user and is signed with the user's password. It stores nothing about
+/// its clients, so a flood of datagrams uses no memory, and threads share it without a lock.
+///
+/// # Examples
+///
+/// ```
+/// use seatcrane_stun::endpoint::{
+///     ResponseSettings, ShortTermReceived, ShortTermServer, ShortTermUsers,
+/// };
+/// use seatcrane_stun::types::message::ShortTermCredentials;
+/// use std::net::SocketAddr;
+///
+/// # fn main() -> Result<(), Box<dyn std::error::Error>> {
+/// let server = ShortTermServer::new(ResponseSettings::new().answer_binding())?;
+/// let mut users = ShortTermUsers::new();
+/// users.add("alice", ShortTermCredentials::new("wonderland".to_string()))?;
+///
+/// fn response(
+///     (server, users): (&ShortTermServer, &ShortTermUsers),
+///     bytes: &[u8],
+///     from: SocketAddr,
+/// ) -> Option<Vec<u8>> {
+///     match server.receive(bytes, from, users) {
+///         ShortTermReceived::Answer(answer) => Some(answer.into_bytes()),
+///         ShortTermReceived::Request(request) => request.reply().success().finish().ok(),
+///         _ => None, // an indication, a response, or a datagram that is dropped
+///     }
+/// }
+/// # let from = "192.0.2.1:4242".parse()?;
+/// # assert_eq!(response((&server, &users), b"no message", from), None);
+/// # Ok(())
+/// # }
+/// ```
+pub struct ShortTermServer(short_term::ShortTermServer<Global>);
+
+impl fmt::Debug for ShortTermServer {
+    fn fmt(&self, f: &mut fmt::Formatter<'_>) -> fmt::Result {
+        f.write_str("ShortTermServer { .. }")
+    }
+}
+
+impl ShortTermServer {
+    /// Builds a server.
+    ///
+    /// # Errors
+    ///
+    /// The first of these that applies:
+    ///
+    /// - [`BuildError::SoftwareTooLong`]: the text of SOFTWARE has more than 763 bytes.
+    /// - [`BuildError::OutOfMemory`]: an allocation failed.
+    pub fn new(settings: ResponseSettings) -> Result<ShortTermServer, BuildError> {
+        short_term::ShortTermServer::new(Global, settings.core()?).map(ShortTermServer)
+    }
+
+    /// Judges a datagram, and writes the response if it gets one at once.
+    ///
+    /// `from` is the address that it came from. An IPv4 address is the same in both spellings,
+    /// `a.b.c.d` and `::ffff:a.b.c.d`.
+    ///
+    /// - Bytes that are not a message, and messages with a wrong FINGERPRINT, are dropped.
+    /// - A request gets a 400 if it has no MESSAGE-INTEGRITY and no MESSAGE-INTEGRITY-SHA256, or no
+    ///   USERNAME before it; a 401 if USERNAME is not the name of one of `users`, or the signature
+    ///   is not made with the user's password; a 420, which is signed, if it has an attribute that
+    ///   is not understood; and the answer to Binding, if the server is to give it. All others are
+    ///   for you. A 400 and a 401 are not signed (RFC 8489, section 9.1.3). Other responses have the
+    ///   integrity attribute that the request has.
+    /// - An indication is dropped if a request like it would get a 400 or a 401
+    ///   ([`NotSigned`](ShortTermReceived::NotSigned)), or if it has an attribute that is not
+    ///   understood. Other indications, and responses, are for you.
+    pub fn receive<'a>(
+        &self,
+        bytes: &'a [u8],
+        from: SocketAddr,
+        users: &'a ShortTermUsers,
+    ) -> ShortTermReceived<'a> {
+        use short_term::ShortTermReceived as Core;
+
+        match self.0.receive(bytes, from, &users.0) {
+            Ok(Core::Answer(answer)) => ShortTermReceived::Answer(answer_of(answer)),
+            Ok(Core::Request(request)) => match request_of(request) {
+                Some(request) => ShortTermReceived::Request(request),
+                None => ShortTermReceived::Dropped(DropReason::OutOfMemory),
+            },
+            Ok(Core::Indication(indication)) => {
+                ShortTermReceived::Indication(ShortTermIndication {
+                    message: Message(crate::copies::copy(indication.message())),
+                    user: indication.user(),
+                    algorithm: indication.algorithm(),
+                })
+            }
+            Ok(Core::Response(message)) => ShortTermReceived::Response(Message(message)),
+            Ok(Core::NotSigned(refusal)) => ShortTermReceived::NotSigned(refusal),
+            Ok(Core::Dropped(why)) => ShortTermReceived::Dropped(why.into()),
+            Err(_) => ShortTermReceived::Dropped(DropReason::OutOfMemory),
+        }
+    }
+}
+
+/// What a datagram comes to at a [`ShortTermServer`].
+#[derive(Debug)]
+#[non_exhaustive]
+pub enum ShortTermReceived<'a> {
+    /// Send this response.
+    Answer(Answer),
+    /// The request is accepted. Respond to it, now or later.
+    Request(Request<'a>),
+    /// An indication that a user has signed, and whose attributes are understood.
+    Indication(ShortTermIndication<'a>),
+    /// A response, for a client on the same socket.
+    Response(Message<'a>),
+    /// The datagram is dropped: it is an indication that no user has signed. A request like it would
+    /// be refused in this way.
+    NotSigned(Refusal),
+    /// The datagram is dropped, for this reason.
+    Dropped(DropReason),
+}
+
+/// An indication that a user has signed.
+#[derive(Debug)]
+pub struct ShortTermIndication<'a> {
+    message: Message<'a>,
+    user: &'a str,
+    algorithm: IntegrityAlgorithm,
+}
+
+impl<'a> ShortTermIndication<'a> {
+    /// Returns the message.
+    pub fn message(&self) -> &Message<'a> {
+        &self.message
+    }
+
+    /// Returns the name of the user who has signed the indication.
+    pub fn user(&self) -> &'a str {
+        self.user
+    }
+
+    /// Returns the algorithm of the signature.
+    pub fn algorithm(&self) -> IntegrityAlgorithm {
+        self.algorithm
+    }
+}
+
+/// The users of a [`ShortTermServer`], by name. A look-up takes logarithmic time.
+pub struct ShortTermUsers(short_term::ShortTermUsers<Global>);
+
+impl fmt::Debug for ShortTermUsers {
+    fn fmt(&self, f: &mut fmt::Formatter<'_>) -> fmt::Result {
+        f.write_str("ShortTermUsers { .. }")
+    }
+}
+
+impl Default for ShortTermUsers {
+    fn default() -> ShortTermUsers {
+        ShortTermUsers::new()
+    }
+}
+
+impl ShortTermUsers {
+    /// Returns an empty table.
+    pub fn new() -> ShortTermUsers {
+        ShortTermUsers(short_term::ShortTermUsers::new(Global))
+    }
+
+    /// Adds a user with this password. A user of that name gets this password in place of the one
+    /// before.
+    ///
+    /// # Errors
+    ///
+    /// [`UserError::OutOfMemory`]: an allocation failed. The table is unchanged.
+    pub fn add(
+        &mut self,
+        name: impl Into<String>,
+        credentials: ShortTermCredentials,
+    ) -> Result<(), UserError> {
+        let added = self.0.add(text(name.into()), credentials.into_proved());
+        added.map_err(UserError::from)
+    }
+
+    /// Removes a user, so that messages of that name are refused from now on.
+    pub fn remove(&mut self, name: &str) {
+        self.0.remove(name);
+    }
+}

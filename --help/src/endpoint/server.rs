@@ -1,0 +1,764 @@
+//! A server as one value.
+
+use super::{BuildError, DEFAULT_NONCE_LIFETIME, DropReason, Refusal, UnixTime};
+use crate::copies::{copy, granted, text};
+use crate::credentials::LongTermCredentials;
+use crate::exported::stun_auth::auth::{LongTermServerUser, NamedUser, StoredKeys};
+use crate::exported::stun_base::attribute_type::AttributeType;
+use crate::exported::stun_endpoint::{lookup, received, reply, server, users};
+use crate::exported::stun_extra::attribute as further;
+use crate::exported::stun_types::attribute::{Attribute, XorMappedAddress};
+use crate::exported::stun_types::message::{
+    self as proved, IntegrityAlgorithm, Method, StunWriteError,
+};
+use crate::exported::stun_types::prelude::{MessageWrite, MessageWriteExt as Proved};
+use crate::kit::alloc::{AllocError, Global};
+use crate::kit::prelude::Vec as KitVec;
+use crate::message::Message;
+use crate::transaction::TransactionId;
+use crate::write::check_appended;
+use alloc::string::String;
+use alloc::sync::Arc;
+use alloc::vec::Vec;
+use core::fmt;
+use core::net::SocketAddr;
+
+/// The settings of a server with long-term credentials (RFC 8489, section 9.2): both algorithms,
+/// hashed names, and nonces of one hour, unless you change them.
+///
+/// `secret` is 32 random bytes, and whoever has it can make nonces that are accepted. Servers that
+/// share it, and have the same algorithms, `user_hashes` and nonce lifetime, accept each other's
+/// nonces, except that a server refuses a nonce of a period that has not begun on its own clock. If
+/// clocks differ by less than a nonce lifetime, a client then gets a 438 and continues with the
+/// nonce in it. A server that starts again with the same secret serves its old clients at once.
+#[derive(Clone)]
+pub struct LongTerm {
+    realm: String,
+    secret: [u8; 32],
+    previous: Option<[u8; 32]>,
+    algorithms: (bool, bool),
+    user_hashes: bool,
+    nonce_lifetime: u64,
+}
+
+impl fmt::Debug for LongTerm {
+    fn fmt(&self, f: &mut fmt::Formatter<'_>) -> fmt::Result {
+        f.write_str("LongTerm { .. }")
+    }
+}
+
+impl LongTerm {
+    /// Returns the settings of a realm with this secret.
+    pub fn new(realm: impl Into<String>, secret: [u8; 32]) -> LongTerm {
+        LongTerm {
+            realm: realm.into(),
+            secret,
+            previous: None,
+            algorithms: (true, true),
+            user_hashes: true,
+            nonce_lifetime: DEFAULT_NONCE_LIFETIME,
+        }
+    }
+
+    /// Sets a secret whose nonces are accepted too, but never sent. When you change the secret, set
+    /// this to the one before, and remove it two nonce lifetimes later.
+    pub fn previous_secret(mut self, secret: [u8; 32]) -> LongTerm {
+        self.previous = Some(secret);
+        self
+    }
+
+    /// Sets the supported algorithms.
+    ///
+    /// Nonces depend on them. So when you change them, each client gets one 401 or 438 with the new
+    /// list and nonce, and then signs by it; the secret may stay as it is.
+    pub fn algorithms(mut self, algorithms: &[IntegrityAlgorithm]) -> LongTerm {
+        self.algorithms = (
+            algorithms.contains(&IntegrityAlgorithm::Sha1),
+            algorithms.contains(&IntegrityAlgorithm::Sha256),
+        );
+        self
+    }
+
+    /// Sets whether clients may send a hash in place of a name (RFC 8489, section 14.4). Nonces
+    /// depend on this, as on the algorithms.
+    pub fn user_hashes(mut self, allowed: bool) -> LongTerm {
+        self.user_hashes = allowed;
+        self
+    }
+
+    /// Sets for how many seconds a nonce is sent. It is accepted for one to two times as long.
+    pub fn nonce_lifetime(mut self, seconds: u64) -> LongTerm {
+        self.nonce_lifetime = seconds;
+        self
+    }
+}
+
+/// Builds a [`Server`].
+#[derive(Clone, Debug)]
+pub struct ServerBuilder {
+    long_term: LongTerm,
+    understood: Vec<AttributeType>,
+    software: Option<String>,
+    answers_binding: bool,
+}
+
+impl ServerBuilder {
+    /// Adds types of attributes that you understand, beside those of STUN. [`types`](super::types) has lists.
+    pub fn understands(mut self, types: &[AttributeType]) -> ServerBuilder {
+        self.understood.extend_from_slice(types);
+        self
+    }
+
+    /// Sets the text of SOFTWARE in each response.
+    pub fn software(mut self, text: impl Into<String>) -> ServerBuilder {
+        self.software = Some(text.into());
+        self
+    }
+
+    /// Makes the server respond to each accepted Binding request by itself.
+    pub fn answer_binding(mut self) -> ServerBuilder {
+        self.answers_binding = true;
+        self
+    }
+
+    /// Builds the server.
+    ///
+    /// # Errors
+    ///
+    /// The first of these that applies:
+    ///
+    /// - [`BuildError::RealmTooLong`]: the realm has more than 763 bytes.
+    /// - [`BuildError::SoftwareTooLong`]: the text of SOFTWARE has more than 763 bytes.
+    /// - [`BuildError::NonceLifetime`]: the nonce lifetime is less than 30 seconds.
+    /// - [`BuildError::NoAlgorithm`]: the list of algorithms is empty.
+    /// - [`BuildError::OutOfMemory`]: an allocation failed.
+    pub fn build(self) -> Result<Server, BuildError> {
+        let LongTerm {
+            realm,
+            secret,
+            previous,
+            algorithms,
+            user_hashes,
+            nonce_lifetime,
+        } = self.long_term;
+        let mut understood = KitVec::new(Global);
+        understood
+            .extend_from_slice(&self.understood)
+            .map_err(|_| BuildError::OutOfMemory)?;
+        let settings = server::LongTerm {
+            realm: text(realm),
+            secret,
+            previous_secret: previous,
+            hmac_sha1: algorithms.0,
+            hmac_sha256: algorithms.1,
+            user_hashes,
+            nonce_lifetime,
+            understood,
+            software: self.software.map(text),
+            answers_binding: self.answers_binding,
+        };
+        server::Server::new(Global, settings).map(Server)
+    }
+}
+
+/// A STUN server with long-term credentials. It stores nothing about its clients.
+///
+/// What a datagram comes to depends on the datagram, its source address, the time, the settings and
+/// the users, and on no earlier datagram. So a flood of datagrams uses no memory, and every thread
+/// and machine with the same settings can answer every client. Share the server as `Arc<Server>`.
+/// To change settings, build another server with the same secret and swap the `Arc`; to load users
+/// anew, swap an `Arc<Users>`.
+///
+/// The [module](super) has an example.
+pub struct Server(server::Server<Global>);
+
+impl fmt::Debug for Server {
+    fn fmt(&self, f: &mut fmt::Formatter<'_>) -> fmt::Result {
+        f.write_str("Server { .. }")
+    }
+}
+
+impl Server {
+    /// Begins the settings of a server.
+    pub fn builder(long_term: LongTerm) -> ServerBuilder {
+        ServerBuilder {
+            long_term,
+            understood: Vec::new(),
+            software: None,
+            answers_binding: false,
+        }
+    }
+
+    /// Returns an empty table of users for this server's realm.
+    pub fn users(&self) -> Users {
+        Users(granted(self.0.users()))
+    }
+
+    /// Returns the nonce that is current for an address at a time.
+    pub fn nonce_for(&self, from: SocketAddr, now: UnixTime) -> String {
+        String::from(granted(self.0.nonce_for(from, now)).as_str())
+    }
+
+    /// Judges a datagram, and writes the response if it gets one at once.
+    ///
+    /// `from` is the address that it came from. An IPv4 address is the same in both spellings,
+    /// `a.b.c.d` and `::ffff:a.b.c.d`.
+    ///
+    /// - Bytes that are not a message, and messages with a wrong FINGERPRINT, are dropped.
+    /// - A request gets the answer of the first line that applies (RFC 8489, sections 6.3.1 and
+    ///   9.2.4):
+    ///   - 401: it is not signed.
+    ///   - 400: it has no REALM, NONCE or user name, or it has the current nonce and other algorithms
+    ///     than were offered with it.
+    ///   - 438: its nonce is not accepted; 401 if that nonce has other security bits than the
+    ///     server's.
+    ///   - 401: it is not signed by one of `users`.
+    ///   - 420, which is signed: it has an attribute that is not understood.
+    ///   - Success: it is a Binding request, and you called `answer_binding`.
+    ///
+    ///   Every other request is returned as [`Received::Request`].
+    /// - An indication with an attribute that is not understood is dropped. Other indications, and
+    ///   responses, are for you.
+    pub fn receive<'a>(
+        &self,
+        bytes: &'a [u8],
+        from: SocketAddr,
+        now: UnixTime,
+        users: &'a Users,
+    ) -> Received<'a> {
+        of_core(self.0.receive(bytes, from, now, &users.0))
+    }
+
+    /// Derives the keys of a user, for [`receive_for`](Self::receive_for). Cache the result.
+    pub fn user(&self, credentials: LongTermCredentials) -> User {
+        User(granted(self.0.user(credentials.0)))
+    }
+
+    /// Like [`user`](Self::user), with keys that are stored in place of the password. They must
+    /// have been made for this server's realm.
+    pub fn user_with_keys(&self, name: impl Into<String>, keys: StoredKeys) -> User {
+        User(granted(self.0.user_with_keys(text(name.into()), keys)))
+    }
+
+    /// Judges a datagram like [`receive`](Self::receive), by the one user that you looked up, or by
+    /// nobody if there is no such user.
+    ///
+    /// If `user` has another name than the one in the request, as after a look-up that ignores
+    /// case, the client gets a 401.
+    pub fn receive_for<'a>(
+        &'a self,
+        bytes: &'a [u8],
+        from: SocketAddr,
+        now: UnixTime,
+        user: Option<&'a User>,
+    ) -> Received<'a> {
+        let user = user.map(|user| &user.0);
+        of_core(self.0.receive_for(bytes, from, now, user))
+    }
+
+    /// Judges a datagram as far as that is possible without its user, for a server that looks its
+    /// users up in a database.
+    ///
+    /// A request is looked up only if it carries a nonce that is accepted for its source at this
+    /// time, is signed, and names a user. So whoever invents a nonce, or forges a source address
+    /// without having seen a nonce of it, causes no look-up.
+    ///
+    /// # Examples
+    ///
+    /// ```
+    /// use seatcrane_stun::auth::NamedUser;
+    /// use seatcrane_stun::endpoint::{Identified, Received, Server, UnixTime, User};
+    /// use std::net::SocketAddr;
+    ///
+    /// fn received<'a>(
+    ///     server: &'a Server,
+    ///     bytes: &'a [u8],
+    ///     from: SocketAddr,
+    ///     look_up: impl Fn(NamedUser<'_>) -> Option<&'a User>,
+    /// ) -> Received<'a> {
+    ///     match server.identify(bytes, from, UnixTime::now()) {
+    ///         Identified::Done(received) => received,
+    ///         Identified::Lookup(lookup) => {
+    ///             let user = look_up(lookup.user_id()); // it may take its time
+    ///             server.resume(lookup, user)
+    ///         }
+    ///     }
+    /// }
+    /// ```
+    pub fn identify<'a>(
+        &'a self,
+        bytes: &'a [u8],
+        from: SocketAddr,
+        now: UnixTime,
+    ) -> Identified<'a> {
+        match self.0.identify(bytes, from, now) {
+            Ok(lookup::Identified::Done(received)) => Identified::Done(of_core(Ok(received))),
+            Ok(lookup::Identified::Lookup(lookup)) => Identified::Lookup(Lookup {
+                message: Message(copy(lookup.message())),
+                lookup,
+            }),
+            Err(error) => Identified::Done(of_core(Err(error))),
+        }
+    }
+
+    /// Judges the request of a look-up by the user that you found, or by nobody if there is no such
+    /// user. The result is that of [`receive_for`](Self::receive_for) at the time at which the
+    /// request arrived, so a slow database does not turn it into a 438.
+    ///
+    /// If `user` has another name than the one in the request, as after a look-up that ignores
+    /// case, the client gets a 401.
+    pub fn resume<'a>(&'a self, lookup: Lookup<'a>, user: Option<&'a User>) -> Received<'a> {
+        of_core(self.0.resume(lookup.lookup, user.map(|user| &user.0)))
+    }
+}
+
+/// What a datagram comes to without its user, or that it needs the user.
+#[derive(Debug)]
+pub enum Identified<'a> {
+    /// What the datagram comes to, whoever the user is.
+    Done(Received<'a>),
+    /// The request waits for its user. Look that user up, and pass both to [`Server::resume`].
+    Lookup(Lookup<'a>),
+}
+
+/// A request that carries a nonce which the server accepts for its source, and waits for its user.
+///
+/// A client that sends its request again causes another look-up; merge them by
+/// [`transaction_id`](Self::transaction_id).
+#[derive(Debug)]
+pub struct Lookup<'a> {
+    message: Message<'a>,
+    lookup: lookup::Lookup<'a>,
+}
+
+impl<'a> Lookup<'a> {
+    /// Returns whom the request names. The signature is not checked yet, so anybody with a nonce can
+    /// name anybody.
+    pub fn user_id(&self) -> NamedUser<'a> {
+        self.lookup.user_id()
+    }
+
+    /// Returns the transaction ID of the request.
+    pub fn transaction_id(&self) -> TransactionId {
+        TransactionId(self.lookup.transaction_id())
+    }
+
+    /// Returns the address that the request came from.
+    pub fn from(&self) -> SocketAddr {
+        self.lookup.from()
+    }
+
+    /// Returns the time that was passed to [`Server::identify`].
+    pub fn arrived(&self) -> UnixTime {
+        self.lookup.arrived()
+    }
+
+    /// Returns the request.
+    pub fn message(&self) -> &Message<'a> {
+        &self.message
+    }
+}
+
+/// What the core returns, as this module says it.
+fn of_core(received: Result<received::Received<'_, Global>, AllocError>) -> Received<'_> {
+    match received {
+        Ok(received::Received::Answer(answer)) => Received::Answer(answer_of(answer)),
+        Ok(received::Received::Request(request)) => match request_of(request) {
+            Some(request) => Received::Request(request),
+            None => Received::Dropped(DropReason::OutOfMemory),
+        },
+        Ok(received::Received::Indication(message)) => Received::Indication(Message(message)),
+        Ok(received::Received::Response(message)) => Received::Response(Message(message)),
+        Ok(received::Received::Dropped(why)) => Received::Dropped(why.into()),
+        Err(_) => Received::Dropped(DropReason::OutOfMemory),
+    }
+}
+
+/// A response of the core, as this module says it.
+pub(super) fn answer_of(answer: received::Answer<Global>) -> Answer {
+    Answer {
+        to: answer.to(),
+        refusal: answer.refusal(),
+        bytes: answer.into_bytes().into_std(),
+    }
+}
+
+/// An accepted request of the core, as this module says it, or `None` if there is no memory for its
+/// reply.
+pub(super) fn request_of(request: received::Request<'_, Global>) -> Option<Request<'_>> {
+    let message = Message(copy(request.message()));
+    let (user, algorithm) = (request.user(), request.algorithm());
+    let reply = Reply(shared(request.into_reply())?);
+    Some(Request {
+        message,
+        user,
+        algorithm,
+        reply,
+    })
+}
+
+/// Returns a value to share, or `None` if there is no memory for it.
+///
+/// `Arc::new` ends the program then, and has no other form. So as much memory is taken and given
+/// back before. Another thread may get that memory in between, though.
+pub(super) fn shared<T>(value: T) -> Option<Arc<T>> {
+    let mut room: Vec<([usize; 2], T)> = Vec::new();
+    room.try_reserve_exact(1).ok()?;
+    drop(core::hint::black_box(room));
+    Some(Arc::new(value))
+}
+
+/// A user with derived keys. [`Server::user`] makes it.
+pub struct User(LongTermServerUser<Global>);
+
+impl fmt::Debug for User {
+    fn fmt(&self, f: &mut fmt::Formatter<'_>) -> fmt::Result {
+        f.write_str("User { .. }")
+    }
+}
+
+/// Why a user was not added.
+#[derive(Clone, Copy, Debug, PartialEq, Eq)]
+#[non_exhaustive]
+pub enum UserError {
+    /// An allocation failed.
+    OutOfMemory,
+}
+
+impl fmt::Display for UserError {
+    fn fmt(&self, f: &mut fmt::Formatter<'_>) -> fmt::Result {
+        f.write_str(match self {
+            UserError::OutOfMemory => "an allocation failed",
+        })
+    }
+}
+
+impl core::error::Error for UserError {}
+
+impl From<AllocError> for UserError {
+    fn from(_: AllocError) -> UserError {
+        UserError::OutOfMemory
+    }
+}
+
+/// The users of a realm. [`Server::users`] makes an empty table.
+pub struct Users(users::Users<Global>);
+
+impl fmt::Debug for Users {
+    fn fmt(&self, f: &mut fmt::Formatter<'_>) -> fmt::Result {
+        f.write_str("Users { .. }")
+    }
+}
+
+impl Users {
+    /// Adds a user, and derives a key for each algorithm of the server. A user of that name gets
+    /// this password in place of what it had before.
+    ///
+    /// # Errors
+    ///
+    /// [`UserError::OutOfMemory`]: an allocation failed. The table is unchanged.
+    pub fn add(&mut self, credentials: LongTermCredentials) -> Result<(), UserError> {
+        self.0.add(credentials.0).map_err(UserError::from)
+    }
+
+    /// Like [`add`](Self::add), with keys that are stored in place of the password. They must have
+    /// been made for this server's realm.
+    ///
+    /// # Errors
+    ///
+    /// [`UserError::OutOfMemory`]: an allocation failed. The table is unchanged.
+    ///
+    /// # Examples
+    ///
+    /// ```
+    /// use seatcrane_stun::auth::StoredKeys;
+    /// use seatcrane_stun::endpoint::{LongTerm, Server};
+    /// use seatcrane_stun::types::message::{IntegrityAlgorithm, long_term_key};
+    ///
+    /// # fn main() -> Result<(), Box<dyn std::error::Error>> {
+    /// let server = Server::builder(LongTerm::new("example.org", [7; 32])).build()?;
+    /// let key = long_term_key(IntegrityAlgorithm::Sha256, "alice", "example.org", "wonderland");
+    /// let keys = StoredKeys { sha1: None, sha256: Some(key.as_bytes().try_into()?) };
+    /// let mut users = server.users();
+    /// users.add_with_keys("alice", keys)?; // she cannot sign by HMAC-SHA1
+    /// # Ok(())
+    /// # }
+    /// ```
+    pub fn add_with_keys(
+        &mut self,
+        name: impl Into<String>,
+        keys: StoredKeys,
+    ) -> Result<(), UserError> {
+        let added = self.0.auth.add_user_with_keys(text(name.into()), keys);
+        added.map_err(UserError::from)
+    }
+
+    /// Removes a user, so that requests of that name are refused from now on.
+    pub fn remove(&mut self, name: &str) {
+        self.0.remove(name);
+    }
+}
+
+/// What a datagram comes to.
+#[derive(Debug)]
+#[non_exhaustive]
+pub enum Received<'a> {
+    /// Send this response.
+    Answer(Answer),
+    /// The request is accepted. Respond to it, now or later.
+    Request(Request<'a>),
+    /// An indication whose attributes are understood. Long-term credentials do not protect it (RFC
+    /// 8489, section 9.2), so decide by the source address whether to act on it.
+    Indication(Message<'a>),
+    /// A response, for a client on the same socket.
+    Response(Message<'a>),
+    /// The datagram is dropped, for this reason.
+    Dropped(DropReason),
+}
+
+/// A response to send.
+#[derive(Clone, Debug)]
+pub struct Answer {
+    to: SocketAddr,
+    refusal: Option<Refusal>,
+    bytes: Vec<u8>,
+}
+
+impl Answer {
+    /// Returns the address to send the response to: `from` as it was passed to
+    /// [`receive`](Server::receive).
+    pub fn to(&self) -> SocketAddr {
+        self.to
+    }
+
+    /// Returns how the response refuses the request, and `None` if it is a success.
+    pub fn refusal(&self) -> Option<Refusal> {
+        self.refusal
+    }
+
+    /// Returns the bytes to send.
+    pub fn bytes(&self) -> &[u8] {
+        &self.bytes
+    }
+
+    /// Returns the bytes to send.
+    pub fn into_bytes(self) -> Vec<u8> {
+        self.bytes
+    }
+}
+
+/// An accepted request.
+#[derive(Debug)]
+pub struct Request<'a> {
+    message: Message<'a>,
+    user: &'a str,
+    algorithm: IntegrityAlgorithm,
+    reply: Reply,
+}
+
+impl<'a> Request<'a> {
+    /// Returns the message.
+    pub fn message(&self) -> &Message<'a> {
+        &self.message
+    }
+
+    /// Returns the method of the request.
+    pub fn method(&self) -> Method {
+        self.message.method()
+    }
+
+    /// Returns the address that the request came from.
+    pub fn from(&self) -> SocketAddr {
+        self.reply.to()
+    }
+
+    /// Returns the name of the user who sent the request, also if the request has a hash of it.
+    pub fn user(&self) -> &'a str {
+        self.user
+    }
+
+    /// Returns the algorithm that both sides agreed on.
+    pub fn algorithm(&self) -> IntegrityAlgorithm {
+        self.algorithm
+    }
+
+    /// Returns the means to respond. Clone it to respond later.
+    pub fn reply(&self) -> &Reply {
+        &self.reply
+    }
+}
+
+/// The means to respond to one accepted request, now or later, on any thread, without the server.
+/// It contains a key, which `Debug` leaves out.
+///
+/// The response has the method and the transaction ID of the request, is signed with the key of the
+/// user who sent it, errors included (a reply of an [`OpenServer`](super::OpenServer) is not signed),
+/// and ends with FINGERPRINT if the request did. Respond to each
+/// request at least once, because the client sends it again until then.
+///
+/// # Examples
+///
+/// ```
+/// use seatcrane_stun::endpoint::Request;
+/// use seatcrane_stun::extra::attribute::Lifetime;
+/// use seatcrane_stun::types::message::StunWriteError;
+/// use std::net::SocketAddr;
+///
+/// fn respond(
+///     request: &Request<'_>,
+///     relay: Option<SocketAddr>,
+/// ) -> Result<Vec<u8>, StunWriteError> {
+///     match relay {
+///         Some(relay) => request
+///             .reply()
+///             .success()
+///             .add_xor_relayed_address(relay)
+///             .add(&Lifetime::new(600))
+///             .finish(),
+///         None => request.reply().error(508, "Insufficient Capacity").finish(),
+///     }
+/// }
+/// ```
+#[derive(Clone)]
+pub struct Reply(pub(super) Arc<reply::Reply<Global>>);
+
+impl fmt::Debug for Reply {
+    fn fmt(&self, f: &mut fmt::Formatter<'_>) -> fmt::Result {
+        f.write_str("Reply { .. }")
+    }
+}
+
+impl Reply {
+    /// Returns the address to send the response to.
+    pub fn to(&self) -> SocketAddr {
+        self.0.to()
+    }
+
+    /// Returns the transaction ID of the request.
+    pub fn transaction_id(&self) -> TransactionId {
+        TransactionId(self.0.transaction_id())
+    }
+
+    /// Begins a success response.
+    pub fn success(&self) -> ReplyWriter {
+        ReplyWriter {
+            reply: self.clone(),
+            page: self.0.success().map_err(StunWriteError::from),
+        }
+    }
+
+    /// Begins an error response.
+    ///
+    /// [`finish`](ReplyWriter::finish) fails if the code is not from 300 to 699, or if the reason
+    /// phrase has more than 763 bytes.
+    pub fn error(&self, code: u16, reason: &str) -> ReplyWriter {
+        ReplyWriter {
+            reply: self.clone(),
+            page: self.0.error(code, reason),
+        }
+    }
+}
+
+/// Adds attributes to a response. The first failure is stored, and [`finish`](Self::finish) returns
+/// it.
+#[must_use = "a response is written by `finish`"]
+pub struct ReplyWriter {
+    reply: Reply,
+    page: Result<Page, StunWriteError>,
+}
+
+type Page = proved::MessageWriteVec<Global>;
+type Added = Result<(), StunWriteError>;
+
+impl fmt::Debug for ReplyWriter {
+    fn fmt(&self, f: &mut fmt::Formatter<'_>) -> fmt::Result {
+        f.write_str("ReplyWriter { .. }")
+    }
+}
+
+impl ReplyWriter {
+    /// Adds an attribute.
+    ///
+    /// # Panics
+    ///
+    /// If [`Attribute::write_into`] of an attribute type of your own appends something else than
+    /// the attribute that `get_type` and `length` describe.
+    #[allow(clippy::should_implement_trait)] // `Add` is for numbers.
+    pub fn add<A: Attribute>(self, attribute: &A) -> ReplyWriter {
+        self.added(attribute, |page| Proved::add_attribute(page, attribute))
+    }
+
+    /// Like [`add`](Self::add), but also if the response has an attribute of this type already.
+    ///
+    /// Use it for the types that may repeat, such as XOR-PEER-ADDRESS (RFC 8656, section 9.1). A
+    /// reader sees only the first attribute of any other type (RFC 8489, section 14).
+    ///
+    /// # Examples
+    ///
+    /// ```
+    /// use seatcrane_stun::endpoint::Reply;
+    /// use seatcrane_stun::extra::attribute::XorPeerAddress;
+    /// use seatcrane_stun::types::message::StunWriteError;
+    /// use std::net::SocketAddr;
+    ///
+    /// fn with_peers(reply: &Reply, peers: &[SocketAddr]) -> Result<Vec<u8>, StunWriteError> {
+    ///     let mut response = reply.success();
+    ///     for peer in peers {
+    ///         let attribute = XorPeerAddress::new(*peer, reply.transaction_id());
+    ///         response = response.add_another(&attribute);
+    ///     }
+    ///     response.finish()
+    /// }
+    /// ```
+    ///
+    /// # Panics
+    ///
+    /// As [`add`](Self::add) does.
+    pub fn add_another<A: Attribute>(self, attribute: &A) -> ReplyWriter {
+        self.added(attribute, |page| {
+            Proved::add_another_attribute(page, attribute)
+        })
+    }
+
+    /// Adds an attribute by this call, unless one failed before.
+    fn added<A: Attribute>(mut self, attribute: &A, add: impl Fn(&mut Page) -> Added) -> Self {
+        if let Ok(page) = &mut self.page {
+            let before = page.data().len();
+            match add(page) {
+                Ok(()) => check_appended(page.data(), before, attribute),
+                Err(error) => self.page = Err(error),
+            }
+        }
+        self
+    }
+
+    /// Adds XOR-MAPPED-ADDRESS with this address.
+    pub fn add_xor_mapped_address(self, address: SocketAddr) -> ReplyWriter {
+        let id = self.reply.0.transaction_id();
+        self.add(&XorMappedAddress::new(address, id))
+    }
+
+    /// Adds XOR-RELAYED-ADDRESS with this address.
+    pub fn add_xor_relayed_address(self, address: SocketAddr) -> ReplyWriter {
+        let id = self.reply.0.transaction_id();
+        self.add(&further::XorRelayedAddress::new(address, id))
+    }
+
+    /// Adds XOR-PEER-ADDRESS with this address.
+    pub fn add_xor_peer_address(self, address: SocketAddr) -> ReplyWriter {
+        let id = self.reply.0.transaction_id();
+        self.add(&further::XorPeerAddress::new(address, id))
+    }
+
+    /// Ends the response, and returns the bytes to send to [`Reply::to`].
+    ///
+    /// # Errors
+    ///
+    /// The error of the first attribute that could not be added, SOFTWARE and the signature
+    /// included: those of [`MessageWriteExt::add_attribute`].
+    ///
+    /// [`MessageWriteExt::add_attribute`]: crate::types::prelude::MessageWriteExt::add_attribute
+    pub fn finish(self) -> Result<Vec<u8>, StunWriteError> {
+        Ok(self.reply.0.finish(self.page?)?.into_std())
+    }
+}

@@ -1,0 +1,382 @@
+// Written by tools/export from crates/stun_auth/src/client.rt, commit 90cb8b2b07bb, with changes: change that file, not this one.
+//! The client side of long-term authentication (RFC 8489, section 9.2).
+//!
+//! For each request, a client does the following:
+//!
+//! 1. It calls `sign_outgoing_message`, which adds nothing before the first challenge, and sends
+//!    the request.
+//! 2. It calls `validate_incoming_message` with the response that answers the request.
+//! 3. On `ResendRequest` it makes the request again with a new transaction ID, and continues with
+//!    step 1. On `Validated` it accepts the response. On `IntegrityFailed` it drops the response
+//!    and keeps waiting, and on any other refusal it gives up.
+
+pub(crate) mod answer;
+pub(crate) mod challenge;
+mod signing;
+
+use crate::exported::stun_auth::client::answer::{
+    LongTermClientAuthError, LongTermClientAuthErrorReason, LongTermClientValidation,
+};
+use crate::exported::stun_auth::client::challenge::{
+    ChallengeRefusal, KeptChallenge, Offer, choose,
+};
+use crate::exported::stun_auth::feature::Feature;
+use crate::exported::stun_auth::limited_text::LimitedText;
+use crate::exported::stun_auth::message::reading::MessageReading;
+use crate::exported::stun_auth::supported::Supported;
+use crate::exported::stun_types::attribute::ErrorCode;
+use crate::exported::stun_types::message::{IntegrityAlgorithm, LongTermCredentials, Message};
+use crate::kit::alloc::{Allocator, Global};
+use core::{fmt, mem};
+
+/// How far a client has come with its server.
+enum State<A: Allocator> {
+    Initial,
+    Authenticating(KeptChallenge<A>),
+    Authenticated(KeptChallenge<A>),
+}
+
+impl<A: Allocator> State<A> {
+    /// Replaces the kept realm and nonce; the key stays.
+    fn renew(&mut self, realm: LimitedText<A>, nonce: LimitedText<A>) {
+        match self {
+            State::Initial => {}
+            State::Authenticating(kept) => {
+                kept.realm = realm;
+                kept.nonce = nonce;
+            }
+            State::Authenticated(kept) => {
+                kept.realm = realm;
+                kept.nonce = nonce;
+            }
+        }
+    }
+
+    /// Notes that the server has the key.
+    fn confirm(&mut self) {
+        match mem::replace(self, State::Initial) {
+            State::Initial => {}
+            State::Authenticating(kept) => *self = State::Authenticated(kept),
+            State::Authenticated(kept) => *self = State::Authenticated(kept),
+        }
+    }
+}
+
+/// Whether an error has a code.
+fn is_code(code: u16, error: Option<u16>) -> bool {
+    match error {
+        Some(other) => other == code,
+        None => false,
+    }
+}
+
+/// The client side of long-term authentication: answers a server's challenges, signs requests and
+/// verifies responses (RFC 8489, section 9.2).
+///
+/// A client starts without a key, so its first request goes out unsigned. The server answers 401,
+/// with a realm and a nonce. The client accepts this challenge: it derives its key from user name,
+/// realm and password, and its next request is signed. A success response whose signature verifies
+/// confirms the key. After that, a 401 is no longer treated as a challenge, because an attacker
+/// could have sent it.
+///
+/// Until the key is confirmed, an attacker who can forge a response chooses the realm, and with it
+/// the key, and also the algorithm. If client and server both support HMAC-SHA256 and HMAC-SHA1,
+/// one forged message is enough to make both use HMAC-SHA1 under an MD5 key. The attacker has to
+/// see a request, and to answer it from the server's address before the server does:
+///
+/// 1. The attacker answers the first request with a 401 that has the server's realm and the nonce
+///    `x`. This nonce has no security bits, so the client takes its sender for an older server: it
+///    derives the MD5 key, and stores no list of algorithms. It also sends its user name in clear
+///    from now on.
+/// 2. The server answers the next request, signed under the nonce `x`, with a true 438: its own
+///    nonce, whose security bits ask for password algorithms, and its list.
+/// 3. The client takes realm and nonce from a 438, and nothing else. Key, algorithm, list and the
+///    form of the user name stay those of the forged 401.
+/// 4. The third request has the current nonce, and neither a list nor a choice of an algorithm. By
+///    section 9.2.4 that means MD5, so the server validates it. Client and server both return
+///    `Validated` with HMAC-SHA1.
+///
+/// A client that supports only HMAC-SHA256 refuses the nonce `x`, and falls to two forged messages:
+/// a 401 whose nonce has security bits that ask for no password algorithms, such as
+/// `obMatJos2QAAAx`, and a 438 with the nonce of the server.
+///
+/// The attacker learns no key and cannot sign. What the two sides lose is that the stronger
+/// algorithm, which both have, protects the session. To notice it, call `signing_algorithm` after
+/// every `ResendRequest`, before you sign, and give up if it is not the algorithm that you want.
+/// SECURITY.md says what else a client and a server can do.
+///
+/// Use one client for each server and user. To change the user after a success, create a new
+/// client. `Debug` shows nothing of the contents.
+pub struct LongTermClientAuth<A: Allocator = Global> {
+    alloc: A,
+    supported: Supported,
+    feature: Feature,
+    credentials: Option<LongTermCredentials<A>>,
+    state: State<A>,
+}
+
+impl<A: Allocator> fmt::Debug for LongTermClientAuth<A> {
+    fn fmt(&self, f: &mut fmt::Formatter<'_>) -> fmt::Result {
+        f.write_str("LongTermClientAuth { .. }")
+    }
+}
+
+impl<A: Allocator> LongTermClientAuth<A> {
+    /// Creates a client without credentials. It supports HMAC-SHA1 only, and sends the user name as
+    /// a hash if the server allows it (`Feature::Auto`).
+    ///
+    /// It does not allocate. What the client stores later is allocated with `alloc`.
+    pub fn new(alloc: A) -> Self {
+        LongTermClientAuth {
+            alloc,
+            supported: Supported::only(IntegrityAlgorithm::Sha1),
+            feature: Feature::Auto,
+            credentials: None,
+            state: State::Initial,
+        }
+    }
+
+    /// Sets the user name and password. They take effect with the next challenge: if the client has
+    /// already accepted a challenge, it keeps the key that it made then.
+    ///
+    /// A name longer than 513 bytes is accepted here, but a request that must carry it as USERNAME
+    /// cannot be signed (RFC 8489, section 14.3).
+    pub fn set_credentials(&mut self, credentials: LongTermCredentials<A>) {
+        self.credentials = Some(credentials);
+    }
+
+    /// Returns the user name and password, if they were set.
+    pub fn credentials(&self) -> Option<&LongTermCredentials<A>> {
+        self.credentials.as_ref()
+    }
+
+    /// Returns the supported algorithms, each of them once, in the order in which they were added.
+    pub fn supported_integrity(&self) -> &[IntegrityAlgorithm] {
+        self.supported.as_slice()
+    }
+
+    /// Adds a supported algorithm. It changes nothing if the algorithm is supported already.
+    ///
+    /// If the server offers a list of algorithms, the client uses the first algorithm of that list
+    /// which it supports.
+    pub fn add_supported_integrity(&mut self, algorithm: IntegrityAlgorithm) {
+        self.supported = self.supported.with(algorithm);
+    }
+
+    /// Makes this the only supported algorithm.
+    ///
+    /// This does not protect a client of HMAC-SHA256 from being downgraded by a forged challenge.
+    /// Call `signing_algorithm` after each `ResendRequest`, before you sign, and give up if it is
+    /// not the algorithm that you want.
+    ///
+    /// With HMAC-SHA256 alone, a challenge is answered as follows:
+    ///
+    /// - If the nonce has no security bits, the challenge is refused with `UnsupportedFeature`.
+    /// - If there is a list of algorithms without HMAC-SHA256, it is refused with
+    ///   `UnsupportedFeature`.
+    /// - If there is no list, and the security bits ask for no password algorithms, the client uses
+    ///   HMAC-SHA1 all the same.
+    pub fn set_supported_integrity(&mut self, algorithm: IntegrityAlgorithm) {
+        self.supported = Supported::only(algorithm);
+    }
+
+    /// Returns whether the user name is sent as a hash (USERHASH, RFC 8489, section 14.4): never,
+    /// if the server allows it, or always.
+    pub fn anonymous_username(&self) -> Feature {
+        self.feature
+    }
+
+    /// Sets whether the user name is sent as a hash (USERHASH, RFC 8489, section 14.4). It takes
+    /// effect with the next challenge.
+    pub fn set_anonymous_username(&mut self, feature: Feature) {
+        self.feature = feature;
+    }
+
+    /// Whether a success has confirmed the kept key.
+    fn is_authenticated(&self) -> bool {
+        matches!(&self.state, State::Authenticated(_))
+    }
+
+    /// The algorithm whose digest verifies under the kept key.
+    fn verified_under_kept(&self, reading: &MessageReading<'_, '_>) -> Option<IntegrityAlgorithm> {
+        match &self.state {
+            State::Initial => None,
+            State::Authenticating(kept) => reading.verified_under(&kept.key),
+            State::Authenticated(kept) => reading.verified_under(&kept.key),
+        }
+    }
+
+    /// Whether a challenge has the realm and the nonce of the one that the client is answering.
+    fn is_repeated(&self, realm: &str, nonce: &str) -> bool {
+        match &self.state {
+            State::Initial => false,
+            State::Authenticating(kept) => {
+                realm == kept.realm.as_str() && nonce == kept.nonce.as_str()
+            }
+            State::Authenticated(_) => false,
+        }
+    }
+
+    /// The challenge that a message brings, or the reason to refuse it.
+    fn offer<'a, 'm>(
+        &'a self,
+        reading: MessageReading<'m, '_>,
+    ) -> Result<Offer<'a, 'm>, ChallengeRefusal> {
+        let Some(user) = &self.credentials else {
+            return Err(ChallengeRefusal::Unauthorized);
+        };
+        let Some(realm) = reading.realm else {
+            return Err(ChallengeRefusal::Unauthorized);
+        };
+        let Some(nonce) = reading.nonce else {
+            return Err(ChallengeRefusal::Unauthorized);
+        };
+        if self.is_repeated(realm, nonce) {
+            return Err(ChallengeRefusal::Unauthorized);
+        }
+        let list = reading.algorithms;
+        match choose(self.supported, self.feature, nonce, &list) {
+            Err(refusal) => Err(refusal),
+            Ok(algorithm) => Ok(Offer {
+                username: user.username(),
+                password: user.password(),
+                realm,
+                nonce,
+                list,
+                algorithm,
+            }),
+        }
+    }
+
+    /// The answer by the digest alone.
+    fn settle(
+        &mut self,
+        is_success: bool,
+        digest: Option<IntegrityAlgorithm>,
+    ) -> Result<LongTermClientValidation, LongTermClientAuthError> {
+        match digest {
+            None => Err(LongTermClientAuthError::new(
+                LongTermClientAuthErrorReason::IntegrityFailed,
+            )),
+            Some(algorithm) => {
+                if is_success {
+                    self.state.confirm();
+                }
+                Ok(LongTermClientValidation::Validated(algorithm))
+            }
+        }
+    }
+}
+
+impl<A: Allocator + Copy> LongTermClientAuth<A> {
+    /// Judges a response from the server (RFC 8489, section 9.2.5).
+    ///
+    /// - A **401** is a challenge until the first success has been validated, and is as good as its
+    ///   signature after that. If the client can answer the challenge, it stores realm and nonce,
+    ///   makes its key, and returns `ResendRequest`.
+    /// - A **438** that has REALM and NONCE replaces both, whether it is signed or not, and also
+    ///   returns `ResendRequest`. The key, and with it the algorithm, stays. If no challenge has
+    ///   been accepted yet, nothing is stored.
+    /// - **Any other response** is `Validated` if its signature verifies under the client's key. A
+    ///   success that is validated confirms the key.
+    ///
+    /// After `ResendRequest` send the request again with a new transaction ID, signed by
+    /// `sign_outgoing_message`.
+    ///
+    /// This call sees neither the transaction ID nor the source address. Pass it only responses to
+    /// an outstanding request of yours, from the address that the request went to. Limit the number
+    /// of requests that you send again, because a server, or an attacker who sees a transaction ID,
+    /// could otherwise make you resend forever.
+    ///
+    /// An error leaves the client unchanged. For a 401 that is a challenge, the first of these that
+    /// applies is returned:
+    ///
+    /// - `Unauthorized`: no credentials are set, REALM or NONCE is missing, or the client has
+    ///   already answered this challenge, which usually means a wrong password. Give up.
+    /// - `UnsupportedFeature`: client and server have no algorithm in common. If the nonce
+    ///   announces a list of algorithms and there is none, the error is `Unauthorized` instead.
+    ///   Give up.
+    /// - `UnsupportedFeature`: the user name must be hashed (`Feature::Required`), and the nonce
+    ///   does not allow it. Give up.
+    ///
+    /// For every other response:
+    ///
+    /// - `IntegrityFailed`: the signature is missing or does not verify. Drop the response, which
+    ///   may be forged, and keep waiting.
+    ///
+    /// `OutOfMemory` means that an allocation failed, and can take the place of `ResendRequest`
+    /// only.
+    pub fn validate_incoming_message(
+        &mut self,
+        message: &Message,
+    ) -> Result<LongTermClientValidation, LongTermClientAuthError> {
+        let reading = MessageReading::of(message);
+        let digest = self.verified_under_kept(&reading);
+        if is_code(ErrorCode::UNAUTHORIZED, reading.error) && !self.is_authenticated() {
+            return self.take_up(reading, digest);
+        }
+        if is_code(ErrorCode::STALE_NONCE, reading.error) {
+            return self.renew(&reading, digest);
+        }
+        self.settle(reading.is_success(), digest)
+    }
+
+    /// Keeps a challenge and answers it.
+    fn take_up(
+        &mut self,
+        reading: MessageReading<'_, '_>,
+        digest: Option<IntegrityAlgorithm>,
+    ) -> Result<LongTermClientValidation, LongTermClientAuthError> {
+        let kept = match self.offer(reading) {
+            Err(refusal) => return Err(refused(refusal)),
+            Ok(offer) => offer.kept(self.alloc, self.feature),
+        };
+        match kept {
+            Err(_) => Err(LongTermClientAuthError::new(
+                LongTermClientAuthErrorReason::OutOfMemory,
+            )),
+            Ok(kept) => {
+                self.state = State::Authenticating(kept);
+                Ok(LongTermClientValidation::ResendRequest(digest))
+            }
+        }
+    }
+
+    /// Keeps the realm and nonce that come with a stale nonce.
+    fn renew(
+        &mut self,
+        reading: &MessageReading<'_, '_>,
+        digest: Option<IntegrityAlgorithm>,
+    ) -> Result<LongTermClientValidation, LongTermClientAuthError> {
+        let Some(realm) = reading.realm else {
+            return self.settle(false, digest);
+        };
+        let Some(nonce) = reading.nonce else {
+            return self.settle(false, digest);
+        };
+        let Ok(realm) = LimitedText::copied(self.alloc, realm) else {
+            return Err(LongTermClientAuthError::new(
+                LongTermClientAuthErrorReason::OutOfMemory,
+            ));
+        };
+        let Ok(nonce) = LimitedText::copied(self.alloc, nonce) else {
+            return Err(LongTermClientAuthError::new(
+                LongTermClientAuthErrorReason::OutOfMemory,
+            ));
+        };
+        self.state.renew(realm, nonce);
+        Ok(LongTermClientValidation::ResendRequest(digest))
+    }
+}
+
+/// The error of a challenge that is refused.
+fn refused(refusal: ChallengeRefusal) -> LongTermClientAuthError {
+    match refusal {
+        ChallengeRefusal::Unauthorized => {
+            LongTermClientAuthError::new(LongTermClientAuthErrorReason::Unauthorized)
+        }
+        ChallengeRefusal::UnsupportedFeature => {
+            LongTermClientAuthError::new(LongTermClientAuthErrorReason::UnsupportedFeature)
+        }
+    }
+}

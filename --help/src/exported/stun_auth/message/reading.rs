@@ -1,0 +1,236 @@
+// Written by tools/export from crates/stun_auth/src/message/reading.rt, commit 90cb8b2b07bb, with changes: change that file, not this one.
+//! What an authenticator reads of a message, in one walk: the last visible attribute of each type,
+//! where it is well formed.
+//!
+//! Nothing here allocates.
+
+use crate::exported::stun_base::algorithm::IntegrityAlgorithm;
+use crate::exported::stun_base::prepared_key::PreparedKey;
+use crate::exported::stun_types::attribute::{
+    AttributeType, ErrorCode, Nonce, PasswordAlgorithm, PasswordAlgorithms, RawAttribute, Realm,
+    Userhash, Username,
+};
+use crate::exported::stun_types::message::{Message, MessageClass};
+use crate::exported::stun_types::prelude::AttributeFromRaw;
+use crate::kit::alloc::Allocator;
+
+/// The last visible attribute of each type that is read. Of the integrity attributes it is the
+/// first of each type, with its place.
+struct LastAttributes<'a> {
+    error_code: Option<RawAttribute<'a>>,
+    realm: Option<RawAttribute<'a>>,
+    nonce: Option<RawAttribute<'a>>,
+    username: Option<RawAttribute<'a>>,
+    userhash: Option<RawAttribute<'a>>,
+    password_algorithms: Option<RawAttribute<'a>>,
+    password_algorithm: Option<RawAttribute<'a>>,
+    integrity: Option<(usize, RawAttribute<'a>)>,
+    integrity_sha256: Option<(usize, RawAttribute<'a>)>,
+    /// Whether one of these two is well formed.
+    has_integrity: bool,
+}
+
+impl<'a> LastAttributes<'a> {
+    /// The last attributes of a message, in one walk of it.
+    fn of(message: &Message<'a>) -> Self {
+        let mut last = LastAttributes {
+            error_code: None,
+            realm: None,
+            nonce: None,
+            username: None,
+            userhash: None,
+            password_algorithms: None,
+            password_algorithm: None,
+            integrity: None,
+            integrity_sha256: None,
+            has_integrity: false,
+        };
+        for (place, attribute) in message.iter_attributes() {
+            last.note(place, attribute);
+        }
+        last
+    }
+
+    /// Takes one attribute more, which is then the last of its type.
+    fn note(&mut self, place: usize, attribute: RawAttribute<'a>) {
+        let kind = attribute.get_type();
+        if kind == AttributeType::USERNAME {
+            self.username = Some(attribute);
+        } else if kind == AttributeType::REALM {
+            self.realm = Some(attribute);
+        } else if kind == AttributeType::NONCE {
+            self.nonce = Some(attribute);
+        } else if kind == AttributeType::USERHASH {
+            self.userhash = Some(attribute);
+        } else if kind == AttributeType::PASSWORD_ALGORITHM {
+            self.password_algorithm = Some(attribute);
+        } else if kind == AttributeType::PASSWORD_ALGORITHMS {
+            self.password_algorithms = Some(attribute);
+        } else if kind == AttributeType::ERROR_CODE {
+            self.error_code = Some(attribute);
+        } else if kind == AttributeType::MESSAGE_INTEGRITY {
+            self.has_integrity = self.has_integrity || attribute.is_integrity();
+            if self.integrity.is_none() {
+                self.integrity = Some((place, attribute));
+            }
+        } else if kind == AttributeType::MESSAGE_INTEGRITY_SHA256 {
+            self.has_integrity = self.has_integrity || attribute.is_integrity();
+            if self.integrity_sha256.is_none() {
+                self.integrity_sha256 = Some((place, attribute));
+            }
+        }
+    }
+}
+
+/// A message, with the integrity attribute whose digest decides.
+struct Signature<'a, 'm> {
+    message: &'m Message<'a>,
+    decides: Option<(usize, RawAttribute<'a>)>,
+}
+
+impl Signature<'_, '_> {
+    /// The algorithm whose digest verifies under a key.
+    fn verified_under<A: Allocator>(&self, key: &PreparedKey<A>) -> Option<IntegrityAlgorithm> {
+        match &self.decides {
+            Some((place, attribute)) => self
+                .message
+                .validate_integrity_prepared(*place, attribute, key)
+                .ok(),
+            None => None,
+        }
+    }
+}
+
+/// An attribute as a value of type `A`, if it is there and well formed.
+fn read<'a, A: AttributeFromRaw<'a>>(attribute: Option<RawAttribute<'a>>) -> Option<A> {
+    match attribute {
+        Some(attribute) => A::from_raw(attribute).ok(),
+        None => None,
+    }
+}
+
+/// The code of an error response.
+fn error(class: MessageClass, attribute: Option<RawAttribute<'_>>) -> Option<u16> {
+    match class {
+        MessageClass::Error => match read::<ErrorCode<'_>>(attribute) {
+            Some(error) => Some(error.code()),
+            None => None,
+        },
+        _ => None,
+    }
+}
+
+/// The text of a REALM.
+fn realm<'a>(attribute: Option<RawAttribute<'a>>) -> Option<&'a str> {
+    match read::<Realm<'a>>(attribute) {
+        Some(realm) => Some(realm.realm()),
+        None => None,
+    }
+}
+
+/// The text of a NONCE.
+fn nonce<'a>(attribute: Option<RawAttribute<'a>>) -> Option<&'a str> {
+    match read::<Nonce<'a>>(attribute) {
+        Some(nonce) => Some(nonce.nonce()),
+        None => None,
+    }
+}
+
+/// The text of a USERNAME.
+fn username<'a>(attribute: Option<RawAttribute<'a>>) -> Option<&'a str> {
+    match read::<Username<'a>>(attribute) {
+        Some(username) => Some(username.username()),
+        None => None,
+    }
+}
+
+/// The hash of a USERHASH.
+fn userhash(attribute: Option<RawAttribute<'_>>) -> Option<[u8; 32]> {
+    match read::<Userhash>(attribute) {
+        Some(userhash) => Some(*userhash.hash()),
+        None => None,
+    }
+}
+
+/// The algorithm whose key the chosen password algorithm makes.
+fn algorithm(attribute: Option<RawAttribute<'_>>) -> Option<IntegrityAlgorithm> {
+    match read::<PasswordAlgorithm>(attribute) {
+        Some(chosen) => Some(chosen.algorithm().as_integrity()),
+        None => None,
+    }
+}
+
+/// What is read of a message (RFC 8489, sections 9.2.4 and 9.2.5). Each attribute is the last
+/// visible one of its type, if that is well formed.
+pub(crate) struct MessageReading<'a, 'm> {
+    signature: Signature<'a, 'm>,
+    class: MessageClass,
+    /// The code of an error response.
+    pub(crate) error: Option<u16>,
+    pub(crate) realm: Option<&'a str>,
+    pub(crate) nonce: Option<&'a str>,
+    pub(crate) username: Option<&'a str>,
+    pub(crate) userhash: Option<[u8; 32]>,
+    /// The list of password algorithms.
+    pub(crate) algorithms: Option<PasswordAlgorithms<'a>>,
+    /// The algorithm whose key the chosen password algorithm makes.
+    pub(crate) algorithm: Option<IntegrityAlgorithm>,
+    /// Whether a well-formed integrity attribute is visible.
+    pub(crate) has_integrity: bool,
+}
+
+impl<'a, 'm> MessageReading<'a, 'm> {
+    /// Reads a message, in one walk of its attributes.
+    pub(crate) fn of(message: &'m Message<'a>) -> Self {
+        let last = LastAttributes::of(message);
+        let class = message.class();
+        MessageReading {
+            signature: Signature {
+                message,
+                decides: last.integrity_sha256.or(last.integrity),
+            },
+            class,
+            error: error(class, last.error_code),
+            realm: realm(last.realm),
+            nonce: nonce(last.nonce),
+            username: username(last.username),
+            userhash: userhash(last.userhash),
+            algorithms: read::<PasswordAlgorithms<'a>>(last.password_algorithms),
+            algorithm: algorithm(last.password_algorithm),
+            has_integrity: last.has_integrity,
+        }
+    }
+
+    /// Whether the message is a response.
+    pub(crate) fn is_response(&self) -> bool {
+        matches!(self.class, MessageClass::Success | MessageClass::Error)
+    }
+
+    /// Whether the message is a success response.
+    pub(crate) fn is_success(&self) -> bool {
+        matches!(self.class, MessageClass::Success)
+    }
+
+    /// Whether REALM, NONCE and a name are there.
+    pub(crate) fn is_complete(&self) -> bool {
+        self.realm.is_some()
+            && self.nonce.is_some()
+            && (self.userhash.is_some() || self.username.is_some())
+    }
+
+    /// Whether the message has integrity, but lacks REALM, NONCE or a name.
+    pub(crate) fn is_malformed(&self) -> bool {
+        self.has_integrity && !self.is_complete()
+    }
+
+    /// The algorithm whose digest verifies under a key.
+    pub(crate) fn verified_under<A: Allocator>(
+        &self,
+        key: &PreparedKey<A>,
+    ) -> Option<IntegrityAlgorithm> {
+        if !self.has_integrity {
+            return None;
+        }
+        self.signature.verified_under(key)
+    }
+}

@@ -1,0 +1,295 @@
+// Written by tools/export from crates/stun_auth/src/server.rt, commit 90cb8b2b07bb, with changes: change that file, not this one.
+//! The server side of long-term authentication (RFC 8489, section 9.2.4).
+//!
+//! For each datagram that is a request, a server does the following (docs/PARTS.md gives the
+//! reasons):
+//!
+//! 1. It calls `validate_incoming_message` with the source address, the current time and a source
+//!    of random numbers.
+//! 2. On `Validated` it asks `client` for the user who sent the request, and builds a success or an
+//!    error response. If the request is refused, it builds an error response: 401 for
+//!    `Unauthorized`, 438 for `StaleNonce`, 400 or 438 for `BadRequest`.
+//! 3. It calls `sign_outgoing_message`, which adds nonce, realm and signature to the response. Only
+//!    the 400 of a request that failed authentication, which was refused with `BadRequest`, goes
+//!    out as it is.
+//! 4. It calls `remove_client`, because each request brings its own credentials.
+//!
+//! Every few seconds it calls `forget_expired` or `forget_expired_within`.
+//!
+//! A server that stores nothing about its clients calls `nonce_of_words`, `judge` and
+//! `add_challenge` instead.
+
+use crate::exported::stun_auth::algorithm_set::AlgorithmSet;
+use crate::exported::stun_auth::feature::Feature;
+use crate::exported::stun_auth::server::places::Places;
+use crate::exported::stun_auth::server::registry::Registry;
+use crate::exported::stun_auth::server::stored_keys::StoredKeys;
+use crate::exported::stun_base::algorithm::IntegrityAlgorithm;
+use crate::exported::stun_base::credentials::LongTermCredentials;
+use crate::exported::stun_base::instant::Instant;
+use crate::kit::alloc::{AllocError, Allocator, Global};
+use crate::kit::prelude::String;
+use core::fmt;
+use core::net::SocketAddr;
+use core::time::Duration;
+
+pub(crate) mod accepted;
+mod handed;
+mod judged;
+pub(crate) mod name_index;
+pub(crate) mod named_user;
+pub(crate) mod places;
+pub(crate) mod reason;
+pub(crate) mod registry;
+mod signing;
+pub(crate) mod stored_keys;
+pub(crate) mod told;
+pub(crate) mod user;
+pub(crate) mod user_secret;
+mod validation;
+pub(crate) mod verdict;
+
+/// The shortest time that a nonce may last, in seconds.
+const MINIMUM_NONCE_EXPIRY_SECONDS: u64 = 30;
+
+/// How long a nonce lasts unless another time is set, in seconds.
+const DEFAULT_NONCE_EXPIRY_SECONDS: u64 = 3600;
+
+/// Returns the shortest time for which a nonce may be valid, 30 seconds: the least that
+/// `LongTermServerAuth::set_nonce_expiry_duration` accepts.
+pub fn minimum_nonce_expiry_duration() -> Duration {
+    Duration::from_secs(MINIMUM_NONCE_EXPIRY_SECONDS)
+}
+
+/// The server side of long-term authentication (RFC 8489, section 9.2.4): the users of a realm, and
+/// a record for each client address.
+///
+/// The record of an address holds the latest nonce that was made for it, the time at which that
+/// nonce expires, the algorithms that the address was offered, and its *client*: the user who was
+/// validated there last.
+///
+/// Almost every request or indication from a new address adds a record, even if it is refused. The
+/// only exception is a message that has an integrity attribute but lacks REALM, NONCE or a user
+/// name. So anybody who can send from many addresses makes the server grow, and you have to set a
+/// limit to `address_count`.
+///
+/// A record stays until a call forgets it or the server is dropped. `forget_expired` forgets it
+/// once its nonce has expired, if it has no client. `forget` does so at once.
+///
+/// `Debug` shows nothing of the contents.
+pub struct LongTermServerAuth<A: Allocator = Global> {
+    alloc: A,
+    registry: Registry<A>,
+    feature: Feature,
+    expiry: Duration,
+    places: Places<A>,
+}
+
+impl<A: Allocator> fmt::Debug for LongTermServerAuth<A> {
+    fn fmt(&self, f: &mut fmt::Formatter<'_>) -> fmt::Result {
+        f.write_str("LongTermServerAuth { .. }")
+    }
+}
+
+impl<A: Allocator + Copy> LongTermServerAuth<A> {
+    /// Creates a server for a realm, without users. It supports HMAC-SHA1 only, accepts hashed user
+    /// names (`Feature::Auto`), and its nonces are valid for 3600 seconds.
+    ///
+    /// A realm longer than 763 bytes is accepted here, but then no response can be signed (RFC
+    /// 8489, section 14.9). The call does not allocate.
+    pub fn new(alloc: A, realm: String<A>) -> Self {
+        LongTermServerAuth {
+            alloc,
+            registry: Registry::new(alloc, realm),
+            feature: Feature::Auto,
+            expiry: Duration::from_secs(DEFAULT_NONCE_EXPIRY_SECONDS),
+            places: Places::new(alloc),
+        }
+    }
+
+    /// Returns the realm, which is the value of REALM in signed responses (RFC 8489, section 14.9).
+    pub fn realm(&self) -> &str {
+        self.registry.realm()
+    }
+
+    /// Returns the supported algorithms, the strongest first: HMAC-SHA256 before HMAC-SHA1.
+    pub fn supported_integrity(&self) -> &[IntegrityAlgorithm] {
+        self.registry.supported().as_slice()
+    }
+
+    /// Returns whether clients may send a hash (USERHASH) in place of the user name (RFC 8489,
+    /// section 14.4).
+    pub fn anonymous_username(&self) -> Feature {
+        self.feature
+    }
+
+    /// Returns the number of addresses that have a record, in constant time, so that you can set a
+    /// limit.
+    ///
+    /// A message from a new address may add one. Only `forget`, `forget_expired` and
+    /// `forget_expired_within` remove any. If you have a message validated only while the count is
+    /// below your limit or its address has a record, the count never exceeds that limit.
+    pub fn address_count(&self) -> usize {
+        self.places.len()
+    }
+
+    /// Returns the latest nonce that was made for an address, whether it has expired or not, or
+    /// `None` if the address has no record.
+    pub fn nonce_for_client(&self, address: SocketAddr) -> Option<&str> {
+        match self.places.get(address) {
+            Some(place) => Some(place.nonce.as_str()),
+            None => None,
+        }
+    }
+
+    /// Returns the client of an address: the user who was validated there last, and the algorithm
+    /// that both sides agreed on. This is the user whom the last request or indication from there
+    /// named that was `Validated`.
+    ///
+    /// Call this right after `Validated` to learn who sent the request. Neither the first USERNAME
+    /// of a message nor the algorithm of its signature tells that. A refused message changes
+    /// nothing here, and a user who has been removed since is still returned.
+    ///
+    /// Returns `None` if nobody was validated at the address, or after `remove_client`.
+    pub fn client(&self, address: SocketAddr) -> Option<(&str, IntegrityAlgorithm)> {
+        match self.places.get(address) {
+            Some(place) => match &place.client {
+                Some(client) => Some((client.name.as_str(), client.algorithm)),
+                None => None,
+            },
+            None => None,
+        }
+    }
+
+    /// Registers a user with a key for each supported algorithm (RFC 8489, section 9.2.2). A
+    /// registered user with this name gets this password, and the keys that it makes, instead of
+    /// the secret that it had.
+    ///
+    /// A name longer than 513 bytes is accepted, but only a USERHASH can name such a user (section
+    /// 14.3).
+    ///
+    /// Fails if an allocation fails. The server is then unchanged.
+    pub fn add_user(&mut self, credentials: LongTermCredentials<A>) -> Result<(), AllocError> {
+        self.registry.add_user(credentials)
+    }
+
+    /// Registers a user by stored keys in place of a password. A registered user with this name
+    /// gets these keys instead of the secret that it had.
+    ///
+    /// Clients derive their keys for the realm that the server sends, so `keys` must have been made
+    /// for this realm. The user has the keys of the algorithms that the server supports, also of
+    /// those that it comes to support later, as far as `keys` has them.
+    ///
+    /// A name of more than 513 bytes is accepted, but only a USERHASH can name such a user, because
+    /// USERNAME is limited to 513 bytes (RFC 8489, section 14.3).
+    ///
+    /// Fails if an allocation fails. The server is then unchanged.
+    pub fn add_user_with_keys(
+        &mut self,
+        name: String<A>,
+        keys: StoredKeys,
+    ) -> Result<(), AllocError> {
+        self.registry.add_user_with_keys(name, keys)
+    }
+
+    /// Adds a supported algorithm, and makes its key for each user. It does not allocate.
+    pub fn add_supported_integrity(&mut self, algorithm: IntegrityAlgorithm) {
+        let supported = self.registry.supported().with(algorithm);
+        self.registry.set_supported(supported);
+    }
+
+    /// Makes this the only supported algorithm: each user has a key for it, and no other. It does
+    /// not allocate.
+    ///
+    /// Call it before the first message arrives, because messages to a client that uses another
+    /// algorithm can no longer be signed until you call `remove_client`.
+    pub fn set_supported_integrity(&mut self, algorithm: IntegrityAlgorithm) {
+        self.registry.set_supported(AlgorithmSet::only(algorithm));
+    }
+
+    /// Sets whether clients may send a hash (USERHASH) in place of the user name (RFC 8489, section
+    /// 14.4). Nonces that are made from now on tell them so.
+    ///
+    /// A server treats `Feature::Required` like `Feature::Auto`: it still accepts a plain USERNAME.
+    ///
+    /// It never fails. The `Result` leaves room for a server that stores hashes only if they are
+    /// needed.
+    pub fn set_anonymous_username(&mut self, feature: Feature) -> Result<(), AllocError> {
+        self.feature = feature;
+        Ok(())
+    }
+
+    /// Removes a user and the user's keys, so that requests in that name are refused from now on.
+    /// It does not allocate.
+    ///
+    /// If the user is still the client of an address, messages to that address cannot be signed
+    /// (`IntegrityFailed`) until you call `remove_client` for it.
+    pub fn remove_user(&mut self, name: &str) {
+        self.registry.remove_user(name);
+    }
+
+    /// Forgets the client of an address, but not its nonce and its offer. Messages to this address
+    /// get no signature until a client is validated there again. It does not allocate.
+    ///
+    /// Call it after every response. As long as an address has a client, its record never expires,
+    /// and its 401 and 438 responses have no list of algorithms, so that a client that starts
+    /// afresh at the same address cannot authenticate.
+    pub fn remove_client(&mut self, address: SocketAddr) {
+        self.places.set_client(address, None);
+    }
+
+    /// Removes the record of an address: its nonce and when that expires, its offer, and its
+    /// client. The records of other addresses stay. The next message from the address is treated as
+    /// the first.
+    ///
+    /// It finds the record in logarithmic time, and does not allocate.
+    pub fn forget(&mut self, address: SocketAddr) {
+        self.places.forget(address);
+    }
+
+    /// Removes every record that has no client and whose nonce expired before `now`, and frees its
+    /// memory. Other records stay.
+    ///
+    /// Pass the current time minus the nonce lifetime, so that a record outlives its nonce by as
+    /// long again. A client that comes back within that time is answered 438 and can continue. If
+    /// its record were gone, and it repeated the algorithms that it was once offered, it would be
+    /// refused with `BadRequest`.
+    ///
+    /// This visits every record once, so call it every few seconds rather than for each message. It
+    /// does not allocate.
+    pub fn forget_expired(&mut self, now: Instant) {
+        self.places.forget_expired(now);
+    }
+
+    /// Like `forget_expired`, but visits at most `most` records, so that a server with many records
+    /// has no long pause.
+    ///
+    /// It visits addresses that have a record, in the order of `SocketAddr`, starting at `from`, or
+    /// at the first one if `from` is `None`. It returns the first address that it did not visit, or
+    /// `None` once it has visited the last. Pass the result of each call to the next:
+    ///
+    /// ```text
+    /// next = auth.forget_expired_within(now, next, 100);
+    /// ```
+    ///
+    /// Calls up to a `None`, with no other call between them, forget together what `forget_expired`
+    /// does. A record that is made between them is visited if
+    /// its address comes after `next`, and otherwise in the next round.
+    ///
+    /// It does not allocate. Each record costs one look-up, and one more if it is removed.
+    pub fn forget_expired_within(
+        &mut self,
+        now: Instant,
+        from: Option<SocketAddr>,
+        most: usize,
+    ) -> Option<SocketAddr> {
+        self.places.forget_expired_within(now, from, most)
+    }
+
+    /// Sets how long new nonces are valid. Existing nonces are not affected.
+    ///
+    /// `expiry` must be at least `minimum_nonce_expiry_duration()`, which is 30 seconds.
+    pub fn set_nonce_expiry_duration(&mut self, expiry: Duration) {
+        self.expiry = expiry;
+    }
+}

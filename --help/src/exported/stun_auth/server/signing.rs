@@ -1,0 +1,252 @@
+// Written by tools/export from crates/stun_auth/src/server/signing.rt, commit 90cb8b2b07bb, with changes: change that file, not this one.
+//! Signing what a server sends (RFC 8489, section 9.2.4).
+
+use crate::exported::stun_auth::algorithm_set::AlgorithmSet;
+use crate::exported::stun_auth::message::addition::{
+    AddedAttribute, add, add_integrity, attribute_bytes, integrity_bytes,
+};
+use crate::exported::stun_auth::server::LongTermServerAuth;
+use crate::exported::stun_auth::server::places::{Place, ValidatedUser};
+use crate::exported::stun_types::message::{IntegrityAlgorithm, StunWriteError};
+use crate::exported::stun_types::prelude::*;
+use crate::kit::alloc::{AllocError, Allocator};
+use core::net::SocketAddr;
+
+/// Whether the message in a writer is a response.
+fn is_response<W: MessageWrite>(writer: &W) -> bool {
+    writer.is_response()
+}
+
+impl<A: Allocator + Copy> LongTermServerAuth<A> {
+    /// Returns the number of bytes that `sign_outgoing_message` adds to a message to an address, at
+    /// most 2^64 - 1, or 0 if no nonce was made for the address.
+    ///
+    /// `is_request` is true for a request or an indication, and false for a response. The call does
+    /// not look whether signing would fail, for example because the client's user was removed or
+    /// the realm is too long.
+    pub fn message_signature_bytes(&self, to: SocketAddr, is_request: bool) -> usize {
+        match self.places.get(to) {
+            Some(place) => self.signature_bytes(place, !is_request),
+            None => 0,
+        }
+    }
+
+    /// Signs a message to a client: adds the challenge, and the signature if the address has a
+    /// client (RFC 8489, section 9.2.4).
+    ///
+    /// If no nonce was made for the address, the message is unchanged. Otherwise these attributes
+    /// are added, in this order:
+    ///
+    /// - to a response, NONCE and REALM;
+    /// - to a response to an address without a client, PASSWORD-ALGORITHMS, which lists the
+    ///   supported algorithms. They are then the ones that this address was offered, so send what
+    ///   you sign;
+    /// - PASSWORD-ALGORITHM, if the client uses HMAC-SHA256;
+    /// - MESSAGE-INTEGRITY or MESSAGE-INTEGRITY-SHA256, if the address has a client, under the key
+    ///   that the user has now.
+    ///
+    /// Sign every response to a message that was `Validated`, whatever its error code: a client
+    /// drops an unsigned response to a signed request, and waits until its request times out. Pass
+    /// the 401 and the 438 of a refused request to this call too, because they need the nonce and
+    /// the realm. Only the 400 of a request that failed authentication, which was refused with
+    /// `BadRequest`, goes out as it is.
+    ///
+    /// The writer must hold a message without FINGERPRINT. The attributes are added one after
+    /// another, and the first error decides. It drops the writer and leaves the server unchanged.
+    ///
+    /// - `MessageIntegrityExists`, `AttributeExists`: the message has a signature, or this
+    ///   attribute, already.
+    /// - `TooLarge`: the message would be too long, or the realm has more than 763 bytes.
+    /// - `TooSmall`: the writer has no room.
+    /// - `IntegrityFailed`: the client's user was removed, or has no key for the algorithm any
+    ///   more.
+    /// - `OutOfMemory`: an allocation failed.
+    pub fn sign_outgoing_message<W: MessageWrite>(
+        &mut self,
+        writer: W,
+        to: SocketAddr,
+    ) -> Result<W, StunWriteError> {
+        let mut writer = writer;
+        let is_response = is_response(&writer);
+        self.add_signature(&mut writer, to, is_response)?;
+        if is_response {
+            let supported = self.registry.supported();
+            self.places.offer(to, supported);
+        }
+        Ok(writer)
+    }
+
+    /// Like `sign_outgoing_message`, for a message that you know to be signable, which it signs in
+    /// the same way.
+    ///
+    /// A signable message has no integrity attribute, no FINGERPRINT, and none of the attributes
+    /// that signing adds. Its writer and its length field have room for what is added. The realm
+    /// has at most 763 bytes, and the client's user is still registered and has the key.
+    ///
+    /// Fails if an allocation fails. The server is then unchanged.
+    pub fn sign_outgoing_message_unchecked<W: MessageWrite>(
+        &mut self,
+        writer: W,
+        to: SocketAddr,
+    ) -> Result<W, AllocError> {
+        match self.sign_outgoing_message(writer, to) {
+            Ok(signed) => Ok(signed),
+            Err(_) => Err(AllocError),
+        }
+    }
+
+    /// Adds to a message to an address what signing adds.
+    fn add_signature<W: MessageWrite>(
+        &self,
+        writer: &mut W,
+        to: SocketAddr,
+        is_response: bool,
+    ) -> Result<(), StunWriteError> {
+        match self.places.get(to) {
+            Some(place) => self.sign_at(writer, place, is_response),
+            None => Ok(()),
+        }
+    }
+
+    /// Adds to a message to an address with this place what signing adds.
+    fn sign_at<W: MessageWrite>(
+        &self,
+        writer: &mut W,
+        place: &Place<A>,
+        is_response: bool,
+    ) -> Result<(), StunWriteError> {
+        self.add_attributes(writer, place, is_response)?;
+        match &place.client {
+            Some(client) => self.add_digest(writer, client),
+            None => Ok(()),
+        }
+    }
+
+    /// Adds the attributes before the integrity attribute.
+    fn add_attributes<W: MessageWrite>(
+        &self,
+        writer: &mut W,
+        place: &Place<A>,
+        is_response: bool,
+    ) -> Result<(), StunWriteError> {
+        if is_response {
+            self.add_nonce_and_realm(writer, place.nonce.as_str())?;
+            self.add_algorithms(writer, &place.client, true)
+        } else {
+            self.add_algorithms(writer, &place.client, false)
+        }
+    }
+
+    /// Names the algorithm of a client. Without a client, a response lists the supported
+    /// algorithms.
+    fn add_algorithms<W: MessageWrite>(
+        &self,
+        writer: &mut W,
+        client: &Option<ValidatedUser<A>>,
+        is_response: bool,
+    ) -> Result<(), StunWriteError> {
+        match client {
+            Some(client) => add_named_algorithm(writer, client.algorithm),
+            None => {
+                if is_response {
+                    self.add_offer(writer)
+                } else {
+                    Ok(())
+                }
+            }
+        }
+    }
+
+    /// Adds nonce and realm.
+    pub(crate) fn add_nonce_and_realm<W: MessageWrite>(
+        &self,
+        writer: &mut W,
+        nonce: &str,
+    ) -> Result<(), StunWriteError> {
+        add(writer, AddedAttribute::Nonce(nonce))?;
+        add(writer, AddedAttribute::Realm(self.registry.realm()))
+    }
+
+    /// Adds the supported algorithms.
+    pub(crate) fn add_offer<W: MessageWrite>(&self, writer: &mut W) -> Result<(), StunWriteError> {
+        let offered = self.registry.supported().password_algorithms();
+        add(writer, AddedAttribute::PasswordAlgorithms(offered))
+    }
+
+    /// Adds the integrity attribute under the present key of a client.
+    fn add_digest<W: MessageWrite>(
+        &self,
+        writer: &mut W,
+        client: &ValidatedUser<A>,
+    ) -> Result<(), StunWriteError> {
+        match self.registry.key(client.name.as_str(), client.algorithm) {
+            Some(key) => add_integrity(writer, key, client.algorithm),
+            None => Err(StunWriteError::IntegrityFailed),
+        }
+    }
+
+    /// How many bytes signing adds to a message to an address with this place, at most 2^64 - 1.
+    fn signature_bytes(&self, place: &Place<A>, is_response: bool) -> usize {
+        self.challenge_bytes(place.nonce.as_str(), is_response)
+            .saturating_add(self.algorithms_bytes(&place.client, is_response))
+            .saturating_add(protection_bytes(&place.client))
+    }
+
+    /// How many bytes nonce and realm take, at most 2^64 - 1.
+    fn challenge_bytes(&self, nonce: &str, is_response: bool) -> usize {
+        if !is_response {
+            return 0;
+        }
+        attribute_bytes(nonce.len()).saturating_add(attribute_bytes(self.registry.realm().len()))
+    }
+
+    /// How many bytes the attributes after nonce and realm take.
+    fn algorithms_bytes(&self, client: &Option<ValidatedUser<A>>, is_response: bool) -> usize {
+        match client {
+            Some(client) => named_algorithm_bytes(client.algorithm),
+            None => {
+                if is_response {
+                    self.offer_bytes()
+                } else {
+                    0
+                }
+            }
+        }
+    }
+
+    /// How many bytes the offer of the supported algorithms takes.
+    fn offer_bytes(&self) -> usize {
+        match self.registry.supported() {
+            AlgorithmSet::OnlySha1 => 8,
+            AlgorithmSet::OnlySha256 => 8,
+            AlgorithmSet::Both => 12,
+        }
+    }
+}
+
+/// Adds the algorithm of a client, unless it is HMAC-SHA1.
+fn add_named_algorithm<W: MessageWrite>(
+    writer: &mut W,
+    algorithm: IntegrityAlgorithm,
+) -> Result<(), StunWriteError> {
+    match algorithm {
+        IntegrityAlgorithm::Sha1 => Ok(()),
+        IntegrityAlgorithm::Sha256 => add(writer, AddedAttribute::PasswordAlgorithm(algorithm)),
+    }
+}
+
+/// How many bytes `add_named_algorithm` adds.
+fn named_algorithm_bytes(algorithm: IntegrityAlgorithm) -> usize {
+    match algorithm {
+        IntegrityAlgorithm::Sha1 => 0,
+        IntegrityAlgorithm::Sha256 => 8,
+    }
+}
+
+/// How many bytes the integrity attribute to a client takes.
+fn protection_bytes<A: Allocator>(client: &Option<ValidatedUser<A>>) -> usize {
+    match client {
+        Some(client) => integrity_bytes(client.algorithm),
+        None => 0,
+    }
+}

@@ -1,0 +1,13 @@
+// Written by tools/export from crates/stun_base/src/keys.rt, commit 90cb8b2b07bb, with changes: change that file, not this one.
+//! Digests, the keys that they are computed with, and the credentials that keys are derived from
+//! (RFC 8489, sections 9 and 14.5; RFC 2104).
+
+pub mod algorithm;
+pub mod compare;
+pub mod credentials;
+pub(crate) mod hash;
+pub mod hmac;
+pub mod key;
+pub(crate) mod no_memory;
+pub mod prepared_key;
+pub(crate) mod short_text;

@@ -1,0 +1,16 @@
+// Written by tools/export from crates/stun_endpoint/src/lib.rt, commit 90cb8b2b07bb, with changes: change that file, not this one.
+//! A STUN server as one value: what a datagram comes to, without a record of any address (RFC 8489,
+//! sections 6.3 and 9.2).
+
+pub mod lookup;
+mod nonces;
+pub mod open;
+mod pages;
+pub mod received;
+pub mod reply;
+pub mod responder;
+pub mod server;
+pub mod short_term;
+mod understood;
+pub mod unix_time;
+pub mod users;

@@ -1,0 +1,210 @@
+// Written by tools/export from crates/stun_endpoint/src/server/settings.rt, commit 90cb8b2b07bb, with changes: change that file, not this one.
+//! The settings of a server, which are checked when it is built.
+
+use crate::exported::stun_auth::auth::{Feature, LongTermServerAuth};
+use crate::exported::stun_base::attribute_type::AttributeType;
+use crate::exported::stun_base::key::IntegrityKey;
+use crate::exported::stun_base::prepared_key::PreparedKey;
+use crate::exported::stun_endpoint::responder::{Responder, text_length, with_stun_attributes};
+use crate::exported::stun_endpoint::server::Server;
+use crate::exported::stun_types::limits::TEXT_LIMIT;
+use crate::exported::stun_types::message::IntegrityAlgorithm;
+use crate::kit::alloc::{AllocError, Allocator, Global};
+use crate::kit::prelude::String;
+use crate::kit::prelude::Vec;
+
+/// The fewest seconds of a nonce lifetime.
+pub const SHORTEST_NONCE_LIFETIME: u64 = 30;
+
+/// The seconds of a nonce lifetime, unless another is set.
+pub const DEFAULT_NONCE_LIFETIME: u64 = 3600;
+
+/// The types of STUN's own attributes that must be understood. Each server understands them.
+pub const STUN_ATTRIBUTES: [AttributeType; 11] = [
+    AttributeType(0x0001),
+    AttributeType::USERNAME,
+    AttributeType::MESSAGE_INTEGRITY,
+    AttributeType::ERROR_CODE,
+    AttributeType(0x000A),
+    AttributeType::REALM,
+    AttributeType::NONCE,
+    AttributeType::MESSAGE_INTEGRITY_SHA256,
+    AttributeType::PASSWORD_ALGORITHM,
+    AttributeType::USERHASH,
+    AttributeType::XOR_MAPPED_ADDRESS,
+];
+
+/// The settings of a server with long-term credentials (RFC 8489, section 9.2). `new` sets both
+/// algorithms, allows hashed names, and has nonces of one hour.
+pub struct LongTerm<A: Allocator = Global> {
+    /// The realm, of at most 763 bytes (section 14.9).
+    pub realm: String<A>,
+    /// 32 random bytes. Whoever has them can make nonces that are accepted. Servers with the same
+    /// secret, algorithms, `user_hashes` and nonce lifetime accept each other's nonces, if the nonce
+    /// is of the epoch that each has on its own clock, or of the epoch before. So a server refuses a
+    /// nonce of an epoch that has not begun on its clock, as when the clock of the server that sent
+    /// it is ahead. A server that starts again with this secret serves its old clients at once if
+    /// its clock goes on, as that of the wall does.
+    pub secret: [u8; 32],
+    /// A secret whose nonces are accepted too, but never sent. Set it to the secret before when you
+    /// change the secret, and remove it two nonce lifetimes later.
+    pub previous_secret: Option<[u8; 32]>,
+    /// Whether HMAC-SHA1 is supported, whose keys are made by MD5.
+    pub hmac_sha1: bool,
+    /// Whether HMAC-SHA256 is supported, whose keys are made by SHA-256.
+    pub hmac_sha256: bool,
+    /// Whether clients may send a hash in place of a name (section 14.4).
+    pub user_hashes: bool,
+    /// How many seconds a nonce is sent. It is accepted for one to two times as long.
+    pub nonce_lifetime: u64,
+    /// The types of attributes that you understand, beside those of STUN.
+    pub understood: Vec<AttributeType, A>,
+    /// The text of SOFTWARE in each response, of at most 763 bytes (section 14.14).
+    pub software: Option<String<A>>,
+    /// Whether an accepted Binding request gets its response without you.
+    pub answers_binding: bool,
+}
+
+/// Why a server is not built.
+#[derive(Clone, Copy, Debug, PartialEq, Eq)]
+#[non_exhaustive]
+pub enum BuildError {
+    /// The realm has more than 763 bytes, so no response could carry it.
+    RealmTooLong,
+    /// The text of SOFTWARE has more than 763 bytes, so no response could carry it.
+    SoftwareTooLong,
+    /// A nonce would last for less than 30 seconds.
+    NonceLifetime,
+    /// No algorithm is supported.
+    NoAlgorithm,
+    /// An allocation failed.
+    OutOfMemory,
+}
+
+impl core::fmt::Display for BuildError {
+    fn fmt(&self, f: &mut core::fmt::Formatter<'_>) -> core::fmt::Result {
+        match self {
+            BuildError::RealmTooLong => write!(f, "the realm has more than 763 bytes"),
+            BuildError::SoftwareTooLong => {
+                write!(f, "the text of SOFTWARE has more than 763 bytes")
+            }
+            BuildError::NonceLifetime => write!(f, "a nonce lasts for less than 30 seconds"),
+            BuildError::NoAlgorithm => write!(f, "no algorithm is supported"),
+            BuildError::OutOfMemory => write!(f, "out of memory"),
+        }
+    }
+}
+
+impl core::error::Error for BuildError {}
+
+impl<A: Allocator + Copy> LongTerm<A> {
+    /// Returns the settings of a realm with this secret: both algorithms, hashed names, nonces of one
+    /// hour, no further attributes, no SOFTWARE, and Binding requests for you.
+    pub fn new(alloc: A, realm: String<A>, secret: [u8; 32]) -> LongTerm<A> {
+        LongTerm {
+            realm,
+            secret,
+            previous_secret: None,
+            hmac_sha1: true,
+            hmac_sha256: true,
+            user_hashes: true,
+            nonce_lifetime: DEFAULT_NONCE_LIFETIME,
+            understood: Vec::new(alloc),
+            software: None,
+            answers_binding: false,
+        }
+    }
+
+    /// Why no server is built of these settings, if none is.
+    fn refusal(&self) -> Option<BuildError> {
+        if self.realm.len() > TEXT_LIMIT {
+            return Some(BuildError::RealmTooLong);
+        }
+        if text_length(&self.software) > TEXT_LIMIT {
+            return Some(BuildError::SoftwareTooLong);
+        }
+        if self.nonce_lifetime < SHORTEST_NONCE_LIFETIME {
+            return Some(BuildError::NonceLifetime);
+        }
+        if self.hmac_sha1 || self.hmac_sha256 {
+            return None;
+        }
+        Some(BuildError::NoAlgorithm)
+    }
+}
+
+/// A realm without users.
+pub(super) fn empty_realm<A: Allocator + Copy>(
+    alloc: A,
+    realm: String<A>,
+    hmac_sha1: bool,
+    hmac_sha256: bool,
+    user_hashes: bool,
+) -> LongTermServerAuth<A> {
+    let mut auth = LongTermServerAuth::new(alloc, realm);
+    if hmac_sha256 {
+        if hmac_sha1 {
+            auth.add_supported_integrity(IntegrityAlgorithm::Sha256);
+        } else {
+            auth.set_supported_integrity(IntegrityAlgorithm::Sha256);
+        }
+    }
+    if !user_hashes {
+        let _ = auth.set_anonymous_username(Feature::Disabled);
+    }
+    auth
+}
+
+/// A secret, prepared for HMAC-SHA1.
+fn prepared<A: Allocator + Copy>(alloc: A, secret: &[u8; 32]) -> PreparedKey<A> {
+    // proved: cannot panic (crates/stun_endpoint/src/server/settings.rt:176)
+    let key = IntegrityKey::from_bytes(alloc, secret).unwrap();
+    PreparedKey::new(key, IntegrityAlgorithm::Sha1)
+}
+
+/// The secret before, prepared, if there is one.
+fn prepared_if<A: Allocator + Copy>(alloc: A, secret: &Option<[u8; 32]>) -> Option<PreparedKey<A>> {
+    match secret {
+        Some(secret) => Some(prepared(alloc, secret)),
+        None => None,
+    }
+}
+
+impl<A: Allocator + Copy> Server<A> {
+    /// Builds a server. Of the reasons to fail, the first that holds is returned: `RealmTooLong`,
+    /// `SoftwareTooLong`, `NonceLifetime`, `NoAlgorithm`, and then `OutOfMemory` if an allocation
+    /// fails.
+    pub fn new(alloc: A, settings: LongTerm<A>) -> Result<Server<A>, BuildError> {
+        if let Some(refusal) = settings.refusal() {
+            return Err(refusal);
+        }
+        match Server::built_of(alloc, settings) {
+            Ok(server) => Ok(server),
+            Err(_) => Err(BuildError::OutOfMemory),
+        }
+    }
+
+    /// Builds a server of settings that were checked.
+    fn built_of(alloc: A, settings: LongTerm<A>) -> Result<Server<A>, AllocError> {
+        let known = with_stun_attributes(settings.understood)?;
+        let responder = Responder::of(alloc, known, settings.software, settings.answers_binding);
+        let auth = empty_realm(
+            alloc,
+            settings.realm,
+            settings.hmac_sha1,
+            settings.hmac_sha256,
+            settings.user_hashes,
+        );
+        Ok(Server {
+            alloc,
+            auth,
+            hmac_sha1: settings.hmac_sha1,
+            hmac_sha256: settings.hmac_sha256,
+            user_hashes: settings.user_hashes,
+            secret: prepared(alloc, &settings.secret),
+            previous: prepared_if(alloc, &settings.previous_secret),
+            lifetime: settings.nonce_lifetime,
+            responder,
+        })
+    }
+}

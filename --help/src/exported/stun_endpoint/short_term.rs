@@ -1,0 +1,202 @@
+// Written by tools/export from crates/stun_endpoint/src/short_term.rt, commit 90cb8b2b07bb, with changes: change that file, not this one.
+//! A server with short-term credentials (RFC 8489, section 9.1.3): each request and each indication
+//! has the name of a user and is signed with the user's password.
+//!
+//! It is a type of its own, and not a mode of `Server`, because nothing of a realm is in it: it has
+//! no nonces, and so no secret and no clock, and it protects indications too. Both write their
+//! responses by the same `Responder`.
+
+use crate::exported::stun_endpoint::received::{Answer, DropReason, Refusal, Request};
+use crate::exported::stun_endpoint::responder::{Responder, ResponseSettings, read};
+use crate::exported::stun_endpoint::server::{BuildError, STUN_ATTRIBUTES};
+use crate::exported::stun_types::message::{IntegrityAlgorithm, Message, MessageClass};
+use crate::kit::alloc::{AllocError, Allocator, Global};
+use core::fmt;
+use core::net::SocketAddr;
+
+mod signer;
+mod users;
+
+use signer::{Signer, signer_of};
+pub use users::ShortTermUsers;
+
+/// A STUN server with short-term credentials (RFC 8489, section 9.1). It stores nothing about its
+/// clients, and no call changes it, so threads share it without a lock. The users are an argument of
+/// each call.
+pub struct ShortTermServer<A: Allocator = Global> {
+    responder: Responder<A>,
+}
+
+impl<A: Allocator> fmt::Debug for ShortTermServer<A> {
+    fn fmt(&self, f: &mut fmt::Formatter<'_>) -> fmt::Result {
+        f.write_str("ShortTermServer { .. }")
+    }
+}
+
+/// What a datagram comes to at a server with short-term credentials.
+#[derive(Debug)]
+#[non_exhaustive]
+pub enum ShortTermReceived<'a, A: Allocator = Global> {
+    /// Send this response.
+    Answer(Answer<A>),
+    /// The request is accepted. Respond to it, now or later.
+    Request(Request<'a, A>),
+    /// An indication that a user has signed, and whose attributes are understood.
+    Indication(ShortTermIndication<'a>),
+    /// A response, for a client on the same socket.
+    Response(Message<'a>),
+    /// The datagram is dropped: it is an indication that no user has signed. A request like it would
+    /// be refused in this way.
+    NotSigned(Refusal),
+    /// The datagram is dropped, for this reason.
+    Dropped(DropReason),
+}
+
+/// An indication that a user has signed.
+#[derive(Debug)]
+pub struct ShortTermIndication<'a> {
+    message: Message<'a>,
+    user: &'a str,
+    algorithm: IntegrityAlgorithm,
+}
+
+impl<'a> ShortTermIndication<'a> {
+    /// Returns the message.
+    pub fn message(&self) -> &Message<'a> {
+        &self.message
+    }
+
+    /// Returns the name of the user who has signed the indication.
+    pub fn user(&self) -> &'a str {
+        self.user
+    }
+
+    /// Returns the algorithm of the signature.
+    pub fn algorithm(&self) -> IntegrityAlgorithm {
+        self.algorithm
+    }
+}
+
+impl<A: Allocator> ShortTermServer<A> {
+    /// Builds a server. Of the reasons to fail, the first that holds is returned:
+    ///
+    /// - `SoftwareTooLong`: the text of SOFTWARE has more than 763 bytes.
+    /// - `OutOfMemory`: an allocation failed.
+    pub fn new(alloc: A, settings: ResponseSettings<A>) -> Result<ShortTermServer<A>, BuildError> {
+        let responder = Responder::new(alloc, settings)?;
+        Ok(ShortTermServer { responder })
+    }
+}
+
+impl<A: Allocator + Copy> ShortTermServer<A> {
+    /// Judges a datagram, and writes the response if it gets one at once.
+    ///
+    /// `from` is the address that it came from. An IPv4 address is the same in both spellings,
+    /// `a.b.c.d` and `::ffff:a.b.c.d`. `users` are the users at this time.
+    ///
+    /// - Bytes that are no message, or have a wrong FINGERPRINT, are dropped.
+    /// - A request gets a 400 if it has no MESSAGE-INTEGRITY and no MESSAGE-INTEGRITY-SHA256, or no
+    ///   USERNAME before it; a 401 if USERNAME is not the name of one of these users, or the
+    ///   signature is not made with the user's password; a 420, which is signed, if it has an
+    ///   attribute that is not understood; and the answer to Binding if the server is to give it.
+    ///   All others are for you. A 400 and a 401 are not signed, because the server does not know
+    ///   the client's key then (section 9.1.3). Other responses have the integrity attribute that
+    ///   the request has.
+    /// - An indication is dropped if a request like it would get a 400 or a 401 (`NotSigned`), or if
+    ///   it has an attribute that is not understood. Others, and responses, are for you.
+    ///
+    /// Fails if an allocation fails. Nothing is lost then, because the client sends again. Memory is
+    /// allocated for requests alone.
+    pub fn receive<'a>(
+        &self,
+        bytes: &'a [u8],
+        from: SocketAddr,
+        users: &'a ShortTermUsers<A>,
+    ) -> Result<ShortTermReceived<'a, A>, AllocError> {
+        match read(bytes) {
+            Ok((message, has_fingerprint)) => self.by_class(message, from, users, has_fingerprint),
+            Err(reason) => Ok(ShortTermReceived::Dropped(reason)),
+        }
+    }
+
+    /// What a message comes to.
+    fn by_class<'a>(
+        &self,
+        message: Message<'a>,
+        from: SocketAddr,
+        users: &'a ShortTermUsers<A>,
+        has_fingerprint: bool,
+    ) -> Result<ShortTermReceived<'a, A>, AllocError> {
+        match message.class() {
+            MessageClass::Request => self.request(message, from, users, has_fingerprint),
+            MessageClass::Indication => Ok(self.indication(message, users)),
+            MessageClass::Success => Ok(ShortTermReceived::Response(message)),
+            MessageClass::Error => Ok(ShortTermReceived::Response(message)),
+        }
+    }
+
+    /// What a request comes to.
+    fn request<'a>(
+        &self,
+        message: Message<'a>,
+        from: SocketAddr,
+        users: &'a ShortTermUsers<A>,
+        has_fingerprint: bool,
+    ) -> Result<ShortTermReceived<'a, A>, AllocError> {
+        match signer_of(users, &message) {
+            Ok(signer) => self.accepted(message, from, signer, has_fingerprint),
+            Err(refusal) => {
+                let answer = self
+                    .responder
+                    .refusal(&message, from, refusal, has_fingerprint)?;
+                Ok(ShortTermReceived::Answer(answer))
+            }
+        }
+    }
+
+    /// What an accepted request comes to.
+    fn accepted<'a>(
+        &self,
+        message: Message<'a>,
+        from: SocketAddr,
+        signer: Signer<'a, A>,
+        has_fingerprint: bool,
+    ) -> Result<ShortTermReceived<'a, A>, AllocError> {
+        let signature = signer.signature()?;
+        match self
+            .responder
+            .own_answer(&message, from, &signature, has_fingerprint)?
+        {
+            Some(answer) => Ok(ShortTermReceived::Answer(answer)),
+            None => {
+                let reply = self
+                    .responder
+                    .reply(&message, from, signature, has_fingerprint)?;
+                let request = Request::new(message, signer.name(), signer.algorithm(), reply);
+                Ok(ShortTermReceived::Request(request))
+            }
+        }
+    }
+
+    /// What an indication comes to.
+    fn indication<'a>(
+        &self,
+        message: Message<'a>,
+        users: &'a ShortTermUsers<A>,
+    ) -> ShortTermReceived<'a, A> {
+        match signer_of(users, &message) {
+            Ok(signer) => {
+                if self.responder.understands(&message) {
+                    ShortTermReceived::Indication(ShortTermIndication {
+                        message,
+                        user: signer.name(),
+                        algorithm: signer.algorithm(),
+                    })
+                } else {
+                    ShortTermReceived::Dropped(DropReason::UnknownAttribute)
+                }
+            }
+            Err(refusal) => ShortTermReceived::NotSigned(refusal),
+        }
+    }
+}

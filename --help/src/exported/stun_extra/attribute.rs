@@ -1,0 +1,318 @@
+// Written by tools/export from crates/stun_extra/src/attribute.rt, commit 90cb8b2b07bb, with changes: change that file, not this one.
+//! Further attributes: of STUN (RFC 8489, section 14), of ICE (RFC 8445, section 16.1), of TURN
+//! (RFC 8656, section 18; RFC 6062; RFC 8016), of third-party authorization (RFC 7635), and of NAT
+//! behavior discovery (RFC 5780, section 7).
+//!
+//! Attributes whose values have the same form share a type, such as [`Number`], and are its aliases
+//! below. The others have a file each.
+
+mod additional_address_family;
+mod address;
+mod address_family;
+mod bytes;
+mod change_request;
+mod channel_number;
+mod dont_fragment;
+mod even_port;
+mod number;
+mod requested_address_family;
+mod requested_transport;
+mod reservation_token;
+mod response_port;
+mod text;
+mod tie_breaker;
+mod use_candidate;
+mod value;
+mod xored;
+
+use crate::exported::stun_types::attribute::AttributeType;
+use crate::exported::stun_types::limits::TEXT_LIMIT;
+use crate::exported::stun_types::prelude::*;
+pub use additional_address_family::AdditionalAddressFamily;
+pub use address::PlainAddress;
+pub use address_family::AddressFamily;
+pub use bytes::Bytes;
+pub use change_request::ChangeRequest;
+pub use channel_number::ChannelNumber;
+use core::net::SocketAddr;
+pub use dont_fragment::DontFragment;
+pub use even_port::EvenPort;
+pub use number::Number;
+pub use requested_address_family::RequestedAddressFamily;
+pub use requested_transport::RequestedTransport;
+pub use reservation_token::ReservationToken;
+pub use response_port::ResponsePort;
+pub use text::Text;
+pub use tie_breaker::TieBreaker;
+pub use use_candidate::UseCandidate;
+pub use xored::XorAddress;
+
+/// The largest number of bytes of an ALTERNATE-DOMAIN (RFC 8489, section 14.16).
+pub const DOMAIN_LIMIT: usize = 255;
+
+/// The largest number of bytes of any value (RFC 8489, section 14).
+const VALUE_LIMIT: usize = 65535;
+
+/// MAPPED-ADDRESS (RFC 8489, section 14.1): the address from which a request came, not XORed.
+pub type MappedAddress = PlainAddress<0x0001>;
+
+impl AttributeStaticType for MappedAddress {
+    const TYPE: AttributeType = AttributeType(0x0001);
+
+    fn static_type() -> AttributeType {
+        Self::TYPE
+    }
+}
+
+/// SOFTWARE (RFC 8489, section 14.14): a description of the software that the sender uses, UTF-8 of
+/// at most 763 bytes.
+pub type Software<'a> = Text<'a, 0x8022, TEXT_LIMIT>;
+
+impl<'a> Software<'a> {
+    /// Returns the text.
+    pub fn software(&self) -> &'a str {
+        self.text()
+    }
+}
+
+impl<'a> AttributeStaticType for Software<'a> {
+    const TYPE: AttributeType = AttributeType(0x8022);
+
+    fn static_type() -> AttributeType {
+        Self::TYPE
+    }
+}
+
+/// ALTERNATE-SERVER (RFC 8489, section 14.15): the server that a client should try instead.
+pub type AlternateServer = PlainAddress<0x8023>;
+
+impl AlternateServer {
+    /// Returns the address of the server. The flow information and the scope of an IPv6 address are
+    /// 0.
+    pub fn server(&self) -> SocketAddr {
+        self.addr()
+    }
+}
+
+impl AttributeStaticType for AlternateServer {
+    const TYPE: AttributeType = AttributeType(0x8023);
+
+    fn static_type() -> AttributeType {
+        Self::TYPE
+    }
+}
+
+/// ALTERNATE-DOMAIN (RFC 8489, section 14.16): the domain name of the server in ALTERNATE-SERVER,
+/// which its TLS certificate must contain. It has at most 255 bytes. It is not checked to be a
+/// domain name.
+pub type AlternateDomain<'a> = Text<'a, 0x8003, DOMAIN_LIMIT>;
+
+impl<'a> AlternateDomain<'a> {
+    /// Returns the domain name.
+    pub fn domain(&self) -> &'a str {
+        self.text()
+    }
+}
+
+impl<'a> AttributeStaticType for AlternateDomain<'a> {
+    const TYPE: AttributeType = AttributeType(0x8003);
+
+    fn static_type() -> AttributeType {
+        Self::TYPE
+    }
+}
+
+/// PRIORITY (RFC 8445, section 16.1): the priority of a peer-reflexive candidate that this check
+/// may discover.
+pub type Priority = Number<0x0024>;
+
+impl Priority {
+    /// Returns the priority.
+    pub fn priority(&self) -> u32 {
+        self.number()
+    }
+}
+
+impl AttributeStaticType for Priority {
+    const TYPE: AttributeType = AttributeType(0x0024);
+
+    fn static_type() -> AttributeType {
+        Self::TYPE
+    }
+}
+
+/// ICE-CONTROLLED (RFC 8445, section 16.1): the sender is in the controlled role. The tie-breaker,
+/// a random number of 64 bits, resolves a role conflict.
+pub type IceControlled = TieBreaker<0x8029>;
+
+impl AttributeStaticType for IceControlled {
+    const TYPE: AttributeType = AttributeType(0x8029);
+
+    fn static_type() -> AttributeType {
+        Self::TYPE
+    }
+}
+
+/// ICE-CONTROLLING (RFC 8445, section 16.1): the sender is in the controlling role. The
+/// tie-breaker, a random number of 64 bits, resolves a role conflict.
+pub type IceControlling = TieBreaker<0x802A>;
+
+impl AttributeStaticType for IceControlling {
+    const TYPE: AttributeType = AttributeType(0x802A);
+
+    fn static_type() -> AttributeType {
+        Self::TYPE
+    }
+}
+
+/// LIFETIME (RFC 8656, section 18.2): the number of seconds after which an allocation expires if it
+/// is not refreshed.
+pub type Lifetime = Number<0x000D>;
+
+impl Lifetime {
+    /// Returns the number of seconds.
+    pub fn seconds(&self) -> u32 {
+        self.number()
+    }
+}
+
+impl AttributeStaticType for Lifetime {
+    const TYPE: AttributeType = AttributeType(0x000D);
+
+    fn static_type() -> AttributeType {
+        Self::TYPE
+    }
+}
+
+/// XOR-PEER-ADDRESS (RFC 8656, section 18.3): the address of a peer, XORed as in
+/// XOR-MAPPED-ADDRESS.
+pub type XorPeerAddress = XorAddress<0x0012>;
+
+impl AttributeStaticType for XorPeerAddress {
+    const TYPE: AttributeType = AttributeType(0x0012);
+
+    fn static_type() -> AttributeType {
+        Self::TYPE
+    }
+}
+
+/// DATA (RFC 8656, section 18.4): the data of a datagram to or from a peer, borrowed.
+pub type Data<'a> = Bytes<'a, 0x0013>;
+
+impl<'a> Data<'a> {
+    /// Returns the bytes.
+    pub fn data(&self) -> &'a [u8] {
+        self.bytes()
+    }
+}
+
+impl<'a> AttributeStaticType for Data<'a> {
+    const TYPE: AttributeType = AttributeType(0x0013);
+
+    fn static_type() -> AttributeType {
+        Self::TYPE
+    }
+}
+
+/// XOR-RELAYED-ADDRESS (RFC 8656, section 18.5): the address that a server relays from, XORed as in
+/// XOR-MAPPED-ADDRESS.
+pub type XorRelayedAddress = XorAddress<0x0016>;
+
+impl AttributeStaticType for XorRelayedAddress {
+    const TYPE: AttributeType = AttributeType(0x0016);
+
+    fn static_type() -> AttributeType {
+        Self::TYPE
+    }
+}
+
+/// CONNECTION-ID (RFC 6062, section 6.2.1): the number of a TCP connection to a peer of a TURN
+/// client.
+pub type ConnectionId = Number<0x002A>;
+
+impl AttributeStaticType for ConnectionId {
+    const TYPE: AttributeType = AttributeType(0x002A);
+
+    fn static_type() -> AttributeType {
+        Self::TYPE
+    }
+}
+
+/// MOBILITY-TICKET (RFC 8016, section 3.3): the ticket by which a TURN server recognizes an
+/// allocation after the address of its client has changed. A client that requests a ticket sends it
+/// empty.
+pub type MobilityTicket<'a> = Bytes<'a, 0x8030>;
+
+impl<'a> AttributeStaticType for MobilityTicket<'a> {
+    const TYPE: AttributeType = AttributeType(0x8030);
+
+    fn static_type() -> AttributeType {
+        Self::TYPE
+    }
+}
+
+/// THIRD-PARTY-AUTHORIZATION (RFC 7635, section 6.1): the name of the server, with which a client
+/// asks an authorization server for a token.
+pub type ThirdPartyAuthorization<'a> = Text<'a, 0x802E, VALUE_LIMIT>;
+
+impl<'a> ThirdPartyAuthorization<'a> {
+    /// Returns the name of the server.
+    pub fn server_name(&self) -> &'a str {
+        self.text()
+    }
+}
+
+impl<'a> AttributeStaticType for ThirdPartyAuthorization<'a> {
+    const TYPE: AttributeType = AttributeType(0x802E);
+
+    fn static_type() -> AttributeType {
+        Self::TYPE
+    }
+}
+
+/// ACCESS-TOKEN (RFC 7635, section 6.2): the token that an authorization server has issued. Only
+/// the STUN server can decrypt it.
+pub type AccessToken<'a> = Bytes<'a, 0x001B>;
+
+impl<'a> AttributeStaticType for AccessToken<'a> {
+    const TYPE: AttributeType = AttributeType(0x001B);
+
+    fn static_type() -> AttributeType {
+        Self::TYPE
+    }
+}
+
+/// RESPONSE-ORIGIN (RFC 5780, section 7.3): the address that a response was sent from.
+pub type ResponseOrigin = PlainAddress<0x802B>;
+
+impl AttributeStaticType for ResponseOrigin {
+    const TYPE: AttributeType = AttributeType(0x802B);
+
+    fn static_type() -> AttributeType {
+        Self::TYPE
+    }
+}
+
+/// OTHER-ADDRESS (RFC 5780, section 7.4): the address and the port that a server answers from if a
+/// client asks for another address and another port.
+pub type OtherAddress = PlainAddress<0x802C>;
+
+impl AttributeStaticType for OtherAddress {
+    const TYPE: AttributeType = AttributeType(0x802C);
+
+    fn static_type() -> AttributeType {
+        Self::TYPE
+    }
+}
+
+/// PADDING (RFC 5780, section 7.6): bytes without a meaning, which make a message long enough to be
+/// sent in fragments.
+pub type Padding<'a> = Bytes<'a, 0x0026>;
+
+impl<'a> AttributeStaticType for Padding<'a> {
+    const TYPE: AttributeType = AttributeType(0x0026);
+
+    fn static_type() -> AttributeType {
+        Self::TYPE
+    }
+}

@@ -1,0 +1,148 @@
+// Written by tools/export from crates/stun_extra/src/attribute/address.rt, commit 90cb8b2b07bb, with changes: change that file, not this one.
+//! Attributes whose value is an address that is not XORed (RFC 8489, section 14.1).
+
+use crate::exported::stun_base::error::StunParseError;
+use crate::exported::stun_extra::attribute::value::append_header;
+use crate::exported::stun_types::attribute::{AttributeType, RawAttribute};
+use crate::exported::stun_types::prelude::*;
+use crate::kit::bytes::{BigEndian, ByteOrder};
+use core::net::{IpAddr, Ipv4Addr, Ipv6Addr, SocketAddr};
+
+/// The number of bytes of the value before the port: one that is reserved, and the family.
+const FAMILY_LENGTH: usize = 2;
+
+/// The number of bytes of the value before the octets.
+const FAMILY_AND_PORT_LENGTH: usize = FAMILY_LENGTH + 2;
+
+/// The number of the family IPv4.
+const IPV4: u8 = 1;
+
+/// The number of the family IPv6.
+const IPV6: u8 = 2;
+
+/// An address and a port.
+#[derive(Clone, Copy, Debug, PartialEq, Eq)]
+struct Address {
+    ip: IpAddr,
+    port: u16,
+}
+
+impl Address {
+    /// Creates the address from a socket address, without its flow information and its scope.
+    fn new(addr: SocketAddr) -> Address {
+        Address {
+            ip: addr.ip(),
+            port: addr.port(),
+        }
+    }
+
+    /// Returns the socket address, with 0 for flow information and scope.
+    fn socket(&self) -> SocketAddr {
+        SocketAddr::new(self.ip, self.port)
+    }
+
+    /// Returns the number of bytes of the value.
+    fn length(&self) -> usize {
+        // proved: cannot panic (crates/stun_extra/src/attribute/address.rt:58)
+        let before_octets = FAMILY_LENGTH + self.port.to_be_bytes().as_slice().len();
+        match self.ip {
+            IpAddr::V4(ip) => before_octets + ip.octets().as_slice().len(),
+            IpAddr::V6(ip) => before_octets + ip.octets().as_slice().len(),
+        }
+    }
+}
+
+/// An attribute of type `KIND` whose value is an address and a port that are not XORed.
+#[derive(Clone, Copy, Debug, PartialEq, Eq)]
+pub struct PlainAddress<const KIND: u16> {
+    address: Address,
+}
+
+impl<const KIND: u16> PlainAddress<KIND> {
+    /// Creates the attribute from an address. The flow information and the scope of an IPv6 address
+    /// are left out.
+    pub fn new(addr: SocketAddr) -> Self {
+        PlainAddress {
+            address: Address::new(addr),
+        }
+    }
+
+    /// Returns the address. The flow information and the scope of an IPv6 address are 0.
+    pub fn addr(&self) -> SocketAddr {
+        self.address.socket()
+    }
+}
+
+impl<const KIND: u16> Attribute for PlainAddress<KIND> {
+    fn get_type(&self) -> AttributeType {
+        AttributeType(KIND)
+    }
+
+    fn length(&self) -> usize {
+        self.address.length()
+    }
+
+    fn write_into<W: MessageWrite>(&self, writer: &mut W) {
+        append_address(writer, AttributeType(KIND), &self.address);
+    }
+}
+
+impl<'a, const KIND: u16> AttributeFromRaw<'a> for PlainAddress<KIND> {
+    fn from_raw(raw: RawAttribute<'a>) -> Result<Self, StunParseError> {
+        let address = read_address(&raw, AttributeType(KIND))?;
+        Ok(PlainAddress { address })
+    }
+}
+
+/// Appends the attribute with this type whose value is an address.
+fn append_address<W: MessageWrite>(writer: &mut W, kind: AttributeType, address: &Address) {
+    match address.ip {
+        IpAddr::V4(ip) => append_octets(writer, kind, IPV4, address.port, &ip.octets()),
+        IpAddr::V6(ip) => append_octets(writer, kind, IPV6, address.port, &ip.octets()),
+    }
+}
+
+/// Appends the attribute with this type whose value is an address of this family with these octets.
+fn append_octets<W: MessageWrite>(
+    writer: &mut W,
+    kind: AttributeType,
+    family: u8,
+    port: u16,
+    octets: &[u8],
+) {
+    // proved: cannot panic where `whole`, `short`, `reserved` hold (crates/stun_extra/src/attribute/address.rt:156)
+    append_header(writer, kind, FAMILY_AND_PORT_LENGTH + octets.len());
+    writer.append(&[0, family]);
+    writer.append(&port.to_be_bytes());
+    writer.append(octets);
+}
+
+/// Parses the address in a raw attribute with this type. Fails with `InvalidAttributeData` if the
+/// attribute has another type, an unknown family, or not as many octets as the family has.
+fn read_address(raw: &RawAttribute<'_>, kind: AttributeType) -> Result<Address, StunParseError> {
+    // proved: cannot panic (crates/stun_extra/src/attribute/address.rt:182)
+    let value = raw.value();
+    if raw.get_type() != kind || value.len() < FAMILY_AND_PORT_LENGTH {
+        return Err(StunParseError::InvalidAttributeData);
+    }
+    let port = BigEndian::read_u16(&value[FAMILY_LENGTH..]);
+    match read_ip(value[1], &value[FAMILY_AND_PORT_LENGTH..]) {
+        Some(ip) => Ok(Address { ip, port }),
+        None => Err(StunParseError::InvalidAttributeData),
+    }
+}
+
+/// Returns the address of a family, or `None` if there is no such family or not as many octets.
+fn read_ip(family: u8, octets: &[u8]) -> Option<IpAddr> {
+    if family == IPV4 && octets.len() == 4 {
+        let mut ipv4 = [0; 4];
+        ipv4.copy_from_slice(octets);
+        return Some(IpAddr::V4(Ipv4Addr::from(ipv4)));
+    }
+    if family == IPV6 && octets.len() == 16 {
+        let mut ipv6 = [0; 16];
+        ipv6.copy_from_slice(octets);
+        return Some(IpAddr::V6(Ipv6Addr::from(ipv6)));
+    }
+    None
+}

@@ -1,0 +1,103 @@
+// Written by tools/export from crates/stun_extra/src/attribute/change_request.rt, commit 90cb8b2b07bb, with changes: change that file, not this one.
+//! CHANGE-REQUEST (RFC 5780, section 7.2).
+
+use crate::exported::stun_base::error::StunParseError;
+use crate::exported::stun_types::attribute::{AttributeType, RawAttribute};
+use crate::exported::stun_types::prelude::*;
+
+/// The number of bytes of the value.
+const LENGTH: usize = 4;
+
+/// The bit A in the last byte of the value: another address.
+const CHANGE_IP: u8 = 0x04;
+
+/// The bit B in the last byte of the value: another port.
+const CHANGE_PORT: u8 = 0x02;
+
+/// CHANGE-REQUEST (RFC 5780, section 7.2): asks a server to answer a Binding request from another
+/// address, from another port, or from both. A client learns from it what its NAT lets in.
+///
+/// # Examples
+///
+/// ```
+/// use seatcrane_stun::extra::attribute::ChangeRequest;
+/// use seatcrane_stun::types::message::*;
+/// use seatcrane_stun::types::prelude::*;
+///
+/// # let id = TransactionId::from(*b"any 12 bytes");
+/// let mut message = Message::builder_request_with_id(BINDING, id, MessageWriteVec::new());
+/// message.add_attribute(&ChangeRequest::new(false, true))?; // the same address, another port
+/// let bytes = message.finish();
+///
+/// let message = Message::from_bytes(&bytes).unwrap();
+/// let request = message.attribute::<ChangeRequest>().unwrap();
+/// assert_eq!((request.change_ip(), request.change_port()), (false, true));
+/// # Ok::<(), StunWriteError>(())
+/// ```
+#[derive(Clone, Copy, Debug, PartialEq, Eq)]
+pub struct ChangeRequest {
+    ip: bool,
+    port: bool,
+}
+
+impl ChangeRequest {
+    /// Creates the attribute from both flags: whether the response should come from another
+    /// address, and whether it should come from another port.
+    pub fn new(ip: bool, port: bool) -> Self {
+        ChangeRequest { ip, port }
+    }
+
+    /// Returns `true` if the response should come from another address.
+    pub fn change_ip(&self) -> bool {
+        self.ip
+    }
+
+    /// Returns `true` if the response should come from another port.
+    pub fn change_port(&self) -> bool {
+        self.port
+    }
+
+    /// Returns the bytes of the value.
+    fn bytes(&self) -> [u8; LENGTH] {
+        // proved: cannot panic (crates/stun_extra/src/attribute/change_request.rt:70)
+        let ip = if self.ip { CHANGE_IP } else { 0 };
+        let port = if self.port { CHANGE_PORT } else { 0 };
+        [0, 0, 0, ip + port]
+    }
+}
+
+impl AttributeStaticType for ChangeRequest {
+    const TYPE: AttributeType = AttributeType(0x0003);
+
+    fn static_type() -> AttributeType {
+        Self::TYPE
+    }
+}
+
+impl Attribute for ChangeRequest {
+    fn get_type(&self) -> AttributeType {
+        Self::TYPE
+    }
+
+    fn length(&self) -> usize {
+        LENGTH
+    }
+
+    fn write_into<W: MessageWrite>(&self, writer: &mut W) {
+        RawAttribute::new(Self::TYPE, &self.bytes()).write_into(writer);
+    }
+}
+
+impl<'a> AttributeFromRaw<'a> for ChangeRequest {
+    fn from_raw(raw: RawAttribute<'a>) -> Result<Self, StunParseError> {
+        // proved: cannot panic where the trait's premises hold (crates/stun_extra/src/attribute/change_request.rt:116)
+        if raw.get_type() != Self::TYPE || raw.length() != LENGTH {
+            return Err(StunParseError::InvalidAttributeData);
+        }
+        let flags = raw.value()[3];
+        Ok(ChangeRequest {
+            ip: flags & CHANGE_IP != 0,
+            port: flags & CHANGE_PORT != 0,
+        })
+    }
+}

@@ -1,0 +1,161 @@
+// Written by tools/export from crates/stun_ice/src/checker/answering.rt, commit 90cb8b2b07bb, with changes: change that file, not this one.
+//! The answer to a check of the peer (RFC 8489, sections 6.3.1 and 9.1.3; RFC 8445, section 7.3).
+
+use crate::exported::stun_extra::fingerprint::finish_with_fingerprint;
+use crate::exported::stun_extra::unknown::answer_unknown;
+use crate::exported::stun_ice::address::mapped_address;
+use crate::exported::stun_ice::checker::Checker;
+use crate::exported::stun_ice::checker::judging::Verdict;
+use crate::exported::stun_ice::parts::UNDERSTOOD;
+use crate::exported::stun_ice::received::Refusal;
+use crate::exported::stun_types::attribute::{AttributeType, ErrorCode};
+use crate::exported::stun_types::message::{IntegrityAlgorithm, Message, StunWriteError};
+use crate::exported::stun_types::prelude::*;
+use crate::kit::alloc::Allocator;
+use core::net::SocketAddr;
+
+impl<A: Allocator> Checker<A> {
+    /// Writes the answer to a check that came from an address.
+    pub(super) fn answer<W: MessageWrite>(
+        &self,
+        check: &Message<'_>,
+        from: SocketAddr,
+        verdict: Verdict,
+        writer: W,
+    ) -> Result<W::Output, StunWriteError> {
+        match verdict {
+            Verdict::Accepted(accepted) => self.success(check, from, accepted.algorithm, writer),
+            Verdict::Conflict(algorithm) => self.conflict(check, algorithm, writer),
+            Verdict::Refused(refusal, signature) => self.refused(check, refusal, signature, writer),
+        }
+    }
+
+    /// Writes the success response.
+    fn success<W: MessageWrite>(
+        &self,
+        check: &Message<'_>,
+        from: SocketAddr,
+        algorithm: IntegrityAlgorithm,
+        writer: W,
+    ) -> Result<W::Output, StunWriteError> {
+        let page = mapped_page(check, from, writer)?;
+        let answer = self.end(page, Some(algorithm))?;
+        Ok(answer)
+    }
+
+    /// Writes the 487.
+    fn conflict<W: MessageWrite>(
+        &self,
+        check: &Message<'_>,
+        algorithm: IntegrityAlgorithm,
+        writer: W,
+    ) -> Result<W::Output, StunWriteError> {
+        self.error(check, 487, "Role Conflict", Some(algorithm), writer)
+    }
+
+    /// Writes the response to a check that is refused.
+    fn refused<W: MessageWrite>(
+        &self,
+        check: &Message<'_>,
+        refusal: Refusal,
+        signature: Option<IntegrityAlgorithm>,
+        writer: W,
+    ) -> Result<W::Output, StunWriteError> {
+        match refusal {
+            Refusal::BadRequest => self.error(check, 400, "Bad Request", signature, writer),
+            Refusal::Unauthenticated => {
+                self.error(check, 401, "Unauthenticated", signature, writer)
+            }
+            Refusal::UnknownAttribute => self.unknown(check, signature, writer),
+        }
+    }
+
+    /// Writes an error response with ERROR-CODE alone.
+    fn error<W: MessageWrite>(
+        &self,
+        check: &Message<'_>,
+        code: u16,
+        reason: &str,
+        signature: Option<IntegrityAlgorithm>,
+        writer: W,
+    ) -> Result<W::Output, StunWriteError> {
+        let page = error_page(check, code, reason, writer)?;
+        let answer = self.end(page, signature)?;
+        Ok(answer)
+    }
+
+    /// Writes the 420.
+    fn unknown<W: MessageWrite>(
+        &self,
+        check: &Message<'_>,
+        signature: Option<IntegrityAlgorithm>,
+        writer: W,
+    ) -> Result<W::Output, StunWriteError> {
+        let page = unknown_page(check, &UNDERSTOOD, writer)?;
+        let answer = self.end(page, signature)?;
+        Ok(answer)
+    }
+
+    /// Signs a response, if it is to be signed, and adds FINGERPRINT.
+    fn end<W: MessageWrite>(
+        &self,
+        page: W,
+        signature: Option<IntegrityAlgorithm>,
+    ) -> Result<W::Output, StunWriteError> {
+        let mut page = page;
+        self.add_signature(&mut page, signature)?;
+        finish_with_fingerprint(page)
+    }
+
+    /// Signs a response, if it is to be signed.
+    fn add_signature<W: MessageWrite>(
+        &self,
+        page: &mut W,
+        signature: Option<IntegrityAlgorithm>,
+    ) -> Result<(), StunWriteError> {
+        match signature {
+            Some(algorithm) => {
+                page.add_message_integrity_with_prepared_key(&self.password, algorithm)
+            }
+            None => Ok(()),
+        }
+    }
+}
+
+/// Begins a success response with the address that a check came from.
+fn mapped_page<W: MessageWrite>(
+    check: &Message<'_>,
+    from: SocketAddr,
+    writer: W,
+) -> Result<W, StunWriteError> {
+    let mut page = Message::builder_success(check, writer)?;
+    page.add_attribute(&mapped_address(from, check.transaction_id()))?;
+    Ok(page)
+}
+
+/// Begins an error response with a code and a reason phrase.
+fn error_page<W: MessageWrite>(
+    check: &Message<'_>,
+    code: u16,
+    reason: &str,
+    writer: W,
+) -> Result<W, StunWriteError> {
+    let error = ErrorCode::builder(code).reason(reason).build()?;
+    let mut page = Message::builder_error(check, writer)?;
+    page.add_attribute(&error)?;
+    Ok(page)
+}
+
+/// Begins the 420 to a check with attributes that are not known.
+fn unknown_page<W: MessageWrite>(
+    check: &Message<'_>,
+    known: &[AttributeType],
+    writer: W,
+) -> Result<W, StunWriteError> {
+    match answer_unknown(check, known, writer) {
+        Ok(Some(page)) => Ok(page),
+        // There is an attribute that is not understood, so that this is never reached.
+        Ok(None) => Err(StunWriteError::NotAllowed),
+        Err(error) => Err(error),
+    }
+}

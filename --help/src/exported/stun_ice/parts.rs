@@ -1,0 +1,107 @@
+// Written by tools/export from crates/stun_ice/src/parts.rt, commit 90cb8b2b07bb, with changes: change that file, not this one.
+//! What a check says: its USERNAME, its PRIORITY, whether it nominates, and the role of its sender
+//! (RFC 8445, section 7.1).
+
+use crate::exported::stun_extra::attribute::{IceControlled, IceControlling, Priority};
+use crate::exported::stun_extra::unknown::unknown_types;
+use crate::exported::stun_ice::role::Role;
+use crate::exported::stun_types::attribute::{AttributeType, RawAttribute, XorMappedAddress};
+use crate::exported::stun_types::message::{BINDING, Message};
+
+/// The types of attributes that must be understood and that an agent understands: STUN's own (RFC
+/// 8489, section 18.3), PRIORITY and USE-CANDIDATE (RFC 8445, section 16.1).
+pub(crate) const UNDERSTOOD: [AttributeType; 13] = [
+    AttributeType::USERNAME,
+    AttributeType(0x0024),
+    AttributeType::MESSAGE_INTEGRITY,
+    AttributeType(0x0025),
+    AttributeType::XOR_MAPPED_ADDRESS,
+    AttributeType::ERROR_CODE,
+    AttributeType(0x000A),
+    AttributeType::MESSAGE_INTEGRITY_SHA256,
+    AttributeType(0x0001),
+    AttributeType::REALM,
+    AttributeType::NONCE,
+    AttributeType::PASSWORD_ALGORITHM,
+    AttributeType::USERHASH,
+];
+
+/// USE-CANDIDATE (RFC 8445, section 16.1).
+const USE_CANDIDATE: AttributeType = AttributeType(0x0025);
+
+/// The first visible USERNAME, with its offset.
+fn first_username<'a>(message: &Message<'a>) -> Option<(usize, RawAttribute<'a>)> {
+    message
+        .iter_attributes()
+        .find(|found| found.1.get_type() == AttributeType::USERNAME)
+}
+
+/// The first visible USE-CANDIDATE, with its offset.
+fn first_use_candidate<'a>(message: &Message<'a>) -> Option<(usize, RawAttribute<'a>)> {
+    message
+        .iter_attributes()
+        .find(|found| found.1.get_type() == USE_CANDIDATE)
+}
+
+/// Whether a message has the method Binding.
+pub(crate) fn is_binding(message: &Message<'_>) -> bool {
+    message.method() == BINDING
+}
+
+/// The bytes of USERNAME.
+pub(crate) fn username<'a>(message: &Message<'a>) -> Option<&'a [u8]> {
+    match first_username(message) {
+        Some((_, attribute)) => Some(attribute.value()),
+        None => None,
+    }
+}
+
+/// The number in PRIORITY, if it is well formed.
+pub(crate) fn priority(message: &Message<'_>) -> Option<u32> {
+    match message.attribute::<Priority>() {
+        Ok(attribute) => Some(attribute.priority()),
+        Err(_) => None,
+    }
+}
+
+/// Whether a message has USE-CANDIDATE.
+pub(crate) fn has_use_candidate(message: &Message<'_>) -> bool {
+    first_use_candidate(message).is_some()
+}
+
+/// The tie-breaker of the sender of a check, if the check says that it has this role.
+pub(crate) fn rival(role: Role, message: &Message<'_>) -> Option<u64> {
+    match role {
+        Role::Controlling => controlling(message),
+        Role::Controlled => controlled(message),
+    }
+}
+
+/// The tie-breaker in ICE-CONTROLLING, if it is well formed.
+fn controlling(message: &Message<'_>) -> Option<u64> {
+    match message.attribute::<IceControlling>() {
+        Ok(attribute) => Some(attribute.tie_breaker()),
+        Err(_) => None,
+    }
+}
+
+/// The tie-breaker in ICE-CONTROLLED, if it is well formed.
+fn controlled(message: &Message<'_>) -> Option<u64> {
+    match message.attribute::<IceControlled>() {
+        Ok(attribute) => Some(attribute.tie_breaker()),
+        Err(_) => None,
+    }
+}
+
+/// XOR-MAPPED-ADDRESS, if it is well formed.
+pub(crate) fn mapped_address_in(message: &Message<'_>) -> Option<XorMappedAddress> {
+    match message.attribute::<XorMappedAddress>() {
+        Ok(attribute) => Some(attribute),
+        Err(_) => None,
+    }
+}
+
+/// Whether the attributes of a message are understood, as far as they must be.
+pub(crate) fn is_understood(message: &Message<'_>) -> bool {
+    unknown_types(message, &UNDERSTOOD).next().is_none()
+}

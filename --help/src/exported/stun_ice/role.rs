@@ -1,0 +1,47 @@
+// Written by tools/export from crates/stun_ice/src/role.rt, commit 90cb8b2b07bb, with changes: change that file, not this one.
+//! The roles of two agents, and how a conflict between them ends (RFC 8445, sections 6.1.1 and
+//! 7.3.1.1).
+
+/// The role of an agent (RFC 8445, section 6.1.1).
+#[derive(Clone, Copy, Debug, PartialEq, Eq)]
+pub enum Role {
+    /// The agent nominates the pairs to use.
+    Controlling,
+    /// The agent waits for the nominations of the other.
+    Controlled,
+}
+
+impl Role {
+    /// Returns the other role.
+    pub fn opposite(self) -> Role {
+        match self {
+            Role::Controlling => Role::Controlled,
+            Role::Controlled => Role::Controlling,
+        }
+    }
+
+    /// Whether the roles are the same.
+    pub(crate) fn is(self, other: Role) -> bool {
+        match (self, other) {
+            (Role::Controlling, Role::Controlling) => true,
+            (Role::Controlling, Role::Controlled) => false,
+            (Role::Controlled, Role::Controlling) => false,
+            (Role::Controlled, Role::Controlled) => true,
+        }
+    }
+
+    /// The role of an agent that receives a check whose sender has the tie-breaker `theirs` and the
+    /// same role, or `None` for the sender if it has another role. Returns `None` if the sender has
+    /// to switch.
+    pub(crate) fn after_check(self, ours: u64, theirs: Option<u64>) -> Option<Role> {
+        let Some(theirs) = theirs else {
+            return Some(self);
+        };
+        match self {
+            Role::Controlling if theirs <= ours => None,
+            Role::Controlling => Some(Role::Controlled),
+            Role::Controlled if theirs <= ours => Some(Role::Controlling),
+            Role::Controlled => None,
+        }
+    }
+}

@@ -1,0 +1,280 @@
+// Written by tools/export from crates/stun_types/src/integrity.rt, commit 90cb8b2b07bb, with changes: change that file, not this one.
+//! The verification of messages (RFC 8489, sections 14.5, 14.6 and 9.2.4).
+
+pub(crate) mod digest_key;
+
+use crate::exported::stun_base::algorithm::IntegrityAlgorithm;
+use crate::exported::stun_base::compare::is_same_text;
+use crate::exported::stun_base::credentials::MessageIntegrityCredentials;
+use crate::exported::stun_base::header::HEADER_LENGTH;
+use crate::exported::stun_base::hmac::{SHA1_LENGTH, SHA256_LENGTH, hmac_sha1, hmac_sha256};
+use crate::exported::stun_base::key::IntegrityKey;
+use crate::exported::stun_base::prepared_key::PreparedKey;
+use crate::exported::stun_types::attribute::{
+    ATTRIBUTE_HEADER_LENGTH, AttributeType, RawAttribute,
+};
+use crate::exported::stun_types::message::walk::{deciding_place, first_place};
+use crate::exported::stun_types::message::{Message, StunParseError, ValidateError};
+use crate::kit::alloc::Allocator;
+
+/// The fewest bytes of an HMAC-SHA256 that is cut short (RFC 8489, section 14.6).
+const MIN_SHA256_LENGTH: usize = 16;
+
+/// Returns the first visible attribute of a type, with its offset.
+pub(crate) fn first_of<'a>(
+    message: &Message<'a>,
+    kind: AttributeType,
+) -> Option<(usize, RawAttribute<'a>)> {
+    let bytes = message.as_bytes();
+    let place = first_place(bytes, kind)?;
+    Some((place, RawAttribute::at(bytes, place)?))
+}
+
+/// Returns the algorithm of an integrity attribute.
+fn integrity_algorithm(attribute: &RawAttribute<'_>) -> IntegrityAlgorithm {
+    if attribute.get_type() == AttributeType::MESSAGE_INTEGRITY_SHA256 {
+        IntegrityAlgorithm::Sha256
+    } else {
+        IntegrityAlgorithm::Sha1
+    }
+}
+
+/// Returns the algorithm of the attribute that decides whether these bytes of a message are signed:
+/// HMAC-SHA256 if MESSAGE-INTEGRITY-SHA256 is visible, otherwise HMAC-SHA1 if MESSAGE-INTEGRITY is
+/// visible, and otherwise `None` (RFC 8489, sections 14.5 and 14.6).
+///
+/// The value of the attribute is not read. This does not allocate.
+pub fn deciding_algorithm(bytes: &[u8]) -> Option<IntegrityAlgorithm> {
+    let place = deciding_place(bytes)?;
+    let attribute = RawAttribute::at(bytes, place)?;
+    Some(integrity_algorithm(&attribute))
+}
+
+/// Returns `true` if the value of an integrity attribute has a length that its type allows. An
+/// HMAC-SHA256 may be cut short.
+pub(crate) fn is_well_formed(attribute: &RawAttribute<'_>) -> bool {
+    // proved: cannot panic (crates/stun_types/src/integrity.rt:74)
+    let length = attribute.length();
+    match integrity_algorithm(attribute) {
+        IntegrityAlgorithm::Sha1 => length == SHA1_LENGTH,
+        IntegrityAlgorithm::Sha256 => {
+            (MIN_SHA256_LENGTH..=SHA256_LENGTH).contains(&length) && length % 4 == 0
+        }
+    }
+}
+
+/// Returns the attribute whose digest is compared, with its offset. Fails if no key can make the
+/// signature valid.
+fn claimed_digest<'a>(message: &Message<'a>) -> Result<(usize, RawAttribute<'a>), ValidateError> {
+    let Some((place, attribute)) = message.deciding_attribute() else {
+        return Err(ValidateError::Parse(StunParseError::MissingAttribute(
+            AttributeType::MESSAGE_INTEGRITY,
+        )));
+    };
+    check_whole(&attribute)?;
+    Ok((place, attribute))
+}
+
+/// Fails if the value of an integrity attribute is not a whole digest.
+fn check_whole(attribute: &RawAttribute<'_>) -> Result<(), ValidateError> {
+    if !is_well_formed(attribute) {
+        return Err(ValidateError::Parse(StunParseError::InvalidAttributeData));
+    }
+    if attribute.length() != integrity_algorithm(attribute).digest_length() {
+        return Err(ValidateError::IntegrityFailed);
+    }
+    Ok(())
+}
+
+/// Returns the length field that the digest of an attribute at this offset covers: that of a
+/// message which ends after the attribute.
+fn covered_length(place: usize, value_length: usize) -> u16 {
+    // proved: cannot panic where `behind_header`, `fits` hold (crates/stun_types/src/integrity.rt:129)
+    (place + ATTRIBUTE_HEADER_LENGTH + value_length - HEADER_LENGTH) as u16
+}
+
+/// Returns the first four bytes that the digest of an attribute at this offset covers: the type of
+/// the message, and the length field that `covered_length` returns.
+fn covered_start(message: &[u8], place: usize, value_length: usize) -> [u8; 4] {
+    // proved: cannot panic where `behind_header`, `within`, `limit` hold (crates/stun_types/src/integrity.rt:139)
+    let length = covered_length(place, value_length).to_be_bytes();
+    [message[0], message[1], length[0], length[1]]
+}
+
+/// Returns `true` if the value of the integrity attribute at this offset is the digest of the bytes
+/// that it covers. The message is not copied.
+fn is_digest(message: &[u8], key: &[u8], place: usize, attribute: &RawAttribute<'_>) -> bool {
+    // proved: cannot panic where `behind_header`, `within`, `limit`, `whole` hold (crates/stun_types/src/integrity.rt:153)
+    let start = covered_start(message, place, attribute.length());
+    let pieces: [&[u8]; 2] = [&start, &message[4..place]];
+    let claimed = attribute.value();
+    match integrity_algorithm(attribute) {
+        IntegrityAlgorithm::Sha1 => is_same_text(claimed, &hmac_sha1(key, &pieces)),
+        IntegrityAlgorithm::Sha256 => is_same_text(claimed, &hmac_sha256(key, &pieces)),
+    }
+}
+
+/// Like `is_digest`, with a prepared key.
+fn is_prepared_digest<A: Allocator>(
+    message: &[u8],
+    key: &PreparedKey<A>,
+    place: usize,
+    attribute: &RawAttribute<'_>,
+) -> bool {
+    // proved: cannot panic where `behind_header`, `within`, `limit`, `whole` hold (crates/stun_types/src/integrity.rt:172)
+    let start = covered_start(message, place, attribute.length());
+    let pieces: [&[u8]; 2] = [&start, &message[4..place]];
+    let claimed = attribute.value();
+    match integrity_algorithm(attribute) {
+        IntegrityAlgorithm::Sha1 => is_same_text(claimed, &key.hmac_sha1(&pieces)),
+        IntegrityAlgorithm::Sha256 => is_same_text(claimed, &key.hmac_sha256(&pieces)),
+    }
+}
+
+impl RawAttribute<'_> {
+    /// Returns `true` for a MESSAGE-INTEGRITY or MESSAGE-INTEGRITY-SHA256 whose value has a length
+    /// that its type allows (RFC 8489, sections 14.5 and 14.6).
+    pub fn is_integrity(&self) -> bool {
+        let kind = self.get_type();
+        (kind == AttributeType::MESSAGE_INTEGRITY
+            || kind == AttributeType::MESSAGE_INTEGRITY_SHA256)
+            && is_well_formed(self)
+    }
+}
+
+impl<'a> Message<'a> {
+    /// Returns the attribute that decides whether the message is signed, with its offset: the
+    /// position of its first byte in the message. It is the first visible MESSAGE-INTEGRITY-SHA256,
+    /// or the first visible MESSAGE-INTEGRITY if there is none (RFC 8489, sections 14.5 and 14.6).
+    /// Its value may have any length.
+    ///
+    /// Pass the result to `validate_integrity_at` or `validate_integrity_prepared`, to verify the
+    /// message with several keys. This does not allocate.
+    pub fn deciding_attribute(&self) -> Option<(usize, RawAttribute<'a>)> {
+        let bytes = self.as_bytes();
+        let place = deciding_place(bytes)?;
+        Some((place, RawAttribute::at(bytes, place)?))
+    }
+
+    /// Verifies the signature of the message with these credentials, and returns the algorithm that
+    /// it was signed with.
+    ///
+    /// If MESSAGE-INTEGRITY-SHA256 is visible, only that attribute is checked. Otherwise
+    /// MESSAGE-INTEGRITY is checked. The key is the password, or the long-term key for the
+    /// algorithm of that attribute, which is derived only if a digest is compared. This does not
+    /// allocate.
+    ///
+    /// # Errors
+    ///
+    /// The first of these that applies:
+    ///
+    /// - `Parse(MissingAttribute)`, of MESSAGE-INTEGRITY: neither attribute is visible.
+    /// - `Parse(InvalidAttributeData)`: the attribute to check has a length that is not allowed.
+    /// - `IntegrityFailed`: the signature is invalid. An HMAC-SHA256 that is cut short counts as
+    ///   invalid.
+    pub fn validate_integrity<A: Allocator>(
+        &self,
+        credentials: &MessageIntegrityCredentials<A>,
+    ) -> Result<IntegrityAlgorithm, ValidateError> {
+        let (place, attribute) = claimed_digest(self)?;
+        let algorithm = integrity_algorithm(&attribute);
+        let key = credentials.key(algorithm);
+        if !is_digest(self.as_bytes(), key.as_bytes(), place, &attribute) {
+            return Err(ValidateError::IntegrityFailed);
+        }
+        Ok(algorithm)
+    }
+
+    /// Like `validate_integrity`, with a key. Digests are compared without an early exit
+    /// (`stun_base::compare`).
+    ///
+    /// The returned algorithm is that of the signature, however the key was made: it is `Sha1` for
+    /// a message whose HMAC-SHA1 is valid under the key.
+    ///
+    /// # Errors
+    ///
+    /// The errors of `validate_integrity`, in the same order.
+    pub fn validate_integrity_with_key<A: Allocator>(
+        &self,
+        key: &IntegrityKey<A>,
+    ) -> Result<IntegrityAlgorithm, ValidateError> {
+        self.validate_integrity_with_key_bytes(key.as_bytes())
+    }
+
+    /// Like `validate_integrity_with_key`, with the bytes of a key, which may have any length. This
+    /// does not allocate.
+    ///
+    /// # Errors
+    ///
+    /// The errors of `validate_integrity`, in the same order.
+    pub fn validate_integrity_with_key_bytes(
+        &self,
+        key: &[u8],
+    ) -> Result<IntegrityAlgorithm, ValidateError> {
+        let (place, attribute) = claimed_digest(self)?;
+        if !is_digest(self.as_bytes(), key, place, &attribute) {
+            return Err(ValidateError::IntegrityFailed);
+        }
+        Ok(integrity_algorithm(&attribute))
+    }
+
+    /// Like `validate_integrity_with_key`, with a prepared key. If the key was prepared for the
+    /// algorithm of the signature, the digest hashes two blocks fewer. This does not allocate.
+    ///
+    /// # Errors
+    ///
+    /// The errors of `validate_integrity`, in the same order.
+    pub fn validate_integrity_with_prepared_key<A: Allocator>(
+        &self,
+        key: &PreparedKey<A>,
+    ) -> Result<IntegrityAlgorithm, ValidateError> {
+        let (place, attribute) = claimed_digest(self)?;
+        if !is_prepared_digest(self.as_bytes(), key, place, &attribute) {
+            return Err(ValidateError::IntegrityFailed);
+        }
+        Ok(integrity_algorithm(&attribute))
+    }
+
+    /// Like `validate_integrity_with_key`, for a deciding attribute that is known already. The
+    /// attributes are not searched again, so that one search is enough for many keys.
+    ///
+    /// `place` and `attribute` must be the offset and the attribute that `deciding_attribute`
+    /// returned for this message. This does not allocate.
+    ///
+    /// # Errors
+    ///
+    /// The errors of `validate_integrity`, in the same order, but for `Parse(MissingAttribute)`.
+    pub fn validate_integrity_at<A: Allocator>(
+        &self,
+        place: usize,
+        attribute: &RawAttribute<'_>,
+        key: &IntegrityKey<A>,
+    ) -> Result<IntegrityAlgorithm, ValidateError> {
+        check_whole(attribute)?;
+        if !is_digest(self.as_bytes(), key.as_bytes(), place, attribute) {
+            return Err(ValidateError::IntegrityFailed);
+        }
+        Ok(integrity_algorithm(attribute))
+    }
+
+    /// Like `validate_integrity_at`, with a prepared key.
+    ///
+    /// `place` and `attribute` must be the offset and the attribute that `deciding_attribute`
+    /// returned for this message. This does not allocate.
+    ///
+    /// # Errors
+    ///
+    /// The errors of `validate_integrity`, in the same order, but for `Parse(MissingAttribute)`.
+    pub fn validate_integrity_prepared<A: Allocator>(
+        &self,
+        place: usize,
+        attribute: &RawAttribute<'_>,
+        key: &PreparedKey<A>,
+    ) -> Result<IntegrityAlgorithm, ValidateError> {
+        check_whole(attribute)?;
+        if !is_prepared_digest(self.as_bytes(), key, place, attribute) {
+            return Err(ValidateError::IntegrityFailed);
+        }
+        Ok(integrity_algorithm(attribute))
+    }
+}

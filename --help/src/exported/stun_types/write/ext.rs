@@ -1,0 +1,336 @@
+// Written by tools/export from crates/stun_types/src/write/ext.rt, commit 90cb8b2b07bb, with changes: change that file, not this one.
+//! The calls that every writer has.
+
+use crate::exported::stun_base::algorithm::IntegrityAlgorithm;
+use crate::exported::stun_base::credentials::MessageIntegrityCredentials;
+use crate::exported::stun_base::error::StunWriteError;
+use crate::exported::stun_base::header::{HEADER_LENGTH, MessageHeader};
+use crate::exported::stun_base::key::IntegrityKey;
+use crate::exported::stun_base::message_type::MessageClass;
+use crate::exported::stun_base::prepared_key::PreparedKey;
+use crate::exported::stun_base::transaction_id::TransactionId;
+use crate::exported::stun_types::attribute::{Attribute, AttributeType, attribute_length};
+use crate::exported::stun_types::integrity::digest_key::DigestKey;
+use crate::exported::stun_types::limits::MAX_LENGTH;
+use crate::exported::stun_types::message::walk::has_attribute;
+use crate::exported::stun_types::write::MessageWrite;
+use crate::exported::stun_types::write::append::append_attribute;
+use crate::kit::alloc::{AllocError, Allocator};
+
+/// Returns `true` for the types that `add_attribute` never writes: the integrity attributes, which
+/// only the calls that sign a message write, and FINGERPRINT.
+fn is_set_apart(kind: AttributeType) -> bool {
+    kind == AttributeType::MESSAGE_INTEGRITY
+        || kind == AttributeType::MESSAGE_INTEGRITY_SHA256
+        || kind == AttributeType::FINGERPRINT
+}
+
+/// The calls that every writer has: they inspect the message in the writer, add attributes to it,
+/// and sign it.
+///
+/// The writer must hold a message without FINGERPRINT. The builders of `Message` start such a
+/// message, and these calls keep it that way. The conditions of the calls ask for less: for a
+/// header, or for as many bytes as a header has.
+pub trait MessageWriteExt: MessageWrite {
+    /// Returns `true` if the message has an attribute of this type, whether it is visible or not.
+    fn has_attribute(&self, kind: AttributeType) -> bool
+    where
+        Self: Sized,
+    {
+        has_attribute(self.data(), kind)
+    }
+
+    /// Returns `true` if the message has this class.
+    fn has_class(&self, class: MessageClass) -> bool
+    where
+        Self: Sized,
+    {
+        header(self.data()).get_type().has_class(class)
+    }
+
+    /// Returns `true` if the message is a response, either a success or an error.
+    fn is_response(&self) -> bool
+    where
+        Self: Sized,
+    {
+        header(self.data()).get_type().is_response()
+    }
+
+    /// Returns the transaction ID of the message.
+    fn transaction_id(&self) -> TransactionId
+    where
+        Self: Sized,
+    {
+        header(self.data()).transaction_id()
+    }
+
+    /// Adds an attribute at the end of the message.
+    ///
+    /// # Errors
+    ///
+    /// The first of these that applies. After an error, the bytes and the room are unchanged, and
+    /// what was reserved stays reserved.
+    ///
+    /// - `NotAllowed`: it is an integrity attribute or FINGERPRINT.
+    /// - `MessageIntegrityExists`: the message has an integrity attribute.
+    /// - `AttributeExists`: the message has an attribute of this type.
+    /// - `TooLarge`: the message would have more than 65532 bytes after its header.
+    /// - `TooSmall`: the writer has no room.
+    /// - `OutOfMemory`: an allocation failed.
+    fn add_attribute<A: Attribute>(&mut self, attribute: &A) -> Result<(), StunWriteError>
+    where
+        Self: Sized,
+    {
+        let kind = attribute.get_type();
+        if is_set_apart(kind) {
+            return Err(StunWriteError::NotAllowed);
+        }
+        if has_integrity(self.data()) {
+            return Err(StunWriteError::MessageIntegrityExists);
+        }
+        if has_attribute(self.data(), kind) {
+            return Err(StunWriteError::AttributeExists(kind));
+        }
+        add_whole(self, attribute)
+    }
+
+    /// Adds an attribute at the end of the message, even if the message has an attribute of this
+    /// type already.
+    ///
+    /// A request with several attributes of one type needs this, such as CreatePermission for
+    /// several peers (RFC 8656, section 9.1). If the type may occur only once, use `add_attribute`,
+    /// which fails if it occurs already.
+    ///
+    /// # Errors
+    ///
+    /// The first of these that applies. After an error, the bytes and the room are unchanged, and
+    /// what was reserved stays reserved.
+    ///
+    /// - `NotAllowed`: it is an integrity attribute or FINGERPRINT.
+    /// - `MessageIntegrityExists`: the message has an integrity attribute.
+    /// - `TooLarge`: the message would have more than 65532 bytes after its header.
+    /// - `TooSmall`: the writer has no room.
+    /// - `OutOfMemory`: an allocation failed.
+    fn add_another_attribute<A: Attribute>(&mut self, attribute: &A) -> Result<(), StunWriteError>
+    where
+        Self: Sized,
+    {
+        if is_set_apart(attribute.get_type()) {
+            return Err(StunWriteError::NotAllowed);
+        }
+        if has_integrity(self.data()) {
+            return Err(StunWriteError::MessageIntegrityExists);
+        }
+        add_whole(self, attribute)
+    }
+
+    /// Signs the message: adds MESSAGE-INTEGRITY or MESSAGE-INTEGRITY-SHA256, depending on the
+    /// algorithm.
+    ///
+    /// The key is the one that the credentials have for this algorithm: the bytes of the password,
+    /// or a long-term key. No key is allocated.
+    ///
+    /// # Errors
+    ///
+    /// The first of these that applies. After an error, the bytes and the room are unchanged, and
+    /// what was reserved stays reserved.
+    ///
+    /// - `MessageIntegrityExists`: the message has an integrity attribute.
+    /// - `TooLarge`: the message would have more than 65532 bytes after its header.
+    /// - `TooSmall`: the writer has no room.
+    /// - `OutOfMemory`: an allocation failed.
+    fn add_message_integrity<A: Allocator>(
+        &mut self,
+        credentials: &MessageIntegrityCredentials<A>,
+        algorithm: IntegrityAlgorithm,
+    ) -> Result<(), StunWriteError>
+    where
+        Self: Sized,
+    {
+        let key = credentials.key(algorithm);
+        add_integrity(self, &key.as_bytes(), algorithm)
+    }
+
+    /// Like `add_message_integrity`, with a key.
+    ///
+    /// # Errors
+    ///
+    /// The errors of `add_message_integrity`, in the same order.
+    fn add_message_integrity_with_key<A: Allocator>(
+        &mut self,
+        key: &IntegrityKey<A>,
+        algorithm: IntegrityAlgorithm,
+    ) -> Result<(), StunWriteError>
+    where
+        Self: Sized,
+    {
+        add_integrity(self, &key.as_bytes(), algorithm)
+    }
+
+    /// Like `add_message_integrity`, with the bytes of a key, which may have any length.
+    ///
+    /// # Errors
+    ///
+    /// The errors of `add_message_integrity`, in the same order.
+    fn add_message_integrity_with_key_bytes(
+        &mut self,
+        key: &[u8],
+        algorithm: IntegrityAlgorithm,
+    ) -> Result<(), StunWriteError>
+    where
+        Self: Sized,
+    {
+        add_integrity(self, &key, algorithm)
+    }
+
+    /// Like `add_message_integrity`, with a prepared key. If the key was prepared for this
+    /// algorithm, the digest hashes two blocks fewer.
+    ///
+    /// # Errors
+    ///
+    /// The errors of `add_message_integrity`, in the same order.
+    fn add_message_integrity_with_prepared_key<A: Allocator>(
+        &mut self,
+        key: &PreparedKey<A>,
+        algorithm: IntegrityAlgorithm,
+    ) -> Result<(), StunWriteError>
+    where
+        Self: Sized,
+    {
+        add_integrity(self, key, algorithm)
+    }
+
+    /// Signs the message like `add_message_integrity_with_key`, without a check.
+    ///
+    /// The caller must know three things, because the message would be malformed otherwise: it has
+    /// no integrity attribute, with this one it has at most 65532 bytes after its header, and the
+    /// writer has room for it, which is 24 bytes for HMAC-SHA1 and 36 for HMAC-SHA256.
+    ///
+    /// # Errors
+    ///
+    /// `AllocError`: an allocation failed. The bytes and the room are then unchanged, and what was
+    /// reserved stays reserved.
+    fn add_message_integrity_with_key_unchecked<A: Allocator>(
+        &mut self,
+        key: &IntegrityKey<A>,
+        algorithm: IntegrityAlgorithm,
+    ) -> Result<(), AllocError>
+    where
+        Self: Sized,
+    {
+        sign(self, &key.as_bytes(), algorithm)
+    }
+
+    /// Like `add_message_integrity_with_key_unchecked`, with a prepared key.
+    ///
+    /// # Errors
+    ///
+    /// `AllocError`: an allocation failed. The bytes and the room are then unchanged, and what was
+    /// reserved stays reserved.
+    fn add_message_integrity_with_prepared_key_unchecked<A: Allocator>(
+        &mut self,
+        key: &PreparedKey<A>,
+        algorithm: IntegrityAlgorithm,
+    ) -> Result<(), AllocError>
+    where
+        Self: Sized,
+    {
+        sign(self, key, algorithm)
+    }
+}
+
+impl<W: MessageWrite> MessageWriteExt for W {}
+
+/// Reads the header of a message.
+fn header(message: &[u8]) -> MessageHeader {
+    // proved: cannot panic where its premise holds (crates/stun_types/src/write/ext.rt:432)
+    MessageHeader::from_bytes(message).unwrap()
+}
+
+/// Returns `true` if a message has an integrity attribute, visible or not.
+fn has_integrity(message: &[u8]) -> bool {
+    has_attribute(message, AttributeType::MESSAGE_INTEGRITY)
+        || has_attribute(message, AttributeType::MESSAGE_INTEGRITY_SHA256)
+}
+
+/// Returns the message length after this many bytes are added, at most `usize::MAX`.
+fn length_with(message: &[u8], more: usize) -> usize {
+    // proved: cannot panic where its premise holds (crates/stun_types/src/write/ext.rt:449)
+    (message.len() - HEADER_LENGTH).saturating_add(more)
+}
+
+/// Sets the length of a message for an attribute, and appends the attribute, if it fits.
+fn add_whole<W: MessageWrite, A: Attribute>(
+    writer: &mut W,
+    attribute: &A,
+) -> Result<(), StunWriteError> {
+    // proved: cannot panic where `header`, `kind`, `other` hold (crates/stun_types/src/write/ext.rt:457)
+    let message_length = length_with(writer.data(), attribute.padded_len());
+    if message_length > MAX_LENGTH {
+        return Err(StunWriteError::TooLarge);
+    }
+    writer.reserve(attribute.padded_len())?;
+    writer.set_length(message_length as u16);
+    attribute.write_into(writer);
+    Ok(())
+}
+
+/// Returns the number of bytes of the integrity attribute of an algorithm, with its header.
+fn integrity_length(algorithm: IntegrityAlgorithm) -> usize {
+    attribute_length(algorithm.digest_length())
+}
+
+/// Adds the integrity attribute of an algorithm, or fails with the first error that applies.
+fn add_integrity<W: MessageWrite, K: DigestKey>(
+    writer: &mut W,
+    key: &K,
+    algorithm: IntegrityAlgorithm,
+) -> Result<(), StunWriteError> {
+    if has_integrity(writer.data()) {
+        return Err(StunWriteError::MessageIntegrityExists);
+    }
+    let padded_length = integrity_length(algorithm);
+    if length_with(writer.data(), padded_length) > MAX_LENGTH {
+        return Err(StunWriteError::TooLarge);
+    }
+    if writer.room() < padded_length {
+        return Err(StunWriteError::TooSmall);
+    }
+    sign(writer, key, algorithm)?;
+    Ok(())
+}
+
+/// Sets the length of a message for its integrity attribute, and appends the attribute.
+fn sign<W: MessageWrite, K: DigestKey>(
+    writer: &mut W,
+    key: &K,
+    algorithm: IntegrityAlgorithm,
+) -> Result<(), AllocError> {
+    // proved: cannot panic where `header`, `short`, `room` hold (crates/stun_types/src/write/ext.rt:540)
+    let padded_length = integrity_length(algorithm);
+    let message_length = length_with(writer.data(), padded_length);
+    if writer.reserve(padded_length).is_err() {
+        return Err(AllocError);
+    }
+    writer.set_length(message_length as u16);
+    append_integrity(writer, key, algorithm);
+    Ok(())
+}
+
+/// Appends the integrity attribute with the digest of all bytes before it.
+fn append_integrity<W: MessageWrite, K: DigestKey>(
+    writer: &mut W,
+    key: &K,
+    algorithm: IntegrityAlgorithm,
+) {
+    match algorithm {
+        IntegrityAlgorithm::Sha1 => {
+            let digest = key.digest_sha1(writer.data());
+            append_attribute(writer, AttributeType::MESSAGE_INTEGRITY, &digest);
+        }
+        IntegrityAlgorithm::Sha256 => {
+            let digest = key.digest_sha256(writer.data());
+            append_attribute(writer, AttributeType::MESSAGE_INTEGRITY_SHA256, &digest);
+        }
+    }
+}

@@ -1,0 +1,292 @@
+//! Beyond the core of STUN: FINGERPRINT, unknown attributes, framing over streams, and the
+//! attributes of ICE, of TURN and of NAT behavior discovery.
+//!
+//! - FINGERPRINT: [`finish_with_fingerprint`] and [`check_fingerprint`].
+//! - Unknown attributes: [`answer_unknown`] for a server, [`ends_failed`] for a client,
+//!   [`has_unknown`] for indications. [`unknown_types`] and [`unknown_attributes`] are there for
+//!   responses that you build yourself.
+//! - Streams: [`next_frame`] finds the next message in the bytes of a TCP connection,
+//!   [`next_turn_frame`] the next message or ChannelData, and [`next_packet_frame`] the next packet
+//!   with a length in front (RFC 4571), as ICE sends it over TCP. [`is_stun`] recognizes STUN on a
+//!   port that other protocols share.
+//! - Attributes: [`attribute`]. Methods of TURN: [`turn`].
+//!
+//! # Examples
+//!
+//! Splitting the bytes that a TCP connection has delivered so far:
+//!
+//! ```
+//! use seatcrane_stun::extra::{Frame, next_frame};
+//! use seatcrane_stun::types::message::Message;
+//!
+//! /// Removes the first message from the front of `bytes`, if it is complete.
+//! fn next<'a>(bytes: &mut &'a [u8]) -> Result<Option<Message<'a>>, Box<dyn std::error::Error>> {
+//!     match next_frame(bytes) {
+//!         Frame::Need(_) => Ok(None), // read more first
+//!         Frame::NotStun => Err("not STUN: close the connection".into()),
+//!         Frame::Message(length) => {
+//!             let (message, rest) = bytes.split_at(length);
+//!             *bytes = rest;
+//!             Ok(Some(Message::from_bytes(message)?))
+//!         }
+//!     }
+//! }
+//! # let mut bytes: &[u8] = b"\0\x01\0\0\x21\x12\xa4\x42 any 12 byte\0\x01";
+//! # assert!(next(&mut bytes).unwrap().is_some());
+//! # assert!(next(&mut bytes).unwrap().is_none());
+//! # assert_eq!(bytes.len(), 2);
+//! ```
+
+use crate::exported::stun_extra::{fingerprint, unknown};
+use crate::exported::stun_types::attribute::AttributeType;
+use crate::exported::stun_types::message::StunWriteError;
+use crate::exported::stun_types::prelude::MessageWrite;
+use crate::message::Message;
+use crate::write::with_header;
+
+pub use crate::ported::TcpBuffer;
+
+pub use crate::exported::stun_extra::crc32::crc32;
+pub use crate::exported::stun_extra::fingerprint::{FINGERPRINT_LENGTH, Fingerprint};
+pub use crate::exported::stun_extra::framing::{
+    CHANNEL_HEADER_LENGTH, Frame, PACKET_HEADER_LENGTH, is_stun, next_frame, next_packet_frame,
+    next_turn_frame,
+};
+pub use crate::exported::stun_extra::turn;
+pub use crate::exported::stun_extra::unknown::{
+    UNKNOWN_ATTRIBUTE, UNKNOWN_ATTRIBUTES, UnknownAttributes, UnknownTypes,
+};
+
+/// Further attributes: of STUN (RFC 8489, section 14), of ICE (RFC 8445, section 16.1), of TURN
+/// (RFC 8656, section 18; RFC 6062; RFC 8016), of third-party authorization (RFC 7635), and of NAT
+/// behavior discovery (RFC 5780, section 7).
+///
+/// Add them with [`add_attribute`](crate::types::prelude::MessageWriteExt::add_attribute), and
+/// parse them with [`Message::attribute`].
+///
+/// # Examples
+///
+/// ```
+/// use seatcrane_stun::extra::attribute::{Lifetime, RequestedTransport};
+/// use seatcrane_stun::extra::turn::TurnMethod;
+/// use seatcrane_stun::types::message::{Message, MessageWriteVec, StunWriteError, TransactionId};
+/// use seatcrane_stun::types::prelude::*;
+///
+/// let id = TransactionId::from(*b"any 12 bytes"); // yours must be unpredictable
+/// let allocate = TurnMethod::Allocate.method();
+/// let mut request = Message::builder_request_with_id(allocate, id, MessageWriteVec::new());
+/// request.add_attribute(&RequestedTransport::new(RequestedTransport::UDP))?;
+/// request.add_attribute(&Lifetime::new(600))?;
+/// let bytes = request.finish();
+///
+/// let message = Message::from_bytes(&bytes).unwrap();
+/// assert_eq!(TurnMethod::of(message.method()), Some(TurnMethod::Allocate));
+/// assert_eq!(message.attribute::<Lifetime>().unwrap().seconds(), 600);
+/// # Ok::<(), StunWriteError>(())
+/// ```
+pub mod attribute {
+    pub use crate::address::{
+        AlternateServer, MappedAddress, OtherAddress, ResponseOrigin, XorPeerAddress,
+        XorRelayedAddress,
+    };
+    pub use crate::bytes::{AccessToken, Data, MobilityTicket, Padding};
+    pub use crate::exported::stun_extra::attribute::{
+        AdditionalAddressFamily, AddressFamily, ChangeRequest, ChannelNumber, DOMAIN_LIMIT,
+        DontFragment, EvenPort, RequestedAddressFamily, RequestedTransport, ReservationToken,
+        ResponsePort, UseCandidate,
+    };
+    pub use crate::exported::stun_extra::unknown::UnknownAttributes;
+    pub use crate::number::{ConnectionId, IceControlled, IceControlling, Lifetime, Priority};
+    pub use crate::text::{AlternateDomain, Software, ThirdPartyAuthorization};
+}
+
+/// Checks the FINGERPRINT of a message (RFC 8489, section 14.7).
+///
+/// A FINGERPRINT tells STUN from other protocols on the same port. It is no protection, because
+/// anybody can compute it.
+///
+/// # Examples
+///
+/// ```
+/// use seatcrane_stun::extra::{Fingerprint, check_fingerprint, finish_with_fingerprint};
+/// use seatcrane_stun::types::message::{
+///     BINDING, Message, MessageWriteVec, StunWriteError, TransactionId,
+/// };
+///
+/// let id = TransactionId::from(*b"any 12 bytes"); // yours must be unpredictable
+/// let request = Message::builder_request_with_id(BINDING, id, MessageWriteVec::new());
+/// let bytes = finish_with_fingerprint(request)?;
+///
+/// let message = Message::from_bytes(&bytes).unwrap();
+/// assert_eq!(check_fingerprint(&message), Fingerprint::Right);
+/// # Ok::<(), StunWriteError>(())
+/// ```
+pub fn check_fingerprint(message: &Message<'_>) -> Fingerprint {
+    fingerprint::check_fingerprint(&message.0)
+}
+
+/// Adds FINGERPRINT to a message, and finishes the writer, so that nothing can follow it.
+///
+/// Sign the message first if you want to sign it. Its signature stays valid.
+///
+/// # Errors
+///
+/// The first of these that applies. The writer is then dropped.
+///
+/// - [`StunWriteError::NotAllowed`]: the writer holds no message. Start it with one of the builders
+///   of [`Message`].
+/// - [`StunWriteError::AttributeExists`]: the message has a FINGERPRINT already.
+/// - [`StunWriteError::TooLarge`]: the message would have more than 65532 bytes after its header.
+/// - [`StunWriteError::TooSmall`]: the writer has room for fewer than 8 bytes.
+/// - [`StunWriteError::OutOfMemory`]: an allocation failed.
+///
+/// # Examples
+///
+/// ```
+/// use seatcrane_stun::extra::finish_with_fingerprint;
+/// use seatcrane_stun::types::message::*;
+/// use seatcrane_stun::types::prelude::*;
+///
+/// # let id = TransactionId::from(*b"any 12 bytes");
+/// let mut check = Message::builder_request_with_id(BINDING, id, MessageWriteVec::new());
+/// check.add_message_integrity_with_key(b"their password", IntegrityAlgorithm::Sha1)?;
+/// let datagram: Vec<u8> = finish_with_fingerprint(check)?;
+/// # Ok::<(), StunWriteError>(())
+/// ```
+pub fn finish_with_fingerprint<W: MessageWrite>(writer: W) -> Result<W::Output, StunWriteError> {
+    fingerprint::finish_with_fingerprint(with_header(writer)?)
+}
+
+/// Returns the types of the visible attributes that a receiver must understand (those below
+/// 0x8000), but that are not in `known`. Each type occurs once, in the order of the message (RFC
+/// 8489, section 6.3.1).
+///
+/// # Examples
+///
+/// ```
+/// use seatcrane_stun::extra::unknown_types;
+/// use seatcrane_stun::types::attribute::AttributeType;
+/// use seatcrane_stun::types::message::Message;
+///
+/// // A request with PRIORITY, to a server that does not know ICE.
+/// let request = b"\0\x01\0\x08\x21\x12\xa4\x42 any 12 byte\0\x24\0\x04\0\0\0\0";
+/// let request = Message::from_bytes(request).unwrap();
+/// let unknown: Vec<AttributeType> = unknown_types(&request, &[AttributeType::USERNAME]).collect();
+/// assert_eq!(unknown, [AttributeType::PRIORITY]);
+/// ```
+pub fn unknown_types<'a>(message: &Message<'a>, known: &'a [AttributeType]) -> UnknownTypes<'a> {
+    unknown::unknown_types(&message.0, known)
+}
+
+/// Returns `true` if a message has a visible attribute that a receiver must understand, but whose
+/// type is not in `known`. Drop an indication that has one (RFC 8489, section 6.3.2).
+///
+/// # Examples
+///
+/// ```
+/// use seatcrane_stun::extra::has_unknown;
+/// use seatcrane_stun::types::attribute::AttributeType;
+/// use seatcrane_stun::types::message::Message;
+///
+/// // An indication with PRIORITY.
+/// let indication = b"\0\x11\0\x08\x21\x12\xa4\x42 any 12 byte\0\x24\0\x04\0\0\0\0";
+/// let indication = Message::from_bytes(indication).unwrap();
+/// assert!(has_unknown(&indication, &[AttributeType::USERNAME]));
+/// assert!(!has_unknown(&indication, &[AttributeType::PRIORITY]));
+/// ```
+pub fn has_unknown(message: &Message<'_>, known: &[AttributeType]) -> bool {
+    unknown::has_unknown(&message.0, known)
+}
+
+/// Writes the error response to a request with unknown attributes into `writer`, which must be
+/// empty: it has the code 420 and UNKNOWN-ATTRIBUTES (RFC 8489, section 6.3.1). You can add
+/// attributes to it and sign it.
+///
+/// Returns `None` if the message is not a request, or if it has no visible attribute that the
+/// server must understand and whose type is not in `known`.
+///
+/// # Errors
+///
+/// The first of these that applies. The writer is then dropped.
+///
+/// - [`StunWriteError::NotAllowed`]: the writer has bytes already.
+/// - [`StunWriteError::TooSmall`]: the writer has no room for the response.
+/// - [`StunWriteError::OutOfMemory`]: an allocation failed.
+///
+/// # Examples
+///
+/// ```
+/// use seatcrane_stun::extra::answer_unknown;
+/// use seatcrane_stun::types::attribute::AttributeType;
+/// use seatcrane_stun::types::message::{Message, MessageWriteVec, StunWriteError};
+///
+/// const KNOWN: [AttributeType; 2] = [AttributeType::USERNAME, AttributeType::MESSAGE_INTEGRITY];
+///
+/// /// Returns the response to a request with unknown attributes, or `None` to go on with it.
+/// fn refuse(request: &Message<'_>) -> Result<Option<MessageWriteVec>, StunWriteError> {
+///     answer_unknown(request, &KNOWN, MessageWriteVec::new())
+/// }
+/// # let request = b"\0\x01\0\x08\x21\x12\xa4\x42 any 12 byte\0\x24\0\x04\0\0\0\0";
+/// # let refusal = refuse(&Message::from_bytes(request).unwrap())?.unwrap();
+/// # assert_eq!(Message::from_bytes(&refusal).unwrap().error_code(), Ok(420));
+/// # Ok::<(), StunWriteError>(())
+/// ```
+pub fn answer_unknown<W: MessageWrite>(
+    request: &Message<'_>,
+    known: &[AttributeType],
+    writer: W,
+) -> Result<Option<W>, StunWriteError> {
+    if !writer.data().is_empty() {
+        return Err(StunWriteError::NotAllowed);
+    }
+    unknown::answer_unknown(&request.0, known, writer)
+}
+
+/// Returns `true` if a response ends its request as failed, whatever else it says (RFC 8489,
+/// sections 6.3.3 and 6.3.4).
+///
+/// This is so if it has a visible attribute that the client must understand and whose type is not
+/// in `known`, or if it is an error response without ERROR-CODE.
+///
+/// # Examples
+///
+/// ```
+/// use seatcrane_stun::extra::ends_failed;
+/// use seatcrane_stun::types::attribute::AttributeType;
+/// use seatcrane_stun::types::message::Message;
+///
+/// const KNOWN: [AttributeType; 1] = [AttributeType::XOR_MAPPED_ADDRESS];
+///
+/// let no_code = b"\x01\x11\0\0\x21\x12\xa4\x42 any 12 byte";
+/// assert!(ends_failed(&Message::from_bytes(no_code).unwrap(), &KNOWN));
+/// ```
+pub fn ends_failed(response: &Message<'_>, known: &[AttributeType]) -> bool {
+    unknown::ends_failed(&response.0, known)
+}
+
+/// Returns UNKNOWN-ATTRIBUTES with the types that [`unknown_types`] returns, for a 420 that you
+/// build yourself (RFC 8489, section 14.13). [`answer_unknown`] builds the whole response.
+///
+/// # Examples
+///
+/// ```
+/// use seatcrane_stun::extra::unknown_attributes;
+/// use seatcrane_stun::types::attribute::AttributeType;
+/// use seatcrane_stun::types::message::{Message, MessageWriteVec, StunWriteError};
+/// use seatcrane_stun::types::prelude::*;
+///
+/// # let request = b"\0\x01\0\x08\x21\x12\xa4\x42 any 12 byte\0\x24\0\x04\0\0\0\0";
+/// # let request = Message::from_bytes(request).unwrap();
+/// // A reason phrase of your own.
+/// let mut error = Message::builder_error(&request, MessageWriteVec::new());
+/// error.add_error_code(420, "No ICE here")?;
+/// error.add_attribute(&unknown_attributes(&request, &[AttributeType::USERNAME]))?;
+/// # assert!(error.has_attribute(AttributeType::UNKNOWN_ATTRIBUTES));
+/// # Ok::<(), StunWriteError>(())
+/// ```
+pub fn unknown_attributes<'a>(
+    message: &'a Message<'a>,
+    known: &'a [AttributeType],
+) -> UnknownAttributes<'a> {
+    unknown::UnknownAttributes::of(&message.0, known)
+}

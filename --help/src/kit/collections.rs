@@ -1,0 +1,3 @@
+//! Collections whose growth can fail.
+
+pub use super::map::{BTreeMap, BTreeSet};

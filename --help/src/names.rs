@@ -1,0 +1,260 @@
+//! Names that the exported core lacks: types of attributes, error codes, and texts.
+
+use crate::exported::stun_types::attribute::{
+    AttributeFromRaw, AttributeType, ErrorCode, PasswordAlgorithmValue, PasswordAlgorithms,
+    RawAttribute,
+};
+use crate::exported::stun_types::message::{
+    IntegrityAlgorithm, MessageClass, MessageType, Method, StunParseError, StunWriteError,
+};
+use alloc::vec::Vec;
+use core::fmt;
+
+/// Further registered types. Their attributes are in [`extra::attribute`](crate::extra::attribute).
+impl AttributeType {
+    /// MAPPED-ADDRESS (RFC 8489, section 14.1).
+    pub const MAPPED_ADDRESS: AttributeType = AttributeType(0x0001);
+    /// CHANGE-REQUEST (RFC 5780, section 7.2).
+    pub const CHANGE_REQUEST: AttributeType = AttributeType(0x0003);
+    /// UNKNOWN-ATTRIBUTES (section 14.13).
+    pub const UNKNOWN_ATTRIBUTES: AttributeType = AttributeType(0x000A);
+    /// CHANNEL-NUMBER (RFC 8656, section 18.1).
+    pub const CHANNEL_NUMBER: AttributeType = AttributeType(0x000C);
+    /// LIFETIME (RFC 8656, section 18.2).
+    pub const LIFETIME: AttributeType = AttributeType(0x000D);
+    /// XOR-PEER-ADDRESS (RFC 8656, section 18.3).
+    pub const XOR_PEER_ADDRESS: AttributeType = AttributeType(0x0012);
+    /// DATA (RFC 8656, section 18.4).
+    pub const DATA: AttributeType = AttributeType(0x0013);
+    /// XOR-RELAYED-ADDRESS (RFC 8656, section 18.5).
+    pub const XOR_RELAYED_ADDRESS: AttributeType = AttributeType(0x0016);
+    /// REQUESTED-ADDRESS-FAMILY (RFC 8656, section 18.6).
+    pub const REQUESTED_ADDRESS_FAMILY: AttributeType = AttributeType(0x0017);
+    /// EVEN-PORT (RFC 8656, section 18.7).
+    pub const EVEN_PORT: AttributeType = AttributeType(0x0018);
+    /// REQUESTED-TRANSPORT (RFC 8656, section 18.8).
+    pub const REQUESTED_TRANSPORT: AttributeType = AttributeType(0x0019);
+    /// DONT-FRAGMENT (RFC 8656, section 18.9).
+    pub const DONT_FRAGMENT: AttributeType = AttributeType(0x001A);
+    /// ACCESS-TOKEN (RFC 7635, section 6.2).
+    pub const ACCESS_TOKEN: AttributeType = AttributeType(0x001B);
+    /// RESERVATION-TOKEN (RFC 8656, section 18.10).
+    pub const RESERVATION_TOKEN: AttributeType = AttributeType(0x0022);
+    /// PRIORITY (RFC 8445, section 16.1).
+    pub const PRIORITY: AttributeType = AttributeType(0x0024);
+    /// USE-CANDIDATE (RFC 8445, section 16.1).
+    pub const USE_CANDIDATE: AttributeType = AttributeType(0x0025);
+    /// PADDING (RFC 5780, section 7.6).
+    pub const PADDING: AttributeType = AttributeType(0x0026);
+    /// RESPONSE-PORT (RFC 5780, section 7.5).
+    pub const RESPONSE_PORT: AttributeType = AttributeType(0x0027);
+    /// CONNECTION-ID (RFC 6062, section 6.2.1).
+    pub const CONNECTION_ID: AttributeType = AttributeType(0x002A);
+    /// SOFTWARE (RFC 8489, section 14.14).
+    pub const SOFTWARE: AttributeType = AttributeType(0x8022);
+    /// ALTERNATE-SERVER (section 14.15).
+    pub const ALTERNATE_SERVER: AttributeType = AttributeType(0x8023);
+    /// ICE-CONTROLLED (RFC 8445, section 16.1).
+    pub const ICE_CONTROLLED: AttributeType = AttributeType(0x8029);
+    /// ICE-CONTROLLING (RFC 8445, section 16.1).
+    pub const ICE_CONTROLLING: AttributeType = AttributeType(0x802A);
+    /// RESPONSE-ORIGIN (RFC 5780, section 7.3).
+    pub const RESPONSE_ORIGIN: AttributeType = AttributeType(0x802B);
+    /// OTHER-ADDRESS (RFC 5780, section 7.4).
+    pub const OTHER_ADDRESS: AttributeType = AttributeType(0x802C);
+    /// THIRD-PARTY-AUTHORIZATION (RFC 7635, section 6.1).
+    pub const THIRD_PARTY_AUTHORIZATION: AttributeType = AttributeType(0x802E);
+    /// MOBILITY-TICKET (RFC 8016, section 3.3).
+    pub const MOBILITY_TICKET: AttributeType = AttributeType(0x8030);
+
+    /// Returns `true` if a receiver that does not know this type must reject the message (RFC 8489,
+    /// section 14). [`has_unknown`](crate::extra::has_unknown) tests a whole message.
+    ///
+    /// # Examples
+    ///
+    /// ```
+    /// use seatcrane_stun::types::attribute::AttributeType;
+    ///
+    /// assert!(AttributeType::USERNAME.comprehension_required());
+    /// assert!(!AttributeType::SOFTWARE.comprehension_required()); // 0x8022 may be ignored
+    /// ```
+    pub fn comprehension_required(self) -> bool {
+        self.0 < 0x8000
+    }
+}
+
+/// Further registered codes. Their reason phrase is empty unless you set one.
+impl<'a> ErrorCode<'a> {
+    /// 300: the client should try a different server.
+    pub const TRY_ALTERNATE: u16 = 300;
+    /// 403: the request is forbidden (RFC 8656).
+    pub const FORBIDDEN: u16 = 403;
+    /// 420: the request has an attribute that the server must understand and does not know.
+    pub const UNKNOWN_ATTRIBUTE: u16 = 420;
+    /// 437: the request needs an allocation and there is none, or the other way round (RFC 8656).
+    pub const ALLOCATION_MISMATCH: u16 = 437;
+    /// 441: the credentials are not those with which the allocation was made (RFC 8656).
+    pub const WRONG_CREDENTIALS: u16 = 441;
+    /// 486: the user has too many allocations (RFC 8656).
+    pub const ALLOCATION_QUOTA_REACHED: u16 = 486;
+    /// 487: both ICE agents have the same role (RFC 8445).
+    pub const ROLE_CONFLICT: u16 = 487;
+    /// 500: the server has failed temporarily. The client may try again.
+    pub const SERVER_ERROR: u16 = 500;
+
+    /// Creates the attribute from a code and a reason phrase.
+    ///
+    /// # Errors
+    ///
+    /// The first of these that applies:
+    ///
+    /// - [`StunWriteError::NotAllowed`]: the code is not from 300 to 699.
+    /// - [`StunWriteError::TooLarge`]: the reason has more than 763 bytes.
+    ///
+    /// # Examples
+    ///
+    /// ```
+    /// use seatcrane_stun::types::attribute::ErrorCode;
+    /// use seatcrane_stun::types::message::StunWriteError;
+    ///
+    /// let error = ErrorCode::new(ErrorCode::FORBIDDEN, "Forbidden")?;
+    /// assert_eq!((error.code(), error.reason()), (403, "Forbidden"));
+    /// assert_eq!(ErrorCode::new(200, "OK"), Err(StunWriteError::NotAllowed));
+    /// # Ok::<(), StunWriteError>(())
+    /// ```
+    pub fn new(code: u16, reason: &'a str) -> Result<ErrorCode<'a>, StunWriteError> {
+        ErrorCode::builder(code).reason(reason).build()
+    }
+}
+
+impl PasswordAlgorithms<'_> {
+    /// Returns the algorithms in their order, as a new `Vec`. To avoid the allocation, use
+    /// [`get`](PasswordAlgorithms::get) and [`len`](PasswordAlgorithms::len).
+    ///
+    /// # Examples
+    ///
+    /// The algorithms that a server offers, the strongest first:
+    ///
+    /// ```
+    /// use seatcrane_stun::types::attribute::{PasswordAlgorithmValue, PasswordAlgorithms};
+    /// use seatcrane_stun::types::message::{Message, StunParseError};
+    ///
+    /// fn offered(challenge: &Message<'_>) -> Result<Vec<PasswordAlgorithmValue>, StunParseError> {
+    ///     Ok(challenge.attribute::<PasswordAlgorithms>()?.algorithms())
+    /// }
+    /// # let challenge = b"\x01\x11\0\x0c\x21\x12\xa4\x42 any 12 byte\
+    /// #                   \x80\x02\0\x08\0\x02\0\0\0\x01\0\0";
+    /// # let challenge = Message::from_bytes(challenge).unwrap();
+    /// # let both = vec![PasswordAlgorithmValue::SHA256, PasswordAlgorithmValue::MD5];
+    /// # assert_eq!(offered(&challenge), Ok(both));
+    /// ```
+    pub fn algorithms(&self) -> Vec<PasswordAlgorithmValue> {
+        (0..self.len()).filter_map(|i| self.get(i)).collect()
+    }
+}
+
+/// Lists are equal if they have the same algorithms in the same order.
+impl PartialEq for PasswordAlgorithms<'_> {
+    fn eq(&self, other: &Self) -> bool {
+        self.len() == other.len() && (0..self.len()).all(|i| self.get(i) == other.get(i))
+    }
+}
+
+impl Eq for PasswordAlgorithms<'_> {}
+
+/// Further calls for attributes that can be parsed.
+pub trait AttributeExt<'a>: AttributeFromRaw<'a> {
+    /// Parses the attribute, like [`AttributeFromRaw::from_raw`], from a reference.
+    ///
+    /// # Errors
+    ///
+    /// The errors of `from_raw`.
+    ///
+    /// # Examples
+    ///
+    /// The names in a message that has USERNAME twice:
+    ///
+    /// ```
+    /// use seatcrane_stun::types::attribute::Username;
+    /// use seatcrane_stun::types::message::Message;
+    /// use seatcrane_stun::types::prelude::*;
+    ///
+    /// fn names<'a>(message: &Message<'a>) -> Vec<&'a str> {
+    ///     let attributes = message.iter_attributes();
+    ///     let names = attributes.filter_map(|(_, raw)| Username::from_raw_ref(&raw).ok());
+    ///     names.map(|name| name.username()).collect()
+    /// }
+    /// # let message = b"\0\x01\0\x10\x21\x12\xa4\x42 any 12 byte\0\x06\0\x04mary\0\x06\0\x04anne";
+    /// # assert_eq!(names(&Message::from_bytes(message).unwrap()), ["mary", "anne"]);
+    /// ```
+    fn from_raw_ref(raw: &RawAttribute<'a>) -> Result<Self, StunParseError> {
+        Self::from_raw(raw.clone())
+    }
+}
+
+impl<'a, A: AttributeFromRaw<'a>> AttributeExt<'a> for A {}
+
+/// Writes, for example, `Request`.
+///
+/// # Examples
+///
+/// ```
+/// use seatcrane_stun::types::message::MessageClass;
+///
+/// assert_eq!(MessageClass::Success.to_string(), "Success");
+/// ```
+impl fmt::Display for MessageClass {
+    fn fmt(&self, f: &mut fmt::Formatter<'_>) -> fmt::Result {
+        fmt::Debug::fmt(self, f)
+    }
+}
+
+/// Writes, for example, `0x001`.
+///
+/// # Examples
+///
+/// ```
+/// use seatcrane_stun::types::message::{BINDING, Method};
+///
+/// assert_eq!(BINDING.to_string(), "0x001");
+/// assert_eq!(Method::new(0xabc).unwrap().to_string(), "0xabc");
+/// ```
+impl fmt::Display for Method {
+    fn fmt(&self, f: &mut fmt::Formatter<'_>) -> fmt::Result {
+        write!(f, "{:#05x}", self.value())
+    }
+}
+
+/// Writes, for example, `Request of 0x001`.
+///
+/// # Examples
+///
+/// ```
+/// use seatcrane_stun::types::message::{BINDING, MessageClass, MessageType};
+///
+/// let kind = MessageType::from_class_method(MessageClass::Request, BINDING);
+/// assert_eq!(kind.to_string(), "Request of 0x001");
+/// ```
+impl fmt::Display for MessageType {
+    fn fmt(&self, f: &mut fmt::Formatter<'_>) -> fmt::Result {
+        write!(f, "{} of {}", self.class(), self.method())
+    }
+}
+
+/// Writes `HMAC-SHA1` or `HMAC-SHA256`.
+///
+/// # Examples
+///
+/// ```
+/// use seatcrane_stun::types::message::IntegrityAlgorithm;
+///
+/// assert_eq!(IntegrityAlgorithm::Sha256.to_string(), "HMAC-SHA256");
+/// ```
+impl fmt::Display for IntegrityAlgorithm {
+    fn fmt(&self, f: &mut fmt::Formatter<'_>) -> fmt::Result {
+        f.write_str(match self {
+            IntegrityAlgorithm::Sha1 => "HMAC-SHA1",
+            IntegrityAlgorithm::Sha256 => "HMAC-SHA256",
+        })
+    }
+}

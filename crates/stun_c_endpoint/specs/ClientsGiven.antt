@@ -102,7 +102,7 @@ agent_given server o = record (new_agent (transport_given o.is_stream) server) {
 -- ---- the client
 
 -- why no client is made at an address, the first reason that holds
-abbrev pub client_refusal : ClientGiven → Option Refusal
+unfoldable pub client_refusal : ClientGiven → Option Refusal
 client_refusal g =
     if is_out_of_range (has_user g.name) g.options then Some BadArgument
     else if not (is_utf8 g.name && is_utf8 g.password && is_utf8 g.software) then Some NotText

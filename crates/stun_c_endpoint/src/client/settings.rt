@@ -296,6 +296,7 @@ impl<'a> ClientGiven<'a> {
     }
 
     /// Makes the client of a server.
+    #[tactic(auto, unfolding(crate::specs::ClientsGiven::client_refusal))]
     fn client(&self, alloc: Global, server: SocketAddr) -> Result<ClientEndpoint<Global>, Refusal>
         ensures refused { MatchOption (client_refusal self.now)
             (IsOkUnless result Refusal.OutOfMemory) (λ refusal. result ≡ Err refusal) }

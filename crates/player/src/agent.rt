@@ -11,6 +11,7 @@ mod statistics;
 mod waits;
 
 use crate::agent::asked::{Asked, Way};
+use crate::answer::Answer;
 use crate::scene::Scene;
 use crate::stage::Heap;
 use crate::trouble::Trouble;
@@ -47,7 +48,7 @@ pub fn call(
     scene: &mut Scene<'_>,
     name: &str,
     words: &[&str],
-    answer: &mut String,
+    answer: &mut Answer,
 ) -> Result<(), Trouble> {
     match name {
         "new" => building::begin(scene, words),
@@ -68,7 +69,7 @@ fn wait(
     scene: &mut Scene<'_>,
     name: &str,
     words: &[&str],
-    answer: &mut String,
+    answer: &mut Answer,
 ) -> Result<(), Trouble> {
     match name {
         "request" => requests::tell(scene, words, answer),
@@ -85,19 +86,19 @@ fn tell(
     scene: &mut Scene<'_>,
     name: &str,
     words: &[&str],
-    answer: &mut String,
+    answer: &mut Answer,
 ) -> Result<(), Trouble> {
     if !words.is_empty() {
         return Err(Trouble::Words);
     }
     match name {
         "built" => building::tell(scene, answer),
-        "poll" => polls::poll(scene, answer),
-        "transmit" => polls::transmit(scene, answer),
-        "next-transmit" => polls::next_transmit(scene, answer),
-        "next-awaited" => polls::next_awaited(scene, answer),
+        "poll" => Ok(polls::poll(scene, answer)),
+        "transmit" => Ok(polls::transmit(scene, answer)),
+        "next-transmit" => Ok(polls::next_transmit(scene, answer)),
+        "next-awaited" => Ok(polls::next_awaited(scene, answer)),
         "counts" => statistics::tell(scene, answer),
-        "reset" => statistics::reset(scene, answer),
+        "reset" => Ok(statistics::reset(scene, answer)),
         _ => Err(Trouble::Words),
     }
 }

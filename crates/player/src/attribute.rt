@@ -4,6 +4,7 @@ mod making;
 mod registry;
 mod single;
 
+use crate::answer::Answer;
 use crate::stage::Stage;
 use crate::trouble::Trouble;
 
@@ -12,7 +13,7 @@ pub fn call(
     stage: &mut Stage<'_>,
     name: &str,
     words: &[&str],
-    answer: &mut String,
+    answer: &mut Answer,
 ) -> Result<(), Trouble> {
     match name {
         "reads" => single::reads(stage, words, answer),

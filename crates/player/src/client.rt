@@ -1,6 +1,7 @@
 //! The calls of a client with long-term credentials: `client NAME WORDS`. Each adds what is
 //! answered to a text.
 
+use crate::answer::Answer;
 use crate::kept::message;
 use crate::names::{OUT_OF_MEMORY, algorithm_name, feature_name};
 use crate::signing::{Side, sign, sign_in_slice, sign_length};
@@ -18,7 +19,7 @@ pub fn call(
     stage: &mut Stage<'_>,
     name: &str,
     words: &[&str],
-    answer: &mut String,
+    answer: &mut Answer,
 ) -> Result<(), Trouble> {
     match name {
         "user" => user(stage, words, answer),
@@ -39,16 +40,16 @@ fn tell(
     stage: &mut Stage<'_>,
     name: &str,
     words: &[&str],
-    answer: &mut String,
+    answer: &mut Answer,
 ) -> Result<(), Trouble> {
     if !words.is_empty() {
         return Err(Trouble::Words);
     }
     match name {
         "new" => begin(stage),
-        "supported" => supported(stage, answer)?,
+        "supported" => supported(stage, answer),
         "size" => size(stage, answer)?,
-        "algorithm" => signing_algorithm(stage, answer)?,
+        "algorithm" => signing_algorithm(stage, answer),
         _ => return Err(Trouble::Words),
     }
     Ok(())
@@ -61,9 +62,9 @@ fn begin(stage: &mut Stage<'_>) {
 }
 
 /// `client user NAME PASSWORD`, or `client user` alone, which tells both, or `none`.
-fn user(stage: &mut Stage<'_>, words: &[&str], answer: &mut String) -> Result<(), Trouble> {
+fn user(stage: &mut Stage<'_>, words: &[&str], answer: &mut Answer) -> Result<(), Trouble> {
     match words {
-        [] => tell_user(stage, answer),
+        [] => Ok(tell_user(stage, answer)),
         [name, password] => set_user(stage, name, password),
         _ => Err(Trouble::Words),
     }
@@ -79,21 +80,21 @@ fn set_user(stage: &mut Stage<'_>, name: &str, password: &str) -> Result<(), Tro
     Ok(())
 }
 
-fn tell_user(stage: &Stage<'_>, answer: &mut String) -> Result<(), Trouble> {
+fn tell_user(stage: &Stage<'_>, answer: &mut Answer) {
     match stage.client.credentials() {
         Some(user) => {
-            answer.push_str(user.username())?;
-            answer.push(' ')?;
-            Ok(answer.push_str(user.password())?)
+            answer.add(user.username());
+            answer.add(" ");
+            answer.add(user.password())
         }
-        None => Ok(answer.push_str("none")?),
+        None => answer.add("none"),
     }
 }
 
 /// `client hashes auto | required | disabled`, or `client hashes` alone, which tells it.
-fn hashes(stage: &mut Stage<'_>, words: &[&str], answer: &mut String) -> Result<(), Trouble> {
+fn hashes(stage: &mut Stage<'_>, words: &[&str], answer: &mut Answer) -> Result<(), Trouble> {
     match words {
-        [] => answer.push_str(feature_name(stage.client.anonymous_username()))?,
+        [] => answer.add(feature_name(stage.client.anonymous_username())),
         [word] => {
             let feature = feature(word)?;
             stage.begin();
@@ -127,27 +128,25 @@ fn set_algorithm(stage: &mut Stage<'_>, words: &[&str]) -> Result<(), Trouble> {
 }
 
 /// `client supported`: the algorithms, in the order of their adding.
-fn supported(stage: &Stage<'_>, answer: &mut String) -> Result<(), Trouble> {
+fn supported(stage: &Stage<'_>, answer: &mut Answer) {
     for algorithm in stage.client.supported_integrity() {
-        if !answer.as_str().is_empty() {
-            answer.push(' ')?;
-        }
-        answer.push_str(algorithm_name(*algorithm))?;
+        answer.part();
+        answer.add(algorithm_name(*algorithm));
     }
-    Ok(())
 }
 
 /// `client size`: how many bytes signing adds to a request.
-fn size(stage: &Stage<'_>, answer: &mut String) -> Result<(), Trouble> {
+fn size(stage: &Stage<'_>, answer: &mut Answer) -> Result<(), Trouble> {
     let size = stage.client.message_signature_bytes();
-    Ok(write!(answer, "{size}")?)
+    answer.show(&size);
+    Ok(())
 }
 
 /// `client algorithm`: the one that a signing would use, or `none`.
-fn signing_algorithm(stage: &Stage<'_>, answer: &mut String) -> Result<(), Trouble> {
+fn signing_algorithm(stage: &Stage<'_>, answer: &mut Answer) {
     match stage.client.signing_algorithm() {
-        Some(algorithm) => Ok(answer.push_str(algorithm_name(algorithm))?),
-        None => Ok(answer.push_str("none")?),
+        Some(algorithm) => answer.add(algorithm_name(algorithm)),
+        None => answer.add("none"),
     }
 }
 
@@ -169,13 +168,13 @@ fn resend_name(digest: Option<IntegrityAlgorithm>) -> &'static str {
 }
 
 /// `client hears MESSAGE`: what the client answers to it.
-fn hear(stage: &mut Stage<'_>, words: &[&str], answer: &mut String) -> Result<(), Trouble> {
+fn hear(stage: &mut Stage<'_>, words: &[&str], answer: &mut Answer) -> Result<(), Trouble> {
     let bytes = message(stage, words)?;
     let Ok(message) = Message::from_bytes(bytes.as_slice()) else {
         return Err(Trouble::Words);
     };
     let name = answer_name(stage, &message);
-    Ok(answer.push_str(name)?)
+    Ok(answer.add(name))
 }
 
 fn answer_name(stage: &mut Stage<'_>, message: &Message<'_>) -> &'static str {

@@ -4,6 +4,7 @@
 mod hmac;
 mod keys;
 
+use crate::answer::Answer;
 use crate::stage::Stage;
 use crate::trouble::Trouble;
 use crate::words::{bytes, number, text};
@@ -15,7 +16,7 @@ pub fn call(
     stage: &mut Stage<'_>,
     name: &str,
     words: &[&str],
-    answer: &mut String,
+    answer: &mut Answer,
 ) -> Result<(), Trouble> {
     match name {
         "hmac" => hmac::tell(stage, words, answer),
@@ -26,57 +27,67 @@ pub fn call(
     }
 }
 
-/// The bytes `FIRST`, `FIRST + STEP` and so on, without their carries: `LENGTH:STEP:FIRST`.
-fn pattern(alloc: Global, word: &str) -> Result<Vec<u8>, Trouble> {
-    let (Some((length, rest)), mut pattern) = (word.split_once(':'), Vec::new(alloc)) else {
+/// Adds the bytes `FIRST`, `FIRST + STEP` and so on, without their carries: `LENGTH:STEP:FIRST`.
+fn add_pattern(word: &str, bytes: &mut Vec<u8>) -> Result<(), Trouble> {
+    let Some((length, rest)) = word.split_once(':') else {
         return Err(Trouble::Words);
     };
     let Some((step, first)) = rest.split_once(':') else {
         return Err(Trouble::Words);
     };
-    let (Ok(step), Ok(mut byte)) = (u8::try_from(number(step)?), u8::try_from(number(first)?))
-    else {
-        return Err(Trouble::Words);
-    };
+    let step = small_number(step)?;
+    let mut byte = small_number(first)?;
     for _ in 0..number(length)? {
-        pattern.extend_from_slice(&[byte])?;
+        bytes.extend_from_slice(&[byte])?;
         byte = byte.wrapping_add(step);
     }
-    Ok(pattern)
+    Ok(())
 }
 
-/// Bytes that digits spell, `HEX` or `HEX*NUMBER`.
-fn digits(alloc: Global, word: &str) -> Result<Vec<u8>, Trouble> {
-    let Some((part, count)) = word.split_once('*') else {
-        return bytes(alloc, word);
+/// A number up to 255.
+fn small_number(word: &str) -> Result<u8, Trouble> {
+    match u8::try_from(number(word)?) {
+        Ok(number) => Ok(number),
+        Err(_) => Err(Trouble::Words),
+    }
+}
+
+/// Adds bytes that digits spell, `HEX` or `HEX*NUMBER`.
+fn add_digits(alloc: Global, word: &str, whole: &mut Vec<u8>) -> Result<(), Trouble> {
+    let (part, count) = match word.split_once('*') {
+        Some((part, count)) => (part, number(count)?),
+        None => (word, 1),
     };
     let part = bytes(alloc, part)?;
-    let mut whole = Vec::new(alloc);
-    for _ in 0..number(count)? {
+    for _ in 0..count {
         whole.extend_from_slice(part.as_slice())?;
     }
-    Ok(whole)
+    Ok(())
 }
 
-/// The bytes of a word: `0xHEX`, `0xHEX*NUMBER`, `pattern:LENGTH:STEP:FIRST`, or those of a text.
-pub fn bytes_of(alloc: Global, word: &str) -> Result<Vec<u8>, Trouble> {
-    if let Some(rest) = word.strip_prefix("0x") {
-        return digits(alloc, rest);
+/// Adds the bytes of a word: `0xHEX`, `0xHEX*NUMBER`, `pattern:LENGTH:STEP:FIRST`, or those of a
+/// text.
+pub fn add_bytes(alloc: Global, word: &str, bytes: &mut Vec<u8>) -> Result<(), Trouble> {
+    if let Some(digits) = word.strip_prefix("0x") {
+        return add_digits(alloc, digits, bytes);
     }
-    match word.strip_prefix("pattern:") {
-        Some(rest) => pattern(alloc, rest),
-        None => Ok(text(alloc, word)?.into_bytes()),
+    if let Some(pattern) = word.strip_prefix("pattern:") {
+        return add_pattern(pattern, bytes);
     }
+    let text = text(alloc, word)?;
+    Ok(bytes.extend_from_slice(text.as_str().as_bytes())?)
 }
 
 /// `digest same ONE OTHER`: whether both are the same bytes, in the comparison without an early
 /// exit.
-fn same(alloc: Global, words: &[&str], answer: &mut String) -> Result<(), Trouble> {
+fn same(alloc: Global, words: &[&str], answer: &mut Answer) -> Result<(), Trouble> {
     let [one, other] = words else {
         return Err(Trouble::Words);
     };
-    let one = bytes_of(alloc, one)?;
-    let other = bytes_of(alloc, other)?;
-    let is_same = is_same_text(one.as_slice(), other.as_slice());
-    Ok(write!(answer, "{is_same}")?)
+    let mut first = Vec::new(alloc);
+    add_bytes(alloc, one, &mut first)?;
+    let mut second = Vec::new(alloc);
+    add_bytes(alloc, other, &mut second)?;
+    answer.show(&is_same_text(first.as_slice(), second.as_slice()));
+    Ok(())
 }

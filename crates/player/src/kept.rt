@@ -3,7 +3,7 @@
 use crate::spelling::{Spelling, add_words};
 use crate::stage::{Source, Stage};
 use crate::trouble::Trouble;
-use crate::words::{attribute_type, bytes, class, size};
+use crate::words::{attribute_type, bytes, class, fixed, size};
 use std::alloc::{AllocError, Global};
 
 /// A message with its name.
@@ -59,17 +59,15 @@ pub fn joined(alloc: Global, words: &[&str]) -> Result<Vec<u8>, Trouble> {
 }
 
 /// The message with one byte changed: `PLACE=HEX`.
-fn with_byte(alloc: Global, message: &mut Vec<u8>, word: &str) -> Result<(), Trouble> {
+fn with_byte(message: &mut [u8], word: &str) -> Result<(), Trouble> {
     let Some((place, digits)) = word.split_once('=') else {
         return Err(Trouble::Words);
     };
     let Some(byte) = message.get_mut(size(place)?) else {
         return Err(Trouble::Words);
     };
-    match *bytes(alloc, digits)?.as_slice() {
-        [changed] => *byte = changed,
-        _ => return Err(Trouble::Words),
-    }
+    let [changed]: [u8; 1] = fixed(digits)?;
+    *byte = changed;
     Ok(())
 }
 
@@ -82,7 +80,7 @@ fn changed(source: Source<'_>, message: &[u8], words: &[&str]) -> Result<Vec<u8>
     if *way == "bytes" {
         let mut bytes = Vec::from_slice(source.alloc, message)?;
         for word in words {
-            with_byte(source.alloc, &mut bytes, word)?;
+            with_byte(bytes.as_mut_slice(), word)?;
         }
         return Ok(bytes);
     }
@@ -103,7 +101,7 @@ fn change(
         "with" => add_words(source, spelling, words),
         "without" => {
             for word in words {
-                spelling.take_out(attribute_type(source.alloc, word)?)?;
+                spelling.take_out(attribute_type(word)?)?;
             }
             Ok(())
         }

@@ -4,6 +4,7 @@
 #![tactic(auto)]
 
 pub mod agent;
+pub mod answer;
 pub mod attribute;
 pub mod client;
 pub mod digest;

@@ -6,6 +6,7 @@ mod runs;
 pub mod typed;
 mod verdict;
 
+use crate::answer::Answer;
 use crate::stage::Stage;
 use crate::trouble::Trouble;
 
@@ -14,7 +15,7 @@ pub fn call(
     stage: &mut Stage<'_>,
     name: &str,
     words: &[&str],
-    answer: &mut String,
+    answer: &mut Answer,
 ) -> Result<(), Trouble> {
     match name {
         "reads" => header::reads(stage, words, answer),

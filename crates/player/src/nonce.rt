@@ -1,13 +1,12 @@
 //! What nonces say by their first letters (RFC 8489, section 9.2): `nonce NAME WORDS`. Each call
 //! adds what is answered to a text.
 
+use crate::answer::Answer;
 use crate::names::OUT_OF_MEMORY;
 use crate::phrases::phrase;
-use crate::signing::push_bytes;
 use crate::stage::Stage;
 use crate::trouble::Trouble;
-use crate::words::bytes;
-use std::alloc::Global;
+use crate::words::fixed;
 use stun_auth::auth::{LONG_TERM_RFC8489_NONCE_COOKIE, NonceSecurityBits};
 
 /// `nonce NAME WORDS`
@@ -15,7 +14,7 @@ pub fn call(
     stage: &mut Stage<'_>,
     name: &str,
     words: &[&str],
-    answer: &mut String,
+    answer: &mut Answer,
 ) -> Result<(), Trouble> {
     match name {
         "cookie" => cookie(words, answer),
@@ -28,68 +27,65 @@ pub fn call(
 }
 
 /// The bits of a word: three bytes, or `default`.
-fn bits_of(alloc: Global, word: &str) -> Result<NonceSecurityBits, Trouble> {
+fn bits_of(word: &str) -> Result<NonceSecurityBits, Trouble> {
     if word == "default" {
         return Ok(NonceSecurityBits::default());
     }
-    match <[u8; 3]>::try_from(bytes(alloc, word)?.as_slice()) {
-        Ok(bytes) => Ok(NonceSecurityBits::from_bytes(bytes)),
-        Err(_) => Err(Trouble::Words),
-    }
+    Ok(NonceSecurityBits::from_bytes(fixed(word)?))
 }
 
 /// `nonce cookie`: the letters that a nonce with bits begins with.
-fn cookie(words: &[&str], answer: &mut String) -> Result<(), Trouble> {
+fn cookie(words: &[&str], answer: &mut Answer) -> Result<(), Trouble> {
     if !words.is_empty() {
         return Err(Trouble::Words);
     }
-    Ok(answer.push_str(LONG_TERM_RFC8489_NONCE_COOKIE)?)
+    Ok(answer.add(LONG_TERM_RFC8489_NONCE_COOKIE))
 }
 
 /// `nonce bits TEXT`: the bytes of the bits of a nonce, or `none`.
-fn bits(stage: &Stage<'_>, words: &[&str], answer: &mut String) -> Result<(), Trouble> {
+fn bits(stage: &Stage<'_>, words: &[&str], answer: &mut Answer) -> Result<(), Trouble> {
     let nonce = phrase(stage.source.alloc, words)?;
     match NonceSecurityBits::from_nonce(nonce.as_str()) {
-        Some(bits) => push_bytes(stage.source.alloc, bits.bytes().as_slice(), answer),
-        None => Ok(answer.push_str("none")?),
+        Some(bits) => Ok(answer.hex(bits.bytes().as_slice())),
+        None => Ok(answer.add("none")),
     }
 }
 
 /// `nonce text BITS`: what a nonce of these bits begins with.
-fn text(stage: &mut Stage<'_>, words: &[&str], answer: &mut String) -> Result<(), Trouble> {
+fn text(stage: &mut Stage<'_>, words: &[&str], answer: &mut Answer) -> Result<(), Trouble> {
     let [word] = words else {
         return Err(Trouble::Words);
     };
-    let bits = bits_of(stage.source.alloc, word)?;
+    let bits = bits_of(word)?;
     stage.begin();
     match bits.as_string(stage.heap) {
-        Ok(text) => Ok(answer.push_str(text.as_str())?),
-        Err(_) => Ok(answer.push_str(OUT_OF_MEMORY)?),
+        Ok(text) => Ok(answer.add(text.as_str())),
+        Err(_) => Ok(answer.add(OUT_OF_MEMORY)),
     }
 }
 
 /// `nonce says BITS`: whether they ask for `algorithms`, for `hashes`, for both, or for `none`.
-fn says(stage: &Stage<'_>, words: &[&str], answer: &mut String) -> Result<(), Trouble> {
+fn says(stage: &Stage<'_>, words: &[&str], answer: &mut Answer) -> Result<(), Trouble> {
     let [word] = words else {
         return Err(Trouble::Words);
     };
-    let bits = bits_of(stage.source.alloc, word)?;
+    let bits = bits_of(word)?;
     let meaning = match (bits.password_algorithms(), bits.username_anonymity()) {
         (true, true) => "algorithms hashes",
         (true, false) => "algorithms",
         (false, true) => "hashes",
         (false, false) => "none",
     };
-    Ok(answer.push_str(meaning)?)
+    Ok(answer.add(meaning))
 }
 
 /// `nonce set BITS FLAG ..`: the bytes of the bits once the flags `algorithms`, `hashes`,
 /// `no-algorithms` and `no-hashes` are set in their order.
-fn set(stage: &Stage<'_>, words: &[&str], answer: &mut String) -> Result<(), Trouble> {
+fn set(stage: &Stage<'_>, words: &[&str], answer: &mut Answer) -> Result<(), Trouble> {
     let [word, flags @ ..] = words else {
         return Err(Trouble::Words);
     };
-    let mut bits = bits_of(stage.source.alloc, word)?;
+    let mut bits = bits_of(word)?;
     for flag in flags {
         match *flag {
             "algorithms" => bits.set_password_algorithms(true),
@@ -99,5 +95,5 @@ fn set(stage: &Stage<'_>, words: &[&str], answer: &mut String) -> Result<(), Tro
             _ => return Err(Trouble::Words),
         }
     }
-    push_bytes(stage.source.alloc, bits.bytes().as_slice(), answer)
+    Ok(answer.hex(bits.bytes().as_slice()))
 }

@@ -1,6 +1,6 @@
 //! Texts of several words, and how types and refusals are told.
 
-use crate::signing::push_bytes;
+use crate::answer::Answer;
 use crate::trouble::Trouble;
 use crate::words::text;
 use std::alloc::Global;
@@ -20,26 +20,22 @@ pub fn phrase(alloc: Global, words: &[&str]) -> Result<String, Trouble> {
 }
 
 /// Adds a type of attributes as `0x` and four digits.
-pub fn push_type(alloc: Global, kind: AttributeType, answer: &mut String) -> Result<(), Trouble> {
-    answer.push_str("0x")?;
-    push_bytes(alloc, kind.value().to_be_bytes().as_slice(), answer)
+pub fn push_type(kind: AttributeType, answer: &mut Answer) {
+    answer.add("0x");
+    answer.hex(kind.value().to_be_bytes().as_slice())
 }
 
 /// Adds why the digest of a message is refused, with the type of the attribute that it lacks.
-pub fn push_refusal(
-    alloc: Global,
-    error: ValidateError,
-    answer: &mut String,
-) -> Result<(), Trouble> {
+pub fn push_refusal(error: ValidateError, answer: &mut Answer) {
     match error {
-        ValidateError::IntegrityFailed => Ok(answer.push_str("IntegrityFailed")?),
+        ValidateError::IntegrityFailed => answer.add("IntegrityFailed"),
         ValidateError::Parse(StunParseError::MissingAttribute(kind)) => {
-            answer.push_str("MissingAttribute ")?;
-            push_type(alloc, kind, answer)
+            answer.add("MissingAttribute ");
+            push_type(kind, answer)
         }
         ValidateError::Parse(StunParseError::InvalidAttributeData) => {
-            Ok(answer.push_str("InvalidAttributeData")?)
+            answer.add("InvalidAttributeData")
         }
-        ValidateError::Parse(_) => Ok(answer.push_str("Parse")?),
+        ValidateError::Parse(_) => answer.add("Parse"),
     }
 }

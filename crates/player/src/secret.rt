@@ -1,10 +1,10 @@
 //! Keys, credentials and bytes by themselves: `secret NAME WORDS`. Each call adds what is answered
 //! to a text.
 
+use crate::answer::Answer;
 use crate::names::OUT_OF_MEMORY;
 use crate::phrases::phrase;
 use crate::scene::Scene;
-use crate::signing::push_bytes;
 use crate::stage::Heap;
 use crate::trouble::Trouble;
 use crate::words::{algorithm, bytes};
@@ -39,7 +39,7 @@ pub fn call(
     scene: &mut Scene<'_>,
     name: &str,
     words: &[&str],
-    answer: &mut String,
+    answer: &mut Answer,
 ) -> Result<(), Trouble> {
     match name {
         name if words.is_empty() => tell(scene, name, answer),
@@ -55,7 +55,7 @@ fn call_with(
     scene: &mut Scene<'_>,
     name: &str,
     words: &[&str],
-    answer: &mut String,
+    answer: &mut Answer,
 ) -> Result<(), Trouble> {
     let [word] = words else {
         return Err(Trouble::Words);
@@ -72,62 +72,59 @@ fn call_with(
 }
 
 /// What has no words.
-fn tell(scene: &mut Scene<'_>, name: &str, answer: &mut String) -> Result<(), Trouble> {
+fn tell(scene: &mut Scene<'_>, name: &str, answer: &mut Answer) -> Result<(), Trouble> {
     let secrets = &scene.writing.secrets;
     match name {
-        "make-key" => make_key(scene, answer),
+        "make-key" => Ok(make_key(scene, answer)),
         "key" => match &secrets.key {
-            Some(key) => push_bytes(scene.stage.source.alloc, key.as_bytes(), answer),
-            None => push_none(answer),
+            Some(key) => Ok(answer.hex(key.as_bytes())),
+            None => Ok(push_none(answer)),
         },
         "password" => match &secrets.password {
-            Some(credentials) => Ok(answer.push_str(credentials.password())?),
-            None => push_none(answer),
+            Some(credentials) => Ok(answer.add(credentials.password())),
+            None => Ok(push_none(answer)),
         },
         "user" => match &secrets.user {
-            Some(user) => push_user(user, answer),
-            None => push_none(answer),
+            Some(user) => Ok(push_user(user, answer)),
+            None => Ok(push_none(answer)),
         },
         "settled" => match &secrets.settled {
-            Some(settled) => push_settled(settled, answer),
-            None => push_none(answer),
+            Some(settled) => Ok(push_settled(settled, answer)),
+            None => Ok(push_none(answer)),
         },
         _ => Err(Trouble::Words),
     }
 }
 
-fn push_none(answer: &mut String) -> Result<(), Trouble> {
-    Ok(answer.push_str("none")?)
+fn push_none(answer: &mut Answer) {
+    answer.add("none")
 }
 
-fn push_no_memory(answer: &mut String) -> Result<(), Trouble> {
-    Ok(answer.push_str(OUT_OF_MEMORY)?)
+fn push_no_memory(answer: &mut Answer) {
+    answer.add(OUT_OF_MEMORY)
 }
 
-fn push_user(user: &LongTermCredentials<&Heap>, answer: &mut String) -> Result<(), Trouble> {
-    answer.push_str(user.username())?;
-    answer.push(' ')?;
-    Ok(answer.push_str(user.password())?)
+fn push_user(user: &LongTermCredentials<&Heap>, answer: &mut Answer) {
+    answer.add(user.username());
+    answer.add(" ");
+    answer.add(user.password())
 }
 
-fn push_settled(
-    settled: &LongTermKeyCredentials<&Heap>,
-    answer: &mut String,
-) -> Result<(), Trouble> {
-    answer.push_str(settled.username())?;
-    answer.push(' ')?;
-    answer.push_str(settled.realm())?;
-    answer.push(' ')?;
-    Ok(answer.push_str(settled.password())?)
+fn push_settled(settled: &LongTermKeyCredentials<&Heap>, answer: &mut Answer) {
+    answer.add(settled.username());
+    answer.add(" ");
+    answer.add(settled.realm());
+    answer.add(" ");
+    answer.add(settled.password())
 }
 
 /// `secret key HEX`: keeps a key of these bytes.
-fn set_key(scene: &mut Scene<'_>, digits: &str, answer: &mut String) -> Result<(), Trouble> {
+fn set_key(scene: &mut Scene<'_>, digits: &str, answer: &mut Answer) -> Result<(), Trouble> {
     let bytes = bytes(scene.stage.source.alloc, digits)?;
     scene.stage.begin();
     match IntegrityKey::from_bytes(scene.stage.heap, bytes.as_slice()) {
         Ok(key) => scene.writing.secrets.key = Some(key),
-        Err(_) => push_no_memory(answer)?,
+        Err(_) => push_no_memory(answer),
     }
     Ok(())
 }
@@ -152,52 +149,52 @@ fn set_user(scene: &mut Scene<'_>, words: &[&str]) -> Result<(), Trouble> {
 }
 
 /// `secret settle REALM`: keeps the user at a realm, too.
-fn settle(scene: &mut Scene<'_>, realm: &str, answer: &mut String) -> Result<(), Trouble> {
+fn settle(scene: &mut Scene<'_>, realm: &str, answer: &mut Answer) -> Result<(), Trouble> {
     let realm = String::from_str(scene.stage.heap, realm)?;
     scene.stage.begin();
     let Some(user) = &scene.writing.secrets.user else {
-        return push_none(answer);
+        return Ok(push_none(answer));
     };
     match user.to_key(realm) {
         Ok(settled) => scene.writing.secrets.settled = Some(settled),
-        Err(_) => push_no_memory(answer)?,
+        Err(_) => push_no_memory(answer),
     }
     Ok(())
 }
 
 /// `secret copy key | password | user | settled`: tells a copy.
-fn copy(scene: &mut Scene<'_>, kind: &str, answer: &mut String) -> Result<(), Trouble> {
+fn copy(scene: &mut Scene<'_>, kind: &str, answer: &mut Answer) -> Result<(), Trouble> {
     scene.stage.begin();
     match kind {
-        "key" => copy_key(scene, answer),
-        "password" => copy_password(scene, answer),
-        "user" => copy_user(scene, answer),
-        "settled" => copy_settled(scene, answer),
+        "key" => Ok(copy_key(scene, answer)),
+        "password" => Ok(copy_password(scene, answer)),
+        "user" => Ok(copy_user(scene, answer)),
+        "settled" => Ok(copy_settled(scene, answer)),
         _ => Err(Trouble::Words),
     }
 }
 
-fn copy_key(scene: &Scene<'_>, answer: &mut String) -> Result<(), Trouble> {
+fn copy_key(scene: &Scene<'_>, answer: &mut Answer) {
     let Some(key) = &scene.writing.secrets.key else {
         return push_none(answer);
     };
     match key.clone() {
-        Ok(copy) => push_bytes(scene.stage.source.alloc, copy.as_bytes(), answer),
+        Ok(copy) => answer.hex(copy.as_bytes()),
         Err(_) => push_no_memory(answer),
     }
 }
 
-fn copy_password(scene: &Scene<'_>, answer: &mut String) -> Result<(), Trouble> {
+fn copy_password(scene: &Scene<'_>, answer: &mut Answer) {
     let Some(credentials) = &scene.writing.secrets.password else {
         return push_none(answer);
     };
     match credentials.clone() {
-        Ok(copy) => Ok(answer.push_str(copy.password())?),
+        Ok(copy) => answer.add(copy.password()),
         Err(_) => push_no_memory(answer),
     }
 }
 
-fn copy_user(scene: &Scene<'_>, answer: &mut String) -> Result<(), Trouble> {
+fn copy_user(scene: &Scene<'_>, answer: &mut Answer) {
     let Some(user) = &scene.writing.secrets.user else {
         return push_none(answer);
     };
@@ -207,7 +204,7 @@ fn copy_user(scene: &Scene<'_>, answer: &mut String) -> Result<(), Trouble> {
     }
 }
 
-fn copy_settled(scene: &Scene<'_>, answer: &mut String) -> Result<(), Trouble> {
+fn copy_settled(scene: &Scene<'_>, answer: &mut Answer) {
     let Some(settled) = &scene.writing.secrets.settled else {
         return push_none(answer);
     };
@@ -218,27 +215,27 @@ fn copy_settled(scene: &Scene<'_>, answer: &mut String) -> Result<(), Trouble> {
 }
 
 /// `secret make-key`: the key of the password.
-fn make_key(scene: &mut Scene<'_>, answer: &mut String) -> Result<(), Trouble> {
+fn make_key(scene: &mut Scene<'_>, answer: &mut Answer) {
     scene.stage.begin();
     let Some(credentials) = &scene.writing.secrets.password else {
         return push_none(answer);
     };
     match credentials.make_key() {
-        Ok(key) => push_bytes(scene.stage.source.alloc, key.as_bytes(), answer),
+        Ok(key) => answer.hex(key.as_bytes()),
         Err(_) => push_no_memory(answer),
     }
 }
 
 /// `secret key-of ALGORITHM`: the key of the user at a realm.
-fn key_of(scene: &mut Scene<'_>, word: &str, answer: &mut String) -> Result<(), Trouble> {
+fn key_of(scene: &mut Scene<'_>, word: &str, answer: &mut Answer) -> Result<(), Trouble> {
     let algorithm = algorithm(word)?;
     scene.stage.begin();
     match &scene.writing.secrets.settled {
         Some(settled) => {
             let key = settled.make_key(algorithm);
-            push_bytes(scene.stage.source.alloc, key.as_bytes(), answer)
+            Ok(answer.hex(key.as_bytes()))
         }
-        None => push_none(answer),
+        None => Ok(push_none(answer)),
     }
 }
 
@@ -246,7 +243,7 @@ fn key_of(scene: &mut Scene<'_>, word: &str, answer: &mut String) -> Result<(), 
 fn make_long_term_key(
     scene: &mut Scene<'_>,
     words: &[&str],
-    answer: &mut String,
+    answer: &mut Answer,
 ) -> Result<(), Trouble> {
     let [word, user, realm, password] = words else {
         return Err(Trouble::Words);
@@ -254,31 +251,27 @@ fn make_long_term_key(
     let algorithm = algorithm(word)?;
     scene.stage.begin();
     let key = long_term_key(scene.stage.heap, algorithm, user, realm, password);
-    push_bytes(scene.stage.source.alloc, key.as_bytes(), answer)
+    Ok(answer.hex(key.as_bytes()))
 }
 
 /// `secret owned HEX`: bytes that are lent, once they are owned.
-fn own(scene: &mut Scene<'_>, digits: &str, answer: &mut String) -> Result<(), Trouble> {
+fn own(scene: &mut Scene<'_>, digits: &str, answer: &mut Answer) -> Result<(), Trouble> {
     let bytes = bytes(scene.stage.source.alloc, digits)?;
     scene.stage.begin();
-    push_owned(scene, Data::Borrowed(bytes.as_slice()), answer)
+    Ok(push_owned(scene, Data::Borrowed(bytes.as_slice()), answer))
 }
 
 /// `secret owned-again HEX`: bytes that are owned already, once they are owned.
-fn own_again(scene: &mut Scene<'_>, digits: &str, answer: &mut String) -> Result<(), Trouble> {
+fn own_again(scene: &mut Scene<'_>, digits: &str, answer: &mut Answer) -> Result<(), Trouble> {
     let bytes = bytes(scene.stage.source.alloc, digits)?;
     let bytes = Vec::from_slice(scene.stage.heap, bytes.as_slice())?;
     scene.stage.begin();
-    push_owned(scene, Data::Owned(bytes), answer)
+    Ok(push_owned(scene, Data::Owned(bytes), answer))
 }
 
-fn push_owned<'a>(
-    scene: &Scene<'a>,
-    data: Data<'_, &'a Heap>,
-    answer: &mut String,
-) -> Result<(), Trouble> {
+fn push_owned<'a>(scene: &Scene<'a>, data: Data<'_, &'a Heap>, answer: &mut Answer) {
     match data.into_owned(scene.stage.heap) {
-        Ok(owned) => push_bytes(scene.stage.source.alloc, owned.bytes(), answer),
+        Ok(owned) => answer.hex(owned.bytes()),
         Err(_) => push_no_memory(answer),
     }
 }

@@ -1,6 +1,7 @@
 //! The calls of a server with long-term credentials: `server NAME WORDS`. Each adds what is
 //! answered to a text.
 
+use crate::answer::Answer;
 use crate::kept::message;
 use crate::names::{OUT_OF_MEMORY, algorithm_name, feature_name, server_reason_name};
 use crate::signing::{Side, sign, sign_in_slice, sign_length};
@@ -20,7 +21,7 @@ pub fn call(
     stage: &mut Stage<'_>,
     name: &str,
     words: &[&str],
-    answer: &mut String,
+    answer: &mut Answer,
 ) -> Result<(), Trouble> {
     match name {
         "new" => begin(stage, words),
@@ -46,7 +47,7 @@ fn tell(
     stage: &mut Stage<'_>,
     name: &str,
     words: &[&str],
-    answer: &mut String,
+    answer: &mut Answer,
 ) -> Result<(), Trouble> {
     if !words.is_empty() {
         return Err(Trouble::Words);
@@ -55,9 +56,9 @@ fn tell(
         "remove-client" => remove_client(stage),
         "nonce" => nonce(stage, answer)?,
         "client" => client(stage, answer)?,
-        "sizes" => sizes(stage, answer)?,
-        "supported" => supported(stage, answer)?,
-        "realm" => answer.push_str(stage.server.realm())?,
+        "sizes" => sizes(stage, answer),
+        "supported" => supported(stage, answer),
+        "realm" => answer.add(stage.server.realm()),
         _ => return Err(Trouble::Words),
     }
     Ok(())
@@ -75,7 +76,7 @@ fn begin(stage: &mut Stage<'_>, words: &[&str]) -> Result<(), Trouble> {
 }
 
 /// `server add-user NAME PASSWORD`
-fn add_user(stage: &mut Stage<'_>, words: &[&str], answer: &mut String) -> Result<(), Trouble> {
+fn add_user(stage: &mut Stage<'_>, words: &[&str], answer: &mut Answer) -> Result<(), Trouble> {
     let [name, password] = words else {
         return Err(Trouble::Words);
     };
@@ -87,7 +88,7 @@ fn add_user(stage: &mut Stage<'_>, words: &[&str], answer: &mut String) -> Resul
         .add_user(LongTermCredentials::new(name, password))
         .is_err()
     {
-        answer.push_str(OUT_OF_MEMORY)?;
+        answer.add(OUT_OF_MEMORY);
     }
     Ok(())
 }
@@ -109,14 +110,14 @@ fn remove_client(stage: &mut Stage<'_>) {
 }
 
 /// `server hashes auto | required | disabled`, or `server hashes` alone, which tells it.
-fn hashes(stage: &mut Stage<'_>, words: &[&str], answer: &mut String) -> Result<(), Trouble> {
+fn hashes(stage: &mut Stage<'_>, words: &[&str], answer: &mut Answer) -> Result<(), Trouble> {
     match words {
-        [] => answer.push_str(feature_name(stage.server.anonymous_username()))?,
+        [] => answer.add(feature_name(stage.server.anonymous_username())),
         [word] => {
             let feature = feature(word)?;
             stage.begin();
             if stage.server.set_anonymous_username(feature).is_err() {
-                answer.push_str(OUT_OF_MEMORY)?;
+                answer.add(OUT_OF_MEMORY);
             }
         }
         _ => return Err(Trouble::Words),
@@ -148,11 +149,11 @@ fn set_algorithm(stage: &mut Stage<'_>, words: &[&str]) -> Result<(), Trouble> {
 
 /// `server expiry SPAN`, or `server expiry` alone, which tells the shortest that there is, in
 /// nanoseconds.
-fn expiry(stage: &mut Stage<'_>, words: &[&str], answer: &mut String) -> Result<(), Trouble> {
+fn expiry(stage: &mut Stage<'_>, words: &[&str], answer: &mut Answer) -> Result<(), Trouble> {
     match words {
         [] => {
             let shortest = minimum_nonce_expiry_duration().as_nanos();
-            write!(answer, "{shortest}")?;
+            answer.show(&shortest);
         }
         [word] => {
             let nanos = nanos(word)?;
@@ -189,7 +190,7 @@ fn forget(stage: &mut Stage<'_>, words: &[&str]) -> Result<(), Trouble> {
 
 /// `server forget-some COUNT`, or with an ADDRESS to begin at: the same for at most COUNT
 /// addresses. It tells the address to go on at, or `none`.
-fn forget_some(stage: &mut Stage<'_>, words: &[&str], answer: &mut String) -> Result<(), Trouble> {
+fn forget_some(stage: &mut Stage<'_>, words: &[&str], answer: &mut Answer) -> Result<(), Trouble> {
     let (count, from) = match words {
         [count] => (count, None),
         [count, word] => (count, Some(address(word)?)),
@@ -198,19 +199,22 @@ fn forget_some(stage: &mut Stage<'_>, words: &[&str], answer: &mut String) -> Re
     let most = size(count)?;
     stage.begin();
     match stage.server.forget_expired_within(stage.now, from, most) {
-        Some(next) => Ok(write!(answer, "{next}")?),
-        None => Ok(answer.push_str("none")?),
+        Some(next) => {
+            answer.show(&next);
+            Ok(())
+        },
+        None => Ok(answer.add("none")),
     }
 }
 
 /// `server hears MESSAGE`: what the server answers to it.
-fn hear(stage: &mut Stage<'_>, words: &[&str], answer: &mut String) -> Result<(), Trouble> {
+fn hear(stage: &mut Stage<'_>, words: &[&str], answer: &mut Answer) -> Result<(), Trouble> {
     let bytes = message(stage, words)?;
     let Ok(message) = Message::from_bytes(bytes.as_slice()) else {
         return Err(Trouble::Words);
     };
     let name = answer_name(stage, &message);
-    Ok(answer.push_str(name)?)
+    Ok(answer.add(name))
 }
 
 fn answer_name(stage: &mut Stage<'_>, message: &Message<'_>) -> &'static str {
@@ -226,39 +230,38 @@ fn answer_name(stage: &mut Stage<'_>, message: &Message<'_>) -> &'static str {
 }
 
 /// `server nonce`: the one of the address, or `none`.
-fn nonce(stage: &Stage<'_>, answer: &mut String) -> Result<(), Trouble> {
+fn nonce(stage: &Stage<'_>, answer: &mut Answer) -> Result<(), Trouble> {
     match stage.server.nonce_for_client(stage.from) {
-        Some(nonce) => Ok(answer.push_str(nonce)?),
-        None => Ok(answer.push_str("none")?),
+        Some(nonce) => Ok(answer.add(nonce)),
+        None => Ok(answer.add("none")),
     }
 }
 
 /// `server client`: the name and the algorithm of the client at the address, or `none`.
-fn client(stage: &Stage<'_>, answer: &mut String) -> Result<(), Trouble> {
+fn client(stage: &Stage<'_>, answer: &mut Answer) -> Result<(), Trouble> {
     match stage.server.client(stage.from) {
         Some((user, algorithm)) => {
-            answer.push_str(user)?;
-            answer.push(' ')?;
-            Ok(answer.push_str(algorithm_name(algorithm))?)
+            answer.add(user);
+            answer.add(" ");
+            Ok(answer.add(algorithm_name(algorithm)))
         }
-        None => Ok(answer.push_str("none")?),
+        None => Ok(answer.add("none")),
     }
 }
 
 /// `server sizes`: how many bytes signing adds to a request to the address, and to a response.
-fn sizes(stage: &Stage<'_>, answer: &mut String) -> Result<(), Trouble> {
+fn sizes(stage: &Stage<'_>, answer: &mut Answer) {
     let request = stage.server.message_signature_bytes(stage.from, true);
     let response = stage.server.message_signature_bytes(stage.from, false);
-    Ok(write!(answer, "{request} {response}")?)
+    answer.show(&request);
+    answer.add(" ");
+    answer.show(&response);
 }
 
 /// `server supported`: the algorithms, the strongest first.
-fn supported(stage: &Stage<'_>, answer: &mut String) -> Result<(), Trouble> {
+fn supported(stage: &Stage<'_>, answer: &mut Answer) {
     for algorithm in stage.server.supported_integrity() {
-        if !answer.as_str().is_empty() {
-            answer.push(' ')?;
-        }
-        answer.push_str(algorithm_name(*algorithm))?;
+        answer.part();
+        answer.add(algorithm_name(*algorithm));
     }
-    Ok(())
 }

@@ -1,10 +1,11 @@
 //! The calls of short-term credentials (RFC 8489, section 9.1): `short-term NAME WORDS`. Each adds
 //! what is answered to a text.
 
+use crate::answer::Answer;
 use crate::kept::message;
 use crate::names::{OUT_OF_MEMORY, algorithm_name};
 use crate::phrases::{phrase, push_refusal};
-use crate::signing::{Side, push_bytes, sign, sign_in_slice};
+use crate::signing::{Side, sign, sign_in_slice};
 use crate::stage::Stage;
 use crate::trouble::Trouble;
 use crate::unchecked::sign_unchecked;
@@ -17,7 +18,7 @@ pub fn call(
     stage: &mut Stage<'_>,
     name: &str,
     words: &[&str],
-    answer: &mut String,
+    answer: &mut Answer,
 ) -> Result<(), Trouble> {
     match name {
         "password" => set_password(stage, words, answer),
@@ -34,7 +35,7 @@ fn tell(
     stage: &mut Stage<'_>,
     name: &str,
     words: &[&str],
-    answer: &mut String,
+    answer: &mut Answer,
 ) -> Result<(), Trouble> {
     if !words.is_empty() {
         return Err(Trouble::Words);
@@ -58,7 +59,7 @@ fn begin(stage: &mut Stage<'_>) {
 }
 
 /// `short-term password ALGORITHM PASSWORD`: sets the password, and the algorithm to sign with.
-fn set_password(stage: &mut Stage<'_>, words: &[&str], answer: &mut String) -> Result<(), Trouble> {
+fn set_password(stage: &mut Stage<'_>, words: &[&str], answer: &mut Answer) -> Result<(), Trouble> {
     let [word, words @ ..] = words else {
         return Err(Trouble::Words);
     };
@@ -71,49 +72,50 @@ fn set_password(stage: &mut Stage<'_>, words: &[&str], answer: &mut String) -> R
         .set_credentials(ShortTermCredentials::new(password), algorithm)
         .is_err()
     {
-        answer.push_str(OUT_OF_MEMORY)?;
+        answer.add(OUT_OF_MEMORY);
     }
     Ok(())
 }
 
 /// `short-term credentials`: the algorithm and the password, or `none`.
-fn credentials(stage: &Stage<'_>, answer: &mut String) -> Result<(), Trouble> {
+fn credentials(stage: &Stage<'_>, answer: &mut Answer) -> Result<(), Trouble> {
     match stage.short_term.credentials() {
         Some((credentials, algorithm)) => {
-            answer.push_str(algorithm_name(algorithm))?;
-            answer.push(' ')?;
-            Ok(answer.push_str(credentials.password())?)
+            answer.add(algorithm_name(algorithm));
+            answer.add(" ");
+            Ok(answer.add(credentials.password()))
         }
-        None => Ok(answer.push_str("none")?),
+        None => Ok(answer.add("none")),
     }
 }
 
 /// `short-term key`: the bytes of the key, or `none`.
-fn key(stage: &Stage<'_>, answer: &mut String) -> Result<(), Trouble> {
+fn key(stage: &Stage<'_>, answer: &mut Answer) -> Result<(), Trouble> {
     match stage.short_term.integrity_key() {
-        Some(key) => push_bytes(stage.source.alloc, key.as_bytes(), answer),
-        None => Ok(answer.push_str("none")?),
+        Some(key) => Ok(answer.hex(key.as_bytes())),
+        None => Ok(answer.add("none")),
     }
 }
 
 /// `short-term size`: how many bytes signing adds.
-fn size(stage: &Stage<'_>, answer: &mut String) -> Result<(), Trouble> {
+fn size(stage: &Stage<'_>, answer: &mut Answer) -> Result<(), Trouble> {
     let size = stage.short_term.message_signature_bytes();
-    Ok(write!(answer, "{size}")?)
+    answer.show(&size);
+    Ok(())
 }
 
 /// `short-term hears MESSAGE`: the algorithm of its digest, `none` without credentials, or why it
 /// is refused.
-fn hear(stage: &mut Stage<'_>, words: &[&str], answer: &mut String) -> Result<(), Trouble> {
+fn hear(stage: &mut Stage<'_>, words: &[&str], answer: &mut Answer) -> Result<(), Trouble> {
     let bytes = message(stage, words)?;
     let Ok(message) = Message::from_bytes(bytes.as_slice()) else {
         return Err(Trouble::Words);
     };
     let verdict = verdict(stage, &message);
     match verdict {
-        Ok(None) => Ok(answer.push_str("none")?),
-        Ok(Some(algorithm)) => Ok(answer.push_str(algorithm_name(algorithm))?),
-        Err(error) => push_refusal(stage.source.alloc, error, answer),
+        Ok(None) => Ok(answer.add("none")),
+        Ok(Some(algorithm)) => Ok(answer.add(algorithm_name(algorithm))),
+        Err(error) => Ok(push_refusal(error, answer)),
     }
 }
 

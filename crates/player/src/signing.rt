@@ -2,12 +2,12 @@
 //! short-term credentials share.
 ghost use Rattle.std.specs.Prelude.{◌≡◌, []};
 
+use crate::answer::Answer;
 use crate::kept::message;
 use crate::names::write_error_name;
 use crate::stage::{Heap, Stage};
 use crate::trouble::Trouble;
 use crate::words::size;
-use std::alloc::Global;
 use stun_types::message::{MessageHeader, MessageWriteMutSlice, MessageWriteVec, StunWriteError};
 use stun_types::prelude::*;
 
@@ -73,11 +73,11 @@ pub fn sign(
     stage: &mut Stage<'_>,
     side: Side,
     words: &[&str],
-    answer: &mut String,
+    answer: &mut Answer,
 ) -> Result<(), Trouble> {
     match signed_on_heap(stage, side, words)? {
-        Ok(bytes) => push_bytes(stage.source.alloc, bytes.as_slice(), answer),
-        Err(error) => push_reason(error, answer),
+        Ok(bytes) => Ok(answer.hex(bytes.as_slice())),
+        Err(error) => Ok(push_reason(error, answer)),
     }
 }
 
@@ -86,14 +86,15 @@ pub fn sign_length(
     stage: &mut Stage<'_>,
     side: Side,
     words: &[&str],
-    answer: &mut String,
+    answer: &mut Answer,
 ) -> Result<(), Trouble> {
     match signed_on_heap(stage, side, words)? {
         Ok(bytes) => {
             let length = bytes.len();
-            Ok(write!(answer, "{length}")?)
+            answer.show(&length);
+            Ok(())
         }
-        Err(error) => push_reason(error, answer),
+        Err(error) => Ok(push_reason(error, answer)),
     }
 }
 
@@ -102,7 +103,7 @@ pub fn sign_in_slice(
     stage: &mut Stage<'_>,
     side: Side,
     words: &[&str],
-    answer: &mut String,
+    answer: &mut Answer,
 ) -> Result<(), Trouble> {
     let [length, words @ ..] = words else {
         return Err(Trouble::Words);
@@ -114,23 +115,18 @@ pub fn sign_in_slice(
     };
     let writer = MessageWriteMutSlice::new(room);
     match signed_in(stage, side, bytes.as_slice(), writer)? {
-        Ok(signed) => push_bytes(stage.source.alloc, signed.data(), answer),
-        Err(error) => push_reason(error, answer),
-    }
-}
-
-/// Adds the digits of bytes to an answer.
-pub fn push_bytes(alloc: Global, bytes: &[u8], answer: &mut String) -> Result<(), Trouble> {
-    match hex::encode(alloc, bytes) {
-        Ok(digits) => Ok(answer.push_str(digits.as_str())?),
-        Err(_) => Err(Trouble::Memory),
+        Ok(signed) => Ok(answer.hex(signed.data())),
+        Err(error) => Ok(push_reason(error, answer)),
     }
 }
 
 /// Adds why a message is not signed; an attribute that is in the way with its type.
-pub fn push_reason(reason: StunWriteError, answer: &mut String) -> Result<(), Trouble> {
+pub fn push_reason(reason: StunWriteError, answer: &mut Answer) {
     match reason {
-        StunWriteError::AttributeExists(kind) => Ok(write!(answer, "AttributeExists {kind}")?),
-        reason => Ok(answer.push_str(write_error_name(reason))?),
+        StunWriteError::AttributeExists(kind) => {
+            answer.add("AttributeExists ");
+            answer.show(&kind);
+        },
+        reason => answer.add(write_error_name(reason)),
     }
 }

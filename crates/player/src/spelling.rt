@@ -7,7 +7,7 @@
 use crate::page::meaning;
 use crate::stage::Source;
 use crate::trouble::Trouble;
-use crate::words::{address, attribute_type, bytes, hex_number, number, text};
+use crate::words::{address, attribute_type, bytes, fixed, hex_number, number, text};
 use std::alloc::Global;
 use std::net::{IpAddr, SocketAddr};
 use stun_types::attribute::AttributeType;
@@ -289,7 +289,7 @@ fn sign_by_password(
 
 /// Adds an attribute of a name.
 fn add_named(spelling: &mut Spelling, name: &str, value: &str) -> Result<(), Trouble> {
-    let kind = attribute_type(spelling.alloc, name)?;
+    let kind = attribute_type(name)?;
     let value = match value.strip_prefix("0x") {
         Some(digits) => bytes(spelling.alloc, digits)?,
         None => value_of(spelling, name, value)?,
@@ -303,10 +303,7 @@ fn set_id(spelling: &mut Spelling, value: &str) -> Result<(), Trouble> {
         spelling.id = id_of(number(value)?);
         return Ok(());
     };
-    match <[u8; 12]>::try_from(bytes(spelling.alloc, digits)?.as_slice()) {
-        Ok(id) => spelling.id = id,
-        Err(_) => return Err(Trouble::Words),
-    }
+    spelling.id = fixed(digits)?;
     Ok(())
 }
 
@@ -315,7 +312,7 @@ fn add_word(spelling: &mut Spelling, word: &str) -> Result<(), Trouble> {
     match word.split_once('=') {
         Some(("ID", value)) => set_id(spelling, value),
         Some(("TYPE", value)) => {
-            spelling.message_type = hex_number(spelling.alloc, value)?;
+            spelling.message_type = hex_number(value)?;
             Ok(())
         }
         Some(("MI", value)) => sign_by(spelling, value, IntegrityAlgorithm::Sha1),

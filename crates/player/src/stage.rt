@@ -4,10 +4,11 @@ use crate::kept::Messages;
 use crate::trouble::Trouble;
 use crate::words::text;
 use fail_alloc::RefusingAllocator;
-use std::alloc::Global;
+use std::alloc::{AllocError, Global};
 use std::net::{IpAddr, Ipv4Addr, SocketAddr};
 use stun_auth::auth::{LongTermClientAuth, LongTermServerAuth, ShortTermAuth};
 use stun_base::instant::Instant;
+use stun_types::message::LongTermCredentials;
 
 pub type Heap = RefusingAllocator<Global>;
 
@@ -82,8 +83,18 @@ impl<'a> Stage<'a> {
 
     /// The text of a word, on the heap.
     pub fn text(&self, word: &str) -> Result<String<&'a Heap>, Trouble> {
-        let text = text(self.source.alloc, word)?;
-        Ok(String::from_str(self.heap, text.as_str())?)
+        text(self.heap, word)
+    }
+
+    /// A user's name and password, on the heap.
+    pub fn credentials(
+        &self,
+        name: &str,
+        password: &str,
+    ) -> Result<LongTermCredentials<&'a Heap>, AllocError> {
+        let name = String::from_str(self.heap, name)?;
+        let password = String::from_str(self.heap, password)?;
+        Ok(LongTermCredentials::new(name, password))
     }
 
     fn blocks(&self) -> Blocks {

@@ -1,23 +1,25 @@
 //! Messages that are told in the words that spell them.
 
+use crate::answer::Answer;
 use crate::kept::spelled;
-use crate::signing::push_bytes;
 use crate::spelling::first_of;
 use crate::stage::Source;
 use crate::trouble::Trouble;
-use std::alloc::Global;
 use std::net::{IpAddr, Ipv4Addr, Ipv6Addr, SocketAddr};
 use std::str;
 
 /// Adds a message in the words that spell it, or `bytes` and its digits where they spell another.
-pub fn push_message(source: Source<'_>, bytes: &[u8], answer: &mut String) -> Result<(), Trouble> {
-    let mut told = String::new(source.alloc);
-    push_words(source.alloc, bytes, &mut told)?;
-    if is_spelled(source, told.as_str(), bytes)? {
-        return Ok(answer.push_str(told.as_str())?);
+pub fn push_message(source: Source<'_>, bytes: &[u8], answer: &mut Answer) {
+    let mut told = Answer::new(source.alloc);
+    push_words(bytes, &mut told);
+    match is_spelled(source, told.as_str(), bytes) {
+        Ok(true) => answer.join(&told),
+        Ok(false) => {
+            answer.add("bytes ");
+            answer.hex(bytes);
+        }
+        Err(_) => answer.cut(),
     }
-    answer.push_str("bytes ")?;
-    push_bytes(source.alloc, bytes, answer)
 }
 
 /// Whether words spell these bytes.
@@ -32,69 +34,70 @@ fn is_spelled(source: Source<'_>, told: &str, bytes: &[u8]) -> Result<bool, Trou
 
 /// Adds the class, the type and the id of a message as far as they are not the usual ones, and its
 /// attributes.
-fn push_words(alloc: Global, bytes: &[u8], answer: &mut String) -> Result<(), Trouble> {
+fn push_words(bytes: &[u8], answer: &mut Answer) {
     let Some((header, attributes)) = bytes.split_at_checked(20) else {
-        return Ok(());
+        return;
     };
     let [high, low, _, _, _, _, _, _, id @ ..] = header else {
-        return Ok(());
+        return;
     };
-    push_type(u16::from_be_bytes([*high, *low]), answer)?;
-    push_id(alloc, id, answer)?;
+    push_type(u16::from_be_bytes([*high, *low]), answer);
+    push_id(id, answer);
     let mut rest = attributes;
     for _ in 0..attributes.len() {
         let Some((attribute, behind)) = first_of(rest) else {
             break;
         };
-        push_attribute(alloc, id, attribute, answer)?;
+        push_attribute(id, attribute, answer);
         rest = behind;
     }
-    Ok(())
 }
 
-fn push_type(number: u16, answer: &mut String) -> Result<(), Trouble> {
+fn push_type(number: u16, answer: &mut Answer) {
     match number {
-        0x0001 => Ok(answer.push_str("request")?),
-        0x0011 => Ok(answer.push_str("indication")?),
-        0x0101 => Ok(answer.push_str("success")?),
-        0x0111 => Ok(answer.push_str("error")?),
-        number => Ok(write!(answer, "request TYPE=0x{number:04x}")?),
+        0x0001 => answer.add("request"),
+        0x0011 => answer.add("indication"),
+        0x0101 => answer.add("success"),
+        0x0111 => answer.add("error"),
+        number => {
+            answer.add("request TYPE=0x");
+            answer.hex(&number.to_be_bytes());
+        },
     }
 }
 
-fn push_id(alloc: Global, id: &[u8], answer: &mut String) -> Result<(), Trouble> {
+fn push_id(id: &[u8], answer: &mut Answer) {
     match id {
-        [0, 0, 0, 0, 0, 0, 0, 0, 0, 0, 0, 1] => Ok(()),
+        [0, 0, 0, 0, 0, 0, 0, 0, 0, 0, 0, 1] => {}
         id => {
-            answer.push_str(" ID=0x")?;
-            push_bytes(alloc, id, answer)
+            answer.add(" ID=0x");
+            answer.hex(id)
         }
     }
 }
 
 /// Adds an attribute, which has its padding.
-fn push_attribute(
-    alloc: Global,
-    id: &[u8],
-    attribute: &[u8],
-    answer: &mut String,
-) -> Result<(), Trouble> {
+fn push_attribute(id: &[u8], attribute: &[u8], answer: &mut Answer) {
     let [type_high, type_low, high, low, padded @ ..] = attribute else {
-        return Ok(());
+        return;
     };
     let number = u16::from_be_bytes([*type_high, *type_low]);
     let length = usize::from(u16::from_be_bytes([*high, *low]));
     let Some(value) = padded.get(..length) else {
-        return Ok(());
+        return;
     };
     match name_of(number) {
         Some(name) => {
-            write!(answer, " {name}=")?;
-            push_value(alloc, name, id, value, answer)
+            answer.add(" ");
+            answer.add(name);
+            answer.add("=");
+            push_value(name, id, value, answer)
         }
         None => {
-            write!(answer, " 0x{number:04x}=")?;
-            push_bytes(alloc, value, answer)
+            answer.add(" 0x");
+            answer.hex(&number.to_be_bytes());
+            answer.add("=");
+            answer.hex(value)
         }
     }
 }
@@ -116,72 +119,68 @@ fn name_of(number: u16) -> Option<&'static str> {
 }
 
 /// Adds a value in the words of its type, or `0x` and its digits.
-fn push_value(
-    alloc: Global,
-    name: &str,
-    id: &[u8],
-    value: &[u8],
-    answer: &mut String,
-) -> Result<(), Trouble> {
+fn push_value(name: &str, id: &[u8], value: &[u8], answer: &mut Answer) {
     match name {
         "REALM" | "NONCE" | "SOFTWARE" | "USERNAME" => push_bytes_as_text(value, answer),
         "ERROR-CODE" => push_error(value, answer),
         "PASSWORD-ALGORITHMS" => push_algorithms(value, answer),
         "XOR-MAPPED-ADDRESS" => push_address(id, value, answer),
-        _ => push_bytes(alloc, value, answer),
+        _ => answer.hex(value),
     }
 }
 
-fn push_bytes_as_text(value: &[u8], answer: &mut String) -> Result<(), Trouble> {
+fn push_bytes_as_text(value: &[u8], answer: &mut Answer) {
     match str::from_utf8(value) {
         Ok(text) => push_text(text, answer),
-        Err(_) => Ok(answer.push('?')?),
+        Err(_) => answer.add("?"),
     }
 }
 
 /// Adds a text: `-` where it is empty, and `a*763` where it is one letter so often.
-pub fn push_text(text: &str, answer: &mut String) -> Result<(), Trouble> {
+pub fn push_text(text: &str, answer: &mut Answer) {
     let [first, ..] = text.as_bytes() else {
-        return Ok(answer.push('-')?);
+        return answer.add("-");
     };
     let length = text.len();
     if length > 40 && first.is_ascii() && text.bytes().all(|byte| byte == *first) {
         let letter = char::from(*first);
-        return Ok(write!(answer, "{letter}*{length}")?);
+        answer.show(&letter);
+        answer.add("*");
+        return answer.show(&length);
     }
-    Ok(answer.push_str(text)?)
+    answer.add(text)
 }
 
 /// Adds a code, and its phrase where that is not the code's own.
-fn push_error(value: &[u8], answer: &mut String) -> Result<(), Trouble> {
+fn push_error(value: &[u8], answer: &mut Answer) {
     let [_, _, class, number, phrase @ ..] = value else {
-        return Ok(());
+        return;
     };
     let code = u16::from(*class) * 100 + u16::from(*number);
-    write!(answer, "{code}")?;
+    answer.show(&code);
     match phrase {
-        b"Bad Request" | b"Stale Nonce" | b"Unknown Attribute" | b"Unauthorized" => Ok(()),
+        b"Bad Request" | b"Stale Nonce" | b"Unknown Attribute" | b"Unauthorized" => {}
         phrase => {
-            answer.push(':')?;
+            answer.add(":");
             push_bytes_as_text(phrase, answer)
         }
     }
 }
 
-fn push_algorithms(value: &[u8], answer: &mut String) -> Result<(), Trouble> {
+fn push_algorithms(value: &[u8], answer: &mut Answer) {
     let list = match value {
         [0, 2, 0, 0, 0, 1, 0, 0] => "SHA256,MD5",
         [0, 2, 0, 0] => "SHA256",
         [0, 1, 0, 0] => "MD5",
         _ => "?",
     };
-    Ok(answer.push_str(list)?)
+    answer.add(list)
 }
 
 /// Adds an address that is exclusive-or'ed with the cookie and the id (section 14.2).
-fn push_address(id: &[u8], value: &[u8], answer: &mut String) -> Result<(), Trouble> {
+fn push_address(id: &[u8], value: &[u8], answer: &mut Answer) {
     let [_, family, high, low, octets @ ..] = value else {
-        return Ok(());
+        return;
     };
     let port = u16::from_be_bytes([*high, *low]) ^ 0x2112;
     let mut plain = [0; 16];
@@ -196,5 +195,5 @@ fn push_address(id: &[u8], value: &[u8], answer: &mut String) -> Result<(), Trou
         _ => IpAddr::V6(Ipv6Addr::from(plain)),
     };
     let address = SocketAddr::new(ip, port);
-    Ok(write!(answer, "{address}")?)
+    answer.show(&address);
 }

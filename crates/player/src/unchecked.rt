@@ -1,7 +1,8 @@
 //! Messages that are signed by the calls that check nothing. Their conditions are proved here: what
 //! the call that checks has signed, in ample memory, may be signed.
 
-use crate::signing::{Side, push_bytes, push_reason};
+use crate::answer::Answer;
+use crate::signing::{Side, push_reason};
 use crate::stage::{Heap, Stage};
 use crate::trouble::Trouble;
 use std::alloc::Global;
@@ -68,7 +69,7 @@ pub fn sign_unchecked(
     stage: &mut Stage<'_>,
     side: Side,
     words: &[&str],
-    answer: &mut String,
+    answer: &mut Answer,
 ) -> Result<(), Trouble> {
     if !words.is_empty() {
         return Err(Trouble::Words);
@@ -81,7 +82,7 @@ pub fn sign_unchecked(
         Side::ShortTerm => password_signs(heap, &mut stage.short_term),
     };
     match signed {
-        Ok(writer) => push_bytes(alloc, writer.data(), answer),
-        Err(error) => push_reason(error, answer),
+        Ok(writer) => Ok(answer.hex(writer.data())),
+        Err(error) => Ok(push_reason(error, answer)),
     }
 }

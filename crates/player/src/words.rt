@@ -1,8 +1,8 @@
 //! What single words mean.
 
 use crate::trouble::Trouble;
-use hex::FromHexError;
-use std::alloc::Global;
+use hex::{FromHex, FromHexError};
+use std::alloc::{Allocator, Global};
 use std::net::SocketAddr;
 use std::time::Duration;
 use stun_auth::auth::Feature;
@@ -61,13 +61,18 @@ pub fn size(word: &str) -> Result<usize, Trouble> {
 }
 
 /// A number of 16 bits, as `0x` and four hexadecimal digits.
-pub fn hex_number(alloc: Global, word: &str) -> Result<u16, Trouble> {
-    let Some(digits) = word.strip_prefix("0x") else {
-        return Err(Trouble::Words);
-    };
-    match *bytes(alloc, digits)?.as_slice() {
-        [high, low] => Ok(u16::from_be_bytes([high, low])),
-        _ => Err(Trouble::Words),
+pub fn hex_number(word: &str) -> Result<u16, Trouble> {
+    match word.strip_prefix("0x") {
+        Some(digits) => Ok(u16::from_be_bytes(fixed(digits)?)),
+        None => Err(Trouble::Words),
+    }
+}
+
+/// The bytes that hexadecimal digits spell, of which there are so many.
+pub fn fixed<const N: usize>(digits: &str) -> Result<[u8; N], Trouble> {
+    match <[u8; N]>::from_hex(digits) {
+        Ok(bytes) => Ok(bytes),
+        Err(_) => Err(Trouble::Words),
     }
 }
 
@@ -159,7 +164,7 @@ pub fn class(word: &str) -> Option<MessageClass> {
 }
 
 /// The type of an attribute: its name in RFC 8489, or `0x` and four digits.
-pub fn attribute_type(alloc: Global, word: &str) -> Result<AttributeType, Trouble> {
+pub fn attribute_type(word: &str) -> Result<AttributeType, Trouble> {
     match word {
         "USERNAME" => Ok(AttributeType::USERNAME),
         "MESSAGE-INTEGRITY" => Ok(AttributeType::MESSAGE_INTEGRITY),
@@ -173,7 +178,7 @@ pub fn attribute_type(alloc: Global, word: &str) -> Result<AttributeType, Troubl
         "PASSWORD-ALGORITHMS" => Ok(AttributeType::PASSWORD_ALGORITHMS),
         "SOFTWARE" => Ok(AttributeType::new(0x8022)),
         "FINGERPRINT" => Ok(AttributeType::FINGERPRINT),
-        word => Ok(AttributeType::new(hex_number(alloc, word)?)),
+        word => Ok(AttributeType::new(hex_number(word)?)),
     }
 }
 
@@ -187,16 +192,18 @@ pub fn bytes(alloc: Global, digits: &str) -> Result<Vec<u8>, Trouble> {
 }
 
 /// A text: `WORD`, or `WORD*NUMBER`, which repeats the word. `-` is the empty text.
-pub fn text(alloc: Global, word: &str) -> Result<String, Trouble> {
-    let mut text = String::new(alloc);
+pub fn text<A: Allocator>(alloc: A, word: &str) -> Result<String<A>, Trouble> {
     match word.split_once('*') {
-        Some((part, count)) if is_moment(count) => {
-            for _ in 0..number(count)? {
-                text.push_str(part)?;
-            }
-        }
-        _ if word == "-" => {}
-        _ => text.push_str(word)?,
+        Some((part, count)) if is_moment(count) => repeated(alloc, part, number(count)?),
+        _ if word == "-" => Ok(String::new(alloc)),
+        _ => Ok(String::from_str(alloc, word)?),
+    }
+}
+
+fn repeated<A: Allocator>(alloc: A, part: &str, count: u64) -> Result<String<A>, Trouble> {
+    let mut text = String::new(alloc);
+    for _ in 0..count {
+        text.push_str(part)?;
     }
     Ok(text)
 }

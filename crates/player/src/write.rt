@@ -5,6 +5,7 @@ mod begin;
 mod steps;
 mod tell;
 
+use crate::answer::Answer;
 use crate::names::write_error_name;
 use crate::phrases::push_type;
 use crate::scene::Scene;
@@ -63,40 +64,35 @@ impl Slice {
         alloc: Global,
         room: &Room,
         length: usize,
-        answer: &mut String,
+        answer: &mut Answer,
     ) -> Result<(), Trouble> {
         let Some((written, behind)) = room.split_at_checked(length) else {
             return Err(Trouble::Words);
         };
         self.written = Vec::from_slice(alloc, written)?;
-        Ok(push_touched(behind, answer)?)
+        Ok(push_touched(behind, answer))
     }
 }
 
 /// Adds a word if one of these bytes is not as it was.
-fn push_touched(behind: &[u8], answer: &mut String) -> Result<(), Trouble> {
+fn push_touched(behind: &[u8], answer: &mut Answer) {
     for byte in behind {
         if *byte != 0xff {
-            return Ok(answer.push_str("touched ")?);
+            return answer.add("touched ");
         }
     }
-    Ok(())
 }
 
 /// Adds why a call refuses, with the type of the attribute that is there already; nothing where it
 /// does not.
-fn push_answer(
-    alloc: Global,
-    made: Result<(), StunWriteError>,
-    answer: &mut String,
-) -> Result<(), Trouble> {
+fn push_answer(made: Result<(), StunWriteError>, answer: &mut Answer) -> Result<(), Trouble> {
     let Err(error) = made else {
         return Ok(());
     };
-    answer.push_str(write_error_name(error))?;
+    answer.add(write_error_name(error));
     if let StunWriteError::AttributeExists(kind) = error {
-        answer.push(' ')?;
-        push_type(alloc, kind, answer)?;
+        answer.add(" ");
+        push_type(kind, answer);
     }
     Ok(())
 }
@@ -106,7 +102,7 @@ pub fn call(
     scene: &mut Scene<'_>,
     name: &str,
     words: &[&str],
-    answer: &mut String,
+    answer: &mut Answer,
 ) -> Result<(), Trouble> {
     match name {
         "new" => begin::empty(scene, words),

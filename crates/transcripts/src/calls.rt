@@ -3,6 +3,7 @@
 use crate::endpoint::server as endpoint_server;
 use crate::runs::Runs;
 use crate::{drive, meeting, serve};
+use player::answer::Answer;
 use player::kept::{joined, message};
 use player::trouble::Trouble;
 use player::words::{address, draws, is_moment, moment};
@@ -31,7 +32,7 @@ fn draw(runs: &mut Runs<'_>, words: &[&str]) -> Result<(), Trouble> {
 
 /// `memory`: how many blocks the last call asked for, and whether it gave some back. How many those
 /// are is for the maps of an implementation to say.
-fn memory(runs: &Runs<'_>, words: &[&str], answer: &mut String) -> Result<(), Trouble> {
+fn memory(runs: &Runs<'_>, words: &[&str], answer: &mut Answer) -> Result<(), Trouble> {
     if !words.is_empty() {
         return Err(Trouble::Words);
     }
@@ -41,7 +42,11 @@ fn memory(runs: &Runs<'_>, words: &[&str], answer: &mut String) -> Result<(), Tr
     } else {
         "some"
     };
-    Ok(write!(answer, "{asked} asked, {returned} returned")?)
+    answer.show(&asked);
+    answer.add(" asked, ");
+    answer.add(returned);
+    answer.add(" returned");
+    Ok(())
 }
 
 /// `OBJECT NAME WORD ..`
@@ -49,7 +54,7 @@ fn call_of(
     runs: &mut Runs<'_>,
     object: &str,
     (name, words): (&str, &[&str]),
-    answer: &mut String,
+    answer: &mut Answer,
 ) -> Result<(), Trouble> {
     match object {
         "server" => server::call(&mut runs.scene.stage, name, words, answer),
@@ -83,16 +88,18 @@ fn is_object(word: &str) -> bool {
 fn keep_answer(
     runs: &mut Runs<'_>,
     name: &str,
-    told: &str,
-    answer: &mut String,
+    told: &Answer,
+    answer: &mut Answer,
 ) -> Result<(), Trouble> {
-    match joined(runs.scene.stage.source.alloc, &[told]) {
+    match joined(runs.scene.stage.source.alloc, &[told.as_str()]) {
         Ok(bytes) => {
             let length = bytes.len();
             runs.scene.stage.messages.keep(name, bytes)?;
-            Ok(write!(answer, "{length} bytes")?)
+            answer.show(&length);
+            answer.add(" bytes");
+            Ok(())
         }
-        Err(Trouble::Words) => Ok(answer.push_str(told)?),
+        Err(Trouble::Words) => Ok(answer.join(told)),
         Err(Trouble::Memory) => Err(Trouble::Memory),
     }
 }
@@ -102,13 +109,13 @@ fn keep(
     runs: &mut Runs<'_>,
     name: &str,
     words: &[&str],
-    answer: &mut String,
+    answer: &mut Answer,
 ) -> Result<(), Trouble> {
     if let [object, call, words @ ..] = words {
         if is_object(object) {
-            let mut told = String::new(runs.scene.stage.source.alloc);
+            let mut told = Answer::new(runs.scene.stage.source.alloc);
             call_of(runs, object, (call, words), &mut told)?;
-            return keep_answer(runs, name, told.as_str(), answer);
+            return keep_answer(runs, name, &told, answer);
         }
     }
     let bytes = message(&runs.scene.stage, words)?;
@@ -127,7 +134,7 @@ fn at_time<'w, 'a>(runs: &mut Runs<'_>, words: &'w [&'a str]) -> Result<&'w [&'a
     Ok(rest)
 }
 
-fn make(runs: &mut Runs<'_>, words: &[&str], answer: &mut String) -> Result<(), Trouble> {
+fn make(runs: &mut Runs<'_>, words: &[&str], answer: &mut Answer) -> Result<(), Trouble> {
     let [first, words @ ..] = at_time(runs, words)? else {
         return Ok(());
     };
@@ -144,7 +151,7 @@ fn call_or_keep(
     runs: &mut Runs<'_>,
     first: &str,
     words: &[&str],
-    answer: &mut String,
+    answer: &mut Answer,
 ) -> Result<(), Trouble> {
     let [name, words @ ..] = words else {
         return Err(Trouble::Words);
@@ -161,15 +168,19 @@ fn words_of(alloc: Global, call: &str) -> Result<Vec<&str>, AllocError> {
 }
 
 /// Makes a call, and adds what is answered to a text. It fails where the player has no memory.
-pub fn answer_to(runs: &mut Runs<'_>, call: &str, answer: &mut String) -> Result<(), AllocError> {
+pub fn answer_to(runs: &mut Runs<'_>, call: &str, answer: &mut Answer) -> Result<(), AllocError> {
     let words = words_of(runs.scene.stage.source.alloc, call)?;
     let made = make(runs, words.as_slice(), answer);
     runs.scene.stage.end();
     match made {
-        Ok(()) => Ok(()),
-        Err(Trouble::Words) => answer.push_str(NOT_UNDERSTOOD),
-        Err(Trouble::Memory) => Err(AllocError),
+        Ok(()) => {}
+        Err(Trouble::Words) => answer.add(NOT_UNDERSTOOD),
+        Err(Trouble::Memory) => answer.cut(),
     }
+    if answer.is_cut() {
+        return Err(AllocError);
+    }
+    Ok(())
 }
 
 /// Passes to the time of a call that is not made.

@@ -14,10 +14,12 @@ mod step;
 use crate::drive::by_hand::run_by_hand;
 use crate::drive::event::event;
 use crate::drive::order::run_over;
-use crate::drive::step::{push_moment, text_of};
+use crate::drive::step::{push_moment, push_step};
 use crate::runs::Runs;
+use crate::told::Told;
 use player::agent::answers::error_name;
 use player::agent::building::{usual_local, usual_peer};
+use player::answer::Answer;
 use player::kept::message;
 use player::names::OUT_OF_MEMORY;
 use player::stage::Heap;
@@ -41,9 +43,7 @@ pub struct Drive<'a> {
     events: Vec<(Instant, AgentEvent)>,
     /// How many events have come.
     come: usize,
-    steps: Vec<String>,
-    /// How many steps are told.
-    told: usize,
+    steps: Told,
     /// Whether the last run was refused memory.
     is_broken: bool,
 }
@@ -69,8 +69,7 @@ impl<'a> Drive<'a> {
             twin: new_agent(alloc, transport),
             events: Vec::new(alloc),
             come: 0,
-            steps: Vec::new(alloc),
-            told: 0,
+            steps: Told::new(alloc),
             is_broken: false,
         }
     }
@@ -99,12 +98,9 @@ impl<'a> Drive<'a> {
         self.is_broken = true;
     }
 
-    fn keep<A: Allocator>(&mut self, step: &AgentStep<A>) -> Result<(), Trouble> {
-        let text = text_of(self.alloc, step)?;
-        match self.steps.push(text) {
-            Ok(()) => Ok(()),
-            Err(_) => Err(Trouble::Memory),
-        }
+    fn keep<A: Allocator>(&mut self, step: &AgentStep<A>) {
+        push_step(step, self.steps.next());
+        self.steps.end();
     }
 
     /// Keeps the steps that a broken run lost, before the last `given` ones.
@@ -113,26 +109,26 @@ impl<'a> Drive<'a> {
         let Ok(whole) = run_over(self.alloc, &mut self.twin, events, until)? else {
             return Err(Trouble::Memory);
         };
-        let kept = self.steps.len();
+        let kept = self.steps.count();
         let before = whole.len().saturating_sub(given);
         for step in whole.iter().take(before).skip(kept) {
-            self.keep(step)?;
+            self.keep(step);
         }
         Ok(())
     }
 
     /// Keeps the steps of a run, and answers how many they are.
     fn finish(&mut self, until: Instant, given: &[AgentStep<&'a Heap>]) -> Result<usize, Trouble> {
-        let before = self.steps.len();
+        let before = self.steps.count();
         if self.is_broken {
             self.keep_lost(until, given.len())?;
         }
         for step in given {
-            self.keep(step)?;
+            self.keep(step);
         }
         self.come = self.events.len();
         self.is_broken = false;
-        Ok(self.steps.len().saturating_sub(before))
+        Ok(self.steps.count().saturating_sub(before))
     }
 }
 
@@ -141,7 +137,7 @@ pub fn call(
     runs: &mut Runs<'_>,
     name: &str,
     words: &[&str],
-    answer: &mut String,
+    answer: &mut Answer,
 ) -> Result<(), Trouble> {
     match name {
         "event" => {
@@ -156,12 +152,13 @@ pub fn call(
 }
 
 /// What has no words.
-fn call_alone(runs: &mut Runs<'_>, name: &str, answer: &mut String) -> Result<(), Trouble> {
+fn call_alone(runs: &mut Runs<'_>, name: &str, answer: &mut Answer) -> Result<(), Trouble> {
     match name {
         "udp" => begin(runs, TransportType::Udp),
         "tcp" => begin(runs, TransportType::Tcp),
-        "step" => tell_step(&mut runs.drive, answer),
-        "awaited" => awaited(&runs.drive, answer),
+        // The next one, or `none`.
+        "step" => Ok(runs.drive.steps.tell(answer)),
+        "awaited" => Ok(awaited(&runs.drive, answer)),
         _ => Err(Trouble::Words),
     }
 }
@@ -171,7 +168,7 @@ fn call_with(
     runs: &mut Runs<'_>,
     name: &str,
     words: &[&str],
-    answer: &mut String,
+    answer: &mut Answer,
 ) -> Result<(), Trouble> {
     let [word] = words else {
         return Err(Trouble::Words);
@@ -195,7 +192,7 @@ fn begin(runs: &mut Runs<'_>, transport: TransportType) -> Result<(), Trouble> {
 }
 
 /// `drive asks MESSAGE`: the agent sends a request to the usual peer before it is driven.
-fn ask(runs: &mut Runs<'_>, words: &[&str], answer: &mut String) -> Result<(), Trouble> {
+fn ask(runs: &mut Runs<'_>, words: &[&str], answer: &mut Answer) -> Result<(), Trouble> {
     let bytes = message(&runs.scene.stage, words)?;
     runs.scene.stage.begin();
     if let Some(error) = asked(
@@ -203,7 +200,7 @@ fn ask(runs: &mut Runs<'_>, words: &[&str], answer: &mut String) -> Result<(), T
         bytes.as_slice(),
         runs.scene.stage.now,
     ) {
-        return Ok(answer.push_str(error_name(error))?);
+        return Ok(answer.add(error_name(error)));
     }
     match asked(&mut runs.drive.twin, bytes.as_slice(), runs.scene.stage.now) {
         Some(_) => Err(Trouble::Memory),
@@ -225,50 +222,40 @@ fn asked<A: Allocator + Copy>(
 
 /// `drive until TIME`: drives the agent by the events that are left, and answers how many steps it
 /// takes.
-fn run(runs: &mut Runs<'_>, until: Instant, answer: &mut String) -> Result<(), Trouble> {
+fn run(runs: &mut Runs<'_>, until: Instant, answer: &mut Answer) -> Result<(), Trouble> {
     runs.scene.stage.begin();
     match runs.drive.run(until)? {
         Ok(steps) => {
             let count = runs.drive.finish(until, steps.as_slice())?;
-            Ok(write!(answer, "{count} steps")?)
+            answer.show(&count);
+            answer.add(" steps");
+            Ok(())
         }
         Err(stopped) => {
             runs.drive.stop(stopped);
             runs.scene.stage.is_run = true;
-            Ok(answer.push_str(OUT_OF_MEMORY)?)
+            Ok(answer.add(OUT_OF_MEMORY))
         }
-    }
-}
-
-/// `drive step`: the next one, or `none`.
-fn tell_step(drive: &mut Drive<'_>, answer: &mut String) -> Result<(), Trouble> {
-    match drive.steps.get(drive.told) {
-        Some(step) => {
-            answer.push_str(step.as_str())?;
-            drive.told = drive.told.saturating_add(1);
-            Ok(())
-        }
-        None => Ok(answer.push_str("none")?),
     }
 }
 
 /// `drive awaited`: the next moment that a request awaits, or `none`.
-fn awaited(drive: &Drive<'_>, answer: &mut String) -> Result<(), Trouble> {
+fn awaited(drive: &Drive<'_>, answer: &mut Answer) {
     match drive.agent.next_awaited() {
         Some(moment) => push_moment(moment, answer),
-        None => Ok(answer.push_str("none")?),
+        None => answer.add("none"),
     }
 }
 
 /// `drive is-validated ADDRESS`: whether it is named as a peer.
-fn is_validated(drive: &Drive<'_>, word: &str, answer: &mut String) -> Result<(), Trouble> {
+fn is_validated(drive: &Drive<'_>, word: &str, answer: &mut Answer) -> Result<(), Trouble> {
     let is_validated = drive.agent.is_validated_peer(address(word)?);
-    Ok(answer.push_str(if is_validated { "yes" } else { "no" })?)
+    Ok(answer.add(if is_validated { "yes" } else { "no" }))
 }
 
 /// `drive by-hand until TIME`: a new agent meets all events, each by a call of its own. It must
 /// take the same steps, count the same statistics and await the same moment.
-fn compare(drive: &Drive<'_>, words: &[&str], answer: &mut String) -> Result<(), Trouble> {
+fn compare(drive: &Drive<'_>, words: &[&str], answer: &mut Answer) -> Result<(), Trouble> {
     let [preposition, word] = words else {
         return Err(Trouble::Words);
     };
@@ -278,8 +265,12 @@ fn compare(drive: &Drive<'_>, words: &[&str], answer: &mut String) -> Result<(),
     let until = moment(word)?;
     let mut agent = new_agent(drive.alloc, drive.transport);
     let events = drive.events.as_slice();
-    let steps = run_by_hand(drive.alloc, &mut agent, events, until)?;
-    let name = if steps.as_slice() != drive.steps.as_slice() {
+    let mut steps = Told::new(drive.alloc);
+    run_by_hand(&mut agent, events, until, &mut steps)?;
+    if steps.is_cut() || drive.steps.is_cut() {
+        return Err(Trouble::Memory);
+    }
+    let name = if !steps.is_same(&drive.steps) {
         "other steps"
     } else if agent.stats() != drive.agent.stats() {
         "other statistics"
@@ -288,5 +279,5 @@ fn compare(drive: &Drive<'_>, words: &[&str], answer: &mut String) -> Result<(),
     } else {
         "the same"
     };
-    Ok(answer.push_str(name)?)
+    Ok(answer.add(name))
 }

@@ -11,6 +11,7 @@ mod refusing;
 mod report;
 mod runs;
 mod serve;
+mod told;
 
 use player::page::line_count;
 use report::play_transcript;

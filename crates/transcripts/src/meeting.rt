@@ -7,6 +7,7 @@
 
 use crate::runs::Runs;
 use crate::serve::server_call;
+use player::answer::Answer;
 use player::client::reason_name;
 use player::names::{OUT_OF_MEMORY, algorithm_name, server_reason_name, write_error_name};
 use player::stage::{Heap, Stage};
@@ -48,7 +49,7 @@ pub fn call(
     runs: &mut Runs<'_>,
     name: &str,
     words: &[&str],
-    answer: &mut String,
+    answer: &mut Answer,
 ) -> Result<(), Trouble> {
     match name {
         "before-challenge" => {
@@ -65,7 +66,7 @@ pub fn call(
     }
 }
 
-fn run_of(runs: &mut Runs<'_>, words: &[&str], answer: &mut String) -> Result<(), Trouble> {
+fn run_of(runs: &mut Runs<'_>, words: &[&str], answer: &mut Answer) -> Result<(), Trouble> {
     let [first, second, read_first, read_second] = words else {
         return Err(Trouble::Words);
     };
@@ -93,22 +94,22 @@ fn run(
     runs: &mut Runs<'_>,
     ids: [TransactionId; 2],
     moments: [Instant; 2],
-    answer: &mut String,
+    answer: &mut Answer,
 ) -> Result<(), Trouble> {
     let signed = signs(runs);
     runs.scene.stage.begin();
     match met(&mut runs.scene.stage, &runs.meeting, ids, moments) {
         Ok(outcome) => {
             let outcome = whole(runs, outcome)?;
-            push_outcome(outcome, answer)
+            Ok(push_outcome(outcome, answer))
         }
         Err(NegotiateError::Memory) => {
             runs.scene.stage.is_run = true;
             runs.meeting.is_broken = true;
             runs.meeting.took_up = !signed && signs(runs);
-            Ok(answer.push_str(OUT_OF_MEMORY)?)
+            Ok(answer.add(OUT_OF_MEMORY))
         }
-        Err(NegotiateError::Write(error)) => Ok(answer.push_str(write_error_name(error))?),
+        Err(NegotiateError::Write(error)) => Ok(answer.add(write_error_name(error))),
     }
 }
 
@@ -168,21 +169,21 @@ fn of_second(outcome: Outcome) -> Outcome {
     }
 }
 
-fn push_outcome(outcome: Outcome, answer: &mut String) -> Result<(), Trouble> {
+fn push_outcome(outcome: Outcome, answer: &mut Answer) {
     let (verdict, name) = match outcome {
         Outcome::Validated(algorithm) => ("validated ", algorithm_name(algorithm)),
         Outcome::AlreadyValidated(algorithm) => ("already validated ", algorithm_name(algorithm)),
         Outcome::ServerRefused(reason) => ("server refused ", server_reason_name(reason)),
         Outcome::ClientRefused(reason) => ("client refused ", reason_name(reason)),
     };
-    answer.push_str(verdict)?;
-    Ok(answer.push_str(name)?)
+    answer.add(verdict);
+    answer.add(name)
 }
 
 /// `meet pair ALGORITHMS HASHES ALGORITHMS HASHES`: a new client and a new server meet, who support
 /// these algorithms and hash names so. Both know the user `user` with the password `pass`, and the
 /// realm is `realm`. The ids are 1 and 2, the moments 0 and the one at which the nonce's hour ends.
-fn pair(runs: &mut Runs<'_>, words: &[&str], answer: &mut String) -> Result<(), Trouble> {
+fn pair(runs: &mut Runs<'_>, words: &[&str], answer: &mut Answer) -> Result<(), Trouble> {
     let [asks, asked, answers, answered] = words else {
         return Err(Trouble::Words);
     };

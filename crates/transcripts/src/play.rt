@@ -2,6 +2,7 @@
 
 use crate::calls::{answer_to, pass};
 use crate::runs::Runs;
+use player::answer::Answer;
 use player::names::OUT_OF_MEMORY;
 use player::page::{Line, Page, is_beginning, is_played, like, named};
 use player::stage::{Heap, Source};
@@ -48,7 +49,7 @@ fn repeat(runs: &mut Runs<'_>, line: &str) -> Result<(), AllocError> {
     if !is_played(line) {
         return Ok(());
     }
-    let mut answer = String::new(runs.scene.stage.source.alloc);
+    let mut answer = Answer::new(runs.scene.stage.source.alloc);
     answer_to(runs, Line::of(line).call, &mut answer)
 }
 
@@ -70,7 +71,7 @@ fn push_answer(text: &mut String, line: Line<'_>, answer: &str) -> Result<(), Al
 
 /// Plays a call, and adds its line with what is answered to a text.
 fn play_call(runs: &mut Runs<'_>, line: Line<'_>, text: &mut String) -> Result<(), AllocError> {
-    let mut answer = String::new(runs.scene.stage.source.alloc);
+    let mut answer = Answer::new(runs.scene.stage.source.alloc);
     answer_to(runs, line.call, &mut answer)?;
     text.push_str(line.call)?;
     push_answer(text, line, answer.as_str())
@@ -100,7 +101,7 @@ fn play_line(runs: &mut Runs<'_>, line: &str, text: &mut String) -> Result<(), A
 /// Makes a call whose nth allocation is refused.
 fn refuse(runs: &mut Runs<'_>, call: &str, nth: u64) -> Result<LineOutcome, AllocError> {
     let work = runs.scene.stage.work;
-    let mut answer = String::new(runs.scene.stage.source.alloc);
+    let mut answer = Answer::new(runs.scene.stage.source.alloc);
     runs.scene.stage.nth = nth;
     runs.scene.stage.is_refused = false;
     runs.scene.stage.is_run = false;

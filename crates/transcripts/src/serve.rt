@@ -10,7 +10,9 @@ mod reply;
 mod server_call;
 
 use crate::runs::Runs;
-use crate::serve::reply::text_of;
+use crate::serve::reply::push_reply;
+use crate::told::Told;
+use player::answer::Answer;
 use player::names::OUT_OF_MEMORY;
 use player::trouble::Trouble;
 use player::words::text;
@@ -26,9 +28,7 @@ pub struct Serving {
     calls: Vec<ServerCall>,
     /// How many calls are made.
     made: usize,
-    replies: Vec<String>,
-    /// How many replies are told.
-    told: usize,
+    replies: Told,
     /// Whether the last run was refused memory.
     is_broken: bool,
     /// The server in ample memory, which makes no call before a run is broken.
@@ -41,8 +41,7 @@ impl Serving {
             alloc,
             calls: Vec::new(alloc),
             made: 0,
-            replies: Vec::new(alloc),
-            told: 0,
+            replies: Told::new(alloc),
             is_broken: false,
             twin: LongTermServerAuth::new(alloc, String::new(alloc)),
         }
@@ -69,12 +68,9 @@ impl Serving {
         self.is_broken = true;
     }
 
-    fn keep<A: Allocator>(&mut self, reply: &ServerReply<A>) -> Result<(), Trouble> {
-        let text = text_of(self.alloc, reply)?;
-        match self.replies.push(text) {
-            Ok(()) => Ok(()),
-            Err(_) => Err(Trouble::Memory),
-        }
+    fn keep<A: Allocator>(&mut self, reply: &ServerReply<A>) {
+        push_reply(reply, self.replies.next());
+        self.replies.end();
     }
 
     /// Keeps the replies that a broken run lost, before the last `given` ones.
@@ -82,26 +78,26 @@ impl Serving {
         let Ok(whole) = serve(self.alloc, &mut self.twin, self.calls.as_slice()) else {
             return Err(Trouble::Memory);
         };
-        let kept = self.replies.len();
+        let kept = self.replies.count();
         let before = whole.len().saturating_sub(given);
         for reply in whole.iter().take(before).skip(kept) {
-            self.keep(reply)?;
+            self.keep(reply);
         }
         Ok(())
     }
 
     /// Keeps the replies of a run, and answers how many they are.
     fn finish<A: Allocator>(&mut self, given: &[ServerReply<A>]) -> Result<usize, Trouble> {
-        let before = self.replies.len();
+        let before = self.replies.count();
         if self.is_broken {
             self.keep_lost(given.len())?;
         }
         for reply in given {
-            self.keep(reply)?;
+            self.keep(reply);
         }
         self.made = self.calls.len();
         self.is_broken = false;
-        Ok(self.replies.len().saturating_sub(before))
+        Ok(self.replies.count().saturating_sub(before))
     }
 }
 
@@ -110,7 +106,7 @@ pub fn call(
     runs: &mut Runs<'_>,
     name: &str,
     words: &[&str],
-    answer: &mut String,
+    answer: &mut Answer,
 ) -> Result<(), Trouble> {
     match name {
         "new" => begin(runs, words),
@@ -119,7 +115,8 @@ pub fn call(
             runs.serving.add(call)
         }
         "run" if words.is_empty() => run(runs, answer),
-        "reply" if words.is_empty() => tell_reply(&mut runs.serving, answer),
+        // The next one, or `none`.
+        "reply" if words.is_empty() => Ok(runs.serving.replies.tell(answer)),
         _ => Err(Trouble::Words),
     }
 }
@@ -139,7 +136,7 @@ fn begin(runs: &mut Runs<'_>, words: &[&str]) -> Result<(), Trouble> {
 }
 
 /// `serve run`: makes the calls that are left, and answers how many replies there are.
-fn run(runs: &mut Runs<'_>, answer: &mut String) -> Result<(), Trouble> {
+fn run(runs: &mut Runs<'_>, answer: &mut Answer) -> Result<(), Trouble> {
     runs.scene.stage.begin();
     match serve(
         runs.scene.stage.heap,
@@ -148,24 +145,14 @@ fn run(runs: &mut Runs<'_>, answer: &mut String) -> Result<(), Trouble> {
     ) {
         Ok(replies) => {
             let count = runs.serving.finish(replies.as_slice())?;
-            Ok(write!(answer, "{count} replies")?)
+            answer.show(&count);
+            answer.add(" replies");
+            Ok(())
         }
         Err(stopped) => {
             runs.serving.stop(stopped);
             runs.scene.stage.is_run = true;
-            Ok(answer.push_str(OUT_OF_MEMORY)?)
+            Ok(answer.add(OUT_OF_MEMORY))
         }
-    }
-}
-
-/// `serve reply`: the next one, or `none`.
-fn tell_reply(serving: &mut Serving, answer: &mut String) -> Result<(), Trouble> {
-    match serving.replies.get(serving.told) {
-        Some(reply) => {
-            answer.push_str(reply.as_str())?;
-            serving.told = serving.told.saturating_add(1);
-            Ok(())
-        }
-        None => Ok(answer.push_str("none")?),
     }
 }

@@ -1,7 +1,7 @@
 //! How moments, spans, ids and errors of an agent are answered.
 
+use crate::answer::Answer;
 use crate::names::{OUT_OF_MEMORY, parse_error_name, write_error_name};
-use crate::trouble::Trouble;
 use std::alloc::AllocError;
 use std::time::Duration;
 use stun_agent::agent::StunError;
@@ -9,50 +9,49 @@ use stun_base::instant::Instant;
 use stun_types::message::TransactionId;
 
 /// Adds a number of nanoseconds: `Nms` where it is whole milliseconds, else `Nns`.
-fn push_nanos(nanos: u128, answer: &mut String) -> Result<(), Trouble> {
+fn push_nanos(nanos: u128, answer: &mut Answer) {
     if nanos % 1_000_000 == 0 {
         let millis = nanos / 1_000_000;
-        Ok(write!(answer, "{millis}ms")?)
+        answer.show(&millis);
+        answer.add("ms");
     } else {
-        Ok(write!(answer, "{nanos}ns")?)
+        answer.show(&nanos);
+        answer.add("ns");
     }
 }
 
 /// Adds a moment, which is `max` if it is the last that there is.
-pub fn push_moment(moment: Instant, answer: &mut String) -> Result<(), Trouble> {
+pub fn push_moment(moment: Instant, answer: &mut Answer) {
     if moment == Instant::MAX {
-        return Ok(answer.push_str("max")?);
+        return answer.add("max");
     }
     push_nanos(u128::from(moment.as_nanos()), answer)
 }
 
 /// Adds a span, which is `max` if it is the longest that there is.
-pub fn push_span(span: Duration, answer: &mut String) -> Result<(), Trouble> {
+pub fn push_span(span: Duration, answer: &mut Answer) {
     if span == Duration::MAX {
-        return Ok(answer.push_str("max")?);
+        return answer.add("max");
     }
     push_nanos(span.as_nanos(), answer)
 }
 
 /// Adds the number of an id.
-pub fn push_id(id: TransactionId, answer: &mut String) -> Result<(), Trouble> {
+pub fn push_id(id: TransactionId, answer: &mut Answer) {
     let number = id.as_u128();
-    Ok(write!(answer, "{number}")?)
+    answer.show(&number);
 }
 
 /// Adds whether something is so.
-pub fn push_flag(is_so: bool, answer: &mut String) -> Result<(), Trouble> {
-    Ok(answer.push_str(if is_so { "true" } else { "false" })?)
+pub fn push_flag(is_so: bool, answer: &mut Answer) {
+    answer.add(if is_so { "true" } else { "false" })
 }
 
 /// Adds an answer that may be refused memory.
-pub fn push_flag_if_any(
-    is_so: Result<bool, AllocError>,
-    answer: &mut String,
-) -> Result<(), Trouble> {
+pub fn push_flag_if_any(is_so: Result<bool, AllocError>, answer: &mut Answer) {
     match is_so {
         Ok(is_so) => push_flag(is_so, answer),
-        Err(_) => Ok(answer.push_str(OUT_OF_MEMORY)?),
+        Err(_) => answer.add(OUT_OF_MEMORY),
     }
 }
 

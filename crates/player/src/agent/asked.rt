@@ -1,7 +1,7 @@
 //! The requests that an agent has kept, and what it lends to be sent.
 
 use crate::agent::answers::push_id;
-use crate::signing::push_bytes;
+use crate::answer::Answer;
 use crate::stage::Heap;
 use crate::trouble::Trouble;
 use std::alloc::Global;
@@ -74,46 +74,44 @@ fn goes(way: Way, sent: &Transmit<&[u8]>) -> bool {
 }
 
 /// Adds all parts of what is to be sent.
-fn push_parts(alloc: Global, sent: &Transmit<&[u8]>, answer: &mut String) -> Result<(), Trouble> {
+fn push_parts(sent: &Transmit<&[u8]>, answer: &mut Answer) {
     let Transmit {
         data,
         transport,
         from,
         to,
     } = sent;
-    write!(answer, "{transport} {from} to {to} ")?;
-    push_bytes(alloc, data, answer)
+    answer.show(&transport);
+    answer.add(" ");
+    answer.show(&from);
+    answer.add(" to ");
+    answer.show(&to);
+    answer.add(" ");
+    answer.hex(data)
 }
 
 /// Adds `sent` where what is to be sent is these bytes, to this address and the way of the agent,
 /// and else its parts.
 pub fn push_sent(
-    alloc: Global,
     sent: &Transmit<&[u8]>,
     way: Way,
     (bytes, to): (&[u8], SocketAddr),
-    answer: &mut String,
-) -> Result<(), Trouble> {
+    answer: &mut Answer,
+) {
     if goes(way, sent) && sent.data == bytes && sent.to == to {
-        return Ok(answer.push_str("sent")?);
+        return answer.add("sent");
     }
-    push_parts(alloc, sent, answer)
+    push_parts(sent, answer)
 }
 
 /// Adds the id of the request that is lent to be sent again, to its address and the way of the
 /// agent. Where it is no such request its parts are added, and where nothing is lent, `none`.
-pub fn push_lent(
-    alloc: Global,
-    lent: Option<Transmit<&[u8]>>,
-    way: Way,
-    asked: &Asked<'_>,
-    answer: &mut String,
-) -> Result<(), Trouble> {
+pub fn push_lent(lent: Option<Transmit<&[u8]>>, way: Way, asked: &Asked<'_>, answer: &mut Answer) {
     let Some(sent) = lent else {
-        return Ok(answer.push_str("none")?);
+        return answer.add("none");
     };
     match asked.id_of(sent.data, sent.to) {
         Some(id) if goes(way, &sent) => push_id(id, answer),
-        _ => push_parts(alloc, &sent, answer),
+        _ => push_parts(&sent, answer),
     }
 }

@@ -2,6 +2,7 @@
 
 use crate::agent::asked::{Asked, Way};
 use crate::agent::waits::waits;
+use crate::answer::Answer;
 use crate::scene::Scene;
 use crate::trouble::Trouble;
 use crate::words::{address, behind};
@@ -134,12 +135,15 @@ pub fn begin(scene: &mut Scene<'_>, words: &[&str]) -> Result<(), Trouble> {
 }
 
 /// `agent built`: its transport, its address, and the one that it sends to, if there is one.
-pub fn tell(scene: &Scene<'_>, answer: &mut String) -> Result<(), Trouble> {
+pub fn tell(scene: &Scene<'_>, answer: &mut Answer) -> Result<(), Trouble> {
     let transport = scene.agent.agent.transport();
     let from = scene.agent.agent.local_addr();
-    write!(answer, "{transport} {from}")?;
+    answer.show(&transport);
+    answer.add(" ");
+    answer.show(&from);
     if let Some(to) = scene.agent.agent.remote_addr() {
-        write!(answer, " to {to}")?;
+        answer.add(" to ");
+        answer.show(&to);
     }
     Ok(())
 }

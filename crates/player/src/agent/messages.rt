@@ -3,6 +3,7 @@
 use crate::agent::answers::{error_name, push_flag, push_flag_if_any};
 use crate::agent::asked::push_sent;
 use crate::agent::building::address_or_peer;
+use crate::answer::Answer;
 use crate::kept::{joined, message};
 use crate::names::OUT_OF_MEMORY;
 use crate::scene::Scene;
@@ -11,14 +12,14 @@ use crate::words::address;
 use stun_types::message::Message;
 
 /// `agent asks [ADDRESS] MESSAGE`: keeps a request, and lends it to be sent.
-pub fn ask(scene: &mut Scene<'_>, words: &[&str], answer: &mut String) -> Result<(), Trouble> {
+pub fn ask(scene: &mut Scene<'_>, words: &[&str], answer: &mut Answer) -> Result<(), Trouble> {
     let (to, words) = address_or_peer(words);
     let bytes = message(&scene.stage, words)?;
-    let (alloc, now, way) = (scene.stage.source.alloc, scene.stage.now, scene.agent.way);
+    let (now, way) = (scene.stage.now, scene.agent.way);
     scene.stage.begin();
     match scene.agent.agent.send_request(bytes.as_slice(), to, now) {
-        Ok(sent) => push_sent(alloc, &sent, way, (bytes.as_slice(), to), answer)?,
-        Err(error) => return Ok(answer.push_str(error_name(error))?),
+        Ok(sent) => push_sent(&sent, way, (bytes.as_slice(), to), answer),
+        Err(error) => return Ok(answer.add(error_name(error))),
     }
     // The library has worked: what follows is the player's.
     scene.stage.end();
@@ -26,14 +27,14 @@ pub fn ask(scene: &mut Scene<'_>, words: &[&str], answer: &mut String) -> Result
 }
 
 /// `agent sends [ADDRESS] MESSAGE`: an indication or a response.
-pub fn send(scene: &mut Scene<'_>, words: &[&str], answer: &mut String) -> Result<(), Trouble> {
+pub fn send(scene: &mut Scene<'_>, words: &[&str], answer: &mut Answer) -> Result<(), Trouble> {
     let (to, words) = address_or_peer(words);
     let bytes = message(&scene.stage, words)?;
-    let (alloc, now, way) = (scene.stage.source.alloc, scene.stage.now, scene.agent.way);
+    let (now, way) = (scene.stage.now, scene.agent.way);
     scene.stage.begin();
     match scene.agent.agent.send(bytes.as_slice(), to, now) {
-        Ok(sent) => push_sent(alloc, &sent, way, (bytes.as_slice(), to), answer),
-        Err(error) => Ok(answer.push_str(error_name(error))?),
+        Ok(sent) => Ok(push_sent(&sent, way, (bytes.as_slice(), to), answer)),
+        Err(error) => Ok(answer.add(error_name(error))),
     }
 }
 
@@ -41,7 +42,7 @@ pub fn send(scene: &mut Scene<'_>, words: &[&str], answer: &mut String) -> Resul
 pub fn send_data(
     scene: &mut Scene<'_>,
     words: &[&str],
-    answer: &mut String,
+    answer: &mut Answer,
 ) -> Result<(), Trouble> {
     let (to, words) = address_or_peer(words);
     let alloc = scene.stage.source.alloc;
@@ -49,13 +50,13 @@ pub fn send_data(
     let way = scene.agent.way;
     scene.stage.begin();
     match scene.agent.agent.send_data(bytes.as_slice(), to) {
-        Ok(sent) => push_sent(alloc, &sent, way, (bytes.as_slice(), to), answer),
-        Err(error) => Ok(answer.push_str(error_name(error))?),
+        Ok(sent) => Ok(push_sent(&sent, way, (bytes.as_slice(), to), answer)),
+        Err(error) => Ok(answer.add(error_name(error))),
     }
 }
 
 /// `agent takes [ADDRESS] MESSAGE`: whether a message from there is taken.
-pub fn take(scene: &mut Scene<'_>, words: &[&str], answer: &mut String) -> Result<(), Trouble> {
+pub fn take(scene: &mut Scene<'_>, words: &[&str], answer: &mut Answer) -> Result<(), Trouble> {
     let (from, words) = address_or_peer(words);
     let bytes = message(&scene.stage, words)?;
     let Ok(message) = Message::from_bytes(bytes.as_slice()) else {
@@ -63,14 +64,14 @@ pub fn take(scene: &mut Scene<'_>, words: &[&str], answer: &mut String) -> Resul
     };
     scene.stage.begin();
     let is_taken = scene.agent.agent.handle_stun_message(&message, from);
-    push_flag_if_any(is_taken, answer)
+    Ok(push_flag_if_any(is_taken, answer))
 }
 
 /// `agent takes-timed [ADDRESS] MESSAGE`: the same, where the agent is told the time.
 pub fn take_timed(
     scene: &mut Scene<'_>,
     words: &[&str],
-    answer: &mut String,
+    answer: &mut Answer,
 ) -> Result<(), Trouble> {
     let (from, words) = address_or_peer(words);
     let bytes = message(&scene.stage, words)?;
@@ -83,30 +84,28 @@ pub fn take_timed(
         .agent
         .agent
         .handle_stun_message_with_time(&message, from, now);
-    push_flag_if_any(is_taken, answer)
+    Ok(push_flag_if_any(is_taken, answer))
 }
 
 /// `agent validate ADDRESS`
-pub fn validate(scene: &mut Scene<'_>, words: &[&str], answer: &mut String) -> Result<(), Trouble> {
+pub fn validate(scene: &mut Scene<'_>, words: &[&str], answer: &mut Answer) -> Result<(), Trouble> {
     let [word] = words else {
         return Err(Trouble::Words);
     };
     let address = address(word)?;
     scene.stage.begin();
     if scene.agent.agent.validated_peer(address).is_err() {
-        answer.push_str(OUT_OF_MEMORY)?;
+        answer.add(OUT_OF_MEMORY);
     }
     Ok(())
 }
 
 /// `agent is-validated ADDRESS ..`: whether each is.
-pub fn is_validated(scene: &Scene<'_>, words: &[&str], answer: &mut String) -> Result<(), Trouble> {
+pub fn is_validated(scene: &Scene<'_>, words: &[&str], answer: &mut Answer) -> Result<(), Trouble> {
     for word in words {
         let address = address(word)?;
-        if !answer.as_str().is_empty() {
-            answer.push(' ')?;
-        }
-        push_flag(scene.agent.agent.is_validated_peer(address), answer)?;
+        answer.part();
+        push_flag(scene.agent.agent.is_validated_peer(address), answer);
     }
     Ok(())
 }

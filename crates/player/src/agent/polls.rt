@@ -3,6 +3,7 @@
 use crate::agent::Agent;
 use crate::agent::answers::{push_id, push_moment};
 use crate::agent::asked::push_lent;
+use crate::answer::Answer;
 use crate::scene::Scene;
 use crate::trouble::Trouble;
 use crate::words::size;
@@ -11,20 +12,20 @@ use stun_agent::agent::StunAgentPollRet;
 use stun_base::instant::Instant;
 
 /// `agent poll`: `wait MOMENT`, `timed out ID` or `cancelled ID`.
-pub fn poll(scene: &mut Scene<'_>, answer: &mut String) -> Result<(), Trouble> {
+pub fn poll(scene: &mut Scene<'_>, answer: &mut Answer) {
     let now = scene.stage.now;
     scene.stage.begin();
     match scene.agent.agent.poll(now) {
         StunAgentPollRet::WaitUntil(moment) => {
-            answer.push_str("wait ")?;
+            answer.add("wait ");
             push_moment(moment, answer)
         }
         StunAgentPollRet::TransactionTimedOut(id) => {
-            answer.push_str("timed out ")?;
+            answer.add("timed out ");
             push_id(id, answer)
         }
         StunAgentPollRet::TransactionCancelled(id) => {
-            answer.push_str("cancelled ")?;
+            answer.add("cancelled ");
             push_id(id, answer)
         }
     }
@@ -32,14 +33,9 @@ pub fn poll(scene: &mut Scene<'_>, answer: &mut String) -> Result<(), Trouble> {
 
 impl Agent<'_> {
     /// Adds what the agent lends to be sent again.
-    fn push_transmit(
-        &mut self,
-        alloc: Global,
-        now: Instant,
-        answer: &mut String,
-    ) -> Result<(), Trouble> {
+    fn push_transmit(&mut self, alloc: Global, now: Instant, answer: &mut Answer) {
         let lent = self.agent.poll_transmit(now);
-        push_lent(alloc, lent, self.way, &self.asked, answer)
+        push_lent(lent, self.way, &self.asked, answer)
     }
 
     /// The same, if there is room for `room` bytes.
@@ -48,33 +44,22 @@ impl Agent<'_> {
         alloc: Global,
         now: Instant,
         room: usize,
-        answer: &mut String,
-    ) -> Result<(), Trouble> {
+        answer: &mut Answer,
+    ) {
         match self.agent.poll_transmit_within(now, room) {
-            Ok(lent) => push_lent(alloc, lent, self.way, &self.asked, answer),
-            Err(_) => Ok(answer.push_str("NoRoom")?),
+            Ok(lent) => push_lent(lent, self.way, &self.asked, answer),
+            Err(_) => answer.add("NoRoom"),
         }
     }
 
     /// Adds what it would lend.
-    fn push_next_transmit(
-        &self,
-        alloc: Global,
-        now: Instant,
-        answer: &mut String,
-    ) -> Result<(), Trouble> {
-        push_lent(
-            alloc,
-            self.agent.next_transmit(now),
-            self.way,
-            &self.asked,
-            answer,
-        )
+    fn push_next_transmit(&self, alloc: Global, now: Instant, answer: &mut Answer) {
+        push_lent(self.agent.next_transmit(now), self.way, &self.asked, answer)
     }
 }
 
 /// `agent transmit`: the id of the request that is sent again, or `none`.
-pub fn transmit(scene: &mut Scene<'_>, answer: &mut String) -> Result<(), Trouble> {
+pub fn transmit(scene: &mut Scene<'_>, answer: &mut Answer) {
     let (alloc, now) = (scene.stage.source.alloc, scene.stage.now);
     scene.stage.begin();
     scene.agent.push_transmit(alloc, now, answer)
@@ -84,7 +69,7 @@ pub fn transmit(scene: &mut Scene<'_>, answer: &mut String) -> Result<(), Troubl
 pub fn transmit_within(
     scene: &mut Scene<'_>,
     words: &[&str],
-    answer: &mut String,
+    answer: &mut Answer,
 ) -> Result<(), Trouble> {
     let [room] = words else {
         return Err(Trouble::Words);
@@ -92,21 +77,21 @@ pub fn transmit_within(
     let room = size(room)?;
     let (alloc, now) = (scene.stage.source.alloc, scene.stage.now);
     scene.stage.begin();
-    scene.agent.push_transmit_within(alloc, now, room, answer)
+    Ok(scene.agent.push_transmit_within(alloc, now, room, answer))
 }
 
 /// `agent next-transmit`: what `transmit` would answer.
-pub fn next_transmit(scene: &mut Scene<'_>, answer: &mut String) -> Result<(), Trouble> {
+pub fn next_transmit(scene: &mut Scene<'_>, answer: &mut Answer) {
     let (alloc, now) = (scene.stage.source.alloc, scene.stage.now);
     scene.stage.begin();
     scene.agent.push_next_transmit(alloc, now, answer)
 }
 
 /// `agent next-awaited`: the least moment that a request awaits, or `none`.
-pub fn next_awaited(scene: &mut Scene<'_>, answer: &mut String) -> Result<(), Trouble> {
+pub fn next_awaited(scene: &mut Scene<'_>, answer: &mut Answer) {
     scene.stage.begin();
     match scene.agent.agent.next_awaited() {
         Some(moment) => push_moment(moment, answer),
-        None => Ok(answer.push_str("none")?),
+        None => answer.add("none"),
     }
 }

@@ -1,6 +1,7 @@
 //! Requests that wait: where they went, and how their waits are changed.
 
 use crate::agent::waits::waits;
+use crate::answer::Answer;
 use crate::names::algorithm_name;
 use crate::scene::Scene;
 use crate::trouble::Trouble;
@@ -12,16 +13,18 @@ use stun_types::message::TransactionId;
 const NONE: &str = "none";
 
 /// `agent request ID`: `to ADDRESS, ALGORITHM`, `to ADDRESS, unsigned`, or `none`.
-pub fn tell(scene: &Scene<'_>, words: &[&str], answer: &mut String) -> Result<(), Trouble> {
+pub fn tell(scene: &Scene<'_>, words: &[&str], answer: &mut Answer) -> Result<(), Trouble> {
     let id = only_id(words)?;
     let Some(request) = scene.agent.agent.request_transaction(id) else {
-        return Ok(answer.push_str(NONE)?);
+        return Ok(answer.add(NONE));
     };
     let to = request.peer_address();
-    write!(answer, "to {to}, ")?;
+    answer.add("to ");
+    answer.show(&to);
+    answer.add(", ");
     match request.integrity() {
-        Some(algorithm) => Ok(answer.push_str(algorithm_name(algorithm))?),
-        None => Ok(answer.push_str("unsigned")?),
+        Some(algorithm) => Ok(answer.add(algorithm_name(algorithm))),
+        None => Ok(answer.add("unsigned")),
     }
 }
 
@@ -33,11 +36,11 @@ fn only_id(words: &[&str]) -> Result<TransactionId, Trouble> {
 }
 
 /// `agent cancel ID`
-pub fn cancel(scene: &mut Scene<'_>, words: &[&str], answer: &mut String) -> Result<(), Trouble> {
+pub fn cancel(scene: &mut Scene<'_>, words: &[&str], answer: &mut Answer) -> Result<(), Trouble> {
     let id = only_id(words)?;
     scene.stage.begin();
     let Some(mut request) = scene.agent.agent.mut_request_transaction(id) else {
-        return Ok(answer.push_str(NONE)?);
+        return Ok(answer.add(NONE));
     };
     request.cancel();
     Ok(())
@@ -47,12 +50,12 @@ pub fn cancel(scene: &mut Scene<'_>, words: &[&str], answer: &mut String) -> Res
 pub fn cancel_retransmissions(
     scene: &mut Scene<'_>,
     words: &[&str],
-    answer: &mut String,
+    answer: &mut Answer,
 ) -> Result<(), Trouble> {
     let id = only_id(words)?;
     scene.stage.begin();
     let Some(mut request) = scene.agent.agent.mut_request_transaction(id) else {
-        return Ok(answer.push_str(NONE)?);
+        return Ok(answer.add(NONE));
     };
     request.cancel_retransmissions();
     Ok(())
@@ -62,44 +65,38 @@ pub fn cancel_retransmissions(
 pub fn configure(
     scene: &mut Scene<'_>,
     words: &[&str],
-    answer: &mut String,
+    answer: &mut Answer,
 ) -> Result<(), Trouble> {
     match words {
         [number, initial, retransmits, last] => {
             let waits = waits(initial, "max", retransmits, last)?;
-            configure_all(scene, id(number)?, waits, answer)
+            Ok(configure_all(scene, id(number)?, waits, answer))
         }
         [number, initial, retransmits, last, max] => {
             let waits = waits(initial, max, retransmits, last)?;
-            configure_with_max(scene, id(number)?, waits, answer)
+            Ok(configure_with_max(scene, id(number)?, waits, answer))
         }
         _ => Err(Trouble::Words),
     }
 }
 
-fn configure_all(
-    scene: &mut Scene<'_>,
-    id: TransactionId,
-    waits: RequestRto,
-    answer: &mut String,
-) -> Result<(), Trouble> {
+fn configure_all(scene: &mut Scene<'_>, id: TransactionId, waits: RequestRto, answer: &mut Answer) {
     scene.stage.begin();
     let Some(mut request) = scene.agent.agent.mut_request_transaction(id) else {
-        return Ok(answer.push_str(NONE)?);
+        return answer.add(NONE);
     };
     request.configure_timeout(waits.initial, waits.retransmits, waits.last_retransmit);
-    Ok(())
 }
 
 fn configure_with_max(
     scene: &mut Scene<'_>,
     id: TransactionId,
     waits: RequestRto,
-    answer: &mut String,
-) -> Result<(), Trouble> {
+    answer: &mut Answer,
+) {
     scene.stage.begin();
     let Some(mut request) = scene.agent.agent.mut_request_transaction(id) else {
-        return Ok(answer.push_str(NONE)?);
+        return answer.add(NONE);
     };
     let RequestRto {
         initial,
@@ -108,5 +105,4 @@ fn configure_with_max(
         last_retransmit,
     } = waits;
     request.configure_timeout_with_max(initial, retransmits, last_retransmit, max);
-    Ok(())
 }

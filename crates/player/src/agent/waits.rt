@@ -2,6 +2,7 @@
 
 use crate::agent::answers::push_span;
 use crate::agent::building::transport;
+use crate::answer::Answer;
 use crate::trouble::Trouble;
 use crate::words::{short_number, span};
 use stun_agent::agent::RequestRto;
@@ -24,7 +25,7 @@ pub fn waits(
 
 /// `agent rto [INITIAL MAX RETRANSMITS FINAL] ..`: what these waits tell, or those that a request
 /// has by default.
-pub fn tell(words: &[&str], answer: &mut String) -> Result<(), Trouble> {
+pub fn tell(words: &[&str], answer: &mut Answer) -> Result<(), Trouble> {
     match words {
         [initial, max, retransmits, last, words @ ..] => {
             tell_of(waits(initial, max, retransmits, last)?, words, answer)
@@ -36,9 +37,9 @@ pub fn tell(words: &[&str], answer: &mut String) -> Result<(), Trouble> {
 /// `.. slots udp|tcp`: how often a request is sent again; `.. timeout NUMBER`: the wait after this
 /// transmission, counted from 0; `.. final-wait udp|tcp`: the wait after the last; or all four
 /// settings.
-fn tell_of(waits: RequestRto, words: &[&str], answer: &mut String) -> Result<(), Trouble> {
+fn tell_of(waits: RequestRto, words: &[&str], answer: &mut Answer) -> Result<(), Trouble> {
     if words.is_empty() {
-        return push_settings(waits, answer);
+        return Ok(push_settings(waits, answer));
     }
     let [name, word] = words else {
         return Err(Trouble::Words);
@@ -46,19 +47,22 @@ fn tell_of(waits: RequestRto, words: &[&str], answer: &mut String) -> Result<(),
     match *name {
         "slots" => {
             let slots = waits.slots(transport(word)?);
-            Ok(write!(answer, "{slots}")?)
+            answer.show(&slots);
+            Ok(())
         }
-        "timeout" => push_span(waits.timeout(short_number(word)?), answer),
-        "final-wait" => push_span(waits.final_wait(transport(word)?), answer),
+        "timeout" => Ok(push_span(waits.timeout(short_number(word)?), answer)),
+        "final-wait" => Ok(push_span(waits.final_wait(transport(word)?), answer)),
         _ => Err(Trouble::Words),
     }
 }
 
-fn push_settings(waits: RequestRto, answer: &mut String) -> Result<(), Trouble> {
-    push_span(waits.initial, answer)?;
-    answer.push(' ')?;
-    push_span(waits.max, answer)?;
+fn push_settings(waits: RequestRto, answer: &mut Answer) {
+    push_span(waits.initial, answer);
+    answer.add(" ");
+    push_span(waits.max, answer);
     let retransmits = waits.retransmits;
-    write!(answer, " {retransmits} ")?;
+    answer.add(" ");
+    answer.show(&retransmits);
+    answer.add(" ");
     push_span(waits.last_retransmit, answer)
 }

@@ -1,12 +1,13 @@
 //! Attributes that the library makes, and writes into a message from which they are read again.
 
+use crate::answer::Answer;
 use crate::attribute::registry::password_value;
 use crate::attribute::single::{carrier, only};
 use crate::message::typed::{
     Found, algorithm_word, push_address, push_algorithms, push_error, push_read_as,
 };
 use crate::names::write_error_name;
-use crate::signing::{Signed, push_bytes};
+use crate::signing::Signed;
 use crate::stage::Stage;
 use crate::telling::push_text;
 use crate::trouble::Trouble;
@@ -77,31 +78,30 @@ fn push_written<A: Attribute>(
     asked: Asked,
     attribute: &A,
     bytes: &[u8],
-    told: &str,
-    answer: &mut String,
-) -> Result<(), Trouble> {
+    told: &Answer,
+    answer: &mut Answer,
+) {
     let Ok(message) = Message::from_bytes(bytes) else {
-        return Ok(answer.push_str("no message")?);
+        return answer.add("no message");
     };
     let Some((place, raw)) = message.iter_attributes().next() else {
-        return Ok(answer.push_str("no attribute")?);
+        return answer.add("no attribute");
     };
     if let Some((_, behind)) = bytes.split_at_checked(place) {
-        push_bytes(alloc, behind, answer)?;
+        answer.hex(behind);
     }
     let is_as_written = is_as_written(attribute, &raw);
-    let mut again = String::new(alloc);
+    let mut again = Answer::new(alloc);
     let name = if asked.is_raw {
         "raw"
     } else {
         reader(raw.get_type())
     };
-    push_read_as(alloc, name, asked.id, Found::Attribute(raw), &mut again)?;
-    if !is_as_written || again.as_str() != told {
-        answer.push_str(" otherwise ")?;
-        answer.push_str(again.as_str())?;
+    push_read_as(alloc, name, asked.id, Found::Attribute(raw), &mut again);
+    if !is_as_written || again.as_str() != told.as_str() {
+        answer.add(" otherwise ");
+        answer.join(&again);
     }
-    Ok(())
 }
 
 /// Answers what is asked of an attribute that says this.
@@ -109,11 +109,11 @@ fn answer_made<A: Attribute>(
     stage: &mut Stage<'_>,
     asked: Asked,
     attribute: &A,
-    told: &str,
-    answer: &mut String,
-) -> Result<(), Trouble> {
+    told: &Answer,
+    answer: &mut Answer,
+) {
     if !asked.is_written {
-        return Ok(answer.push_str(told)?);
+        return answer.join(told);
     }
     match written(stage, asked.id, attribute) {
         Ok(bytes) => {
@@ -124,53 +124,38 @@ fn answer_made<A: Attribute>(
     }
 }
 
-fn push_refusal(error: StunWriteError, answer: &mut String) -> Result<(), Trouble> {
-    Ok(answer.push_str(write_error_name(error))?)
+fn push_refusal(error: StunWriteError, answer: &mut Answer) {
+    answer.add(write_error_name(error))
 }
 
-fn username(
-    stage: &mut Stage<'_>,
-    asked: Asked,
-    value: &str,
-    answer: &mut String,
-) -> Result<(), Trouble> {
-    let mut told = String::new(stage.source.alloc);
+fn make_username(stage: &mut Stage<'_>, asked: Asked, value: &str, answer: &mut Answer) {
+    let mut told = Answer::new(stage.source.alloc);
     match Username::new(value) {
         Ok(made) => {
-            push_text(made.username(), &mut told)?;
-            answer_made(stage, asked, &made, told.as_str(), answer)
+            push_text(made.username(), &mut told);
+            answer_made(stage, asked, &made, &told, answer)
         }
         Err(error) => push_refusal(error, answer),
     }
 }
 
-fn realm(
-    stage: &mut Stage<'_>,
-    asked: Asked,
-    value: &str,
-    answer: &mut String,
-) -> Result<(), Trouble> {
-    let mut told = String::new(stage.source.alloc);
+fn make_realm(stage: &mut Stage<'_>, asked: Asked, value: &str, answer: &mut Answer) {
+    let mut told = Answer::new(stage.source.alloc);
     match Realm::new(value) {
         Ok(made) => {
-            push_text(made.realm(), &mut told)?;
-            answer_made(stage, asked, &made, told.as_str(), answer)
+            push_text(made.realm(), &mut told);
+            answer_made(stage, asked, &made, &told, answer)
         }
         Err(error) => push_refusal(error, answer),
     }
 }
 
-fn nonce(
-    stage: &mut Stage<'_>,
-    asked: Asked,
-    value: &str,
-    answer: &mut String,
-) -> Result<(), Trouble> {
-    let mut told = String::new(stage.source.alloc);
+fn make_nonce(stage: &mut Stage<'_>, asked: Asked, value: &str, answer: &mut Answer) {
+    let mut told = Answer::new(stage.source.alloc);
     match Nonce::new(value) {
         Ok(made) => {
-            push_text(made.nonce(), &mut told)?;
-            answer_made(stage, asked, &made, told.as_str(), answer)
+            push_text(made.nonce(), &mut told);
+            answer_made(stage, asked, &made, &told, answer)
         }
         Err(error) => push_refusal(error, answer),
     }
@@ -187,44 +172,45 @@ fn answer_error(
     stage: &mut Stage<'_>,
     asked: Asked,
     builder: ErrorCodeBuilder<'_>,
-    answer: &mut String,
-) -> Result<(), Trouble> {
+    answer: &mut Answer,
+) {
     match builder.build() {
         Ok(made) => {
-            let mut told = String::new(stage.source.alloc);
-            push_error(&made, &mut told)?;
-            answer_made(stage, asked, &made, told.as_str(), answer)
+            let mut told = Answer::new(stage.source.alloc);
+            push_error(&made, &mut told);
+            answer_made(stage, asked, &made, &told, answer)
         }
         Err(error) => push_refusal(error, answer),
     }
 }
 
 /// `CODE`, with the phrase that the library has for it, or `CODE:PHRASE`.
-fn error_code(
+fn make_error_code(
     stage: &mut Stage<'_>,
     asked: Asked,
     value: &str,
-    answer: &mut String,
+    answer: &mut Answer,
 ) -> Result<(), Trouble> {
     match value.split_once(':') {
         Some((code, phrase)) => {
             let phrase = text(stage.source.alloc, phrase)?;
             let builder = ErrorCode::builder(code_of(code)?).reason(phrase.as_str());
-            answer_error(stage, asked, builder, answer)
+            Ok(answer_error(stage, asked, builder, answer))
         }
-        None => answer_error(stage, asked, ErrorCode::builder(code_of(value)?), answer),
+        None => Ok(answer_error(stage, asked, ErrorCode::builder(code_of(value)?), answer)),
     }
 }
 
-fn password_algorithm(
+fn make_password_algorithm(
     stage: &mut Stage<'_>,
     asked: Asked,
     value: &str,
-    answer: &mut String,
+    answer: &mut Answer,
 ) -> Result<(), Trouble> {
     let made = PasswordAlgorithm::new(password_value(value)?);
-    let told = algorithm_word(made.algorithm());
-    answer_made(stage, asked, &made, told, answer)
+    let mut told = Answer::new(stage.source.alloc);
+    told.add(algorithm_word(made.algorithm()));
+    Ok(answer_made(stage, asked, &made, &told, answer))
 }
 
 /// Algorithms with commas between them, or `-`.
@@ -241,76 +227,76 @@ fn listed(alloc: Global, value: &str) -> Result<Vec<PasswordAlgorithmValue>, Tro
     Ok(list)
 }
 
-fn password_algorithms(
+fn make_password_algorithms(
     stage: &mut Stage<'_>,
     asked: Asked,
     value: &str,
-    answer: &mut String,
+    answer: &mut Answer,
 ) -> Result<(), Trouble> {
     let alloc = stage.source.alloc;
     let list = listed(alloc, value)?;
     let made = PasswordAlgorithms::new(list.as_slice());
-    let mut told = String::new(alloc);
-    push_algorithms(alloc, &made, &mut told)?;
-    answer_made(stage, asked, &made, told.as_str(), answer)
+    let mut told = Answer::new(alloc);
+    push_algorithms(alloc, &made, &mut told);
+    Ok(answer_made(stage, asked, &made, &told, answer))
 }
 
 /// `USER:REALM`, whose hash the library makes.
-fn userhash(
+fn make_userhash(
     stage: &mut Stage<'_>,
     asked: Asked,
     value: &str,
-    answer: &mut String,
+    answer: &mut Answer,
 ) -> Result<(), Trouble> {
     let Some((user, realm)) = value.split_once(':') else {
         return Err(Trouble::Words);
     };
     let made = Userhash::new(Userhash::compute(user, realm));
-    let mut told = String::new(stage.source.alloc);
-    push_bytes(stage.source.alloc, made.hash().as_slice(), &mut told)?;
-    answer_made(stage, asked, &made, told.as_str(), answer)
+    let mut told = Answer::new(stage.source.alloc);
+    told.hex(made.hash().as_slice());
+    Ok(answer_made(stage, asked, &made, &told, answer))
 }
 
-fn mapped(
+fn make_mapped(
     stage: &mut Stage<'_>,
     asked: Asked,
     value: &str,
-    answer: &mut String,
+    answer: &mut Answer,
 ) -> Result<(), Trouble> {
     let made = XorMappedAddress::new(address(value)?, asked.id);
-    let mut told = String::new(stage.source.alloc);
-    push_address(made.addr(asked.id), &mut told)?;
-    answer_made(stage, asked, &made, told.as_str(), answer)
+    let mut told = Answer::new(stage.source.alloc);
+    push_address(made.addr(asked.id), &mut told);
+    Ok(answer_made(stage, asked, &made, &told, answer))
 }
 
 /// An attribute of any type, of these bytes.
-fn raw(
+fn make_raw(
     stage: &mut Stage<'_>,
     asked: Asked,
     (name, value): (&str, &str),
-    answer: &mut String,
+    answer: &mut Answer,
 ) -> Result<(), Trouble> {
     let alloc = stage.source.alloc;
-    let kind = attribute_type(alloc, name)?;
+    let kind = attribute_type(name)?;
     let value = bytes(alloc, value)?;
     let made = RawAttribute::new(kind, value.as_slice());
-    let mut told = String::new(alloc);
-    push_bytes(alloc, made.value(), &mut told)?;
-    answer_made(stage, asked, &made, told.as_str(), answer)
+    let mut told = Answer::new(alloc);
+    told.hex(made.value());
+    Ok(answer_made(stage, asked, &made, &told, answer))
 }
 
 /// An attribute whose value is a text.
-fn text_of(
+fn make_text(
     stage: &mut Stage<'_>,
     asked: Asked,
     (name, value): (&str, &str),
-    answer: &mut String,
+    answer: &mut Answer,
 ) -> Result<(), Trouble> {
     let whole = text(stage.source.alloc, value)?;
     match name {
-        "USERNAME" => username(stage, asked, whole.as_str(), answer),
-        "REALM" => realm(stage, asked, whole.as_str(), answer),
-        _ => nonce(stage, asked, whole.as_str(), answer),
+        "USERNAME" => Ok(make_username(stage, asked, whole.as_str(), answer)),
+        "REALM" => Ok(make_realm(stage, asked, whole.as_str(), answer)),
+        _ => Ok(make_nonce(stage, asked, whole.as_str(), answer)),
     }
 }
 
@@ -318,22 +304,22 @@ fn make_named(
     stage: &mut Stage<'_>,
     asked: Asked,
     (name, value): (&str, &str),
-    answer: &mut String,
+    answer: &mut Answer,
 ) -> Result<(), Trouble> {
     match name {
-        "USERNAME" | "REALM" | "NONCE" => text_of(stage, asked, (name, value), answer),
-        "ERROR-CODE" => error_code(stage, asked, value, answer),
-        "PASSWORD-ALGORITHM" => password_algorithm(stage, asked, value, answer),
-        "PASSWORD-ALGORITHMS" => password_algorithms(stage, asked, value, answer),
-        "USERHASH" => userhash(stage, asked, value, answer),
-        "XOR-MAPPED-ADDRESS" => mapped(stage, asked, value, answer),
+        "USERNAME" | "REALM" | "NONCE" => make_text(stage, asked, (name, value), answer),
+        "ERROR-CODE" => make_error_code(stage, asked, value, answer),
+        "PASSWORD-ALGORITHM" => make_password_algorithm(stage, asked, value, answer),
+        "PASSWORD-ALGORITHMS" => make_password_algorithms(stage, asked, value, answer),
+        "USERHASH" => make_userhash(stage, asked, value, answer),
+        "XOR-MAPPED-ADDRESS" => make_mapped(stage, asked, value, answer),
         _ => {
             let asked = Asked {
                 id: asked.id,
                 is_written: asked.is_written,
                 is_raw: true,
             };
-            raw(stage, asked, (name, value), answer)
+            make_raw(stage, asked, (name, value), answer)
         }
     }
 }
@@ -349,7 +335,7 @@ fn id_of(stage: &Stage<'_>, words: &[&str]) -> Result<TransactionId, Trouble> {
 
 /// `attribute rewrites PASSWORD-ALGORITHMS=VALUE`: the bytes of a list that was read, once it is
 /// written again.
-pub fn rewrite(stage: &mut Stage<'_>, words: &[&str], answer: &mut String) -> Result<(), Trouble> {
+pub fn rewrite(stage: &mut Stage<'_>, words: &[&str], answer: &mut Answer) -> Result<(), Trouble> {
     let alloc = stage.source.alloc;
     let bytes = carrier(stage, words)?;
     let Ok(message) = Message::from_bytes(bytes.as_slice()) else {
@@ -363,9 +349,9 @@ pub fn rewrite(stage: &mut Stage<'_>, words: &[&str], answer: &mut String) -> Re
         is_written: true,
         is_raw: false,
     };
-    let mut told = String::new(alloc);
-    push_algorithms(alloc, &read, &mut told)?;
-    answer_made(stage, asked, &read, told.as_str(), answer)
+    let mut told = Answer::new(alloc);
+    push_algorithms(alloc, &read, &mut told);
+    Ok(answer_made(stage, asked, &read, &told, answer))
 }
 
 /// `attribute makes TYPE=VALUE [ID=..]`: what the attribute says that the library makes, or why it
@@ -377,7 +363,7 @@ pub fn make(
     stage: &mut Stage<'_>,
     words: &[&str],
     is_written: bool,
-    answer: &mut String,
+    answer: &mut Answer,
 ) -> Result<(), Trouble> {
     let [word, words @ ..] = words else {
         return Err(Trouble::Words);

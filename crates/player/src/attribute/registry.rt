@@ -1,5 +1,6 @@
 //! The numbers of types, codes and algorithms as the library has them.
 
+use crate::answer::Answer;
 use crate::message::typed::algorithm_word;
 use crate::names::algorithm_name;
 use crate::stage::Stage;
@@ -13,12 +14,13 @@ use stun_types::attribute::{
 use stun_types::prelude::*;
 
 /// `attribute takes LENGTH`: how many bytes an attribute takes whose value has LENGTH bytes.
-pub fn takes(words: &[&str], answer: &mut String) -> Result<(), Trouble> {
+pub fn takes(words: &[&str], answer: &mut Answer) -> Result<(), Trouble> {
     let [word] = words else {
         return Err(Trouble::Words);
     };
     let whole = attribute_length(size(word)?);
-    Ok(write!(answer, "{whole}")?)
+    answer.show(&whole);
+    Ok(())
 }
 
 /// The type that an attribute's own Rattle type states, as a constant and as a call.
@@ -46,21 +48,23 @@ fn stated(name: &str) -> Option<[AttributeType; 2]> {
 
 /// `attribute number TYPE`: the number of a type. What an attribute of it states is told behind it,
 /// if it is another.
-pub fn number(stage: &mut Stage<'_>, words: &[&str], answer: &mut String) -> Result<(), Trouble> {
+pub fn number(stage: &mut Stage<'_>, words: &[&str], answer: &mut Answer) -> Result<(), Trouble> {
     let [name] = words else {
         return Err(Trouble::Words);
     };
-    let kind = attribute_type(stage.source.alloc, name)?;
+    let kind = attribute_type(name)?;
     let number = kind.value();
-    write!(answer, "0x{number:04x}")?;
+    answer.add("0x");
+    answer.hex(&number.to_be_bytes());
     if AttributeType::new(number) != kind {
-        answer.push_str(" otherwise")?;
+        answer.add(" otherwise");
     }
     if let Some(stated) = stated(name) {
         for other in stated {
             if other != kind {
                 let number = other.value();
-                write!(answer, " 0x{number:04x}")?;
+                answer.add(" 0x");
+                answer.hex(&number.to_be_bytes());
             }
         }
     }
@@ -68,7 +72,7 @@ pub fn number(stage: &mut Stage<'_>, words: &[&str], answer: &mut String) -> Res
 }
 
 /// `attribute code NAME`: the number of a code that has one.
-pub fn code(words: &[&str], answer: &mut String) -> Result<(), Trouble> {
+pub fn code(words: &[&str], answer: &mut Answer) -> Result<(), Trouble> {
     let [name] = words else {
         return Err(Trouble::Words);
     };
@@ -78,7 +82,8 @@ pub fn code(words: &[&str], answer: &mut String) -> Result<(), Trouble> {
         "STALE-NONCE" => ErrorCode::STALE_NONCE,
         _ => return Err(Trouble::Words),
     };
-    Ok(write!(answer, "{code}")?)
+    answer.show(&code);
+    Ok(())
 }
 
 /// `MD5` or `SHA256`.
@@ -92,7 +97,7 @@ pub fn password_value(word: &str) -> Result<PasswordAlgorithmValue, Trouble> {
 
 /// `attribute algorithm MD5 | SHA256`: the digest that its keys go with, how many bytes that has,
 /// and the way back.
-pub fn algorithm(words: &[&str], answer: &mut String) -> Result<(), Trouble> {
+pub fn algorithm(words: &[&str], answer: &mut Answer) -> Result<(), Trouble> {
     let [word] = words else {
         return Err(Trouble::Words);
     };
@@ -100,5 +105,10 @@ pub fn algorithm(words: &[&str], answer: &mut String) -> Result<(), Trouble> {
     let name = algorithm_name(digest);
     let length = digest.digest_length();
     let back = algorithm_word(PasswordAlgorithmValue::from_integrity(digest));
-    Ok(write!(answer, "{name}, {length} bytes, {back}")?)
+    answer.add(name);
+    answer.add(", ");
+    answer.show(&length);
+    answer.add(" bytes, ");
+    answer.show(&back);
+    Ok(())
 }

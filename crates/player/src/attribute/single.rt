@@ -1,5 +1,6 @@
 //! A single attribute, spelled by words, as the library reads it.
 
+use crate::answer::Answer;
 use crate::message::typed::{Found, push_read_as};
 use crate::spelling::{Spelling, add_words};
 use crate::stage::Stage;
@@ -25,7 +26,7 @@ pub fn only<'a>(message: &Message<'a>) -> Result<RawAttribute<'a>, Trouble> {
 
 /// `attribute reads TYPE ATTRIBUTE [ID=..]`: what it says where it is read as one of this type, or
 /// why it is not.
-pub fn reads(stage: &mut Stage<'_>, words: &[&str], answer: &mut String) -> Result<(), Trouble> {
+pub fn reads(stage: &mut Stage<'_>, words: &[&str], answer: &mut Answer) -> Result<(), Trouble> {
     let [name, words @ ..] = words else {
         return Err(Trouble::Words);
     };
@@ -35,11 +36,11 @@ pub fn reads(stage: &mut Stage<'_>, words: &[&str], answer: &mut String) -> Resu
     };
     let found = Found::Attribute(only(&message)?);
     let id = message.transaction_id();
-    push_read_as(stage.source.alloc, name, id, found, answer)
+    Ok(push_read_as(stage.source.alloc, name, id, found, answer))
 }
 
 /// `attribute lengths ATTRIBUTE`: how many bytes its value has, and how many it takes in a message.
-pub fn lengths(stage: &mut Stage<'_>, words: &[&str], answer: &mut String) -> Result<(), Trouble> {
+pub fn lengths(stage: &mut Stage<'_>, words: &[&str], answer: &mut Answer) -> Result<(), Trouble> {
     let bytes = carrier(stage, words)?;
     let Ok(message) = Message::from_bytes(bytes.as_slice()) else {
         return Err(Trouble::Words);
@@ -47,7 +48,10 @@ pub fn lengths(stage: &mut Stage<'_>, words: &[&str], answer: &mut String) -> Re
     let attribute = only(&message)?;
     let length = attribute.length();
     let padded = attribute.padded_len();
-    Ok(write!(answer, "{length} in {padded}")?)
+    answer.show(&length);
+    answer.add(" in ");
+    answer.show(&padded);
+    Ok(())
 }
 
 /// `attribute is-digest ATTRIBUTE`: whether it is an integrity attribute whose value has a length
@@ -55,12 +59,13 @@ pub fn lengths(stage: &mut Stage<'_>, words: &[&str], answer: &mut String) -> Re
 pub fn is_digest(
     stage: &mut Stage<'_>,
     words: &[&str],
-    answer: &mut String,
+    answer: &mut Answer,
 ) -> Result<(), Trouble> {
     let bytes = carrier(stage, words)?;
     let Ok(message) = Message::from_bytes(bytes.as_slice()) else {
         return Err(Trouble::Words);
     };
     let is_digest = only(&message)?.is_integrity();
-    Ok(write!(answer, "{is_digest}")?)
+    answer.show(&is_digest);
+    Ok(())
 }

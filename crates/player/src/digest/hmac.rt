@@ -1,8 +1,8 @@
 //! HMAC, by each call that makes one, of a text in one piece and in several.
 
-use crate::digest::bytes_of;
+use crate::answer::Answer;
+use crate::digest::add_bytes;
 use crate::names::OUT_OF_MEMORY;
-use crate::signing::push_bytes;
 use crate::stage::{Heap, Stage};
 use crate::trouble::Trouble;
 use std::alloc::Global;
@@ -23,17 +23,16 @@ struct Digests {
     sha256: [u8; 32],
 }
 
-/// The words after the key as one text, with single spaces between them, or as the bytes of one
+/// Adds the words after the key as one text, with single spaces between them, or the bytes of one
 /// word.
-fn text_of(alloc: Global, words: &[&str]) -> Result<Vec<u8>, Trouble> {
-    let mut whole = Vec::new(alloc);
+fn add_text(alloc: Global, words: &[&str], text: &mut Vec<u8>) -> Result<(), Trouble> {
     for (at, word) in words.iter().enumerate() {
         if at > 0 {
-            whole.extend_from_slice(b" ")?;
+            text.extend_from_slice(b" ")?;
         }
-        whole.extend_from_slice(bytes_of(alloc, word)?.as_slice())?;
+        add_bytes(alloc, word, text)?;
     }
-    Ok(whole)
+    Ok(())
 }
 
 /// Whether each call makes the same digests of the text that these pieces are.
@@ -81,25 +80,27 @@ fn prepared<'a>(stage: &mut Stage<'a>, bytes: Vec<u8>) -> Option<Keys<'a>> {
 }
 
 /// `digest hmac KEY TEXT`: HMAC-SHA1 and HMAC-SHA256.
-pub fn tell(stage: &mut Stage<'_>, words: &[&str], answer: &mut String) -> Result<(), Trouble> {
+pub fn tell(stage: &mut Stage<'_>, words: &[&str], answer: &mut Answer) -> Result<(), Trouble> {
     let [key, words @ ..] = words else {
         return Err(Trouble::Words);
     };
     let alloc = stage.source.alloc;
-    let key = bytes_of(alloc, key)?;
-    let text = text_of(alloc, words)?;
-    let Some(keys) = prepared(stage, key) else {
-        return Ok(answer.push_str(OUT_OF_MEMORY)?);
+    let mut key_bytes = Vec::new(alloc);
+    add_bytes(alloc, key, &mut key_bytes)?;
+    let mut text = Vec::new(alloc);
+    add_text(alloc, words, &mut text)?;
+    let Some(keys) = prepared(stage, key_bytes) else {
+        return Ok(answer.add(OUT_OF_MEMORY));
     };
     let digests = Digests {
         sha1: hmac_sha1(keys.bytes.as_slice(), &[text.as_slice()]),
         sha256: hmac_sha256(keys.bytes.as_slice(), &[text.as_slice()]),
     };
-    push_bytes(alloc, digests.sha1.as_slice(), answer)?;
-    answer.push(' ')?;
-    push_bytes(alloc, digests.sha256.as_slice(), answer)?;
+    answer.hex(digests.sha1.as_slice());
+    answer.add(" ");
+    answer.hex(digests.sha256.as_slice());
     if !are_made_in_pieces(&keys, text.as_slice(), digests) {
-        answer.push_str(" otherwise")?;
+        answer.add(" otherwise");
     }
     Ok(())
 }

@@ -1,8 +1,8 @@
 //! The keys of long-term credentials and the hashes that name users, by each call that makes one.
 
-use crate::digest::bytes_of;
+use crate::answer::Answer;
+use crate::digest::add_bytes;
 use crate::names::OUT_OF_MEMORY;
-use crate::signing::push_bytes;
 use crate::stage::{Heap, Stage};
 use crate::trouble::Trouble;
 use crate::words::{algorithm, text};
@@ -11,7 +11,7 @@ use std::str;
 use stun_base::key::{md5_key_from_utf8, sha256_key_from_utf8, userhash};
 use stun_types::attribute::Userhash;
 use stun_types::message::{
-    IntegrityAlgorithm, IntegrityKey, LongTermCredentials, MessageIntegrityCredentials,
+    IntegrityAlgorithm, IntegrityKey, LongTermKeyCredentials, MessageIntegrityCredentials,
     long_term_key,
 };
 
@@ -23,68 +23,53 @@ struct User {
     password: Vec<u8>,
 }
 
-fn user_of(alloc: Global, words: &[&str]) -> Result<User, Trouble> {
+fn add_user(alloc: Global, words: &[&str], user: &mut User) -> Result<(), Trouble> {
     let [name, realm, password] = words else {
         return Err(Trouble::Words);
     };
-    Ok(User {
-        name: bytes_of(alloc, name)?,
-        realm: bytes_of(alloc, realm)?,
-        password: bytes_of(alloc, password)?,
-    })
+    add_bytes(alloc, name, &mut user.name)?;
+    add_bytes(alloc, realm, &mut user.realm)?;
+    add_bytes(alloc, password, &mut user.password)
 }
 
 /// Adds the key that is made of bytes, or `none`.
-fn push_from_bytes(
-    alloc: Global,
-    algorithm: IntegrityAlgorithm,
-    user: &User,
-    answer: &mut String,
-) -> Result<(), Trouble> {
+fn push_from_bytes(algorithm: IntegrityAlgorithm, user: &User, answer: &mut Answer) {
     let name = user.name.as_slice();
     let realm = user.realm.as_slice();
     let password = user.password.as_slice();
     match algorithm {
         IntegrityAlgorithm::Sha1 => match md5_key_from_utf8(name, realm, password) {
-            Some(key) => push_bytes(alloc, key.as_slice(), answer),
-            None => Ok(answer.push_str("none")?),
+            Some(key) => answer.hex(key.as_slice()),
+            None => answer.add("none"),
         },
         IntegrityAlgorithm::Sha256 => match sha256_key_from_utf8(name, realm, password) {
-            Some(key) => push_bytes(alloc, key.as_slice(), answer),
-            None => Ok(answer.push_str("none")?),
+            Some(key) => answer.hex(key.as_slice()),
+            None => answer.add("none"),
         },
     }
 }
 
-/// The credentials of a user at a realm on the heap, and that realm there.
-fn credentials<'a>(
-    stage: &Stage<'a>,
-    name: &str,
-    realm: &str,
-    password: &str,
-) -> Result<(LongTermCredentials<&'a Heap>, String<&'a Heap>), Trouble> {
-    let name = String::from_str(stage.heap, name)?;
-    let password = String::from_str(stage.heap, password)?;
-    let realm = String::from_str(stage.heap, realm)?;
-    Ok((LongTermCredentials::new(name, password), realm))
-}
-
-/// Whether credentials make a key, as those of a user and as those of a message, or `None` where an
-/// allocation is refused.
-fn is_made<'a>(
-    stage: &mut Stage<'a>,
-    algorithm: IntegrityAlgorithm,
-    user: LongTermCredentials<&'a Heap>,
-    realm: String<&'a Heap>,
-    key: &[u8],
-) -> Option<bool> {
-    stage.begin();
-    let Ok(user) = user.to_key(realm) else {
-        return None;
-    };
+/// Whether credentials make a key, as those of a user and as those of a message.
+fn makes(user: LongTermKeyCredentials<&Heap>, algorithm: IntegrityAlgorithm, key: &[u8]) -> bool {
     let is_made = user.make_key(algorithm).as_bytes() == key;
     let of_message = MessageIntegrityCredentials::from(user);
-    Some(is_made && of_message.key(algorithm).as_bytes() == key)
+    is_made && of_message.key(algorithm).as_bytes() == key
+}
+
+/// The same of a user's name, realm and password, or `None` where an allocation is refused.
+fn is_made(
+    stage: &mut Stage<'_>,
+    algorithm: IntegrityAlgorithm,
+    (name, realm, password): (&str, &str, &str),
+    key: &[u8],
+) -> Result<Option<bool>, Trouble> {
+    let user = stage.credentials(name, password)?;
+    let realm = String::from_str(stage.heap, realm)?;
+    stage.begin();
+    match user.to_key(realm) {
+        Ok(user) => Ok(Some(makes(user, algorithm, key))),
+        Err(_) => Ok(None),
+    }
 }
 
 /// Adds the key of texts, and `otherwise` if another call makes another.
@@ -93,32 +78,30 @@ fn push_of_texts(
     algorithm: IntegrityAlgorithm,
     (name, realm, password): (&str, &str, &str),
     told: &str,
-    answer: &mut String,
+    answer: &mut Answer,
 ) -> Result<(), Trouble> {
     let alloc = stage.source.alloc;
     let key: IntegrityKey = long_term_key(alloc, algorithm, name, realm, password);
-    let (user, place) = credentials(stage, name, realm, password)?;
-    let Some(is_made) = is_made(stage, algorithm, user, place, key.as_bytes()) else {
-        return Ok(answer.push_str(OUT_OF_MEMORY)?);
+    let texts = (name, realm, password);
+    let Some(is_made) = is_made(stage, algorithm, texts, key.as_bytes())? else {
+        return Ok(answer.add(OUT_OF_MEMORY));
     };
-    push_bytes(alloc, key.as_bytes(), answer)?;
+    answer.hex(key.as_bytes());
     if !is_made || answer.as_str() != told {
-        answer.push_str(" otherwise")?;
+        answer.add(" otherwise");
     }
     Ok(())
 }
 
-/// `digest key sha1 | sha256 NAME REALM PASSWORD`: the long-term key, or `none` of bytes that are
-/// no text.
-pub fn tell(stage: &mut Stage<'_>, words: &[&str], answer: &mut String) -> Result<(), Trouble> {
-    let [word, words @ ..] = words else {
-        return Err(Trouble::Words);
-    };
-    let alloc = stage.source.alloc;
-    let algorithm = algorithm(word)?;
-    let user = user_of(alloc, words)?;
-    let mut told = String::new(alloc);
-    push_from_bytes(alloc, algorithm, &user, &mut told)?;
+/// Adds the key of a user, whose name, realm and password may be texts.
+fn push_of_user(
+    stage: &mut Stage<'_>,
+    algorithm: IntegrityAlgorithm,
+    user: &User,
+    answer: &mut Answer,
+) -> Result<(), Trouble> {
+    let mut told = Answer::new(stage.source.alloc);
+    push_from_bytes(algorithm, user, &mut told);
     match (
         str::from_utf8(user.name.as_slice()),
         str::from_utf8(user.realm.as_slice()),
@@ -128,12 +111,29 @@ pub fn tell(stage: &mut Stage<'_>, words: &[&str], answer: &mut String) -> Resul
             let texts = (name, realm, password);
             push_of_texts(stage, algorithm, texts, told.as_str(), answer)
         }
-        _ => Ok(answer.push_str(told.as_str())?),
+        _ => Ok(answer.join(&told)),
     }
 }
 
+/// `digest key sha1 | sha256 NAME REALM PASSWORD`: the long-term key, or `none` of bytes that are
+/// no text.
+pub fn tell(stage: &mut Stage<'_>, words: &[&str], answer: &mut Answer) -> Result<(), Trouble> {
+    let [word, words @ ..] = words else {
+        return Err(Trouble::Words);
+    };
+    let alloc = stage.source.alloc;
+    let algorithm = algorithm(word)?;
+    let mut user = User {
+        name: Vec::new(alloc),
+        realm: Vec::new(alloc),
+        password: Vec::new(alloc),
+    };
+    add_user(alloc, words, &mut user)?;
+    push_of_user(stage, algorithm, &user, answer)
+}
+
 /// `digest userhash NAME REALM`
-pub fn hash(stage: &mut Stage<'_>, words: &[&str], answer: &mut String) -> Result<(), Trouble> {
+pub fn hash(stage: &mut Stage<'_>, words: &[&str], answer: &mut Answer) -> Result<(), Trouble> {
     let [name, realm] = words else {
         return Err(Trouble::Words);
     };
@@ -141,9 +141,9 @@ pub fn hash(stage: &mut Stage<'_>, words: &[&str], answer: &mut String) -> Resul
     let name = text(alloc, name)?;
     let realm = text(alloc, realm)?;
     let hash = Userhash::compute(name.as_str(), realm.as_str());
-    push_bytes(alloc, hash.as_slice(), answer)?;
+    answer.hex(hash.as_slice());
     if userhash(name.as_str(), realm.as_str()) != hash {
-        answer.push_str(" otherwise")?;
+        answer.add(" otherwise");
     }
     Ok(())
 }

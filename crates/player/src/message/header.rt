@@ -1,8 +1,8 @@
 //! What is read of a message as a whole: its header, its length, and which attributes are visible.
 
+use crate::answer::Answer;
 use crate::kept::message;
 use crate::message::naming::{class_name, push_parse_error};
-use crate::signing::push_bytes;
 use crate::stage::Stage;
 use crate::trouble::Trouble;
 use std::alloc::Global;
@@ -18,41 +18,48 @@ const CLASSES: [MessageClass; 4] = [
 ];
 
 /// Adds an id: `0x` and 24 digits.
-pub fn push_id(alloc: Global, id: TransactionId, answer: &mut String) -> Result<(), Trouble> {
-    answer.push_str("0x")?;
-    push_bytes(alloc, &id.as_u128().to_be_bytes()[4..], answer)
+pub fn push_id(id: TransactionId, answer: &mut Answer) {
+    answer.add("0x");
+    answer.hex(&id.as_u128().to_be_bytes()[4..])
 }
 
 /// Adds a type: its number, its class, whether that is one of responses, and its method.
-pub fn push_type(kind: MessageType, answer: &mut String) -> Result<(), Trouble> {
+pub fn push_type(kind: MessageType, answer: &mut Answer) {
     let number = kind.value();
     let class = kind.class();
     let name = class_name(class);
-    write!(answer, "0x{number:04x} {name}")?;
+    answer.add("0x");
+    answer.hex(&number.to_be_bytes());
+    answer.add(" ");
+    answer.add(name);
     if kind.is_response() {
-        answer.push_str(" response")?;
+        answer.add(" response");
     }
     for other in CLASSES {
         if kind.has_class(other) != (other == class) {
-            answer.push_str(" of another class")?;
+            answer.add(" of another class");
         }
     }
     let method = kind.method().value();
-    Ok(write!(answer, " 0x{method:03x}")?)
+    answer.add(" ");
+    answer.method(method);
 }
 
 /// `message header MESSAGE`: what `MessageHeader::from_bytes` reads of its first twenty bytes.
-pub fn tell(stage: &mut Stage<'_>, words: &[&str], answer: &mut String) -> Result<(), Trouble> {
+pub fn tell(stage: &mut Stage<'_>, words: &[&str], answer: &mut Answer) -> Result<(), Trouble> {
     let bytes = message(stage, words)?;
     match MessageHeader::from_bytes(bytes.as_slice()) {
         Ok(header) => {
-            push_type(header.get_type(), answer)?;
-            answer.push_str(" id ")?;
-            push_id(stage.source.alloc, header.transaction_id(), answer)?;
+            push_type(header.get_type(), answer);
+            answer.add(" id ");
+            push_id(header.transaction_id(), answer);
             let length = header.data_length();
-            Ok(write!(answer, ", {length} bytes behind")?)
+            answer.add(", ");
+            answer.show(&length);
+            answer.add(" bytes behind");
+            Ok(())
         }
-        Err(error) => Ok(push_parse_error(error, answer)?),
+        Err(error) => Ok(push_parse_error(error, answer)),
     }
 }
 
@@ -68,76 +75,72 @@ fn is_as_its_type(message: &Message<'_>) -> bool {
     is_so
 }
 
-fn push_message(
-    alloc: Global,
-    message: &Message<'_>,
-    bytes: &[u8],
-    answer: &mut String,
-) -> Result<(), Trouble> {
-    push_type(message.get_type(), answer)?;
+fn push_whole(message: &Message<'_>, bytes: &[u8], answer: &mut Answer) {
+    push_type(message.get_type(), answer);
     if !is_as_its_type(message) || message.as_bytes() != bytes {
-        answer.push_str(" otherwise")?;
+        answer.add(" otherwise");
     }
-    answer.push_str(" id ")?;
-    push_id(alloc, message.transaction_id(), answer)?;
+    answer.add(" id ");
+    push_id(message.transaction_id(), answer);
     let length = message.as_bytes().len();
-    Ok(write!(answer, ", {length} bytes")?)
+    answer.add(", ");
+    answer.show(&length);
+    answer.add(" bytes");
 }
 
 /// Adds why bytes are no message, and whether they begin with a header.
-fn push_refusal(
-    header: Option<StunParseError>,
-    error: StunParseError,
-    answer: &mut String,
-) -> Result<(), Trouble> {
+fn push_refusal(header: Option<StunParseError>, error: StunParseError, answer: &mut Answer) {
     match header {
-        None => answer.push_str("header, ")?,
+        None => answer.add("header, "),
         Some(other) if other != error => {
-            push_parse_error(other, answer)?;
-            answer.push_str(", ")?;
+            push_parse_error(other, answer);
+            answer.add(", ");
         }
         Some(_) => {}
     }
-    Ok(push_parse_error(error, answer)?)
+    push_parse_error(error, answer)
 }
 
 /// Adds what both readers make of bytes: the message, or the refusal. `header,` comes before a
 /// refusal if a header is read.
-pub fn push_read(alloc: Global, bytes: &[u8], answer: &mut String) -> Result<(), Trouble> {
+pub fn push_read(bytes: &[u8], answer: &mut Answer) {
     let header = MessageHeader::from_bytes(bytes).err();
     match Message::from_bytes(bytes) {
-        Ok(message) if header.is_none() => push_message(alloc, &message, bytes, answer),
-        Ok(_) => Ok(answer.push_str("no header, but a message")?),
+        Ok(message) if header.is_none() => push_whole(&message, bytes, answer),
+        Ok(_) => answer.add("no header, but a message"),
         Err(error) => push_refusal(header, error, answer),
     }
 }
 
 /// `message reads MESSAGE`: what `Message::from_bytes` and `MessageHeader::from_bytes` answer.
-pub fn reads(stage: &mut Stage<'_>, words: &[&str], answer: &mut String) -> Result<(), Trouble> {
+pub fn reads(stage: &mut Stage<'_>, words: &[&str], answer: &mut Answer) -> Result<(), Trouble> {
     let bytes = message(stage, words)?;
-    push_read(stage.source.alloc, bytes.as_slice(), answer)
+    Ok(push_read(bytes.as_slice(), answer))
 }
 
 /// `message attributes MESSAGE`: type, place and length of each visible attribute, or `none`.
 pub fn attributes(
     stage: &mut Stage<'_>,
     words: &[&str],
-    answer: &mut String,
+    answer: &mut Answer,
 ) -> Result<(), Trouble> {
     let bytes = message(stage, words)?;
     let Ok(message) = Message::from_bytes(bytes.as_slice()) else {
         return Err(Trouble::Words);
     };
     for (place, attribute) in message.iter_attributes() {
-        if !answer.as_str().is_empty() {
-            answer.push(' ')?;
-        }
+        answer.part();
         let number = attribute.get_type().value();
         let length = attribute.length();
-        write!(answer, "0x{number:04x}@{place}:{length}")?;
+        answer.add("0x");
+        answer.hex(&number.to_be_bytes());
+        answer.add("@");
+        answer.show(&place);
+        answer.add(":");
+        answer.show(&length);
     }
-    if answer.as_str().is_empty() {
-        answer.push_str("none")?;
+    if answer.is_empty() {
+        answer.add("none");
     }
     Ok(())
 }

@@ -1,10 +1,10 @@
 //! Types, ids and refusals of messages in words.
 
+use crate::answer::Answer;
 use crate::message::header::{push_id, push_type};
 use crate::stage::Stage;
 use crate::trouble::Trouble;
 use crate::words::{class, hex_number, number};
-use std::alloc::AllocError;
 use stun_base::words::WordSource;
 use stun_types::message::{
     BINDING, MessageClass, MessageType, Method, StunParseError, TransactionId, ValidateError,
@@ -20,24 +20,25 @@ pub fn class_name(class: MessageClass) -> &'static str {
 }
 
 /// Adds why something is not read. A missing attribute is told by its type.
-pub fn push_parse_error(error: StunParseError, answer: &mut String) -> Result<(), AllocError> {
+pub fn push_parse_error(error: StunParseError, answer: &mut Answer) {
     match error {
-        StunParseError::Truncated => answer.push_str("Truncated"),
-        StunParseError::NotStun => answer.push_str("NotStun"),
-        StunParseError::TooLarge => answer.push_str("TooLarge"),
+        StunParseError::Truncated => answer.add("Truncated"),
+        StunParseError::NotStun => answer.add("NotStun"),
+        StunParseError::TooLarge => answer.add("TooLarge"),
         StunParseError::MissingAttribute(kind) => {
             let number = kind.value();
-            write!(answer, "MissingAttribute 0x{number:04x}")
+            answer.add("MissingAttribute 0x");
+            answer.hex(&number.to_be_bytes());
         }
-        StunParseError::InvalidAttributeData => answer.push_str("InvalidAttributeData"),
+        StunParseError::InvalidAttributeData => answer.add("InvalidAttributeData"),
     }
 }
 
 /// Adds why no digest verifies.
-pub fn push_validate_error(error: ValidateError, answer: &mut String) -> Result<(), AllocError> {
+pub fn push_validate_error(error: ValidateError, answer: &mut Answer) {
     match error {
         ValidateError::Parse(error) => push_parse_error(error, answer),
-        ValidateError::IntegrityFailed => answer.push_str("IntegrityFailed"),
+        ValidateError::IntegrityFailed => answer.add("IntegrityFailed"),
     }
 }
 
@@ -45,13 +46,13 @@ pub fn push_validate_error(error: ValidateError, answer: &mut String) -> Result<
 fn method(stage: &Stage<'_>, word: &str) -> Result<Option<Method>, Trouble> {
     match word {
         "binding" => Ok(Some(BINDING)),
-        word => Ok(Method::new(hex_number(stage.source.alloc, word)?)),
+        word => Ok(Method::new(hex_number(word)?)),
     }
 }
 
 /// `message type CLASS METHOD`: the type of both, and what is read of it; `none` where that is no
 /// method.
-pub fn type_of(stage: &mut Stage<'_>, words: &[&str], answer: &mut String) -> Result<(), Trouble> {
+pub fn type_of(stage: &mut Stage<'_>, words: &[&str], answer: &mut Answer) -> Result<(), Trouble> {
     let [word, number] = words else {
         return Err(Trouble::Words);
     };
@@ -60,18 +61,18 @@ pub fn type_of(stage: &mut Stage<'_>, words: &[&str], answer: &mut String) -> Re
     };
     match method(stage, number)? {
         Some(method) => {
-            push_type(MessageType::from_class_method(class, method), answer)?;
+            push_type(MessageType::from_class_method(class, method), answer);
             if method == BINDING {
-                answer.push_str(", binding")?;
+                answer.add(", binding");
             }
         }
-        None => answer.push_str("none")?,
+        None => answer.add("none"),
     }
     Ok(())
 }
 
 /// `message ids COUNT`: COUNT ids, one after another from the numbers that are drawn.
-pub fn ids(stage: &mut Stage<'_>, words: &[&str], answer: &mut String) -> Result<(), Trouble> {
+pub fn ids(stage: &mut Stage<'_>, words: &[&str], answer: &mut Answer) -> Result<(), Trouble> {
     let [count] = words else {
         return Err(Trouble::Words);
     };
@@ -79,13 +80,9 @@ pub fn ids(stage: &mut Stage<'_>, words: &[&str], answer: &mut String) -> Result
     let mut source = WordSource::new(stage.draws);
     for at in 0..count {
         if at > 0 {
-            answer.push(' ')?;
+            answer.add(" ");
         }
-        push_id(
-            stage.source.alloc,
-            TransactionId::generate(&mut source),
-            answer,
-        )?;
+        push_id(TransactionId::generate(&mut source), answer);
     }
     Ok(())
 }

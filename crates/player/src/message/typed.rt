@@ -1,12 +1,12 @@
 //! Attributes that are read by their types.
 
+use crate::answer::Answer;
 use crate::kept::message;
 use crate::message::naming::push_parse_error;
-use crate::signing::push_bytes;
 use crate::stage::Stage;
 use crate::telling::push_text;
 use crate::trouble::Trouble;
-use std::alloc::Global;
+use std::alloc::{AllocError, Global};
 use std::net::SocketAddr;
 use stun_types::attribute::{
     ErrorCode, MessageIntegrity, MessageIntegritySha256, Nonce, PasswordAlgorithm,
@@ -34,13 +34,13 @@ fn read<'a, A: AttributeFromRaw<'a> + AttributeStaticType>(
 }
 
 /// Adds an error: its code, and its phrase behind it if there is one.
-pub fn push_error(error: &ErrorCode<'_>, answer: &mut String) -> Result<(), Trouble> {
+pub fn push_error(error: &ErrorCode<'_>, answer: &mut Answer) {
     let code = error.code();
-    write!(answer, "{code}")?;
+    answer.show(&code);
     if error.reason().is_empty() {
-        return Ok(());
+        return;
     }
-    answer.push(' ')?;
+    answer.add(" ");
     push_text(error.reason(), answer)
 }
 
@@ -51,13 +51,12 @@ pub fn algorithm_word(algorithm: PasswordAlgorithmValue) -> &'static str {
     }
 }
 
-/// The algorithms of a list in their order, or in the opposite one.
-fn values(
-    alloc: Global,
+/// Adds the algorithms of a list to a vector, in their order or in the opposite one.
+fn add_values(
     list: &PasswordAlgorithms<'_>,
     is_forward: bool,
-) -> Result<Vec<PasswordAlgorithmValue>, Trouble> {
-    let mut values = Vec::new(alloc);
+    values: &mut Vec<PasswordAlgorithmValue>,
+) -> Result<(), AllocError> {
     let last = list.len().saturating_sub(1);
     for at in 0..list.len() {
         let place = if is_forward {
@@ -66,16 +65,14 @@ fn values(
             last.saturating_sub(at)
         };
         if let Some(value) = list.get(place) {
-            if values.push(value).is_err() {
-                return Err(Trouble::Memory);
-            }
+            values.extend_from_slice(&[value])?;
         }
     }
-    Ok(values)
+    Ok(())
 }
 
 /// Whether all that a list says of itself fits the algorithms that it gives.
-fn is_list(
+fn fits(
     list: &PasswordAlgorithms<'_>,
     forward: &[PasswordAlgorithmValue],
     backward: &[PasswordAlgorithmValue],
@@ -91,126 +88,128 @@ fn is_list(
     is_so
 }
 
+/// The same, of a list whose algorithms are asked for one by one.
+fn is_list(alloc: Global, list: &PasswordAlgorithms<'_>) -> Result<bool, AllocError> {
+    let mut forward = Vec::new(alloc);
+    add_values(list, true, &mut forward)?;
+    let mut backward = Vec::new(alloc);
+    add_values(list, false, &mut backward)?;
+    Ok(fits(list, forward.as_slice(), backward.as_slice()))
+}
+
 /// Adds the algorithms of a list, or `-`.
-pub fn push_algorithms(
-    alloc: Global,
-    list: &PasswordAlgorithms<'_>,
-    answer: &mut String,
-) -> Result<(), Trouble> {
-    let forward = values(alloc, list, true)?;
-    let backward = values(alloc, list, false)?;
-    for (at, value) in forward.iter().enumerate() {
+pub fn push_algorithms(alloc: Global, list: &PasswordAlgorithms<'_>, answer: &mut Answer) {
+    for at in 0..list.len() {
         if at > 0 {
-            answer.push(',')?;
+            answer.add(",");
         }
-        answer.push_str(algorithm_word(*value))?;
+        if let Some(value) = list.get(at) {
+            answer.add(algorithm_word(value));
+        }
     }
-    if forward.is_empty() {
-        answer.push('-')?;
+    if list.is_empty() {
+        answer.add("-");
     }
-    if !is_list(list, forward.as_slice(), backward.as_slice()) {
-        answer.push_str(" otherwise")?;
+    match is_list(alloc, list) {
+        Ok(true) => {}
+        Ok(false) => answer.add(" otherwise"),
+        Err(_) => answer.cut(),
     }
-    Ok(())
 }
 
 /// Adds an address.
-pub fn push_address(address: SocketAddr, answer: &mut String) -> Result<(), Trouble> {
-    Ok(write!(answer, "{address}")?)
+pub fn push_address(address: SocketAddr, answer: &mut Answer) {
+    answer.show(&address);
 }
 
-fn username(found: Found<'_>, answer: &mut String) -> Result<(), Trouble> {
+fn push_username(found: Found<'_>, answer: &mut Answer) {
     let read: Result<Username, StunParseError> = read(found);
     match read {
         Ok(read) => push_text(read.username(), answer),
-        Err(error) => Ok(push_parse_error(error, answer)?),
+        Err(error) => push_parse_error(error, answer),
     }
 }
 
-fn realm(found: Found<'_>, answer: &mut String) -> Result<(), Trouble> {
+fn push_realm(found: Found<'_>, answer: &mut Answer) {
     let read: Result<Realm, StunParseError> = read(found);
     match read {
         Ok(read) => push_text(read.realm(), answer),
-        Err(error) => Ok(push_parse_error(error, answer)?),
+        Err(error) => push_parse_error(error, answer),
     }
 }
 
-fn nonce(found: Found<'_>, answer: &mut String) -> Result<(), Trouble> {
+fn push_nonce(found: Found<'_>, answer: &mut Answer) {
     let read: Result<Nonce, StunParseError> = read(found);
     match read {
         Ok(read) => push_text(read.nonce(), answer),
-        Err(error) => Ok(push_parse_error(error, answer)?),
+        Err(error) => push_parse_error(error, answer),
     }
 }
 
-fn error_code(found: Found<'_>, answer: &mut String) -> Result<(), Trouble> {
+fn push_error_code(found: Found<'_>, answer: &mut Answer) {
     let read: Result<ErrorCode, StunParseError> = read(found);
     match read {
         Ok(read) => push_error(&read, answer),
-        Err(error) => Ok(push_parse_error(error, answer)?),
+        Err(error) => push_parse_error(error, answer),
     }
 }
 
-fn password_algorithm(found: Found<'_>, answer: &mut String) -> Result<(), Trouble> {
+fn push_password_algorithm(found: Found<'_>, answer: &mut Answer) {
     let read: Result<PasswordAlgorithm, StunParseError> = read(found);
     match read {
-        Ok(read) => Ok(answer.push_str(algorithm_word(read.algorithm()))?),
-        Err(error) => Ok(push_parse_error(error, answer)?),
+        Ok(read) => answer.add(algorithm_word(read.algorithm())),
+        Err(error) => push_parse_error(error, answer),
     }
 }
 
-fn password_algorithms(
-    alloc: Global,
-    found: Found<'_>,
-    answer: &mut String,
-) -> Result<(), Trouble> {
+fn push_password_algorithms(alloc: Global, found: Found<'_>, answer: &mut Answer) {
     let read: Result<PasswordAlgorithms, StunParseError> = read(found);
     match read {
         Ok(read) => push_algorithms(alloc, &read, answer),
-        Err(error) => Ok(push_parse_error(error, answer)?),
+        Err(error) => push_parse_error(error, answer),
     }
 }
 
-fn userhash(alloc: Global, found: Found<'_>, answer: &mut String) -> Result<(), Trouble> {
+fn push_userhash(found: Found<'_>, answer: &mut Answer) {
     let read: Result<Userhash, StunParseError> = read(found);
     match read {
-        Ok(read) => push_bytes(alloc, read.hash().as_slice(), answer),
-        Err(error) => Ok(push_parse_error(error, answer)?),
+        Ok(read) => answer.hex(read.hash().as_slice()),
+        Err(error) => push_parse_error(error, answer),
     }
 }
 
-fn integrity(alloc: Global, found: Found<'_>, answer: &mut String) -> Result<(), Trouble> {
+fn push_integrity(found: Found<'_>, answer: &mut Answer) {
     let read: Result<MessageIntegrity, StunParseError> = read(found);
     match read {
-        Ok(read) => push_bytes(alloc, read.hmac().as_slice(), answer),
-        Err(error) => Ok(push_parse_error(error, answer)?),
+        Ok(read) => answer.hex(read.hmac().as_slice()),
+        Err(error) => push_parse_error(error, answer),
     }
 }
 
-fn integrity_sha256(alloc: Global, found: Found<'_>, answer: &mut String) -> Result<(), Trouble> {
+fn push_integrity_sha256(found: Found<'_>, answer: &mut Answer) {
     let read: Result<MessageIntegritySha256, StunParseError> = read(found);
     match read {
-        Ok(read) => push_bytes(alloc, read.hmac(), answer),
-        Err(error) => Ok(push_parse_error(error, answer)?),
+        Ok(read) => answer.hex(read.hmac()),
+        Err(error) => push_parse_error(error, answer),
     }
 }
 
-fn mapped(id: TransactionId, found: Found<'_>, answer: &mut String) -> Result<(), Trouble> {
+fn push_mapped(id: TransactionId, found: Found<'_>, answer: &mut Answer) {
     let read: Result<XorMappedAddress, StunParseError> = read(found);
     match read {
         Ok(read) => push_address(read.addr(id), answer),
-        Err(error) => Ok(push_parse_error(error, answer)?),
+        Err(error) => push_parse_error(error, answer),
     }
 }
 
 /// An attribute whose type says nothing of its value.
-fn raw(alloc: Global, found: Found<'_>, answer: &mut String) -> Result<(), Trouble> {
+fn push_raw(found: Found<'_>, answer: &mut Answer) {
     let Found::Attribute(attribute) = found else {
-        return Err(Trouble::Words);
+        return answer.add("?");
     };
     match RawAttribute::from_raw(attribute) {
-        Ok(read) => push_bytes(alloc, read.value(), answer),
-        Err(error) => Ok(push_parse_error(error, answer)?),
+        Ok(read) => answer.hex(read.value()),
+        Err(error) => push_parse_error(error, answer),
     }
 }
 
@@ -220,25 +219,25 @@ pub fn push_read_as(
     name: &str,
     id: TransactionId,
     found: Found<'_>,
-    answer: &mut String,
-) -> Result<(), Trouble> {
+    answer: &mut Answer,
+) {
     match name {
-        "USERNAME" => username(found, answer),
-        "REALM" => realm(found, answer),
-        "NONCE" => nonce(found, answer),
-        "ERROR-CODE" => error_code(found, answer),
-        "PASSWORD-ALGORITHM" => password_algorithm(found, answer),
-        "PASSWORD-ALGORITHMS" => password_algorithms(alloc, found, answer),
-        "USERHASH" => userhash(alloc, found, answer),
-        "MESSAGE-INTEGRITY" => integrity(alloc, found, answer),
-        "MESSAGE-INTEGRITY-SHA256" => integrity_sha256(alloc, found, answer),
-        "XOR-MAPPED-ADDRESS" => mapped(id, found, answer),
-        _ => raw(alloc, found, answer),
+        "USERNAME" => push_username(found, answer),
+        "REALM" => push_realm(found, answer),
+        "NONCE" => push_nonce(found, answer),
+        "ERROR-CODE" => push_error_code(found, answer),
+        "PASSWORD-ALGORITHM" => push_password_algorithm(found, answer),
+        "PASSWORD-ALGORITHMS" => push_password_algorithms(alloc, found, answer),
+        "USERHASH" => push_userhash(found, answer),
+        "MESSAGE-INTEGRITY" => push_integrity(found, answer),
+        "MESSAGE-INTEGRITY-SHA256" => push_integrity_sha256(found, answer),
+        "XOR-MAPPED-ADDRESS" => push_mapped(id, found, answer),
+        _ => push_raw(found, answer),
     }
 }
 
 /// `message attribute TYPE MESSAGE`: what the first visible one of a type says.
-pub fn first(stage: &mut Stage<'_>, words: &[&str], answer: &mut String) -> Result<(), Trouble> {
+pub fn first(stage: &mut Stage<'_>, words: &[&str], answer: &mut Answer) -> Result<(), Trouble> {
     let [name, words @ ..] = words else {
         return Err(Trouble::Words);
     };
@@ -247,11 +246,11 @@ pub fn first(stage: &mut Stage<'_>, words: &[&str], answer: &mut String) -> Resu
         return Err(Trouble::Words);
     };
     let id = message.transaction_id();
-    push_read_as(
+    Ok(push_read_as(
         stage.source.alloc,
         name,
         id,
         Found::Message(message),
         answer,
-    )
+    ))
 }

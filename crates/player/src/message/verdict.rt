@@ -1,33 +1,35 @@
 //! Whether a message verifies under a key, by each call that takes one.
 
+use crate::answer::Answer;
 use crate::kept::message;
 use crate::message::naming::push_validate_error;
 use crate::names::{OUT_OF_MEMORY, algorithm_name};
 use crate::stage::{Heap, Stage};
 use crate::trouble::Trouble;
 use crate::words::{attribute_type, bytes, text};
-use std::alloc::{AllocError, Global};
+use std::alloc::Global;
 use stun_types::attribute::AttributeType;
 use stun_types::message::{
-    IntegrityAlgorithm, IntegrityKey, LongTermCredentials, Message, MessageIntegrityCredentials,
-    ShortTermCredentials, StunParseError, ValidateError, long_term_key,
+    IntegrityAlgorithm, IntegrityKey, LongTermCredentials, LongTermKeyCredentials, Message,
+    MessageIntegrityCredentials, ShortTermCredentials, StunParseError, ValidateError,
+    long_term_key,
 };
 
 type Verdict = Result<IntegrityAlgorithm, ValidateError>;
 
-fn push_verdict(verdict: Verdict, answer: &mut String) -> Result<(), Trouble> {
+fn push_verdict(verdict: Verdict, answer: &mut Answer) {
     match verdict {
-        Ok(algorithm) => Ok(answer.push_str(algorithm_name(algorithm))?),
-        Err(error) => Ok(push_validate_error(error, answer)?),
+        Ok(algorithm) => answer.add(algorithm_name(algorithm)),
+        Err(error) => push_validate_error(error, answer),
     }
 }
 
 /// Adds what another call answers, where that is not the verdict.
-fn push_other(verdict: Verdict, other: Verdict, answer: &mut String) -> Result<(), Trouble> {
+fn push_other(verdict: Verdict, other: Verdict, answer: &mut Answer) {
     if other == verdict {
-        return Ok(());
+        return;
     }
-    answer.push_str(", ")?;
+    answer.add(", ");
     push_verdict(other, answer)
 }
 
@@ -37,23 +39,23 @@ fn by_key<'a>(
     key: &[u8],
     credentials: Option<MessageIntegrityCredentials<&'a Heap>>,
     message: &Message<'_>,
-    answer: &mut String,
-) -> Result<(), Trouble> {
+    answer: &mut Answer,
+) {
     stage.begin();
     let made = IntegrityKey::from_bytes(stage.heap, key);
     let Ok(made) = made else {
-        return Ok(answer.push_str(OUT_OF_MEMORY)?);
+        return answer.add(OUT_OF_MEMORY);
     };
     let verdict = message.validate_integrity_with_key(&made);
-    push_verdict(verdict, answer)?;
+    push_verdict(verdict, answer);
     push_other(
         verdict,
         message.validate_integrity_with_key_bytes(key),
         answer,
-    )?;
+    );
     match &credentials {
         Some(credentials) => push_other(verdict, message.validate_integrity(credentials), answer),
-        None => Ok(()),
+        None => {}
     }
 }
 
@@ -62,13 +64,13 @@ fn by_password(
     stage: &mut Stage<'_>,
     word: &str,
     message: &Message<'_>,
-    answer: &mut String,
+    answer: &mut Answer,
 ) -> Result<(), Trouble> {
     let password = text(stage.source.alloc, word)?;
     let owned = String::from_str(stage.heap, password.as_str())?;
     let credentials = MessageIntegrityCredentials::from(ShortTermCredentials::new(owned));
     let key = password.as_str().as_bytes();
-    by_key(stage, key, Some(credentials), message, answer)
+    Ok(by_key(stage, key, Some(credentials), message, answer))
 }
 
 /// The algorithm whose attribute decides: the stronger, where it is visible.
@@ -82,61 +84,54 @@ fn deciding(message: &Message<'_>) -> IntegrityAlgorithm {
     algorithm
 }
 
-/// A user's name, realm and password on the heap.
-#[derive(Drop)]
-struct User<'a> {
-    name: String<&'a Heap>,
-    realm: String<&'a Heap>,
-    password: String<&'a Heap>,
-}
-
-fn user_of<'a>(
-    stage: &Stage<'a>,
-    name: &str,
-    realm: &str,
-    password: &str,
-) -> Result<User<'a>, Trouble> {
-    Ok(User {
-        name: stage.text(name)?,
-        realm: stage.text(realm)?,
-        password: stage.text(password)?,
-    })
-}
-
 /// Under a user's name, realm and password: as a long-term credential, and the key that they make.
 fn by_user(
     stage: &mut Stage<'_>,
-    user: User<'_>,
+    (name, realm, password): (&str, &str, &str),
     message: &Message<'_>,
-    answer: &mut String,
+    answer: &mut Answer,
 ) -> Result<(), Trouble> {
-    let by_key = by_made_key(stage.source.alloc, &user, message);
+    let user = user_of(stage, name, password)?;
+    let realm = stage.text(realm)?;
+    let by_key = by_made_key(stage.source.alloc, &user, realm.as_str(), message);
     stage.begin();
-    match settled(user) {
-        Ok(credentials) => {
-            let verdict = message.validate_integrity(&credentials);
-            push_verdict(verdict, answer)?;
-            push_other(verdict, by_key, answer)
-        }
-        Err(_) => Ok(answer.push_str(OUT_OF_MEMORY)?),
-    }
+    let verdict = match user.to_key(realm) {
+        Ok(user) => by_credentials(user, message),
+        Err(_) => return Ok(answer.add(OUT_OF_MEMORY)),
+    };
+    push_verdict(verdict, answer);
+    Ok(push_other(verdict, by_key, answer))
+}
+
+/// A user's name and password on the heap.
+fn user_of<'a>(
+    stage: &Stage<'a>,
+    name: &str,
+    password: &str,
+) -> Result<LongTermCredentials<&'a Heap>, Trouble> {
+    let name = stage.text(name)?;
+    Ok(LongTermCredentials::new(name, stage.text(password)?))
 }
 
 /// Under the key that a user's name, realm and password make.
-fn by_made_key(alloc: Global, user: &User<'_>, message: &Message<'_>) -> Verdict {
+fn by_made_key(
+    alloc: Global,
+    user: &LongTermCredentials<&Heap>,
+    realm: &str,
+    message: &Message<'_>,
+) -> Verdict {
     let key: IntegrityKey = long_term_key(
         alloc,
         deciding(message),
-        user.name.as_str(),
-        user.realm.as_str(),
-        user.password.as_str(),
+        user.username(),
+        realm,
+        user.password(),
     );
     message.validate_integrity_with_key(&key)
 }
 
-fn settled<'a>(user: User<'a>) -> Result<MessageIntegrityCredentials<&'a Heap>, AllocError> {
-    let credentials = LongTermCredentials::new(user.name, user.password);
-    Ok(MessageIntegrityCredentials::from(credentials.to_key(user.realm)?))
+fn by_credentials(user: LongTermKeyCredentials<&Heap>, message: &Message<'_>) -> Verdict {
+    message.validate_integrity(&MessageIntegrityCredentials::from(user))
 }
 
 /// Under a key: `key:HEX`, `USER:REALM:PASSWORD` or `PASSWORD`.
@@ -144,26 +139,25 @@ fn by_word(
     stage: &mut Stage<'_>,
     word: &str,
     message: &Message<'_>,
-    answer: &mut String,
+    answer: &mut Answer,
 ) -> Result<(), Trouble> {
     match word.split_once(':') {
         Some(("key", digits)) => {
             let key = bytes(stage.source.alloc, digits)?;
-            by_key(stage, key.as_slice(), None, message, answer)
+            Ok(by_key(stage, key.as_slice(), None, message, answer))
         }
         Some((name, rest)) => {
             let Some((realm, password)) = rest.split_once(':') else {
                 return Err(Trouble::Words);
             };
-            let user = user_of(stage, name, realm, password)?;
-            by_user(stage, user, message, answer)
+            by_user(stage, (name, realm, password), message, answer)
         }
         None => by_password(stage, word, message, answer),
     }
 }
 
 /// `message verifies KEY MESSAGE`: the algorithm of the digest that verifies, or why none does.
-pub fn verify(stage: &mut Stage<'_>, words: &[&str], answer: &mut String) -> Result<(), Trouble> {
+pub fn verify(stage: &mut Stage<'_>, words: &[&str], answer: &mut Answer) -> Result<(), Trouble> {
     let [key, words @ ..] = words else {
         return Err(Trouble::Words);
     };
@@ -174,12 +168,13 @@ pub fn verify(stage: &mut Stage<'_>, words: &[&str], answer: &mut String) -> Res
     by_word(stage, key, &message, answer)
 }
 
-/// The verdict on a request of one attribute of zeros, and how many of its attributes are visible.
-fn zeros_verdict(alloc: Global, bytes: &[u8]) -> Result<(Verdict, usize), Trouble> {
-    let Ok(message) = Message::from_bytes(bytes) else {
+/// The verdict on a request of attributes of zeros, and how many of them are visible.
+fn zeros_verdict(stage: &Stage<'_>, words: &[&str]) -> Result<(Verdict, usize), Trouble> {
+    let bytes = message(stage, words)?;
+    let Ok(message) = Message::from_bytes(bytes.as_slice()) else {
         return Err(Trouble::Words);
     };
-    let key: IntegrityKey = IntegrityKey::from_bytes(alloc, b"key")?;
+    let key: IntegrityKey = IntegrityKey::from_bytes(stage.source.alloc, b"key")?;
     let verdict = message.validate_integrity_with_key(&key);
     Ok((verdict, message.iter_attributes().count()))
 }
@@ -187,25 +182,20 @@ fn zeros_verdict(alloc: Global, bytes: &[u8]) -> Result<(Verdict, usize), Troubl
 /// Notes the length of a digest of zeros, if it is compared, alone and before FINGERPRINT.
 fn note_length(
     stage: &Stage<'_>,
-    name: &str,
+    word: &str,
     length: usize,
-    answer: &mut String,
+    answer: &mut Answer,
 ) -> Result<(), Trouble> {
     const MALFORMED: Verdict = Err(ValidateError::Parse(StunParseError::InvalidAttributeData));
-    let mut word = String::new(stage.source.alloc);
-    write!(word, "{name}=0x")?;
-    for _ in 0..length {
-        word.push_str("00")?;
-    }
-    let alone = message(stage, &["request", word.as_str()])?;
-    let both = message(stage, &["request", word.as_str(), "FINGERPRINT=00000000"])?;
-    let (alone, one) = zeros_verdict(stage.source.alloc, alone.as_slice())?;
-    let (both, two) = zeros_verdict(stage.source.alloc, both.as_slice())?;
+    let (alone, one) = zeros_verdict(stage, &["request", word])?;
+    let (both, two) = zeros_verdict(stage, &["request", word, "FINGERPRINT=00000000"])?;
     let is_compared = alone == Err(ValidateError::IntegrityFailed);
     if alone != both || one != 1 || two != 2 || !is_compared && alone != MALFORMED {
-        write!(answer, " ?{length}")?;
+        answer.add(" ?");
+        answer.show(&length);
     } else if is_compared {
-        write!(answer, " {length}")?;
+        answer.add(" ");
+        answer.show(&length);
     }
     Ok(())
 }
@@ -215,15 +205,18 @@ fn note_length(
 pub fn digest_lengths(
     stage: &mut Stage<'_>,
     words: &[&str],
-    answer: &mut String,
+    answer: &mut Answer,
 ) -> Result<(), Trouble> {
     let [name] = words else {
         return Err(Trouble::Words);
     };
-    attribute_type(stage.source.alloc, name)?;
-    answer.push_str("compared:")?;
+    attribute_type(name)?;
+    answer.add("compared:");
+    let mut zeros = String::from_str(stage.source.alloc, name)?;
+    zeros.push_str("=0x")?;
     for length in 0..41 {
-        note_length(stage, name, length, answer)?;
+        note_length(stage, zeros.as_str(), length, answer)?;
+        zeros.push_str("00")?;
     }
     Ok(())
 }

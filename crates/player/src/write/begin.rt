@@ -2,10 +2,11 @@
 ghost use Rattle.std.specs.Prelude.{◌≡◌, []};
 
 use super::{Slice, Writer, push_answer, push_touched};
+use crate::answer::Answer;
 use crate::kept::message;
 use crate::scene::Scene;
 use crate::trouble::Trouble;
-use crate::words::{behind, bytes, class, hex_number, id, size};
+use crate::words::{behind, class, fixed, hex_number, id, size};
 use std::alloc::Global;
 use stun_types::message::{
     BINDING, Message, MessageClass, MessageType, MessageWriteMutSlice, MessageWriteVec, Method,
@@ -27,39 +28,37 @@ enum Beginning<'m> {
 }
 
 /// An id: a small number, or `0x` and 24 digits.
-fn id_of(alloc: Global, word: &str) -> Result<TransactionId, Trouble> {
+fn id_of(word: &str) -> Result<TransactionId, Trouble> {
     let Some(digits) = word.strip_prefix("0x") else {
         return id(word);
     };
-    let mut number: u128 = 0;
-    for byte in &bytes(alloc, digits)? {
-        let Some(shifted) = number.checked_mul(256) else {
-            return Err(Trouble::Words);
-        };
-        number = shifted.saturating_add(u128::from(*byte));
+    let digits: [u8; 12] = fixed(digits)?;
+    let mut number = [0; 16];
+    for (byte, digit) in number.iter_mut().skip(4).zip(digits) {
+        *byte = digit;
     }
-    match TransactionId::from_u128(number) {
+    match TransactionId::from_u128(u128::from_be_bytes(number)) {
         Some(id) => Ok(id),
         None => Err(Trouble::Words),
     }
 }
 
-fn method_of(alloc: Global, word: &str) -> Result<Method, Trouble> {
-    match Method::new(hex_number(alloc, word)?) {
+fn method_of(word: &str) -> Result<Method, Trouble> {
+    match Method::new(hex_number(word)?) {
         Some(method) => Ok(method),
         None => Err(Trouble::Words),
     }
 }
 
 /// What words without a message mean.
-fn own<'m>(alloc: Global, words: &[&str]) -> Result<Beginning<'m>, Trouble> {
+fn own<'m>(words: &[&str]) -> Result<Beginning<'m>, Trouble> {
     let [way, word, number] = words else {
         return usual(words);
     };
-    let id = id_of(alloc, number)?;
+    let id = id_of(number)?;
     match *way {
-        "request" => Ok(Beginning::Request(method_of(alloc, word)?, id)),
-        "indication" => Ok(Beginning::Indication(method_of(alloc, word)?, id)),
+        "request" => Ok(Beginning::Request(method_of(word)?, id)),
+        "indication" => Ok(Beginning::Indication(method_of(word)?, id)),
         "binding" => match class(word) {
             Some(class) => Ok(Beginning::Binding(class, id)),
             None => Err(Trouble::Words),
@@ -89,18 +88,14 @@ fn request_of(scene: &Scene<'_>, words: &[&str]) -> Result<Vec<u8>, Trouble> {
 
 /// `request`, `request METHOD ID`, `indication METHOD ID`, `binding CLASS ID`, `success MESSAGE` or
 /// `error MESSAGE`.
-fn beginning_of<'m>(
-    alloc: Global,
-    words: &[&str],
-    request: &'m [u8],
-) -> Result<Beginning<'m>, Trouble> {
+fn beginning_of<'m>(words: &[&str], request: &'m [u8]) -> Result<Beginning<'m>, Trouble> {
     let [way, ..] = words else {
         return Err(Trouble::Words);
     };
     match *way {
         "success" => Ok(Beginning::Success(read(request)?)),
         "error" => Ok(Beginning::Error(read(request)?)),
-        _ => own(alloc, words),
+        _ => own(words),
     }
 }
 
@@ -139,27 +134,27 @@ pub fn empty(scene: &mut Scene<'_>, words: &[&str]) -> Result<(), Trouble> {
 pub fn in_vector(
     scene: &mut Scene<'_>,
     words: &[&str],
-    answer: &mut String,
+    answer: &mut Answer,
 ) -> Result<(), Trouble> {
     let request = request_of(scene, words)?;
-    let beginning = beginning_of(scene.stage.source.alloc, words, request.as_slice())?;
+    let beginning = beginning_of(words, request.as_slice())?;
     scene.stage.begin();
     match begun(&beginning, MessageWriteVec::new(scene.stage.heap)) {
         Ok(writer) => {
             scene.writing.writer = Writer::Vector(writer);
             Ok(())
         }
-        Err(error) => push_answer(scene.stage.source.alloc, Err(error), answer),
+        Err(error) => push_answer(Err(error), answer),
     }
 }
 
 /// `write begin-in ROOM BEGINNING`: a message in a slice of ROOM bytes, up to 256.
-pub fn in_slice(scene: &mut Scene<'_>, words: &[&str], answer: &mut String) -> Result<(), Trouble> {
+pub fn in_slice(scene: &mut Scene<'_>, words: &[&str], answer: &mut Answer) -> Result<(), Trouble> {
     let [length, words @ ..] = words else {
         return Err(Trouble::Words);
     };
     let request = request_of(scene, words)?;
-    let beginning = beginning_of(scene.stage.source.alloc, words, request.as_slice())?;
+    let beginning = beginning_of(words, request.as_slice())?;
     let size = size(length)?;
     scene.stage.begin();
     let alloc = scene.stage.source.alloc;
@@ -173,8 +168,8 @@ pub fn in_slice(scene: &mut Scene<'_>, words: &[&str], answer: &mut String) -> R
             Ok(())
         }
         Err(error) => {
-            push_touched(room.as_slice(), answer)?;
-            push_answer(alloc, Err(error), answer)
+            push_touched(room.as_slice(), answer);
+            push_answer(Err(error), answer)
         }
     }
 }

@@ -1,6 +1,7 @@
 //! Attributes that are added, and messages that are signed.
 
 use super::{Slice, Writer, push_answer};
+use crate::answer::Answer;
 use crate::phrases::phrase;
 use crate::scene::Scene;
 use crate::trouble::Trouble;
@@ -69,7 +70,7 @@ pub fn signer_of(alloc: Global, way: &str, words: &[&str]) -> Result<Signer, Tro
 
 /// `write add TYPE=VALUE`: USERNAME as the library has it, any other attribute by its type and
 /// bytes: a text, or `0x` and digits.
-pub fn add(scene: &mut Scene<'_>, words: &[&str], answer: &mut String) -> Result<(), Trouble> {
+pub fn add(scene: &mut Scene<'_>, words: &[&str], answer: &mut Answer) -> Result<(), Trouble> {
     let alloc = scene.stage.source.alloc;
     let [word] = words else {
         return Err(Trouble::Words);
@@ -82,7 +83,7 @@ pub fn add(scene: &mut Scene<'_>, words: &[&str], answer: &mut String) -> Result
         let username = Username::new(value.as_str())?;
         return add_attribute(scene, &username, answer);
     }
-    let kind = attribute_type(alloc, name)?;
+    let kind = attribute_type(name)?;
     let value = match value.strip_prefix("0x") {
         Some(digits) => bytes(alloc, digits)?,
         None => text(alloc, value)?.into_bytes(),
@@ -93,7 +94,7 @@ pub fn add(scene: &mut Scene<'_>, words: &[&str], answer: &mut String) -> Result
 fn add_attribute<A: Attribute>(
     scene: &mut Scene<'_>,
     attribute: &A,
-    answer: &mut String,
+    answer: &mut Answer,
 ) -> Result<(), Trouble> {
     let alloc = scene.stage.source.alloc;
     scene.stage.begin();
@@ -102,7 +103,7 @@ fn add_attribute<A: Attribute>(
         Writer::Vector(writer) => add_to(writer, attribute)?,
         Writer::Slice(slice) => add_in_slice(alloc, slice, attribute, answer)?,
     };
-    push_answer(alloc, made, answer)
+    push_answer(made, answer)
 }
 
 fn add_to<W: MessageWrite, A: Attribute>(writer: &mut W, attribute: &A) -> Result<Made, Trouble> {
@@ -116,7 +117,7 @@ fn add_in_slice<A: Attribute>(
     alloc: Global,
     slice: &mut Slice,
     attribute: &A,
-    answer: &mut String,
+    answer: &mut Answer,
 ) -> Result<Made, Trouble> {
     let mut room = [0xff; 256];
     let mut writer = slice.writer(&mut room)?;
@@ -127,7 +128,7 @@ fn add_in_slice<A: Attribute>(
 }
 
 /// `write sign WAY ALGORITHM SECRET`
-pub fn sign(scene: &mut Scene<'_>, words: &[&str], answer: &mut String) -> Result<(), Trouble> {
+pub fn sign(scene: &mut Scene<'_>, words: &[&str], answer: &mut Answer) -> Result<(), Trouble> {
     let alloc = scene.stage.source.alloc;
     let [way, word, words @ ..] = words else {
         return Err(Trouble::Words);
@@ -140,7 +141,7 @@ pub fn sign(scene: &mut Scene<'_>, words: &[&str], answer: &mut String) -> Resul
         Writer::Vector(writer) => sign_in(writer, &signer, algorithm)?,
         Writer::Slice(slice) => sign_in_slice(alloc, slice, &signer, algorithm, answer)?,
     };
-    push_answer(alloc, made, answer)
+    push_answer(made, answer)
 }
 
 fn sign_in_slice(
@@ -148,7 +149,7 @@ fn sign_in_slice(
     slice: &mut Slice,
     signer: &Signer,
     algorithm: IntegrityAlgorithm,
-    answer: &mut String,
+    answer: &mut Answer,
 ) -> Result<Made, Trouble> {
     let mut room = [0xff; 256];
     let mut writer = slice.writer(&mut room)?;

@@ -1,77 +1,60 @@
 //! Driven runs again, by an application's own loop around a second agent: each event by a call of
 //! its own, and polls between.
 
-use crate::drive::step::text_of;
+use crate::drive::step::{push_ended, push_received, push_refused, push_sent, push_transmitted};
+use crate::told::Told;
 use player::trouble::Trouble;
-use std::alloc::{AllocError, Global};
+use std::alloc::AllocError;
 use std::net::SocketAddr;
 use stun_agent::agent::{StunAgent, StunAgentPollRet, StunError};
 use stun_base::header::MessageHeader;
 use stun_base::instant::Instant;
-use stun_proto::replay::{AgentEvent, AgentStep};
+use stun_base::transaction_id::TransactionId;
+use stun_proto::replay::AgentEvent;
 use stun_types::message::Message;
 
 /// How many calls a step of a run needs at most here.
 const MOST_CALLS: u64 = 400;
 
-/// What an agent by hand did.
-#[derive(Drop)]
-struct Steps {
-    alloc: Global,
-    texts: Vec<String>,
-}
-
-impl Steps {
-    fn add(&mut self, step: &AgentStep) -> Result<(), Trouble> {
-        let text = text_of(self.alloc, step)?;
-        match self.texts.push(text) {
-            Ok(()) => Ok(()),
-            Err(_) => Err(Trouble::Memory),
-        }
-    }
-}
-
-/// The step of a request that is sent.
-fn transmitted(
-    alloc: Global,
+/// Adds the step of a request that is sent.
+fn add_transmitted(
     now: Instant,
     bytes: &[u8],
     to: SocketAddr,
-) -> Result<AgentStep, Trouble> {
+    steps: &mut Told,
+) -> Result<(), Trouble> {
     let Ok(header) = MessageHeader::from_bytes(bytes) else {
         return Err(Trouble::Words);
     };
-    Ok(AgentStep::Transmitted {
-        at: now,
-        id: header.transaction_id(),
-        to,
-        bytes: Vec::from_slice(alloc, bytes)?,
-    })
+    push_transmitted(now, header.transaction_id(), to, bytes, steps.next());
+    steps.end();
+    Ok(())
+}
+
+/// Adds the step of a request that ended.
+fn add_ended(now: Instant, word: &str, id: TransactionId, steps: &mut Told) {
+    push_ended(now, word, id, steps.next());
+    steps.end();
 }
 
 /// What is due at a moment is sent, by calls of the agent.
-fn send_due(agent: &mut StunAgent, now: Instant, steps: &mut Steps) -> Result<(), Trouble> {
+fn send_due(agent: &mut StunAgent, now: Instant, steps: &mut Told) -> Result<(), Trouble> {
     for _ in 0..MOST_CALLS {
         let Some(transmit) = agent.poll_transmit(now) else {
             return Ok(());
         };
-        let step = transmitted(steps.alloc, now, transmit.data, transmit.to)?;
-        steps.add(&step)?;
+        add_transmitted(now, transmit.data, transmit.to, steps)?;
     }
     Err(Trouble::Words)
 }
 
 /// What is over at a moment ends, by calls of the agent. The answer is the moment to wait until.
-fn end_over(agent: &mut StunAgent, now: Instant, steps: &mut Steps) -> Result<Instant, Trouble> {
+fn end_over(agent: &mut StunAgent, now: Instant, steps: &mut Told) -> Result<Instant, Trouble> {
     for _ in 0..MOST_CALLS {
         match agent.poll(now) {
             StunAgentPollRet::WaitUntil(moment) => return Ok(moment),
-            StunAgentPollRet::TransactionTimedOut(id) => {
-                steps.add(&AgentStep::TimedOut { at: now, id })?;
-            }
-            StunAgentPollRet::TransactionCancelled(id) => {
-                steps.add(&AgentStep::Cancelled { at: now, id })?;
-            }
+            StunAgentPollRet::TransactionTimedOut(id) => add_ended(now, "timed out", id, steps),
+            StunAgentPollRet::TransactionCancelled(id) => add_ended(now, "cancelled", id, steps),
         }
     }
     Err(Trouble::Words)
@@ -83,7 +66,7 @@ fn wait(
     agent: &mut StunAgent,
     from: Instant,
     bound: Instant,
-    steps: &mut Steps,
+    steps: &mut Told,
 ) -> Result<(), Trouble> {
     let mut now = from;
     for _ in 0..MOST_CALLS {
@@ -103,32 +86,25 @@ fn ask(
     now: Instant,
     bytes: &[u8],
     to: SocketAddr,
-    steps: &mut Steps,
+    steps: &mut Told,
 ) -> Result<(), Trouble> {
-    let step = match agent.send_request(bytes, to, now) {
-        Ok(transmit) => transmitted(steps.alloc, now, bytes, transmit.to)?,
-        Err(error) => AgentStep::Refused { at: now, error },
-    };
-    steps.add(&step)
+    match agent.send_request(bytes, to, now) {
+        Ok(transmit) => add_transmitted(now, bytes, transmit.to, steps),
+        Err(error) => {
+            push_refused(now, error, steps.next());
+            steps.end();
+            Ok(())
+        }
+    }
 }
 
 /// Sends another message, by a call of the agent.
-fn tell(
-    agent: &mut StunAgent,
-    now: Instant,
-    bytes: &[u8],
-    to: SocketAddr,
-    steps: &mut Steps,
-) -> Result<(), Trouble> {
-    let step = match agent.send(bytes, to, now) {
-        Ok(transmit) => AgentStep::Sent {
-            at: now,
-            to: transmit.to,
-            bytes: Vec::from_slice(steps.alloc, bytes)?,
-        },
-        Err(error) => AgentStep::Refused { at: now, error },
-    };
-    steps.add(&step)
+fn tell(agent: &mut StunAgent, now: Instant, bytes: &[u8], to: SocketAddr, steps: &mut Told) {
+    match agent.send(bytes, to, now) {
+        Ok(transmit) => push_sent(now, transmit.to, bytes, steps.next()),
+        Err(error) => push_refused(now, error, steps.next()),
+    }
+    steps.end();
 }
 
 /// Reads bytes, and hands the message in by a call of the agent.
@@ -137,19 +113,17 @@ fn take(
     now: Instant,
     bytes: &[u8],
     from: SocketAddr,
-    steps: &mut Steps,
+    steps: &mut Told,
 ) -> Result<(), Trouble> {
-    let step = match Message::from_bytes(bytes) {
-        Ok(message) => AgentStep::Received {
-            at: now,
-            accepted: agent.handle_stun_message_with_time(&message, from, now)?,
-        },
-        Err(error) => AgentStep::Refused {
-            at: now,
-            error: StunError::ParseError(error),
-        },
-    };
-    steps.add(&step)
+    match Message::from_bytes(bytes) {
+        Ok(message) => {
+            let accepted = agent.handle_stun_message_with_time(&message, from, now)?;
+            push_received(now, accepted, steps.next());
+        }
+        Err(error) => push_refused(now, StunError::ParseError(error), steps.next()),
+    }
+    steps.end();
+    Ok(())
 }
 
 /// Makes the one call of the agent that an event means, and keeps what it did.
@@ -157,11 +131,11 @@ fn make(
     agent: &mut StunAgent,
     now: Instant,
     event: &AgentEvent,
-    steps: &mut Steps,
+    steps: &mut Told,
 ) -> Result<(), Trouble> {
     match event {
         AgentEvent::SendRequest { bytes, to } => ask(agent, now, bytes.as_slice(), *to, steps),
-        AgentEvent::Send { bytes, to } => tell(agent, now, bytes.as_slice(), *to, steps),
+        AgentEvent::Send { bytes, to } => Ok(tell(agent, now, bytes.as_slice(), *to, steps)),
         AgentEvent::Receive { bytes, from } => take(agent, now, bytes.as_slice(), *from, steps),
         _ => Ok(change(agent, event)?),
     }
@@ -197,27 +171,23 @@ fn change(agent: &mut StunAgent, event: &AgentEvent) -> Result<(), AllocError> {
     Ok(())
 }
 
-/// An application's own loop over events, and then up to the last moment. The answer tells its
-/// steps. Without events nothing happens.
+/// An application's own loop over events, and then up to the last moment, whose steps are added.
+/// Without events nothing happens.
 pub fn run_by_hand(
-    alloc: Global,
     agent: &mut StunAgent,
     events: &[(Instant, AgentEvent)],
     until: Instant,
-) -> Result<Vec<String>, Trouble> {
-    let mut steps = Steps {
-        alloc,
-        texts: Vec::new(alloc),
-    };
+    steps: &mut Told,
+) -> Result<(), Trouble> {
     let mut now = Instant::ZERO;
     for (moment, event) in events {
-        wait(agent, now, *moment, &mut steps)?;
+        wait(agent, now, *moment, steps)?;
         now = *moment;
-        make(agent, now, event, &mut steps)?;
+        make(agent, now, event, steps)?;
     }
-    if !events.is_empty() {
-        wait(agent, now, until, &mut steps)?;
-        wait(agent, until, until, &mut steps)?;
+    if events.is_empty() {
+        return Ok(());
     }
-    Ok(steps.texts)
+    wait(agent, now, until, steps)?;
+    wait(agent, until, until, steps)
 }

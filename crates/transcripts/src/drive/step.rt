@@ -2,44 +2,48 @@
 
 use player::agent::answers::error_name;
 use player::agent::building::usual_peer;
-use player::signing::push_bytes;
-use player::trouble::Trouble;
-use std::alloc::{Allocator, Global};
+use player::answer::Answer;
+use std::alloc::Allocator;
 use std::net::SocketAddr;
+use stun_agent::agent::StunError;
 use stun_base::instant::Instant;
 use stun_base::transaction_id::TransactionId;
 use stun_proto::replay::AgentStep;
 
 /// Adds a moment: in milliseconds if they are whole, and else in nanoseconds.
-pub fn push_moment(moment: Instant, answer: &mut String) -> Result<(), Trouble> {
+pub fn push_moment(moment: Instant, answer: &mut Answer) {
     let nanos = moment.as_nanos();
     let millis = nanos / 1_000_000;
     if nanos % 1_000_000 == 0 {
-        Ok(write!(answer, "{millis}ms")?)
+        answer.show(&millis);
+        answer.add("ms");
     } else {
-        Ok(write!(answer, "{nanos}ns")?)
+        answer.show(&nanos);
+        answer.add("ns");
     }
 }
 
 /// Adds a word behind a moment.
-fn push_at(moment: Instant, word: &str, answer: &mut String) -> Result<(), Trouble> {
-    push_moment(moment, answer)?;
-    answer.push(' ')?;
-    Ok(answer.push_str(word)?)
+fn push_at(moment: Instant, word: &str, answer: &mut Answer) {
+    push_moment(moment, answer);
+    answer.add(" ");
+    answer.add(word)
 }
 
 /// Adds an id, as a number.
-fn push_id(id: TransactionId, answer: &mut String) -> Result<(), Trouble> {
+fn push_id(id: TransactionId, answer: &mut Answer) {
     let number = id.as_u128();
-    Ok(write!(answer, " {number}")?)
+    answer.add(" ");
+    answer.show(&number);
 }
 
 /// Adds where something goes to, where that is not the usual peer.
-fn push_place(to: SocketAddr, answer: &mut String) -> Result<(), Trouble> {
+fn push_place(to: SocketAddr, answer: &mut Answer) {
     if to == usual_peer() {
-        return Ok(());
+        return;
     }
-    Ok(write!(answer, " to {to}")?)
+    answer.add(" to ");
+    answer.show(&to);
 }
 
 /// The Binding request of an id, without attributes.
@@ -62,48 +66,61 @@ fn bare_request(id: TransactionId) -> [u8; 20] {
 const COOKIE: [u8; 4] = [0x21, 0x12, 0xa4, 0x42];
 
 /// Adds the request of an id, and its bytes where it has attributes.
-fn push_request(
-    alloc: Global,
-    id: TransactionId,
-    bytes: &[u8],
-    answer: &mut String,
-) -> Result<(), Trouble> {
-    push_id(id, answer)?;
+fn push_request(id: TransactionId, bytes: &[u8], answer: &mut Answer) {
+    push_id(id, answer);
     if bytes == bare_request(id).as_slice() {
-        return Ok(());
+        return;
     }
-    answer.push_str(" as ")?;
-    push_bytes(alloc, bytes, answer)
+    answer.add(" as ");
+    answer.hex(bytes)
 }
 
-/// The text of a step.
-pub fn text_of<A: Allocator>(alloc: Global, step: &AgentStep<A>) -> Result<String, Trouble> {
-    let mut text = String::new(alloc);
+/// Adds the text of a step.
+pub fn push_step<A: Allocator>(step: &AgentStep<A>, text: &mut Answer) {
     match step {
         AgentStep::Transmitted { at, id, to, bytes } => {
-            push_at(*at, "sent", &mut text)?;
-            push_request(alloc, *id, bytes.as_slice(), &mut text)?;
-            push_place(*to, &mut text)?;
+            push_transmitted(*at, *id, *to, bytes.as_slice(), text);
         }
-        AgentStep::Sent { at, to, bytes } => {
-            push_at(*at, "told ", &mut text)?;
-            push_bytes(alloc, bytes.as_slice(), &mut text)?;
-            push_place(*to, &mut text)?;
-        }
-        AgentStep::Received { at, accepted } => push_received(*at, *accepted, &mut text)?,
-        AgentStep::Refused { at, error } => push_at(*at, error_name(*error), &mut text)?,
-        AgentStep::TimedOut { at, id } => {
-            push_at(*at, "timed out", &mut text)?;
-            push_id(*id, &mut text)?;
-        }
-        AgentStep::Cancelled { at, id } => {
-            push_at(*at, "cancelled", &mut text)?;
-            push_id(*id, &mut text)?;
-        }
+        AgentStep::Sent { at, to, bytes } => push_sent(*at, *to, bytes.as_slice(), text),
+        AgentStep::Received { at, accepted } => push_received(*at, *accepted, text),
+        AgentStep::Refused { at, error } => push_refused(*at, *error, text),
+        AgentStep::TimedOut { at, id } => push_ended(*at, "timed out", *id, text),
+        AgentStep::Cancelled { at, id } => push_ended(*at, "cancelled", *id, text),
     }
-    Ok(text)
 }
 
-fn push_received(at: Instant, accepted: bool, text: &mut String) -> Result<(), Trouble> {
-    push_at(at, if accepted { "taken" } else { "not taken" }, text)
+/// Adds a request that was sent.
+pub fn push_transmitted(
+    at: Instant,
+    id: TransactionId,
+    to: SocketAddr,
+    bytes: &[u8],
+    text: &mut Answer,
+) {
+    push_at(at, "sent", text);
+    push_request(id, bytes, text);
+    push_place(to, text);
+}
+
+/// Adds another message that was sent.
+pub fn push_sent(at: Instant, to: SocketAddr, bytes: &[u8], text: &mut Answer) {
+    push_at(at, "told ", text);
+    text.hex(bytes);
+    push_place(to, text);
+}
+
+/// Adds whether a message was taken.
+pub fn push_received(at: Instant, accepted: bool, text: &mut Answer) {
+    push_at(at, if accepted { "taken" } else { "not taken" }, text);
+}
+
+/// Adds why a call was refused.
+pub fn push_refused(at: Instant, error: StunError, text: &mut Answer) {
+    push_at(at, error_name(error), text);
+}
+
+/// Adds how a request ended.
+pub fn push_ended(at: Instant, word: &str, id: TransactionId, text: &mut Answer) {
+    push_at(at, word, text);
+    push_id(id, text);
 }

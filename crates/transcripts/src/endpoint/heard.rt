@@ -1,13 +1,13 @@
 //! What a datagram comes to, in words.
 
-use player::signing::push_bytes;
+use player::answer::Answer;
 use player::stage::{Heap, Source, Stage};
 use player::telling::push_message;
 use player::trouble::Trouble;
 use std::net::SocketAddr;
 use stun_auth::auth::NamedUser;
 use stun_endpoint::lookup::Lookup;
-use stun_endpoint::received::{Answer, Received, Request};
+use stun_endpoint::received::{self, Received, Request};
 use stun_endpoint::reply::Reply;
 use stun_types::message::Message;
 
@@ -18,42 +18,40 @@ pub fn push_received<'a>(
     received: Received<'_, &'a Heap>,
     bytes: &[u8],
     from: SocketAddr,
-    answer: &mut String,
+    answer: &mut Answer,
 ) -> Result<Option<Reply<&'a Heap>>, Trouble> {
     match received {
-        Received::Answer(sent) => push_sent(source, &sent, from, answer)?,
+        Received::Answer(sent) => push_sent(source, &sent, from, answer),
         Received::Request(request) => {
-            push_request(&request, bytes, from, answer)?;
+            push_request(&request, bytes, from, answer);
             return Ok(Some(request.into_reply()));
         }
-        Received::Indication(message) => push_passed("indication", &message, bytes, answer)?,
-        Received::Response(message) => push_passed("response", &message, bytes, answer)?,
-        received => push_dropped(&received, answer)?,
+        Received::Indication(message) => push_passed("indication", &message, bytes, answer),
+        Received::Response(message) => push_passed("response", &message, bytes, answer),
+        received => push_dropped(&received, answer),
     }
     Ok(None)
 }
 
 /// `dropped REASON`
-fn push_dropped(received: &Received<'_, &Heap>, answer: &mut String) -> Result<(), Trouble> {
+fn push_dropped(received: &Received<'_, &Heap>, answer: &mut Answer) {
     match received {
-        Received::Dropped(reason) => Ok(write!(answer, "dropped {reason:?}")?),
-        _ => Ok(answer.push('?')?),
+        Received::Dropped(reason) => {
+            answer.add("dropped ");
+            answer.debug(reason);
+        },
+        _ => answer.add("?"),
     }
 }
 
 /// Adds whom a request names: `looks up NAME`, or `looks up 0xHASH`.
-pub fn push_lookup(
-    stage: &Stage<'_>,
-    lookup: &Lookup<'_>,
-    bytes: &[u8],
-    answer: &mut String,
-) -> Result<(), Trouble> {
-    answer.push_str("looks up ")?;
+pub fn push_lookup(stage: &Stage<'_>, lookup: &Lookup<'_>, bytes: &[u8], answer: &mut Answer) {
+    answer.add("looks up ");
     match lookup.user_id() {
-        NamedUser::ByName(name) => answer.push_str(name)?,
+        NamedUser::ByName(name) => answer.add(name),
         NamedUser::ByHash(hash) => {
-            answer.push_str("0x")?;
-            push_bytes(stage.source.alloc, hash.as_slice(), answer)?;
+            answer.add("0x");
+            answer.hex(hash.as_slice());
         }
     }
     let message = lookup.message();
@@ -64,40 +62,40 @@ pub fn push_lookup(
 }
 
 /// Adds `otherwise` where something is not as it must be.
-fn push_unless(is_so: bool, answer: &mut String) -> Result<(), Trouble> {
+fn push_unless(is_so: bool, answer: &mut Answer) {
     if !is_so {
-        answer.push_str(" otherwise")?;
+        answer.add(" otherwise");
     }
-    Ok(())
 }
 
 /// `CODE REFUSAL: MESSAGE`, or `answer: MESSAGE`.
 fn push_sent(
     source: Source<'_>,
-    sent: &Answer<&Heap>,
+    sent: &received::Answer<&Heap>,
     from: SocketAddr,
-    answer: &mut String,
-) -> Result<(), Trouble> {
+    answer: &mut Answer,
+) {
     match sent.refusal() {
         Some(refusal) => {
             let code = refusal.code();
-            write!(answer, "{code} {refusal:?}: ")?;
+            answer.show(&code);
+            answer.add(" ");
+            answer.debug(&refusal);
+            answer.add(": ");
         }
-        None => answer.push_str("answer: ")?,
+        None => answer.add("answer: "),
     }
-    push_message(source, sent.bytes(), answer)?;
+    push_message(source, sent.bytes(), answer);
     push_unless(sent.to() == from, answer)
 }
 
 /// `request USER ALGORITHM`
-fn push_request(
-    request: &Request<'_, &Heap>,
-    bytes: &[u8],
-    from: SocketAddr,
-    answer: &mut String,
-) -> Result<(), Trouble> {
+fn push_request(request: &Request<'_, &Heap>, bytes: &[u8], from: SocketAddr, answer: &mut Answer) {
     let (user, algorithm) = (request.user(), request.algorithm());
-    write!(answer, "request {user} {algorithm:?}")?;
+    answer.add("request ");
+    answer.add(user);
+    answer.add(" ");
+    answer.debug(&algorithm);
     let (message, reply) = (request.message(), request.reply());
     let is_of_request = message.as_bytes() == bytes
         && request.method() == message.method()
@@ -108,12 +106,7 @@ fn push_request(
     push_unless(is_of_request && is_to_request, answer)
 }
 
-fn push_passed(
-    name: &str,
-    message: &Message<'_>,
-    bytes: &[u8],
-    answer: &mut String,
-) -> Result<(), Trouble> {
-    answer.push_str(name)?;
+fn push_passed(name: &str, message: &Message<'_>, bytes: &[u8], answer: &mut Answer) {
+    answer.add(name);
     push_unless(message.as_bytes() == bytes, answer)
 }

@@ -3,6 +3,7 @@
 use crate::endpoint::heard::push_received;
 use crate::endpoint::server::seconds;
 use crate::runs::Runs;
+use player::answer::Answer;
 use player::kept::message;
 use player::names::OUT_OF_MEMORY;
 use player::stage::{Heap, Stage};
@@ -16,19 +17,19 @@ fn told<'a>(
     stage: &Stage<'a>,
     received: Result<Received<'_, &'a Heap>, AllocError>,
     bytes: &[u8],
-    answer: &mut String,
+    answer: &mut Answer,
 ) -> Result<Option<Reply<&'a Heap>>, Trouble> {
     match received {
         Ok(received) => push_received(stage.source, received, bytes, stage.from, answer),
         Err(_) => {
-            answer.push_str(OUT_OF_MEMORY)?;
+            answer.add(OUT_OF_MEMORY);
             Ok(None)
         }
     }
 }
 
 /// `hears MESSAGE`: what the message comes to, by the users of the table.
-pub fn hear(runs: &mut Runs<'_>, words: &[&str], answer: &mut String) -> Result<(), Trouble> {
+pub fn hear(runs: &mut Runs<'_>, words: &[&str], answer: &mut Answer) -> Result<(), Trouble> {
     let bytes = message(&runs.scene.stage, words)?;
     runs.scene.stage.begin();
     let reply = heard(runs, bytes.as_slice(), answer)?;
@@ -41,7 +42,7 @@ pub fn hear(runs: &mut Runs<'_>, words: &[&str], answer: &mut String) -> Result<
 /// The means to respond, if a request was handed out.
 type Means<'a> = Result<Option<Reply<&'a Heap>>, Trouble>;
 
-fn heard<'a>(runs: &mut Runs<'a>, bytes: &[u8], answer: &mut String) -> Means<'a> {
+fn heard<'a>(runs: &mut Runs<'a>, bytes: &[u8], answer: &mut Answer) -> Means<'a> {
     let (stage, realm) = (&runs.scene.stage, runs.endpoint.realm()?);
     let (from, now) = (stage.from, seconds(stage.now));
     let received = realm.server.receive(bytes, from, now, &realm.users);

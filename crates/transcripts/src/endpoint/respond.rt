@@ -1,5 +1,6 @@
 //! Responses to the last request that was handed out.
 
+use player::answer::Answer;
 use player::signing::push_reason;
 use player::spelling::{Spelling, add_words};
 use player::stage::{Heap, Source, Stage};
@@ -15,7 +16,7 @@ pub fn respond<'a>(
     stage: &mut Stage<'a>,
     reply: &Reply<&'a Heap>,
     words: &[&str],
-    answer: &mut String,
+    answer: &mut Answer,
 ) -> Result<(), Trouble> {
     let [first, words @ ..] = words else {
         return Err(Trouble::Words);
@@ -59,14 +60,14 @@ fn finish<'a>(
     reply: &Reply<&'a Heap>,
     page: Page<'a>,
     attributes: &[u8],
-    answer: &mut String,
+    answer: &mut Answer,
 ) -> Result<(), Trouble> {
     let Ok(attributes) = Message::from_bytes(attributes) else {
         return Err(Trouble::Words);
     };
     match response(reply, page, &attributes) {
-        Ok(response) => push_message(source, response.as_slice(), answer),
-        Err(error) => push_reason(error, answer),
+        Ok(response) => Ok(push_message(source, response.as_slice(), answer)),
+        Err(error) => Ok(push_reason(error, answer)),
     }
 }
 

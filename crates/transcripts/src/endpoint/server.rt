@@ -4,6 +4,7 @@ use crate::endpoint::hearing::hear;
 use crate::endpoint::respond::respond;
 use crate::endpoint::settings::{on_heap, set};
 use crate::runs::Runs;
+use player::answer::Answer;
 use player::names::OUT_OF_MEMORY;
 use player::stage::{Heap, Stage};
 use player::trouble::Trouble;
@@ -63,7 +64,7 @@ impl<'a> Endpoint<'a> {
 }
 
 /// `endpoint server NAME WORDS`
-pub fn call(runs: &mut Runs<'_>, words: &[&str], answer: &mut String) -> Result<(), Trouble> {
+pub fn call(runs: &mut Runs<'_>, words: &[&str], answer: &mut Answer) -> Result<(), Trouble> {
     let [name, words @ ..] = words else {
         return Err(Trouble::Words);
     };
@@ -82,7 +83,7 @@ fn manage(
     runs: &mut Runs<'_>,
     name: &str,
     words: &[&str],
-    answer: &mut String,
+    answer: &mut Answer,
 ) -> Result<(), Trouble> {
     match name {
         "build" => build(runs, answer),
@@ -102,13 +103,15 @@ fn manage(
 
 /// `build`: a server of the settings, without users, in the place of the one before; or why there
 /// is none.
-fn build(runs: &mut Runs<'_>, answer: &mut String) -> Result<(), Trouble> {
+fn build(runs: &mut Runs<'_>, answer: &mut Answer) -> Result<(), Trouble> {
     let stage = &mut runs.scene.stage;
     let settings = on_heap(stage.heap, &runs.endpoint.settings)?;
     stage.begin();
     match realm_of(stage.heap, settings) {
         Ok(realm) => runs.endpoint.built = Some(realm),
-        Err(error) => write!(answer, "{error:?}")?,
+        Err(error) => {
+            answer.debug(&error);
+        },
     }
     Ok(())
 }
@@ -139,12 +142,12 @@ fn credentials<'a>(
 }
 
 /// `add-user NAME PASSWORD`
-fn add_user(runs: &mut Runs<'_>, words: &[&str], answer: &mut String) -> Result<(), Trouble> {
+fn add_user(runs: &mut Runs<'_>, words: &[&str], answer: &mut Answer) -> Result<(), Trouble> {
     let user = credentials(&runs.scene.stage, words)?;
     let users = runs.endpoint.users()?;
     runs.scene.stage.begin();
     if users.add(user).is_err() {
-        answer.push_str(OUT_OF_MEMORY)?;
+        answer.add(OUT_OF_MEMORY);
     }
     Ok(())
 }
@@ -161,18 +164,18 @@ fn remove_user(runs: &mut Runs<'_>, words: &[&str]) -> Result<(), Trouble> {
 }
 
 /// `nonce`: the one that is current for the address.
-fn nonce(runs: &mut Runs<'_>, answer: &mut String) -> Result<(), Trouble> {
+fn nonce(runs: &mut Runs<'_>, answer: &mut Answer) -> Result<(), Trouble> {
     let stage = &mut runs.scene.stage;
     let realm = runs.endpoint.realm()?;
     stage.begin();
     match realm.server.nonce_for(stage.from, seconds(stage.now)) {
-        Ok(nonce) => Ok(answer.push_str(nonce.as_str())?),
-        Err(_) => Ok(answer.push_str(OUT_OF_MEMORY)?),
+        Ok(nonce) => Ok(answer.add(nonce.as_str())),
+        Err(_) => Ok(answer.add(OUT_OF_MEMORY)),
     }
 }
 
 /// `looks-up NAME PASSWORD`, or `looks-up none`: the user by whom `hears-for` judges.
-fn look_up(runs: &mut Runs<'_>, words: &[&str], answer: &mut String) -> Result<(), Trouble> {
+fn look_up(runs: &mut Runs<'_>, words: &[&str], answer: &mut Answer) -> Result<(), Trouble> {
     if words.len() == 1 {
         runs.endpoint.user = None;
         return Ok(());
@@ -181,7 +184,7 @@ fn look_up(runs: &mut Runs<'_>, words: &[&str], answer: &mut String) -> Result<(
     runs.scene.stage.begin();
     match runs.endpoint.realm()?.server.user(user) {
         Ok(user) => runs.endpoint.user = Some(user),
-        Err(_) => answer.push_str(OUT_OF_MEMORY)?,
+        Err(_) => answer.add(OUT_OF_MEMORY),
     }
     Ok(())
 }
@@ -198,7 +201,7 @@ fn stored<const N: usize>(alloc: Global, word: &str) -> Result<Option<[u8; N]>, 
 }
 
 /// `looks-up-keys NAME KEY KEY`: the same by the keys for HMAC-SHA1 and HMAC-SHA256.
-fn look_up_keys(runs: &mut Runs<'_>, words: &[&str], answer: &mut String) -> Result<(), Trouble> {
+fn look_up_keys(runs: &mut Runs<'_>, words: &[&str], answer: &mut Answer) -> Result<(), Trouble> {
     let [name, sha1, sha256] = words else {
         return Err(Trouble::Words);
     };
@@ -211,7 +214,7 @@ fn look_up_keys(runs: &mut Runs<'_>, words: &[&str], answer: &mut String) -> Res
     stage.begin();
     match runs.endpoint.realm()?.server.user_with_keys(name, keys) {
         Ok(user) => runs.endpoint.user = Some(user),
-        Err(_) => answer.push_str(OUT_OF_MEMORY)?,
+        Err(_) => answer.add(OUT_OF_MEMORY),
     }
     Ok(())
 }

@@ -63,7 +63,7 @@ fn flag(word: &str) -> Result<bool, Trouble> {
 fn types(alloc: Global, names: &str) -> Result<Vec<AttributeType>, Trouble> {
     let mut types = Vec::new(alloc);
     for name in names.split(',') {
-        let kind = attribute_type(alloc, name)?;
+        let kind = attribute_type(name)?;
         if types.push(kind).is_err() {
             return Err(Trouble::Memory);
         }

@@ -1,22 +1,19 @@
 //! What a server replied, told as `server` tells the answers to the same calls.
 
+use player::answer::Answer;
 use player::names::{algorithm_name, parse_error_name, server_reason_name, write_error_name};
-use player::signing::push_bytes;
-use player::trouble::Trouble;
-use std::alloc::{Allocator, Global};
+use std::alloc::Allocator;
 use stun_proto::replay::ServerReply;
 
-/// The text of a reply.
-pub fn text_of<A: Allocator>(alloc: Global, reply: &ServerReply<A>) -> Result<String, Trouble> {
-    let mut text = String::new(alloc);
+/// Adds the text of a reply.
+pub fn push_reply<A: Allocator>(reply: &ServerReply<A>, text: &mut Answer) {
     match reply {
-        ServerReply::NotAMessage(error) => text.push_str(parse_error_name(*error))?,
-        ServerReply::Validated(algorithm) => text.push_str(algorithm_name(*algorithm))?,
-        ServerReply::Refused(reason) => text.push_str(server_reason_name(*reason))?,
-        ServerReply::Signed(bytes) => push_bytes(alloc, bytes.as_slice(), &mut text)?,
-        ServerReply::SignRefused(error) => text.push_str(write_error_name(*error))?,
-        ServerReply::Done => text.push_str("done")?,
-        ServerReply::TooShort => text.push_str("too short")?,
+        ServerReply::NotAMessage(error) => text.add(parse_error_name(*error)),
+        ServerReply::Validated(algorithm) => text.add(algorithm_name(*algorithm)),
+        ServerReply::Refused(reason) => text.add(server_reason_name(*reason)),
+        ServerReply::Signed(bytes) => text.hex(bytes.as_slice()),
+        ServerReply::SignRefused(error) => text.add(write_error_name(*error)),
+        ServerReply::Done => text.add("done"),
+        ServerReply::TooShort => text.add("too short"),
     }
-    Ok(text)
 }

@@ -11,7 +11,8 @@
 The record, tests/wrong/RECORD, has a line for each crate: a sum of its sources, specs, proofs and
 edits, and of the crates below, as its edits were last tried and refused. A crate changed if its sum
 is another one. WRONG_SEED sets the seed of what is random, which is printed, and WRONG_RECORD names
-another record: --gate writes target/gate.record, where those of the record that stay are too.
+another record: --gate writes target/gate.record, where those of the record that stay are too. No
+edit is begun after WRONG_UNTIL, a time in seconds since 1970, and its crate gets no line then.
 
 An edit is a line `file: src/..`, and then pairs of lines `old: TEXT` and `new: TEXT`. It is made in
 a copy of the crate, which is checked over the libraries that `rt ci` left, or else over those that
@@ -116,7 +117,9 @@ def check(crate, texts, *more):
 
 
 def verdict(crate, edit):
-    """Whether the prover refuses the crate with this edit, and why."""
+    """Whether the prover refuses the crate with this edit, and why; None if it is left out."""
+    if time.time() > float(os.environ.get("WRONG_UNTIL", "inf")):
+        return None, "left out, after WRONG_UNTIL"
     folder = crates.TOP / "crates" / crate
     try:
         texts, (path, at) = edited(edit, folder)
@@ -163,29 +166,31 @@ def sweep():
 
 
 def tried(edits):
-    """Tries edits, tells of each, and returns the crates of those that were not refused."""
+    """Tries edits, tells of each, and returns the crates of those not refused, and not tried."""
     sweep()
     build_below(dict.fromkeys(edit.parent.name for edit in edits))
-    wrong, begun = set(), time.time()
+    wrong, left, begun = set(), set(), time.time()
     with concurrent.futures.ThreadPoolExecutor(workers()) as pool:
         made = {pool.submit(verdict, edit.parent.name, edit): edit for edit in edits}
         for done in concurrent.futures.as_completed(made):
             edit, (is_refused, why) = made[done], done.result()
             print(f"wrong: {edit.parent.name}/{edit.stem}: {why}", flush=True)
-            wrong |= set() if is_refused else {edit.parent.name}
-    print(f"wrong: {len(edits)} edits tried, in {time.time() - begun:.0f} s; "
-          + (f"not all refused, of {' '.join(sorted(wrong))}" if wrong else "all refused"))
-    return wrong
+            wrong |= {edit.parent.name} if is_refused is False else set()
+            left |= {edit.parent.name} if is_refused is None else set()
+    print(f"wrong: {len(edits)} edits, in {time.time() - begun:.0f} s; "
+          + (f"not all refused, of {' '.join(sorted(wrong))}" if wrong else "all refused")
+          + (f", but for some of {' '.join(sorted(left))}, which were left out" if left else ""))
+    return wrong, left
 
 
 def try_changed(found, more, record):
     """Tries the edits of these crates and more, and writes a record."""
     # (a file that changes meanwhile has another sum)
     lines = {crate: line_of(crate) for crate in with_edits()}
-    wrong = tried([edit for crate in found for edit in edits_of(crate)] + more)
+    wrong, left = tried([edit for crate in found for edit in edits_of(crate)] + more)
     known = RECORD.read_text().splitlines() if RECORD.exists() else []
     kept = [line for crate, line in lines.items()
-            if crate not in wrong and (crate in found or line in known)]
+            if crate not in wrong | left and (crate in found or line in known)]
     record.write_text(HEAD + "".join(line + "\n" for line in sorted(kept)))
     if record == OF_GATE and not wrong and found:
         print(f"wrong: to keep this, copy {OF_GATE.relative_to(crates.TOP)} to tests/wrong/RECORD")
@@ -236,7 +241,7 @@ def main():
              ([WRONG / f"{word}.edit"] if "/" in word else edits_of(word))]
     if words[0].startswith("-") or not named or not all(edit.is_file() for edit in named):
         sys.exit(__doc__)
-    return 1 if tried(named) else 0
+    return 1 if tried(named)[0] else 0
 
 
 if __name__ == "__main__":

@@ -86,15 +86,24 @@ class Server:
 
     def __init__(self, program, *words, port=0, within=(), environment=(), told="", is_read=True,
                  stdin=None):
-        self.errors, self.may_tell, self.is_read = tempfile.TemporaryFile("w+"), told, is_read
+        self.may_tell, self.is_read = told, is_read
         words = [*within, program, str(port), *words]
+        environment = {**os.environ, **dict(environment)}
+        # A port that the kernel chose for UDP may be in use for TCP.
+        for _ in range(3):
+            self.start(words, environment, stdin)
+            if self.lines or port or "in use" not in self.told():
+                break
+        assert self.lines, f"the server did not start: {self.told()}"
+        self.port = int(re.search(r"(\d+)\s*$", self.lines[0])[1])
+
+    def start(self, words, environment, stdin):
+        self.errors = tempfile.TemporaryFile("w+")
         pipes = dict(stdin=stdin, stdout=subprocess.PIPE, stderr=self.errors, text=True)
-        self.process = subprocess.Popen(words, env={**os.environ, **dict(environment)}, **pipes)
+        self.process = subprocess.Popen(words, env=environment, **pipes)
         self.lines, self.is_up = [], threading.Event()
         threading.Thread(target=self.listen, daemon=True).start()
         self.is_up.wait(20)
-        assert self.lines, f"the server did not start: {self.told()}"
-        self.port = int(re.search(r"(\d+)\s*$", self.lines[0])[1])
 
     def listen(self):
         for line in self.process.stdout:

@@ -168,7 +168,7 @@ def documented(text):
 
 
 def main():
-    if len(sys.argv) != 2:
+    if len(sys.argv) != 2 or sys.argv[1].startswith("-"):
         sys.exit(__doc__)
     folder, version = Path(sys.argv[1]), (HERE / "../VERSION").read_text().strip()
     folder.mkdir(parents=True, exist_ok=True)

@@ -14,7 +14,7 @@ help:
 	@echo "make dist     release/stunp-VERSION-source.tar.gz, with other crates, to build without network"
 	@echo "With the toolchain (rt):"
 	@echo "make c        prove and build the archives for C (minutes)"
-	@echo "make prove    prove everything, and run all tests (rt ci)"
+	@echo "make prove    prove everything (rt ci)"
 	@echo "make check    what the gate runs (.ci/run)"
 	@echo "make wrong    try all wrong edits, which the prover must refuse, and record it (an hour)"
 	@echo "make bench    prove and build the archive of messages (minutes), and time its calls"

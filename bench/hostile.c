@@ -2,7 +2,7 @@
  * not be touched, at its end and then at its front. A read outside it ends the program. hostile.sh
  * builds this with an address sanitizer.
  *
- * The messages and verdicts are those of crates/transcripts/data/message.digests.txt and
+ * The messages and verdicts are those of tests/transcripts/message.digests.txt and
  * message.hidden.txt (hostile.h). Then come mutations of the request of RFC 5769, section 2.1, of
  * which none with a changed covered byte may verify. Buffers of every length to write to come
  * last. */

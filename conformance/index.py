@@ -1,6 +1,6 @@
 """Which paragraphs a level has, and what each is: a MUST of an RFC, or a choice of this library.
 
-The files of a level carry their marks. `INDEX` names files of crates/transcripts/data, which are
+The files of a level carry their marks. `INDEX` names files of tests/transcripts, which are
 played as they are (GRAMMAR.md, "INDEX")."""
 
 import os
@@ -8,7 +8,7 @@ import os
 from grammar import TOP, read_file
 from transcripts import name_of, wanted_of
 
-DATA = os.path.join(TOP, "crates", "transcripts", "data")
+DATA = os.path.join(TOP, "tests", "transcripts")
 
 
 class Own:
@@ -34,7 +34,7 @@ class Own:
 
 
 class Transcript:
-    """A file of crates/transcripts/data, with the marks of an index."""
+    """A file of tests/transcripts, with the marks of an index."""
 
     has_ours = True
 

@@ -1,4 +1,4 @@
-"""The answers of crates/transcripts/data in the words of the suite: no names of refusals, one
+"""The answers of tests/transcripts in the words of the suite: no names of refusals, one
 spelling of an algorithm, and signed messages by their meaning."""
 
 import reading

@@ -1236,7 +1236,7 @@ STUNP_INLINED const char *stunp_strerror(int64_t answer) {
         "a request would be sent again without a wait",
         "as many addresses are kept as may be",
         "there is no key to sign with",
-        "the handle has a value of another kind",
+        "the handle has a value of another kind, realm or algorithm",
     };
     if (answer >= 0) return texts[0];
     return answer >= STUNP_WRONG_HANDLE ? texts[-answer] : "unknown refusal";

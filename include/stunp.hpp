@@ -373,11 +373,12 @@ class message {
     std::nullptr_t end() const { return nullptr; }
 };
 
-// ---- Servers that keep nothing about their clients (stunp_endpoint.h)
+// ---- Servers that keep nothing about their clients, and clients (stunp_endpoint.h)
 
 namespace endpoint {
 
 using settings = stunp_endpoint_server_settings; // from STUNP_INIT(stunp::endpoint::settings)
+using client_settings = stunp_endpoint_client_settings; // from STUNP_INIT of it, too
 struct users;
 struct server;
 
@@ -456,6 +457,15 @@ struct server : handle<stunp_endpoint_server, stunp_endpoint_server_clear> {
                                                 &from, unix_seconds, out, room, told);
         });
     }
+    // Why `receive` refuses a request: a stunp_cause, or 0 if it does not. stunp_cause_text has the
+    // text of `number()`.
+    result<> cause(const users &by, view datagram, const address &from,
+                   uint64_t unix_seconds) const;
+    // Why `resume` refuses it, or `identify`, for which nobody is found.
+    result<> cause_for(const stunp_found_user *found, view datagram, const address &from,
+                       uint64_t unix_seconds) const {
+        return ask(stunp_endpoint_server_cause_for, get(), found, datagram, &from, unix_seconds);
+    }
 };
 
 // The users of a server. Many threads may read a table, or one may change it.
@@ -481,6 +491,10 @@ inline result<received> server::receive(const users &by, view datagram, const ad
                                              &from, unix_seconds, out, room, told);
     });
 }
+inline result<> server::cause(const users &by, view datagram, const address &from,
+                              uint64_t unix_seconds) const {
+    return ask(stunp_endpoint_server_cause, get(), by.get(), datagram, &from, unix_seconds);
+}
 
 // Starts the answer to an accepted request. End it with `sign` of the same reply, as in
 //
@@ -492,6 +506,91 @@ inline writer success(const stunp_reply &to, size_t room = 2048) {
 inline writer error(const stunp_reply &to, uint32_t code, const char *why, size_t room = 2048) {
     return writer(STUNP_ERROR, to.method, to.id, room).add_error(code, why);
 }
+
+// The attributes of a request of a client. After an error the other calls do nothing, and
+// `client::request` returns the error. It moves, and is not copied.
+class body {
+    bytes room_;
+    stunp_body added_;
+
+  public:
+    explicit body(size_t room = 512) : room_(room), added_(stunp_body_on(room_.data(), room)) {}
+    body(body &&) = default;
+
+    body &add(uint32_t type, view value) & {
+        return stunp_body_add(&added_, type, value.data(), value.size()), *this;
+    }
+    body &add_number(uint32_t type, uint64_t number, size_t size) & {
+        return stunp_body_add_number(&added_, type, number, size), *this;
+    }
+    body &add_peer(const address &peer) & { return stunp_body_add_peer(&added_, &peer), *this; }
+    // The same of a temporary, which stays one.
+    body &&add(uint32_t type, view value) && { return std::move(add(type, value)); }
+    body &&add_number(uint32_t type, uint64_t number, size_t size) && {
+        return std::move(add_number(type, number, size));
+    }
+    body &&add_peer(const address &peer) && { return std::move(add_peer(peer)); }
+    const stunp_body *get() const { return &added_; }
+};
+
+// What to do next: one of `transmit`, `ended` and `wait` is not null. `datagram` is the request to
+// send or the response that ended a request. It is valid until the next `poll` of the client, which
+// must outlive it.
+struct event {
+    stunp_event told = STUNP_INIT(stunp_event);
+    view datagram;
+
+    const view *transmit() const { return told.kind == STUNP_TRANSMIT ? &datagram : nullptr; }
+    const stunp_event *ended() const { return told.kind == STUNP_ENDED ? &told : nullptr; }
+    const stunp_event *wait() const { return told.kind == STUNP_WAIT ? &told : nullptr; }
+};
+
+// A client of one server. `now` is in nanoseconds of a clock that never goes back.
+class client : public handle<stunp_endpoint_client, stunp_endpoint_client_clear> {
+    bytes room_;
+
+  public:
+    static result<client> make(const client_settings &of) {
+        client made;
+        int64_t answer = stunp_endpoint_client_new(made.get(), &of);
+        return result<client>(answer, std::move(made));
+    }
+    // Starts a request, and returns its number.
+    result<uint64_t> request(uint32_t method, uint64_t now) { return request(method, nullptr, now); }
+    result<uint64_t> request(uint32_t method, const body &with, uint64_t now) {
+        return request(method, with.get(), now);
+    }
+    result<uint64_t> request(uint32_t method, const stunp_body *with, uint64_t now) {
+        uint64_t number = 0;
+        int64_t answer = stunp_endpoint_client_request(get(), method, with, now, &number);
+        return result<uint64_t>(answer, number);
+    }
+    // Reads a datagram. `why` gets the reason of STUNP_DROPPED.
+    result<stunp_kind> receive(view datagram, const address &from, uint64_t now,
+                               uint32_t *why = nullptr) {
+        return ask<stunp_kind>(stunp_endpoint_client_receive, get(), datagram, &from, now, why);
+    }
+    // Finds the next thing to do. Call it until it says `wait`.
+    result<event> poll(uint64_t now) {
+        event next;
+        room_.resize(STUNP_LONGEST_MESSAGE);
+        int64_t kind =
+            stunp_endpoint_client_poll(get(), now, room_.data(), room_.size(), &next.told);
+        next.datagram = view(room_.data(), next.told.length);
+        return result<event>(kind, next);
+    }
+    // Ends a request, unless it has ended already.
+    result<bool> cancel(uint64_t request) {
+        return ask<bool>(stunp_endpoint_client_cancel, get(), request);
+    }
+    // Returns what was dropped for a request, or nothing if the request has ended.
+    result<std::optional<stunp_dropped>> dropped(uint64_t request) {
+        stunp_dropped of{};
+        int64_t answer = stunp_endpoint_client_dropped(get(), request, &of);
+        return result<std::optional<stunp_dropped>>(
+            answer, answer > 0 ? std::optional<stunp_dropped>(of) : std::nullopt);
+    }
+};
 
 } // namespace endpoint
 

@@ -1,14 +1,17 @@
 /* stunp_endpoint.h: STUN endpoints (RFC 8489), for C, C++ and Rust
  *
- * An endpoint is all that lies between a datagram and its answer. stunp.h reads and writes single
- * messages. This header has a server, and the connectivity checks of ICE (RFC 8445): one call judges
- * a datagram and writes the answer. Neither needs stunp_state.h. Most servers need this header alone.
+ * stunp.h reads and writes single messages. This header has a server and the connectivity checks of
+ * ICE (RFC 8445), for which one call judges a datagram and writes the answer, and a client, which
+ * says what to send and when, and how each request ended. None of them needs stunp_state.h. Most
+ * programs need only this header.
  *
  *   stunp_endpoint_server  the settings of a server: with long-term, short-term or no credentials
  *   stunp_endpoint_users   its users, by password or by stored keys
  *   stunp_reply            answers an accepted request, now or later, on any thread
  *   stunp_ice_checker      an agent of ICE: the credentials of both sides, and its role
  *   stunp_ice_check        a check that the agent sent, as it is stored with its pair
+ *   stunp_endpoint_client  a client of one server, with any number of requests
+ *   stunp_body             the attributes of a request of a client
  *
  * stunp_endpoint_server_receive judges a datagram at a server: it writes the answer, or hands you an
  * accepted request. stunp_ice_checker_receive judges one at an agent of ICE: it writes the answer to
@@ -173,6 +176,68 @@
  * examples/c/ice_check.c has candidates, pairs and pacing around it.
  *
  *
+ * A client
+ *
+ * A client of one server sends requests, sends them again until they are answered, answers the
+ * server's challenges and verifies its responses. Each request ends exactly once. `my_address` asks
+ * a server at which address it sees a socket. `seed` are 32 random bytes, from which the transaction
+ * IDs are made. It is called by one thread at a time, because `bytes` is static.
+ *
+ *     #include <poll.h>
+ *     #include <sys/socket.h>
+ *     #include <time.h>
+ *
+ *     uint64_t now_of_client(void) { // a clock that never goes back, in nanoseconds
+ *         struct timespec now;
+ *         clock_gettime(CLOCK_MONOTONIC, &now);
+ *         return (uint64_t)now.tv_sec * 1000000000 + (uint64_t)now.tv_nsec;
+ *     }
+ *
+ *     // The socket is connected to the server. Returns 4 or 16, the length of the address; 0 if the
+ *     // server did not answer or refused; or an error.
+ *     int64_t my_address(int fd, const stunp_address *server, const uint8_t *seed,
+ *                        stunp_address *seen) {
+ *         static uint8_t bytes[STUNP_LONGEST_MESSAGE];
+ *         stunp_endpoint_client client = {false, NULL};
+ *         stunp_event event = STUNP_INIT(stunp_event);
+ *         stunp_endpoint_client_settings settings = STUNP_INIT(stunp_endpoint_client_settings);
+ *         settings.server = *server, settings.seed = seed;
+ *         int64_t kind = stunp_endpoint_client_new(&client, &settings);
+ *         if (kind >= 0)
+ *             kind = stunp_endpoint_client_request(&client, STUNP_BINDING, NULL, now_of_client(),
+ *                                                  NULL);
+ *         while (kind >= 0 && kind != STUNP_ENDED) {
+ *             kind = stunp_endpoint_client_poll(&client, now_of_client(), bytes, sizeof bytes,
+ *                                               &event);
+ *             if (kind == STUNP_TRANSMIT) send(fd, bytes, event.length, 0); // if lost, sent again
+ *             if (kind != STUNP_WAIT) continue;
+ *             struct pollfd one = {fd, POLLIN, 0};
+ *             poll(&one, 1, stunp_poll_timeout(&event, now_of_client()));
+ *             ssize_t length = recv(fd, bytes, sizeof bytes, MSG_DONTWAIT);
+ *             if (length > 0)
+ *                 (void)stunp_endpoint_client_receive(&client, bytes, (size_t)length, server,
+ *                                                     now_of_client(), NULL);
+ *         }
+ *         if (kind == STUNP_ENDED) // else an error: see stunp_strerror(kind)
+ *             kind = event.result != STUNP_RESULT_SUCCESS ? 0 : stunp_xor_mapped_address(
+ *                 bytes, event.length, seen->octets, sizeof seen->octets, &seen->port);
+ *         if (kind > 0) seen->length = (uint16_t)kind;
+ *         stunp_endpoint_client_free(&client);
+ *         return kind;
+ *     }
+ *
+ * examples/c/my_address.c is this client with its socket, and examples/c/turn_client.c one with a
+ * user. With long-term credentials a client learns the realm and the nonce from the server's first
+ * challenge, and signs its later requests for the last challenge at once. Use one client and one
+ * socket for all requests of a TURN allocation. Read the response in `bytes` with the calls of
+ * stunp.h before you poll again: stunp_find_xor_address with STUNP_XOR_RELAYED_ADDRESS, and
+ * stunp_find_number with STUNP_LIFETIME, which is in seconds. The client does not refresh the
+ * allocation: start a STUNP_REFRESH request before its lifetime ends.
+ *
+ * STUNP_LONGEST_MESSAGE bytes are room for any message. Fewer are enough if neither your requests
+ * nor the datagrams that you pass to the client are longer.
+ *
+ *
  * The calls, in the order of this file
  *
  *   server: stunp_endpoint_server_new_with, stunp_endpoint_server_new_short_term,
@@ -180,16 +245,23 @@
  *    stunp_endpoint_server_free
  *   users: stunp_endpoint_users_new_own, stunp_endpoint_users_new, stunp_endpoint_users_add,
  *    stunp_endpoint_users_add_keys, stunp_endpoint_users_remove, stunp_endpoint_users_clear,
- *    stunp_endpoint_users_free
+ *    stunp_endpoint_users_free, stunp_endpoint_users_new_found
  *   datagrams: stunp_endpoint_server_receive_own, stunp_endpoint_server_receive, stunp_drop_text,
  *    stunp_endpoint_server_cause_own, stunp_endpoint_server_cause, stunp_cause_text
  *   look-ups: stunp_endpoint_server_identify_own, stunp_endpoint_server_identify,
- *    stunp_endpoint_server_resume
+ *    stunp_endpoint_server_resume, stunp_endpoint_server_cause_for
  *   replies: stunp_reply_success, stunp_reply_error, stunp_reply_finish, stunp_reply_wipe
  *   ICE: stunp_ice_checker_new_with, stunp_ice_checker_new, stunp_ice_checker_is_controlling,
  *    stunp_ice_checker_set_tie_breaker, stunp_ice_checker_check_with, stunp_ice_checker_check,
  *    stunp_ice_checker_receive_with, stunp_ice_checker_receive, stunp_ice_checker_clear,
  *    stunp_ice_checker_free
+ *   clients: stunp_endpoint_client_new_with, stunp_endpoint_client_new, stunp_endpoint_client_clear,
+ *    stunp_endpoint_client_free
+ *   clients, requests: stunp_body_on, stunp_body_put, stunp_body_add, stunp_body_add_number,
+ *    stunp_body_add_peer, stunp_endpoint_client_request_with, stunp_endpoint_client_request,
+ *    stunp_endpoint_client_receive_with, stunp_endpoint_client_receive,
+ *    stunp_endpoint_client_poll_with, stunp_endpoint_client_poll, stunp_poll_timeout,
+ *    stunp_endpoint_client_cancel, stunp_endpoint_client_dropped, stunp_result_text
  *   versions: stunp_endpoint_version, stunp_endpoint_release_0_2
  *
  *
@@ -205,15 +277,20 @@
  * that are installed. If you also use stunp_state.h, name stunp_state too.
  *
  *
- * Handles, memory and errors are those of stunp_state.h, except that a handle may be const, and that
- * the _own calls take a copy of a handle (Threads). In short: a handle begins as {0}, a _new
- * call fills it and a _free call empties it. A handle of this header that has a value of another kind
- * is refused (STUNP_WRONG_HANDLE), and a null one counts as empty where it may be const; but no call
- * notices a copy of a handle that was freed. Calls read their arguments during the call alone. A
- * pointer may be null only if its length is 0; pointers to results may be null everywhere. A call
- * that fails returns a negative stunp_refusal, for which stunp_strerror has a text, and changes
- * nothing, unless its comment says otherwise. If several errors apply, it returns the first of its
- * list.
+ * Memory and errors are those of stunp_state.h: calls read their arguments only during the call. A
+ * pointer may be null only if its length is 0. A pointer to a result may be null, unless the
+ * comment of the call or STUNP_NOT_NULL says otherwise. A call that fails returns a negative
+ * stunp_refusal, for which stunp_strerror has a text, and changes nothing, unless its comment says
+ * otherwise. If several errors apply, it returns the first of its list.
+ *
+ * Handles differ from those of stunp_state.h. Begin each with {0}, which is an empty handle: a _new
+ * call fills it, and a _free call empties it. A call with a handle that was never initialized, or
+ * with a handle of stunp_state.h by a cast, has undefined behavior. If a handle of this header has
+ * a value of another kind, a _new call fails with STUNP_FULL_HANDLE, a _free call frees the value,
+ * and any other call fails with STUNP_WRONG_HANDLE. Where a call takes a server or a table of users
+ * as const, a null pointer counts as an empty handle. No other pointer to a handle may be null,
+ * except for _free. The _own calls take a copy of a handle (Threads). No call notices a copy of a
+ * handle whose value was freed.
  *
  *
  * Threads
@@ -223,7 +300,7 @@
  * handle. A table of users may be passed as const by many threads at the same time, or be changed by
  * one, and then no other may use it. To load users anew, fill another table, let the threads use
  * that from their next datagram on, and free the old table once every thread has begun a datagram
- * with the new one. An agent of ICE is used by one thread at a time.
+ * with the new one. An agent of ICE is used by one thread at a time, and so is a client.
  *
  * Sharing between threads is trusted, and tested with a race detector. What is proved: a call whose
  * handles nothing else uses meanwhile leaves them as they were. The calls whose names end in _own
@@ -245,6 +322,7 @@ extern "C" {
 typedef struct stunp_endpoint_server { bool is_full; void *state; } stunp_endpoint_server;
 typedef struct stunp_endpoint_users { bool is_full; void *state; } stunp_endpoint_users;
 typedef struct stunp_ice_checker { bool is_full; void *state; } stunp_ice_checker;
+typedef struct stunp_endpoint_client { bool is_full; void *state; } stunp_endpoint_client;
 
 /* Sets the size with which a struct of this header begins, and all else to 0. Use it in
  * `stunp_received received = STUNP_INIT(stunp_received);` */
@@ -307,8 +385,8 @@ typedef struct {
     bool answers_binding;
 } stunp_endpoint_server_settings;
 
-/* What a datagram comes to: what stunp_endpoint_server_receive and stunp_ice_checker_receive
- * return. */
+/* What a datagram comes to: what stunp_endpoint_server_receive, stunp_ice_checker_receive and
+ * stunp_endpoint_client_receive return. */
 typedef enum stunp_kind {
     STUNP_DROPPED = 0,       /* nothing is to be done, for the reason `why` */
     STUNP_ANSWER = 1,        /* send the first `length` bytes of the buffer to where it came from */
@@ -319,9 +397,11 @@ typedef enum stunp_kind {
                               * signed (section 9.2), so decide by the source address whether to act
                               * on it. In ICE it keeps a path open, and asks for nothing */
     STUNP_IS_RESPONSE = 4,   /* at a server, a response for a client on the same socket; in ICE, the
-                              * answer that ends your check, as `outcome` says */
-    STUNP_LOOKUP = 5         /* a request that waits for its user: look up `name`, and call
+                              * answer that ends your check, as `outcome` says; at a client, a response
+                              * that it has accepted, which ends its request or is a challenge */
+    STUNP_LOOKUP = 5,        /* a request that waits for its user: look up `name`, and call
                               * stunp_endpoint_server_resume. Its signature is not checked yet */
+    STUNP_NOT_OURS = 6       /* at a client: it is for somebody else, or for nobody */
 } stunp_kind;
 
 /* Why a datagram is dropped. */
@@ -338,9 +418,20 @@ typedef enum stunp_drop {
     /* These are of ICE alone. */
     STUNP_DROP_OTHER_METHOD = 5,      /* it has another method than Binding */
     STUNP_DROP_NOT_ASKED = 6,         /* it is a response, and not to the check that was passed */
-    STUNP_DROP_WRONG_SIGNATURE = 7    /* it is a response that is not signed by the peer. A refusal by
+    STUNP_DROP_WRONG_SIGNATURE = 7,   /* it is a response that is not signed by the peer. A refusal by
                                        * 400 or 401 is not signed, so such a check ends by its
                                        * timeout */
+    /* These are of clients alone, and of responses to their requests. */
+    STUNP_DROP_NOT_VERIFIED = 9,      /* it is not signed with the key of the request */
+    STUNP_DROP_UNANSWERABLE_CHALLENGE = 10, /* it is a 401 or 438 that the client cannot answer, and is
+                                             * not signed; or its list of algorithms is so long that
+                                             * the request would not fit into a message */
+    STUNP_DROP_WEAKER_CHALLENGE = 11, /* it is a challenge for less protection than a challenge to which
+                                       * the server has answered with a success */
+    STUNP_DROP_OUT_OF_MEMORY = 12     /* an allocation failed, or no transaction ID is left to
+                                       * answer a challenge. The request goes on, and the server
+                                       * answers its next transmission. Over a stream there is none,
+                                       * so it times out */
 } stunp_drop;
 
 /* Why a server with long-term credentials refuses a request: the first check that the request fails
@@ -715,6 +806,38 @@ STUNP_INLINED void stunp_endpoint_users_free(stunp_endpoint_users *users) {
     if (users != NULL) stunp_endpoint_users_clear(users);
 }
 
+/* Creates a table with the user that you found, or with nobody if `found` is null.
+ * stunp_endpoint_server_resume and stunp_endpoint_server_cause_for call it.
+ *
+ * Returns 0. Errors:
+ *   STUNP_BAD_ARGUMENT   `found->size` is wrong, its name is null, or it has neither a password nor a
+ *                        key
+ *   STUNP_FULL_HANDLE    the table's handle is not empty
+ *   STUNP_EMPTY_HANDLE   the server's handle is empty, or null
+ *   STUNP_WRONG_HANDLE   it has no server, or one without credentials, or one with short-term
+ *                        credentials for which the user has only keys
+ *   STUNP_NOT_TEXT       the name or the password is not UTF-8
+ *   STUNP_TEXT_TOO_LONG  the name has more than STUNP_NAME_MAX bytes
+ *   STUNP_OUT_OF_MEMORY  an allocation failed */
+STUNP_INLINED int64_t stunp_endpoint_users_new_found(stunp_endpoint_users *users,
+                                                     const stunp_endpoint_server *server,
+                                                     const stunp_found_user *found) {
+    if (found != NULL
+        && (found->size != sizeof *found || found->name == NULL
+            || (found->password == NULL && found->sha1_key == NULL && found->sha256_key == NULL)))
+        return STUNP_BAD_ARGUMENT;
+    int64_t made = stunp_endpoint_users_new(users, server);
+    if (made < 0 || found == NULL) return made;
+    made = found->password != NULL
+               ? stunp_endpoint_users_add(users, found->name, found->name_length, found->password,
+                                          strlen(found->password))
+               : stunp_endpoint_users_add_keys(users, found->name, found->name_length,
+                                               found->sha1_key, found->sha1_key ? 16 : 0,
+                                               found->sha256_key, found->sha256_key ? 32 : 0);
+    if (made < 0) stunp_endpoint_users_free(users);
+    return made;
+}
+
 /* ---- Datagrams */
 
 /* Judges a datagram, like stunp_endpoint_server_receive, with handles that nothing else uses during
@@ -790,6 +913,10 @@ STUNP_INLINED const char *stunp_drop_text(uint32_t why) {
     case STUNP_DROP_OTHER_METHOD: return "its method is not Binding";
     case STUNP_DROP_NOT_ASKED: return "it is a response to no check";
     case STUNP_DROP_WRONG_SIGNATURE: return "a response is not signed by the peer";
+    case STUNP_DROP_NOT_VERIFIED: return "it is not signed as it must be";
+    case STUNP_DROP_UNANSWERABLE_CHALLENGE: return "it is a challenge that cannot be answered";
+    case STUNP_DROP_WEAKER_CHALLENGE: return "it is a weaker challenge than one before";
+    case STUNP_DROP_OUT_OF_MEMORY: return "an allocation failed";
     default: return "it is not dropped";
     }
 }
@@ -815,9 +942,7 @@ int64_t stunp_endpoint_server_cause_own(stunp_endpoint_server *server, stunp_end
  *         if (cause > 0) printf("%u: %s\n", received.code, stunp_cause_text(cause));
  *     }
  *
- * With users in a database, pass a table without users after stunp_endpoint_server_identify, whose
- * answers do not depend on the users, and a table with the user that you found, if there is one,
- * after stunp_endpoint_server_resume.
+ * With users in a database, call stunp_endpoint_server_cause_for.
  *
  * Only a server with long-term credentials has causes: the codes of others tell as much.
  *
@@ -842,8 +967,8 @@ stunp_endpoint_server_cause(const stunp_endpoint_server *server, const stunp_end
     return stunp_endpoint_server_cause_own(&own, &own_users, bytes, length, from, unix_seconds);
 }
 
-/* Returns a text for a stunp_cause, as stunp_strerror does for an error. For any other number, and
- * so also for an error of stunp_endpoint_server_cause, the text is "it is not refused". */
+/* Returns a text for a result of stunp_endpoint_server_cause: for a stunp_cause, for 0, or for an
+ * error, whose text is that of stunp_strerror. */
 STUNP_INLINED const char *stunp_cause_text(int64_t cause) {
     switch (cause) {
     case STUNP_CAUSE_NO_SIGNATURE: return "the request is not signed";
@@ -856,7 +981,8 @@ STUNP_INLINED const char *stunp_cause_text(int64_t cause) {
         return "the user is unknown, or the signature is not the user's";
     case STUNP_CAUSE_UNKNOWN_ATTRIBUTE:
         return "the request has an attribute that is not understood";
-    default: return "it is not refused";
+    case 0: return "it is not refused";
+    default: return cause < 0 ? stunp_strerror(cause) : "the request is refused";
     }
 }
 
@@ -919,25 +1045,37 @@ stunp_endpoint_server_resume(const stunp_endpoint_server *server, const stunp_fo
                              uint64_t unix_seconds, uint8_t *out, size_t room,
                              stunp_received *received) {
     stunp_endpoint_users users = {false, NULL};
-    if (found != NULL) {
-        bool has_secret =
-            found->password != NULL || found->sha1_key != NULL || found->sha256_key != NULL;
-        if (found->size != sizeof *found || found->name == NULL || !has_secret)
-            return STUNP_BAD_ARGUMENT;
-    }
-    int64_t kind = stunp_endpoint_users_new(&users, server);
-    if (kind >= 0 && found != NULL)
-        kind = found->password != NULL
-                   ? stunp_endpoint_users_add(&users, found->name, found->name_length,
-                                              found->password, strlen(found->password))
-                   : stunp_endpoint_users_add_keys(&users, found->name, found->name_length,
-                                                   found->sha1_key, found->sha1_key ? 16 : 0,
-                                                   found->sha256_key, found->sha256_key ? 32 : 0);
+    int64_t kind = stunp_endpoint_users_new_found(&users, server, found);
     if (kind >= 0)
         kind = stunp_endpoint_server_receive(server, &users, bytes, length, from, unix_seconds, out,
                                              room, received);
     stunp_endpoint_users_free(&users);
     return kind;
+}
+
+/* Returns why stunp_endpoint_server_resume refuses a request, like stunp_endpoint_server_cause with
+ * a table of this one user. Pass what you passed to stunp_endpoint_server_resume. For an answer of
+ * stunp_endpoint_server_identify pass null in place of the user.
+ *
+ * Returns a stunp_cause, or 0 if the request is not refused. Errors:
+ *   STUNP_BAD_ARGUMENT   `found->size` is wrong, its name is null, or it has neither a password nor a
+ *                        key
+ *   STUNP_EMPTY_HANDLE   the handle is empty, or null
+ *   STUNP_WRONG_HANDLE   it has no server, or one without credentials
+ *   STUNP_NOT_TEXT       the name or the password is not UTF-8
+ *   STUNP_TEXT_TOO_LONG  the name has more than STUNP_NAME_MAX bytes
+ * and then those of stunp_endpoint_server_cause. */
+STUNP_USE_RESULT
+STUNP_INLINED int64_t
+stunp_endpoint_server_cause_for(const stunp_endpoint_server *server, const stunp_found_user *found,
+                                const uint8_t *bytes, size_t length, const stunp_address *from,
+                                uint64_t unix_seconds) {
+    stunp_endpoint_users users = {false, NULL};
+    int64_t cause = stunp_endpoint_users_new_found(&users, server, found);
+    if (cause >= 0)
+        cause = stunp_endpoint_server_cause(server, &users, bytes, length, from, unix_seconds);
+    stunp_endpoint_users_free(&users);
+    return cause;
 }
 
 /* ---- Replies
@@ -1132,6 +1270,482 @@ STUNP_INLINED int64_t stunp_ice_checker_receive(stunp_ice_checker *checker, cons
     return stunp_ice_checker_receive_with(checker, bytes, length, from, check != NULL,
                                           check == NULL ? &none : check, out, room,
                                           received == NULL ? &unread : received);
+}
+
+/* ---- Clients
+ *
+ * A client has one server, and any number of requests at the same time. Call
+ * stunp_endpoint_client_poll after each request, receive and cancel and when a wait is over, and
+ * repeat it until it returns STUNP_WAIT. Otherwise requests are not sent, and you do not learn how
+ * they ended. Use a client in one thread at a time. Times are nanoseconds of a clock that never
+ * goes back, such as CLOCK_MONOTONIC. */
+
+/* The longest body of a request, in bytes. What a client adds to it fits into a message, unless the
+ * server's list of algorithms is very long. stunp_endpoint_client_request then fails with
+ * STUNP_MESSAGE_TOO_LONG, or the challenge is dropped with STUNP_DROP_UNANSWERABLE_CHALLENGE. */
+enum { STUNP_BODY_MAX = 60000 };
+
+/* The settings of a client. A field that is 0 or null takes its default. The texts end with a zero
+ * byte.
+ *
+ *   size                sizeof (stunp_endpoint_client_settings), set by STUNP_INIT
+ *   server              the address of the server. It has no default
+ *   seed                32 random bytes that no other client has, from which the transaction IDs are
+ *                       made. Whoever can guess them can forge responses that nobody signs. It has no
+ *                       default
+ *   name                the user name, of at most STUNP_NAME_MAX bytes. If it is null or empty,
+ *                       there is no user: requests are not signed, and a response is accepted
+ *                       without a signature
+ *   password            the user's password. It must be null if `name` is null, and must not be
+ *                       null otherwise
+ *   software            the text of SOFTWARE in each request, of at most 763 bytes. By default
+ *                       requests have none
+ *   understood          the types of attributes that you understand in responses beside those in
+ *                       stunp_attribute_type, as `understood_count` numbers. A response with another
+ *                       type that must be understood ends its request
+ *   credentials         of the user: STUNP_LONG_TERM, which is the default, or STUNP_SHORT_TERM. It
+ *                       does not count without a user
+ *   algorithms          STUNP_SHA1, STUNP_SHA256, or by default both. With STUNP_SHORT_TERM it is the
+ *                       one that requests and responses are signed with, and by default STUNP_SHA1
+ *   anonymous_username  with long-term credentials: STUNP_AUTO, the default, sends a hash in place
+ *                       of the user name if the server accepts it; STUNP_REQUIRED ignores
+ *                       challenges of a server that does not; STUNP_DISABLED always sends the name
+ *   challenges          how often a request is sent again because of a challenge. By default 6
+ *                       times; the next challenge ends it with STUNP_RESULT_UNAUTHORIZED. A restart
+ *                       of the server, a new address of the client, an expired nonce and a forged
+ *                       challenge each count as one
+ *   initial             how long to wait after the first transmission of a request, in nanoseconds.
+ *                       Each further wait is twice the wait before (section 6.2.1). By default
+ *                       500000000 (500 ms)
+ *   longest             the longest of these waits, in nanoseconds. By default they have no bound
+ *   last                how long to wait after the last transmission, in nanoseconds. By default
+ *                       8000000000 (8 s), even if `initial` is set
+ *   transmissions       how often a request is sent. By default 7 times, so that it ends after 39.5 s
+ *   is_stream           whether messages go over a stream, such as TCP. Each request is then sent
+ *                       once, and the client waits as long as it would for datagrams. Split the
+ *                       stream by stunp_next_frame, or by stunp_next_turn_frame if it also has
+ *                       ChannelData, and pass one whole message to each
+ *                       stunp_endpoint_client_receive
+ *   accepts_unsigned    whether a request that was sent unsigned accepts an unsigned response, with
+ *                       long-term credentials. By default it does not, so a client with a user
+ *                       times out at a server that asks for no credentials. If it does, an attacker
+ *                       who can forge challenges can forge the response too
+ *   has_fingerprint     whether requests end with FINGERPRINT */
+typedef struct {
+    size_t size;
+    stunp_address server;
+    const uint8_t *seed;
+    const char *name;
+    const char *password;
+    const char *software;
+    const uint16_t *understood;
+    size_t understood_count;
+    stunp_credentials credentials;
+    uint32_t algorithms;
+    stunp_feature anonymous_username;
+    uint32_t challenges;
+    uint64_t initial;
+    uint64_t longest;
+    uint64_t last;
+    uint32_t transmissions;
+    bool is_stream;
+    bool accepts_unsigned;
+    bool has_fingerprint;
+} stunp_endpoint_client_settings;
+
+/* The numbers among the settings of a client, as stunp_endpoint_client_new_with takes them. */
+typedef struct {
+    uint64_t initial;
+    uint64_t longest;
+    uint64_t last;
+    uint32_t transmissions;
+    uint32_t challenges;
+    uint32_t credentials;
+    uint32_t algorithms;
+    uint32_t anonymous_username;
+    bool is_stream;
+    bool accepts_unsigned;
+    bool has_fingerprint;
+} stunp_client_options;
+
+/* What to do next: what stunp_endpoint_client_poll returns. */
+typedef enum stunp_event_kind {
+    STUNP_WAIT = 0,     /* wait for a datagram, or until the time `until` */
+    STUNP_TRANSMIT = 1, /* send the first `length` bytes of the buffer to the server. If they are lost,
+                         * they are sent again */
+    STUNP_ENDED = 2     /* the request `request` has ended, as `result` says */
+} stunp_event_kind;
+
+/* How a request ended. */
+typedef enum stunp_result {
+    STUNP_RESULT_SUCCESS = 1,        /* the server has answered with a success */
+    STUNP_RESULT_REFUSED = 2,        /* the server has answered with the error `code` */
+    STUNP_RESULT_REDIRECTED = 3,     /* the server names another server (error 300, section 10):
+                                      * look for STUNP_ALTERNATE_SERVER in the response, and make
+                                      * another client if you trust it */
+    STUNP_RESULT_TIMED_OUT = 4,      /* no response that could be accepted has arrived in time. With
+                                      * a user, an error that the server did not sign is dropped and
+                                      * leads to this result too, such as the 401 to a wrong
+                                      * short-term password: see `dropped.code`. With long-term
+                                      * credentials a 401 or 438 is a challenge instead */
+    STUNP_RESULT_UNAUTHORIZED = 5,   /* it was challenged too often: the password is wrong, or somebody
+                                      * forges challenges */
+    STUNP_RESULT_NOT_UNDERSTOOD = 6, /* the response has an attribute of the type `not_understood` that
+                                      * must be understood and is not (section 6.3.3) */
+    STUNP_RESULT_MALFORMED = 7,      /* the response is an error without a code */
+    STUNP_RESULT_CANCELLED = 8       /* you have called stunp_endpoint_client_cancel */
+} stunp_result;
+
+/* What was dropped for a request. Show it to people, and never act on it, because anybody can send it.
+ *
+ *   count  how many responses to it were dropped
+ *   why    why the last of them was: a stunp_drop
+ *   code   the error code of the last of them, or 0 if it had none */
+typedef struct {
+    uint32_t count;
+    uint32_t why;
+    uint32_t code;
+} stunp_dropped;
+
+/* What to do next. A field is 0 unless its line names the kind or the result. If the call fails
+ * with another error than STUNP_BUFFER_TOO_SMALL, the event stays as it was.
+ *
+ *   size            sizeof (stunp_event), set by STUNP_INIT once, before the loop
+ *   kind            a stunp_event_kind
+ *   result          STUNP_ENDED: a stunp_result
+ *   request         STUNP_ENDED: the number of the request
+ *   until           STUNP_WAIT: when to call stunp_endpoint_client_poll again if nothing has
+ *                   arrived, in nanoseconds of your clock, like `now`; UINT64_MAX if no request is
+ *                   outstanding
+ *   length          STUNP_TRANSMIT: how many bytes to send. STUNP_ENDED: the length of the response
+ *                   in the buffer, or 0 if the result is STUNP_RESULT_TIMED_OUT, _UNAUTHORIZED or
+ *                   _CANCELLED
+ *   code            STUNP_RESULT_REFUSED: the code of the error. STUNP_RESULT_REDIRECTED: 300
+ *   not_understood  STUNP_RESULT_NOT_UNDERSTOOD: the type of the attribute
+ *   signed_by       STUNP_ENDED: the stunp_algorithm of the signature that was verified, or 0 if
+ *                   none was. Without a user no signature is verified
+ *   dropped         STUNP_RESULT_TIMED_OUT: what was dropped for the request */
+typedef struct {
+    size_t size;
+    uint32_t kind;
+    uint32_t result;
+    uint64_t request;
+    uint64_t until;
+    size_t length;
+    uint32_t code;
+    uint16_t not_understood;
+    uint16_t signed_by;
+    stunp_dropped dropped;
+} stunp_event;
+
+/* The attributes of a request, in a buffer of yours. stunp_endpoint_client_request copies them, so
+ * you may reuse the body and its buffer as soon as it returns. The client writes its copy again
+ * when it answers a challenge. You may read the fields, but change them only by the calls that take
+ * a body.
+ *
+ *     uint8_t room[64];
+ *     stunp_body body = stunp_body_on(room, sizeof room);
+ *     stunp_body_add_number(&body, STUNP_REQUESTED_TRANSPORT, 17u << 24, 4);
+ *     stunp_body_add_number(&body, STUNP_LIFETIME, 600, 4);
+ *     int64_t asked = stunp_endpoint_client_request(&client, STUNP_ALLOCATE, &body, now, &request); */
+typedef struct {
+    uint8_t *bytes;  /* your buffer, which starts with the attributes */
+    size_t room;     /* the length of the buffer */
+    size_t length;   /* the length of the attributes */
+    int64_t refusal; /* the first error of a call with this body, or 0 */
+} stunp_body;
+
+/* Creates a client, like stunp_endpoint_client_new, from settings that are passed one by one.
+ * `understood_length` counts numbers, not bytes. A `name_length` of 0 means that there is no user, and
+ * a `software_length` of 0 no SOFTWARE.
+ *
+ * Returns 0. Errors:
+ *   STUNP_FULL_HANDLE    the handle is not empty
+ *   STUNP_BAD_ARGUMENT   `server` is not an IPv4 or IPv6 address; `algorithms` is above 3, or 3 with
+ *                        STUNP_SHORT_TERM; `anonymous_username` is above 2; or there is a user, and
+ *                        `credentials` is neither STUNP_LONG_TERM nor STUNP_SHORT_TERM
+ *   STUNP_NOT_TEXT       the name, the password or SOFTWARE is not UTF-8
+ *   STUNP_TEXT_TOO_LONG  the name has more than STUNP_NAME_MAX bytes, or SOFTWARE more than 763
+ *   STUNP_OUT_OF_MEMORY  an allocation failed */
+STUNP_READS(4, 5) STUNP_READS(6, 7) STUNP_READS(8, 9) STUNP_READS(10, 11) STUNP_NOT_NULL(1, 2, 3, 12)
+int64_t stunp_endpoint_client_new_with(stunp_endpoint_client *client, const stunp_address *server,
+                                       const uint8_t seed[32], const void *name,
+                                       size_t name_length, const void *password,
+                                       size_t password_length, const void *software,
+                                       size_t software_length, const uint16_t *understood,
+                                       size_t understood_length,
+                                       const stunp_client_options *options);
+
+/* Creates a client with these settings. They are copied.
+ *
+ * Returns 0. Errors:
+ *   STUNP_BAD_ARGUMENT  `size` is wrong, `seed` is null, or only one of `name` and `password` is
+ * and then those of stunp_endpoint_client_new_with. */
+STUNP_INLINED int64_t
+stunp_endpoint_client_new(stunp_endpoint_client *client,
+                          const stunp_endpoint_client_settings *settings) {
+    if (settings->size != sizeof *settings || settings->seed == NULL
+        || (settings->name == NULL) != (settings->password == NULL))
+        return STUNP_BAD_ARGUMENT;
+    stunp_client_options options;
+    options.initial = settings->initial, options.longest = settings->longest;
+    options.last = settings->last, options.transmissions = settings->transmissions;
+    options.challenges = settings->challenges;
+    options.credentials = (uint32_t)settings->credentials;
+    options.algorithms = settings->algorithms;
+    options.anonymous_username = (uint32_t)settings->anonymous_username;
+    options.is_stream = settings->is_stream;
+    options.accepts_unsigned = settings->accepts_unsigned;
+    options.has_fingerprint = settings->has_fingerprint;
+    return stunp_endpoint_client_new_with(
+        client, &settings->server, settings->seed, settings->name,
+        settings->name == NULL ? 0 : strlen(settings->name), settings->password,
+        settings->password == NULL ? 0 : strlen(settings->password), settings->software,
+        settings->software == NULL ? 0 : strlen(settings->software), settings->understood,
+        settings->understood_count, &options);
+}
+
+/* Frees a client and makes its handle empty. The pointer must not be null. This call is for callers
+ * that have the symbols of the archive and not this header; in C and C++ use
+ * stunp_endpoint_client_free. */
+STUNP_NOT_NULL(1)
+void stunp_endpoint_client_clear(stunp_endpoint_client *client);
+
+/* Frees a client and makes its handle empty. Does nothing if the handle is empty or the pointer is
+ * null. */
+STUNP_INLINED void stunp_endpoint_client_free(stunp_endpoint_client *client) {
+    if (client != NULL) stunp_endpoint_client_clear(client);
+}
+
+/* Returns a body without attributes, in a buffer of `room` bytes. */
+STUNP_INLINED stunp_body stunp_body_on(uint8_t *bytes, size_t room) {
+    stunp_body body = {bytes, room, 0, 0};
+    return body;
+}
+
+/* Adds an attribute, like stunp_body_add, of any type: STUNP_XOR_PEER_ADDRESS with an address that is
+ * not XORed yet. Use stunp_body_add and stunp_body_add_peer. */
+STUNP_READS(3, 4)
+STUNP_INLINED int64_t stunp_body_put(stunp_body *body, uint32_t type, const void *value,
+                                     size_t length) {
+    if (body->refusal < 0) return body->refusal;
+    size_t whole = 4 + (length + 3) / 4 * 4, left = STUNP_BODY_MAX - body->length;
+    if (type > 65535) body->refusal = STUNP_BAD_ARGUMENT;
+    else if (length > left || whole > left) body->refusal = STUNP_MESSAGE_TOO_LONG;
+    else if (whole > body->room - body->length) body->refusal = STUNP_BUFFER_TOO_SMALL;
+    if (body->refusal < 0) return body->refusal;
+    uint8_t *at = body->bytes + body->length;
+    memset(at, 0, whole);
+    at[0] = (uint8_t)(type >> 8), at[1] = (uint8_t)type;
+    at[2] = (uint8_t)(length >> 8), at[3] = (uint8_t)length;
+    if (length > 0) memcpy(at + 4, value, length);
+    body->length += whole;
+    return 0;
+}
+
+/* Adds an attribute with this value to a body. Types may repeat, and are in the request in the order
+ * in which they were added. Once a call with a body has failed, the next ones do nothing.
+ *
+ * Returns 0, or the first error of any call with this body. It need not be tested, because
+ * stunp_endpoint_client_request returns it too. Errors:
+ *   STUNP_NOT_ALLOWED       the type is STUNP_XOR_PEER_ADDRESS: call stunp_body_add_peer
+ *   STUNP_BAD_ARGUMENT      the type is above 65535
+ *   STUNP_MESSAGE_TOO_LONG  the attributes would have more than STUNP_BODY_MAX bytes
+ *   STUNP_BUFFER_TOO_SMALL  the attribute, with its header of 4 bytes and padding, does not fit into
+ *                           the buffer */
+STUNP_READS(3, 4)
+STUNP_INLINED int64_t stunp_body_add(stunp_body *body, uint32_t type, const void *value,
+                                     size_t length) {
+    if (body->refusal == 0 && type == STUNP_XOR_PEER_ADDRESS) body->refusal = STUNP_NOT_ALLOWED;
+    return stunp_body_put(body, type, value, length);
+}
+
+/* Adds an attribute with a number of `size` bytes, 0 to 8, in network order, like stunp_body_add. A
+ * number that needs more than `size` bytes loses its high bytes.
+ *
+ * Returns 0, or the first error of any call with this body. Errors:
+ *   STUNP_BAD_ARGUMENT  `size` is above 8
+ * and then those of stunp_body_add. */
+STUNP_INLINED int64_t stunp_body_add_number(stunp_body *body, uint32_t type, uint64_t number,
+                                            size_t size) {
+    uint8_t value[8];
+    if (body->refusal == 0 && size > sizeof value) body->refusal = STUNP_BAD_ARGUMENT;
+    for (size_t i = sizeof value; i-- > 0; number = i < size ? number >> 8 : number)
+        value[i] = (uint8_t)(i < size ? number & 255 : 0);
+    return stunp_body_add(body, type, value, size);
+}
+
+/* Adds STUNP_XOR_PEER_ADDRESS with this address (RFC 8656, section 18.3), like stunp_body_add. It is
+ * XORed when the request is written.
+ *
+ * Returns 0, or the first error of any call with this body. Errors:
+ *   STUNP_BAD_ARGUMENT  it is not an IPv4 or IPv6 address
+ * and then those of stunp_body_add. */
+STUNP_INLINED int64_t stunp_body_add_peer(stunp_body *body, const stunp_address *peer) {
+    uint8_t family = peer->length == 4 ? 1 : 2;
+    uint8_t value[20] = {0, family, (uint8_t)(peer->port >> 8), (uint8_t)peer->port};
+    if (body->refusal == 0 && peer->length != 4 && peer->length != 16)
+        body->refusal = STUNP_BAD_ARGUMENT;
+    memcpy(value + 4, peer->octets, 16);
+    return stunp_body_put(body, STUNP_XOR_PEER_ADDRESS, value, peer->length == 4 ? 8 : 20);
+}
+
+/* Starts a request, like stunp_endpoint_client_request. `body` has the attributes one after the other,
+ * each with its header and padded to a multiple of 4 bytes, as in a message; but the addresses of
+ * STUNP_XOR_PEER_ADDRESS are not XORed.
+ *
+ * Returns 0. Errors: those of stunp_endpoint_client_request. */
+STUNP_READS(3, 4) STUNP_NOT_NULL(1, 6)
+int64_t stunp_endpoint_client_request_with(stunp_endpoint_client *client, uint32_t method,
+                                           const uint8_t *body, size_t body_length, uint64_t now,
+                                           uint64_t *request);
+
+/* Starts a request of a method with these attributes, or with none if `body` is null.
+ * stunp_endpoint_client_poll returns its bytes. Writes the number of the request to `*request`: 0
+ * for the first request of this client, and one more for each further one. This pointer may be
+ * null.
+ *
+ * The attributes of the body are tested one after the other, and the first one that is refused
+ * decides which of its three errors is returned.
+ *
+ * Returns 0. Errors:
+ *   the error of a call with the body, if one failed
+ *   STUNP_EMPTY_HANDLE         the handle is empty
+ *   STUNP_WRONG_HANDLE         it has no client
+ *   STUNP_BAD_ARGUMENT         the method is above 4095
+ *   STUNP_BAD_ARGUMENT         an attribute of the body is not a whole one, or is a
+ *                              STUNP_XOR_PEER_ADDRESS without an address. Only stunp_body_put can
+ *                              add the latter, and no call adds the former
+ *   STUNP_NOT_ALLOWED          the type of an attribute is USERNAME, USERHASH, REALM, NONCE,
+ *                              PASSWORD-ALGORITHM, PASSWORD-ALGORITHMS, MESSAGE-INTEGRITY,
+ *                              MESSAGE-INTEGRITY-SHA256, SOFTWARE or FINGERPRINT, which the client
+ *                              writes itself; XOR-MAPPED-ADDRESS or XOR-RELAYED-ADDRESS, whose
+ *                              values depend on the transaction ID; or ERROR-CODE, which no request
+ *                              has
+ *   STUNP_MESSAGE_TOO_LONG     the attributes have more than STUNP_BODY_MAX bytes, where each
+ *                              STUNP_XOR_PEER_ADDRESS counts as 24
+ *   STUNP_ALREADY_IN_PROGRESS  no transaction ID is left
+ *   STUNP_MESSAGE_TOO_LONG     the request does not fit into a message
+ *   STUNP_OUT_OF_MEMORY        an allocation failed. It may come in place of any error after the
+ *                              test of the method */
+STUNP_INLINED int64_t stunp_endpoint_client_request(stunp_endpoint_client *client, uint32_t method,
+                                                    const stunp_body *body, uint64_t now,
+                                                    uint64_t *request) {
+    uint64_t unread;
+    if (body != NULL && body->refusal < 0) return body->refusal;
+    return stunp_endpoint_client_request_with(client, method, body == NULL ? NULL : body->bytes,
+                                              body == NULL ? 0 : body->length, now,
+                                              request == NULL ? &unread : request);
+}
+
+/* Reads a datagram, like stunp_endpoint_client_receive. `why` must not be null.
+ *
+ * Returns and fails as stunp_endpoint_client_receive does. */
+STUNP_USE_RESULT STUNP_READS(2, 3) STUNP_NOT_NULL(1, 4, 6)
+int64_t stunp_endpoint_client_receive_with(stunp_endpoint_client *client, const uint8_t *message,
+                                           size_t message_length, const stunp_address *from,
+                                           uint64_t now, uint32_t *why);
+
+/* Reads the datagram of `length` bytes that arrived from the address `from`. Call
+ * stunp_endpoint_client_poll afterward to learn what it caused.
+ *
+ *   - STUNP_NOT_OURS: it is not for this client. It is not a STUN message, such as ChannelData or
+ *     media; it comes from another address; or it is a request, or a response to no outstanding
+ *     request. Offer it to the next client on the socket.
+ *   - STUNP_IS_INDICATION: it is an indication from the server. Nothing protects it, and neither its
+ *     FINGERPRINT nor its attributes were looked at.
+ *   - STUNP_IS_RESPONSE: it is a response to a request of this client, and was accepted. It has
+ *     ended its request, or it is a challenge and the request is sent again.
+ *     stunp_endpoint_client_poll returns which.
+ *   - STUNP_DROPPED: it is a response to a request of this client, and was not accepted, for the reason
+ *     that is written to `*why`; this pointer may be null. The request goes on. If an allocation
+ *     fails, the response is dropped with STUNP_DROP_OUT_OF_MEMORY. stunp_endpoint_client_poll and
+ *     stunp_endpoint_client_cancel do not allocate.
+ *
+ * An IPv4 address and the same address mapped into IPv6 (::ffff:a.b.c.d) count as one address.
+ *
+ * Returns a stunp_kind. Errors:
+ *   STUNP_EMPTY_HANDLE  the handle is empty
+ *   STUNP_WRONG_HANDLE  it has no client
+ *   STUNP_BAD_ARGUMENT  `from` is not an IPv4 or IPv6 address */
+STUNP_INLINED int64_t stunp_endpoint_client_receive(stunp_endpoint_client *client,
+                                                    const uint8_t *bytes, size_t length,
+                                                    const stunp_address *from, uint64_t now,
+                                                    uint32_t *why) {
+    uint32_t unread = 0;
+    return stunp_endpoint_client_receive_with(client, bytes, length, from, now,
+                                              why == NULL ? &unread : why);
+}
+
+/* Finds the next thing to do, like stunp_endpoint_client_poll. `event` must not be null.
+ *
+ * Returns and fails as stunp_endpoint_client_poll does. */
+STUNP_USE_RESULT STUNP_WRITES(3, 4) STUNP_NOT_NULL(1, 5)
+int64_t stunp_endpoint_client_poll_with(stunp_endpoint_client *client, uint64_t now, uint8_t *out,
+                                        size_t room, stunp_event *event);
+
+/* Finds the next thing to do, and writes it to `*event`, and its bytes to the front of `out`: a request
+ * to send, or the response that ended a request. With STUNP_LONGEST_MESSAGE bytes there is room for
+ * each. Call it after each request, receive and cancel and when a wait is over, and repeat it until
+ * it returns STUNP_WAIT. Otherwise requests are not sent, and you do not learn how they ended.
+ *
+ * Returns a stunp_event_kind. Errors:
+ *   STUNP_EMPTY_HANDLE      the handle is empty
+ *   STUNP_WRONG_HANDLE      it has no client
+ *   STUNP_BAD_ARGUMENT      `event->size` is wrong
+ *   STUNP_BUFFER_TOO_SMALL  the bytes do not fit into `room` bytes. Nothing is written to `out`,
+ *                           but `*event` is written as after a success, and its `length`, which is
+ *                           more than `room`, is how many bytes there are. A request is sent again
+ *                           when its next transmission is due, but not over a stream. A response is
+ *                           lost, because its request has ended */
+STUNP_USE_RESULT
+STUNP_INLINED int64_t stunp_endpoint_client_poll(stunp_endpoint_client *client, uint64_t now,
+                                                 uint8_t *out, size_t room, stunp_event *event) {
+    stunp_event unread = STUNP_INIT(stunp_event);
+    return stunp_endpoint_client_poll_with(client, now, out, room,
+                                           event == NULL ? &unread : event);
+}
+
+/* Returns for how many milliseconds to wait after STUNP_WAIT, as poll() of POSIX takes them: -1, for
+ * ever, if no request is outstanding. It is never 0. */
+STUNP_INLINED int stunp_poll_timeout(const stunp_event *event, uint64_t now) {
+    uint64_t left = event->until > now ? (event->until - now) / 1000000 : 0;
+    if (event->until == UINT64_MAX) return -1;
+    return left < 1000000000 ? (int)left + 1 : 1000000000;
+}
+
+/* Ends a request with STUNP_RESULT_CANCELLED, which stunp_endpoint_client_poll then returns.
+ *
+ * Returns 1, or 0 if the request has ended already. Errors:
+ *   STUNP_EMPTY_HANDLE  the handle is empty
+ *   STUNP_WRONG_HANDLE  it has no client */
+STUNP_NOT_NULL(1)
+int64_t stunp_endpoint_client_cancel(stunp_endpoint_client *client, uint64_t request);
+
+/* Writes to `*dropped` what was dropped for an outstanding request. Call it before you cancel the
+ * request, because the client then forgets it. If the request times out, the event has it.
+ * `dropped` must not be null.
+ *
+ * Returns 1, or 0 if the request has ended already. Errors:
+ *   STUNP_EMPTY_HANDLE  the handle is empty
+ *   STUNP_WRONG_HANDLE  it has no client */
+STUNP_USE_RESULT STUNP_NOT_NULL(1, 3)
+int64_t stunp_endpoint_client_dropped(stunp_endpoint_client *client, uint64_t request,
+                                      stunp_dropped *dropped);
+
+/* Returns a text for a stunp_result, as stunp_strerror does for an error. */
+STUNP_INLINED const char *stunp_result_text(uint32_t result) {
+    switch (result) {
+    case STUNP_RESULT_SUCCESS: return "a success";
+    case STUNP_RESULT_REFUSED: return "refused by the server";
+    case STUNP_RESULT_REDIRECTED: return "sent to another server";
+    case STUNP_RESULT_TIMED_OUT: return "no answer in time";
+    case STUNP_RESULT_UNAUTHORIZED: return "challenged too often";
+    case STUNP_RESULT_NOT_UNDERSTOOD: return "the response has an attribute that is not understood";
+    case STUNP_RESULT_MALFORMED: return "the response is an error without a code";
+    case STUNP_RESULT_CANCELLED: return "cancelled";
+    default: return "the request has not ended";
+    }
 }
 
 /* ---- Versions */

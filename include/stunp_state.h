@@ -14,9 +14,10 @@
  * stunp_sign and stunp_verify of stunp.h.
  *
  * The functions at the end of this comment are a complete client (`ask`) and a complete server
- * (`judge` and `serve`). To begin, copy one of them. examples/c/udp_client.c is a client with its
- * socket. For a server that stores nothing about its clients, see stunp_endpoint.h. Sections
- * without an RFC are those of RFC 8489.
+ * (`judge` and `serve`). To begin, copy one of them. examples/c/udp_client.c does the same with a
+ * socket, over the client of stunp_endpoint.h, which has the loop of `ask` inside. For a server
+ * that stores nothing about its clients, see stunp_endpoint.h. Sections without an RFC are those of
+ * RFC 8489.
  *
  *
  * Linking
@@ -73,7 +74,12 @@
  * - A _new call requires an empty handle and fills it.
  * - A _free call releases what the handle owns and makes it empty again. It does nothing if the
  *   handle is empty or the pointer is null.
- * - You may move a handle by copying its bytes, but must not use the old copy afterward.
+ * - You may move a handle by copying its bytes, but must not use the old copy afterward. No call
+ *   notices an old copy whose object was freed.
+ * - A handle that has an object of another type, because a pointer was cast, is refused: a _new call
+ *   fails with STUNP_FULL_HANDLE and any other with STUNP_WRONG_HANDLE, before it looks at anything
+ *   else, and a _free call does nothing. Memory that was never initialized is refused like this too,
+ *   unless it happens to begin with the number of the type.
  * - Do not write to the fields, and do not declare a handle const. A call that takes a handle as
  *   const leaves it as it was, but even this call requires an object that is not const.
  *
@@ -116,8 +122,8 @@
  *
  * A call that fails returns a negative stunp_refusal (stunp.h), for which stunp_strerror gives a
  * text. If several errors apply, it returns the first in the list of its comment, which is in the
- * order of testing. Every call on a handle tests first for STUNP_EMPTY_HANDLE, or a _new call for
- * STUNP_FULL_HANDLE.
+ * order of testing. Every call on a handle tests first for STUNP_EMPTY_HANDLE and
+ * STUNP_WRONG_HANDLE, or a _new call for STUNP_FULL_HANDLE.
  *
  * Unless its comment says otherwise, a call that fails changes neither the handle nor any output.
  * On success it writes only the outputs that its comment names for the returned value. For example,
@@ -189,8 +195,8 @@
  *     }
  *
  * This client drops unsigned responses as forged. A server that does not ask for credentials
- * answers unsigned, so call such a server without a stunp_client (examples/c/udp_client.c does
- * both).
+ * answers unsigned, so call such a server without a stunp_client. The client of stunp_endpoint.h
+ * does both, and has this loop inside.
  *
  * Call stunp_agent_poll_transmit before stunp_agent_poll, because only the former advances the
  * timers. A loop that calls stunp_agent_poll alone never retransmits and never times out. Once a
@@ -348,11 +354,12 @@ void rattle_dealloc(void *at);
 
 /* ---- Types */
 
-/* The handles (see Handles above). The fields are not yours to write. */
-typedef struct stunp_agent { bool is_full; void *state; } stunp_agent;
-typedef struct stunp_server { bool is_full; void *state; } stunp_server;
-typedef struct stunp_client { bool is_full; void *state; } stunp_client;
-typedef struct stunp_user { bool is_full; void *state; } stunp_user;
+/* The handles (see Handles above). `kind` is 0 if the handle is empty, and otherwise a number for
+ * each of the four types. The fields are not yours to write. */
+typedef struct stunp_agent { uint32_t kind; void *state; } stunp_agent;
+typedef struct stunp_server { uint32_t kind; void *state; } stunp_server;
+typedef struct stunp_client { uint32_t kind; void *state; } stunp_client;
+typedef struct stunp_user { uint32_t kind; void *state; } stunp_user;
 
 /* The transport of an agent. */
 typedef enum stunp_transport {
@@ -498,7 +505,7 @@ int64_t stunp_agent_new_with(stunp_agent *agent, stunp_transport transport,
  * sizeof (stunp_statistics) before the call. Does not allocate.
  *
  * Returns 0. Errors:
- *   STUNP_EMPTY_HANDLE
+ *   STUNP_EMPTY_HANDLE, STUNP_WRONG_HANDLE
  *   STUNP_BAD_ARGUMENT  `statistics->size` is wrong */
 STUNP_NOT_NULL(1, 2)
 int64_t stunp_agent_statistics(const stunp_agent *agent, stunp_statistics *statistics);
@@ -526,7 +533,7 @@ STUNP_INLINED void stunp_agent_free(stunp_agent *agent) {
  * 401 or 438.
  *
  * Returns 0. Errors:
- *   STUNP_EMPTY_HANDLE
+ *   STUNP_EMPTY_HANDLE, STUNP_WRONG_HANDLE
  *   STUNP_BAD_ARGUMENT         `to` is not an IPv4 or IPv6 address
  *   STUNP_TRUNCATED, STUNP_NOT_STUN, STUNP_TOO_LARGE
  *                              the bytes are not one whole message (stunp_parse)
@@ -542,7 +549,7 @@ int64_t stunp_agent_send_request(stunp_agent *agent, const uint8_t *message, siz
  * nothing answers it. Does not allocate.
  *
  * Returns 0. Errors:
- *   STUNP_EMPTY_HANDLE
+ *   STUNP_EMPTY_HANDLE, STUNP_WRONG_HANDLE
  *   STUNP_BAD_ARGUMENT        `to` is not an IPv4 or IPv6 address
  *   STUNP_TRUNCATED, STUNP_NOT_STUN, STUNP_TOO_LARGE
  *                             the bytes are not one whole message (stunp_parse)
@@ -567,7 +574,7 @@ int64_t stunp_agent_send(stunp_agent *agent, const uint8_t *message, size_t leng
  * to the agent, limit their number (stunp_agent_peer_count).
  *
  * Returns 1 if the message is accepted, and 0 if it is not. Errors:
- *   STUNP_EMPTY_HANDLE
+ *   STUNP_EMPTY_HANDLE, STUNP_WRONG_HANDLE
  *   STUNP_BAD_ARGUMENT   `from` is not an IPv4 or IPv6 address
  *   STUNP_TRUNCATED, STUNP_NOT_STUN, STUNP_TOO_LARGE
  *                        the bytes are not one whole message (stunp_parse)
@@ -588,7 +595,7 @@ int64_t stunp_agent_handle(stunp_agent *agent, const uint8_t *message, size_t le
  *
  * Returns the length of the request, or 0 if no retransmission is due; it then writes nothing.
  * Errors:
- *   STUNP_EMPTY_HANDLE
+ *   STUNP_EMPTY_HANDLE, STUNP_WRONG_HANDLE
  *   STUNP_BUFFER_TOO_SMALL  the request does not fit into `room` bytes. No transmission is lost:
  *                           call again with more room */
 STUNP_USE_RESULT STUNP_WRITES(3, 4) STUNP_NOT_NULL(1, 5)
@@ -612,7 +619,7 @@ int64_t stunp_agent_poll_transmit(stunp_agent *agent, uint64_t now, uint8_t *out
  *                    stunp_agent_cancel_retransmissions
  * In the last two cases the first 12 bytes of `id` are the id of that request, `*until` is not
  * written, and you should call again at once, because further requests may have ended. Errors:
- *   STUNP_EMPTY_HANDLE
+ *   STUNP_EMPTY_HANDLE, STUNP_WRONG_HANDLE
  *   STUNP_BUFFER_TOO_SMALL  `id_length` is less than 12 */
 STUNP_USE_RESULT STUNP_WRITES(4, 5) STUNP_NOT_NULL(1, 3)
 int64_t stunp_agent_poll(stunp_agent *agent, uint64_t now, uint64_t *until, uint8_t *id,
@@ -623,7 +630,7 @@ int64_t stunp_agent_poll(stunp_agent *agent, uint64_t now, uint64_t *until, uint
 /* Tells whether a request with this transaction id is outstanding.
  *
  * Returns 1, and writes the address to which it was sent to `*peer`; or returns 0. Errors:
- *   STUNP_EMPTY_HANDLE
+ *   STUNP_EMPTY_HANDLE, STUNP_WRONG_HANDLE
  *   STUNP_BAD_ARGUMENT  `id_length` is not 12 */
 STUNP_USE_RESULT STUNP_READS(2, 3) STUNP_NOT_NULL(1, 4)
 int64_t stunp_agent_is_outstanding(const stunp_agent *agent, const uint8_t *id, size_t id_length,
@@ -636,7 +643,7 @@ int64_t stunp_agent_is_outstanding(const stunp_agent *agent, const uint8_t *id, 
  * arrives earlier, stunp_agent_handle returns 1, and no STUNP_CANCELLED follows.
  *
  * Returns 1, or 0 if no request with this id is outstanding. Errors:
- *   STUNP_EMPTY_HANDLE
+ *   STUNP_EMPTY_HANDLE, STUNP_WRONG_HANDLE
  *   STUNP_BAD_ARGUMENT  `id_length` is not 12 */
 STUNP_READS(2, 3) STUNP_NOT_NULL(1)
 int64_t stunp_agent_cancel(stunp_agent *agent, const uint8_t *id, size_t id_length);
@@ -645,7 +652,7 @@ int64_t stunp_agent_cancel(stunp_agent *agent, const uint8_t *id, size_t id_leng
  * then, stunp_agent_poll reports the request as STUNP_CANCELLED.
  *
  * Returns 1, or 0 if no request with this id is outstanding. Errors:
- *   STUNP_EMPTY_HANDLE
+ *   STUNP_EMPTY_HANDLE, STUNP_WRONG_HANDLE
  *   STUNP_BAD_ARGUMENT  `id_length` is not 12 */
 STUNP_READS(2, 3) STUNP_NOT_NULL(1)
 int64_t stunp_agent_cancel_retransmissions(stunp_agent *agent, const uint8_t *id,
@@ -655,7 +662,7 @@ int64_t stunp_agent_cancel_retransmissions(stunp_agent *agent, const uint8_t *id
  * from the start.
  *
  * Returns 1, or 0 if no request with this id is outstanding. Errors, also if none is outstanding:
- *   STUNP_EMPTY_HANDLE
+ *   STUNP_EMPTY_HANDLE, STUNP_WRONG_HANDLE
  *   STUNP_BAD_ARGUMENT  `id_length` is not 12, or `timeouts->size` is wrong
  *   STUNP_NO_WAIT       the timeouts would make several transmissions due at the same time
  *                       (stunp_timeouts) */
@@ -672,7 +679,7 @@ int64_t stunp_agent_configure(stunp_agent *agent, const uint8_t *id, size_t id_l
  * if it is one already.
  *
  * Returns 0. Errors:
- *   STUNP_EMPTY_HANDLE
+ *   STUNP_EMPTY_HANDLE, STUNP_WRONG_HANDLE
  *   STUNP_BAD_ARGUMENT   `peer` is not an IPv4 or IPv6 address
  *   STUNP_OUT_OF_MEMORY  the address is not a validated peer yet and could not be stored */
 STUNP_NOT_NULL(1, 2)
@@ -681,13 +688,13 @@ int64_t stunp_agent_validated_peer(stunp_agent *agent, const stunp_address *peer
 /* Tells whether an address is a validated peer. Does not allocate.
  *
  * Returns 1 or 0. Errors:
- *   STUNP_EMPTY_HANDLE
+ *   STUNP_EMPTY_HANDLE, STUNP_WRONG_HANDLE
  *   STUNP_BAD_ARGUMENT  `peer` is not an IPv4 or IPv6 address */
 STUNP_USE_RESULT STUNP_NOT_NULL(1, 2)
 int64_t stunp_agent_is_validated_peer(const stunp_agent *agent, const stunp_address *peer);
 
 /* Returns the number of validated peers. Does not allocate. Errors:
- *   STUNP_EMPTY_HANDLE */
+ *   STUNP_EMPTY_HANDLE, STUNP_WRONG_HANDLE */
 STUNP_USE_RESULT STUNP_NOT_NULL(1)
 int64_t stunp_agent_peer_count(const stunp_agent *agent);
 
@@ -695,7 +702,7 @@ int64_t stunp_agent_peer_count(const stunp_agent *agent);
  * allocate.
  *
  * Returns 0, also if the address was not a validated peer. Errors:
- *   STUNP_EMPTY_HANDLE
+ *   STUNP_EMPTY_HANDLE, STUNP_WRONG_HANDLE
  *   STUNP_BAD_ARGUMENT  `peer` is not an IPv4 or IPv6 address */
 STUNP_NOT_NULL(1, 2)
 int64_t stunp_agent_forget_peer(stunp_agent *agent, const stunp_address *peer);
@@ -739,7 +746,7 @@ int64_t stunp_server_new(stunp_server *server, const void *realm, size_t realm_l
  * supported cannot be signed until you call stunp_server_remove_client.
  *
  * Returns 0. Errors:
- *   STUNP_EMPTY_HANDLE
+ *   STUNP_EMPTY_HANDLE, STUNP_WRONG_HANDLE
  *   STUNP_BAD_ARGUMENT  `algorithms` is another number */
 STUNP_NOT_NULL(1)
 int64_t stunp_server_set_algorithms(stunp_server *server, uint32_t algorithms);
@@ -748,7 +755,7 @@ int64_t stunp_server_set_algorithms(stunp_server *server, uint32_t algorithms);
  * STUNP_DISABLED. A server treats STUNP_REQUIRED like STUNP_AUTO.
  *
  * Returns 0. Errors:
- *   STUNP_EMPTY_HANDLE
+ *   STUNP_EMPTY_HANDLE, STUNP_WRONG_HANDLE
  *   STUNP_BAD_ARGUMENT  `feature` is another number */
 STUNP_NOT_NULL(1)
 int64_t stunp_server_set_anonymous_username(stunp_server *server, stunp_feature feature);
@@ -757,7 +764,7 @@ int64_t stunp_server_set_anonymous_username(stunp_server *server, stunp_feature 
  * nonces are not affected.
  *
  * Returns 0. Errors:
- *   STUNP_EMPTY_HANDLE */
+ *   STUNP_EMPTY_HANDLE, STUNP_WRONG_HANDLE */
 STUNP_NOT_NULL(1)
 int64_t stunp_server_set_nonce_expiry(stunp_server *server, uint64_t nanoseconds);
 
@@ -774,7 +781,7 @@ int64_t stunp_server_set_nonce_expiry(stunp_server *server, uint64_t nanoseconds
  * This call removes no record, even if there are more than `most`.
  *
  * Returns 0. Errors:
- *   STUNP_EMPTY_HANDLE */
+ *   STUNP_EMPTY_HANDLE, STUNP_WRONG_HANDLE */
 STUNP_NOT_NULL(1)
 int64_t stunp_server_set_most_addresses(stunp_server *server, size_t most);
 
@@ -798,7 +805,7 @@ STUNP_INLINED void stunp_server_free(stunp_server *server) {
  * USERHASH.
  *
  * Returns 0. Errors:
- *   STUNP_EMPTY_HANDLE
+ *   STUNP_EMPTY_HANDLE, STUNP_WRONG_HANDLE
  *   STUNP_NOT_TEXT       the name or the password is not UTF-8
  *   STUNP_OUT_OF_MEMORY  the user could not be stored */
 STUNP_READS(2, 3) STUNP_READS(4, 5) STUNP_NOT_NULL(1)
@@ -812,7 +819,7 @@ int64_t stunp_server_add_user(stunp_server *server, const void *name, size_t nam
  * them yourself.
  *
  * Returns 0. Errors:
- *   STUNP_EMPTY_HANDLE
+ *   STUNP_EMPTY_HANDLE, STUNP_WRONG_HANDLE
  *   STUNP_NOT_TEXT  the name is not UTF-8 */
 STUNP_READS(2, 3) STUNP_NOT_NULL(1)
 int64_t stunp_server_remove_user(stunp_server *server, const void *name, size_t name_length);
@@ -838,7 +845,7 @@ int64_t stunp_server_remove_user(stunp_server *server, const void *name, size_t 
  *
  * Returns STUNP_SHA1 or STUNP_SHA256 if the message is authentic: for a request or an indication
  * the algorithm of the user's key, for a response the algorithm of the valid signature. Errors:
- *   STUNP_EMPTY_HANDLE
+ *   STUNP_EMPTY_HANDLE, STUNP_WRONG_HANDLE
  *   STUNP_BAD_ARGUMENT         `from` is not an IPv4 or IPv6 address
  *   STUNP_TRUNCATED, STUNP_NOT_STUN, STUNP_TOO_LARGE
  *                              the bytes are not one whole message (stunp_parse): drop them
@@ -882,7 +889,7 @@ STUNP_INLINED bool stunp_is_authentic(int64_t verdict) {
  *
  * Returns STUNP_SHA1 or STUNP_SHA256, the algorithm of the user's key; or 0 if the address has no
  * client, and writes nothing. Errors:
- *   STUNP_EMPTY_HANDLE
+ *   STUNP_EMPTY_HANDLE, STUNP_WRONG_HANDLE
  *   STUNP_BAD_ARGUMENT      `at` is not an IPv4 or IPv6 address
  *   STUNP_BUFFER_TOO_SMALL  the name does not fit into `room` bytes. `*name_length` is then written
  *                           all the same: it is the length of the name */
@@ -910,7 +917,7 @@ int64_t stunp_server_client(const stunp_server *server, const stunp_address *at,
  * 2048 bytes.
  *
  * Returns the new length of the message. Errors:
- *   STUNP_EMPTY_HANDLE
+ *   STUNP_EMPTY_HANDLE, STUNP_WRONG_HANDLE
  *   STUNP_BAD_ARGUMENT       `to` is not an IPv4 or IPv6 address, or `length` exceeds `room`
  *   STUNP_TRUNCATED, STUNP_NOT_STUN, STUNP_TOO_LARGE
  *                            the buffer does not hold one whole message (stunp_parse)
@@ -975,7 +982,7 @@ STUNP_INLINED void stunp_write_server_sign(stunp_writer *writer, stunp_server *s
  * not allocate.
  *
  * Returns STUNP_BY_NAME or STUNP_BY_HASH; or STUNP_NAMES_NOBODY, and writes nothing. Errors:
- *   STUNP_EMPTY_HANDLE
+ *   STUNP_EMPTY_HANDLE, STUNP_WRONG_HANDLE
  *   STUNP_BAD_ARGUMENT      `from` is not an IPv4 or IPv6 address
  *   STUNP_TRUNCATED, STUNP_NOT_STUN, STUNP_TOO_LARGE
  *                           the bytes are not one whole message (stunp_parse)
@@ -991,7 +998,7 @@ int64_t stunp_server_named_user(const stunp_server *server, const uint8_t *messa
  *
  * Returns what stunp_server_validate returns, STUNP_SHA1 or STUNP_SHA256 if the message is
  * authentic. Errors:
- *   STUNP_EMPTY_HANDLE
+ *   STUNP_EMPTY_HANDLE, STUNP_WRONG_HANDLE
  *   STUNP_BAD_ARGUMENT         `from` is not an IPv4 or IPv6 address
  *   STUNP_TRUNCATED, STUNP_NOT_STUN, STUNP_TOO_LARGE
  *                              the bytes are not one whole message (stunp_parse): drop them
@@ -1020,7 +1027,7 @@ int64_t stunp_server_validate_of(stunp_server *server, const uint8_t *message, s
  *
  * Returns what stunp_server_validate returns, STUNP_SHA1 or STUNP_SHA256 if the message is
  * authentic. Errors:
- *   STUNP_EMPTY_HANDLE
+ *   STUNP_EMPTY_HANDLE, STUNP_WRONG_HANDLE
  *   STUNP_BAD_ARGUMENT         `from` is not an IPv4 or IPv6 address
  *   STUNP_TRUNCATED, STUNP_NOT_STUN, STUNP_TOO_LARGE
  *                              the bytes are not one whole message (stunp_parse): drop them
@@ -1045,7 +1052,7 @@ int64_t stunp_server_validate_of_keys(stunp_server *server, const uint8_t *messa
  * Pass the user with whom the request was validated.
  *
  * Returns the new length of the message. Errors:
- *   STUNP_EMPTY_HANDLE
+ *   STUNP_EMPTY_HANDLE, STUNP_WRONG_HANDLE
  *   STUNP_NOT_TEXT           the name or the password is not UTF-8
  *   STUNP_OUT_OF_MEMORY      in place of any result below, because the keys of the user must be
  *                            made
@@ -1071,7 +1078,7 @@ int64_t stunp_server_sign_of(stunp_server *server, uint8_t *buffer, size_t room,
  * stunp_server_validate_of_keys).
  *
  * Returns the new length of the message. Errors:
- *   STUNP_EMPTY_HANDLE
+ *   STUNP_EMPTY_HANDLE, STUNP_WRONG_HANDLE
  *   STUNP_NOT_TEXT           the name is not UTF-8
  *   STUNP_BAD_ARGUMENT       a key has a length that is neither 0 nor that of its algorithm
  *   STUNP_OUT_OF_MEMORY      in place of any result below
@@ -1129,7 +1136,7 @@ STUNP_INLINED void stunp_write_server_sign_of_keys(stunp_writer *writer, stunp_s
  * send messages, for example with the user's allocation of a TURN server.
  *
  *     // `user` is whom stunp_server_named_user named, or null if your database has no such user.
- *     if (user != NULL && !user->prepared.is_full &&
+ *     if (user != NULL && user->prepared.kind == 0 &&
  *         stunp_user_new(&user->prepared, server, user->name, user->name_length, user->password,
  *                        user->password_length) < 0)
  *         return;
@@ -1154,6 +1161,7 @@ STUNP_INLINED void stunp_write_server_sign_of_keys(stunp_writer *writer, stunp_s
  * Returns 0. Errors:
  *   STUNP_FULL_HANDLE    the handle of the user is full
  *   STUNP_EMPTY_HANDLE   the handle of the server is empty
+ *   STUNP_WRONG_HANDLE   the handle of the server has an object of another type
  *   STUNP_NOT_TEXT       the name or the password is not UTF-8
  *   STUNP_OUT_OF_MEMORY  the user could not be stored */
 STUNP_READS(3, 4) STUNP_READS(5, 6) STUNP_NOT_NULL(1, 2)
@@ -1169,6 +1177,7 @@ int64_t stunp_user_new(stunp_user *user, const stunp_server *server, const void 
  * Returns 0. Errors:
  *   STUNP_FULL_HANDLE    the handle of the user is full
  *   STUNP_EMPTY_HANDLE   the handle of the server is empty
+ *   STUNP_WRONG_HANDLE   the handle of the server has an object of another type
  *   STUNP_NOT_TEXT       the name is not UTF-8
  *   STUNP_BAD_ARGUMENT   a key has a length that is neither 0 nor that of its algorithm
  *   STUNP_OUT_OF_MEMORY  the user could not be stored */
@@ -1194,7 +1203,8 @@ STUNP_INLINED void stunp_user_free(stunp_user *user) {
  *
  * Returns what stunp_server_validate returns, STUNP_SHA1 or STUNP_SHA256 if the message is
  * authentic. Errors:
- *   STUNP_EMPTY_HANDLE         the handle of the server or that of the user is empty
+ *   STUNP_EMPTY_HANDLE, STUNP_WRONG_HANDLE
+ *                              for the handle of the server, and then for that of the user
  *   STUNP_WRONG_HANDLE         the user was made for another realm, or for other algorithms than
  *                              the server supports now: free it, and make it again
  *   STUNP_BAD_ARGUMENT         `from` is not an IPv4 or IPv6 address
@@ -1217,7 +1227,8 @@ int64_t stunp_server_validate_user(stunp_server *server, const uint8_t *message,
  * with whom the request was validated. Does not allocate. The user is left as it was.
  *
  * Returns the new length of the message. Errors:
- *   STUNP_EMPTY_HANDLE       the handle of the server or that of the user is empty
+ *   STUNP_EMPTY_HANDLE, STUNP_WRONG_HANDLE
+ *                            for the handle of the server, and then for that of the user
  *   STUNP_WRONG_HANDLE       the user was made for another realm, or for other algorithms than the
  *                            server supports now: free it, and make it again
  *   STUNP_BAD_ARGUMENT       `to` is not an IPv4 or IPv6 address, or `length` exceeds `room`
@@ -1252,7 +1263,7 @@ STUNP_INLINED void stunp_write_server_sign_user(stunp_writer *writer, stunp_serv
  * user who was validated there last. None of these calls allocates. */
 
 /* Returns the number of addresses that have a record. Errors:
- *   STUNP_EMPTY_HANDLE */
+ *   STUNP_EMPTY_HANDLE, STUNP_WRONG_HANDLE */
 STUNP_USE_RESULT STUNP_NOT_NULL(1)
 int64_t stunp_server_address_count(const stunp_server *server);
 
@@ -1262,7 +1273,7 @@ int64_t stunp_server_address_count(const stunp_server *server);
  * With this call a server sees that it has not challenged an address yet (see `judge` above).
  *
  * Returns the length of the nonce, or 0 if the address has none. Errors:
- *   STUNP_EMPTY_HANDLE
+ *   STUNP_EMPTY_HANDLE, STUNP_WRONG_HANDLE
  *   STUNP_BAD_ARGUMENT      `at` is not an IPv4 or IPv6 address
  *   STUNP_BUFFER_TOO_SMALL  the nonce does not fit into `room` bytes */
 STUNP_USE_RESULT STUNP_WRITES(3, 4) STUNP_NOT_NULL(1, 2)
@@ -1276,7 +1287,7 @@ int64_t stunp_server_nonce(const stunp_server *server, const stunp_address *at, 
  * same address cannot authenticate.
  *
  * Returns 0, also if the address has no client. Errors:
- *   STUNP_EMPTY_HANDLE
+ *   STUNP_EMPTY_HANDLE, STUNP_WRONG_HANDLE
  *   STUNP_BAD_ARGUMENT  `at` is not an IPv4 or IPv6 address */
 STUNP_NOT_NULL(1, 2)
 int64_t stunp_server_remove_client(stunp_server *server, const stunp_address *at);
@@ -1285,7 +1296,7 @@ int64_t stunp_server_remove_client(stunp_server *server, const stunp_address *at
  * visits no other record.
  *
  * Returns 0, also if the address has no record. Errors:
- *   STUNP_EMPTY_HANDLE
+ *   STUNP_EMPTY_HANDLE, STUNP_WRONG_HANDLE
  *   STUNP_BAD_ARGUMENT  `at` is not an IPv4 or IPv6 address */
 STUNP_NOT_NULL(1, 2)
 int64_t stunp_server_forget(stunp_server *server, const stunp_address *at);
@@ -1302,7 +1313,7 @@ int64_t stunp_server_forget(stunp_server *server, const stunp_address *at);
  * stunp_server_forget_expired_within to avoid a long pause.
  *
  * Returns 0. Errors:
- *   STUNP_EMPTY_HANDLE */
+ *   STUNP_EMPTY_HANDLE, STUNP_WRONG_HANDLE */
 STUNP_NOT_NULL(1)
 int64_t stunp_server_forget_expired(stunp_server *server, uint64_t now, uint64_t age);
 
@@ -1322,7 +1333,7 @@ int64_t stunp_server_forget_expired(stunp_server *server, uint64_t now, uint64_t
  *
  * Returns 1 if there is more to visit; or 0 at the end, and sets the length of `*from` to 0.
  * Errors:
- *   STUNP_EMPTY_HANDLE
+ *   STUNP_EMPTY_HANDLE, STUNP_WRONG_HANDLE
  *   STUNP_BAD_ARGUMENT  the length of `*from` is neither 0 nor that of an address */
 STUNP_NOT_NULL(1, 4)
 int64_t stunp_server_forget_expired_within(stunp_server *server, uint64_t now, uint64_t age,
@@ -1362,7 +1373,7 @@ int64_t stunp_client_new(stunp_client *client);
  * fails for a request with STUNP_TEXT_TOO_LONG.
  *
  * Returns 0. Errors:
- *   STUNP_EMPTY_HANDLE
+ *   STUNP_EMPTY_HANDLE, STUNP_WRONG_HANDLE
  *   STUNP_NOT_TEXT       the name or the password is not UTF-8
  *   STUNP_OUT_OF_MEMORY  an allocation failed */
 STUNP_READS(2, 3) STUNP_READS(4, 5) STUNP_NOT_NULL(1)
@@ -1380,7 +1391,7 @@ int64_t stunp_client_set_credentials(stunp_client *client, const void *name, siz
  * STUNP_SHA1, see stunp_client_signing_algorithm.
  *
  * Returns 0. Errors:
- *   STUNP_EMPTY_HANDLE
+ *   STUNP_EMPTY_HANDLE, STUNP_WRONG_HANDLE
  *   STUNP_BAD_ARGUMENT  `algorithms` is another number */
 STUNP_NOT_NULL(1)
 int64_t stunp_client_set_algorithms(stunp_client *client, uint32_t algorithms);
@@ -1389,7 +1400,7 @@ int64_t stunp_client_set_algorithms(stunp_client *client, uint32_t algorithms);
  * accepts its next 401.
  *
  * Returns 0. Errors:
- *   STUNP_EMPTY_HANDLE
+ *   STUNP_EMPTY_HANDLE, STUNP_WRONG_HANDLE
  *   STUNP_BAD_ARGUMENT  `feature` is another number */
 STUNP_NOT_NULL(1)
 int64_t stunp_client_set_anonymous_username(stunp_client *client, stunp_feature feature);
@@ -1422,7 +1433,7 @@ STUNP_INLINED void stunp_client_free(stunp_client *client) {
  * 2048 bytes with everything that a request is given.
  *
  * Returns the new length of the message. Errors:
- *   STUNP_EMPTY_HANDLE
+ *   STUNP_EMPTY_HANDLE, STUNP_WRONG_HANDLE
  *   STUNP_BAD_ARGUMENT      `length` exceeds `room`
  *   STUNP_TRUNCATED, STUNP_NOT_STUN, STUNP_TOO_LARGE
  *                           the buffer does not hold one whole message (stunp_parse)
@@ -1458,7 +1469,7 @@ STUNP_INLINED void stunp_write_client_sign(stunp_writer *writer, const stunp_cli
  *
  * Returns STUNP_SHA1 or STUNP_SHA256; or 0 if the client has not accepted a challenge yet and would
  * not sign. Errors:
- *   STUNP_EMPTY_HANDLE */
+ *   STUNP_EMPTY_HANDLE, STUNP_WRONG_HANDLE */
 STUNP_USE_RESULT STUNP_NOT_NULL(1)
 int64_t stunp_client_signing_algorithm(const stunp_client *client);
 
@@ -1485,7 +1496,7 @@ int64_t stunp_client_signing_algorithm(const stunp_client *client);
  *       sign a new request, with a new id, and send it. The last two say that the 401 or 438 itself
  *       was signed with the previous key
  * Errors:
- *   STUNP_EMPTY_HANDLE
+ *   STUNP_EMPTY_HANDLE, STUNP_WRONG_HANDLE
  *   STUNP_TRUNCATED, STUNP_NOT_STUN, STUNP_TOO_LARGE
  *                              the bytes are not one whole message (stunp_parse): drop them
  *   STUNP_UNAUTHORIZED         a 401 before the first success that cannot be answered: there are no

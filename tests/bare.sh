@@ -59,7 +59,7 @@ expect() {
 begun=$(date +%s)
 make export >/tmp/export 2>&1 || { cat /tmp/export >&2; exit 1; }
 expect 'valid MESSAGE-INTEGRITY' target/export/target/debug/stun_tool check \
-    'VOkJxbRl1RmTxUk/WvJxBt' <crates/stun_tool/stdin
+    'VOkJxbRl1RmTxUk/WvJxBt' <examples/request.hex
 echo "bare: make export and the sample request: $(($(date +%s) - begun)) s"
 target/export/target/debug/examples/udp_server 34780 >/dev/null 2>&1 &
 server=$!
@@ -74,7 +74,7 @@ printf '%s\n' '[package]' 'name = "mine"' 'version = "0.1.0"' 'edition = "2021"'
     'seatcrane-stun = { path = "/stun_proto/target/export" }' >/tmp/mine/Cargo.toml
 expect 401 sh -c 'cd /tmp/mine && RUSTFLAGS="-A dead_code" cargo run --quiet'
 inspect=target/export/target/debug/stun_inspect
-sed -n '/^sample = bytes /{s/.*bytes //p;q}' crates/transcripts/data/message.rfc8489-b1.txt >/tmp/sample
+sed -n '/^sample = bytes /{s/.*bytes //p;q}' tests/transcripts/message.rfc8489-b1.txt >/tmp/sample
 expect 'class                        request' sh -c "$inspect decode /tmp/sample | head -n 1"
 expect 'valid MESSAGE-INTEGRITY-SHA256' \
     sh -c "$inspect verify マトリックス example.org TheMatrIX /tmp/sample | head -n 1"
@@ -82,7 +82,7 @@ make lib >/tmp/lib 2>&1 || { cat /tmp/lib >&2; exit 1; }
 sed -n '/^    #include <stdio.h>/,/^    }/s/^    //p' README.md >/tmp/check.c
 cc -Iinclude /tmp/check.c target/c/libstunp.a -o /tmp/check
 python3 -c 'import sys; sys.stdout.buffer.write(bytes.fromhex(sys.stdin.read()))' \
-    <crates/stun_tool/stdin >/tmp/sample
+    <examples/request.hex >/tmp/sample
 expect 'valid' /tmp/check </tmp/sample
 make install DESTDIR=/tmp/root >/tmp/install 2>&1 || { cat /tmp/install >&2; exit 1; }
 expect 'installed: the exported libraries: tested, not proved' tail -n 1 /tmp/install

@@ -75,9 +75,10 @@ c99="-std=c99 -D_DEFAULT_SOURCE -O1 -g $strict $sanitized"
 
 # The transcripts, and each allocation refused.
 $cc $c99 c/play.c $heap $archives -o "$scratch/play"
-endpoints='../rust/tests/transcripts/data'
-python3 play.py "$scratch/play" ../crates/transcripts/data/*.txt $endpoints/look-ups.*.txt \
-    $endpoints/ice.*.txt >"$scratch/played" || { cat "$scratch/played" >&2 && exit 1; }
+endpoints=transcripts/endpoints
+python3 play.py "$scratch/play" transcripts/*.txt $endpoints/look-ups.*.txt \
+    $endpoints/ice.*.txt $endpoints/client.*.txt >"$scratch/played" ||
+    { cat "$scratch/played" >&2 && exit 1; }
 
 # What only C can pass, what strangers may send, many addresses, and the worked examples of both
 # headers, without the comment round them. No call of the archive without state wants memory: it is
@@ -90,7 +91,7 @@ for name in arguments attributes extra sockaddr; do
     passes $name "$scratch/$name"
 done
 passes refused ./refused.sh
-for name in agents endpoint handles hostile ice many users worked; do
+for name in agents client endpoint handles hostile ice many users worked; do
     $cc $c99 -Wno-conversion -I"$scratch" c/$name.c $heap $archives -o "$scratch/$name"
     passes $name "$scratch/$name"
 done

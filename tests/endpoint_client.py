@@ -131,7 +131,8 @@ class ClientStage:
         seed = bytes.fromhex(word)
         self.built, self.seed = settings, seed * 32 if len(seed) == 1 else seed
         self.next_id, self.next_number = 0, 1
-        self.requests, self.due, self.unsent, self.ended = {}, {}, [], []
+        # What is not sent yet and what has ended, by the number of the request.
+        self.requests, self.due, self.unsent, self.ended = {}, {}, {}, {}
         # The challenge that new requests are signed for, whether a success has confirmed it, and
         # the one before that was confirmed.
         self.current, self.is_confirmed, self.confirmed = None, False, None
@@ -169,7 +170,7 @@ class ClientStage:
         self.requests[identity] = request
         waits = self.waits()
         self.due[identity] = Timer(message, waits, self.stage.now + waits[0])
-        self.unsent.append((identity, message))
+        self.unsent[request.number] = message
         return identity
 
     def waits(self):
@@ -224,10 +225,10 @@ class ClientStage:
     # ---- What is to be done.
 
     def polls(self):
-        while self.unsent:
-            identity, message = self.unsent.pop(0)
-            if identity in self.requests:
-                return "sends " + told(message)
+        """New messages come first, then those that are sent again, then ends: of several new ones
+        or ends the one whose request was started first."""
+        if self.unsent:
+            return "sends " + told(self.unsent.pop(min(self.unsent)))
         for timer in self.due.values():
             if len(timer.waits) > 1 and timer.at <= self.stage.now:
                 # The next wait begins now, even if this transmission is late.
@@ -237,7 +238,8 @@ class ClientStage:
         if not self.ended:
             self.time_out()
         if self.ended:
-            return self.ended.pop(0)
+            number = min(self.ended)
+            return f"{number} {self.ended.pop(number)}"
         if not self.requests:
             return "wait"
         until = min(timer.at for timer in self.due.values())
@@ -246,8 +248,8 @@ class ClientStage:
     def time_out(self):
         for identity, timer in list(self.due.items()):
             if timer.at <= self.stage.now:
-                request = self.take(identity)
-                self.ended.append(f"{request.number} timed out, {self.drops_of(request)} dropped")
+                request = self.requests[identity]
+                self.end(identity, f"timed out, {self.drops_of(request)} dropped")
                 self.step_back(request.signed_for)
                 return
 
@@ -255,11 +257,15 @@ class ClientStage:
         del self.due[identity]
         return self.requests.pop(identity)
 
+    def end(self, identity, how):
+        number = self.take(identity).number
+        self.unsent.pop(number, None)
+        self.ended[number] = how
+
     def cancel(self, word):
         for identity, request in list(self.requests.items()):
             if str(request.number) == word:
-                self.take(identity)
-                self.ended.append(f"{word} Cancelled")
+                self.end(identity, "Cancelled")
                 return "yes"
         return "no"
 
@@ -299,10 +305,9 @@ class ClientStage:
             request.drops.append((judged.why, code))
             return f"dropped {judged.why}"
         if isinstance(judged, Believed):
-            self.take(identity)
             if not kind & 0x10:
                 self.confirm(request.signed_for)
-            self.ended.append(f"{request.number} {self.result(message, judged.algorithm)}")
+            self.end(identity, self.result(message, judged.algorithm))
         return "consumed"
 
     def judged(self, request, response):
@@ -363,8 +368,7 @@ class ClientStage:
     def anew(self, identity, request, challenge):
         """Sends a request again, or ends it if that was done too often."""
         if request.challenges >= self.built.most:
-            self.take(identity)
-            self.ended.append(f"{request.number} Unauthorized")
+            self.end(identity, "Unauthorized")
             return None
         if self.send(request, challenge) is None:
             return Dropped("UnanswerableChallenge")

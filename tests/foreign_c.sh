@@ -50,10 +50,10 @@ passes() {
         [ "$("$out/$name")" = "$name: passed" ] || return 1
         echo "$name: passed"
     done
-    [ "$1" != aarch64 ] || python3 tests/play.py "$out/play" crates/transcripts/data/*.txt
+    [ "$1" != aarch64 ] || python3 tests/play.py "$out/play" tests/transcripts/*.txt
 }
 
-every='arguments attributes extra agents endpoint handles hostile ice many users worked'
+every='arguments attributes extra agents client endpoint handles hostile ice many users worked'
 [ $# -gt 0 ] || set -- i686 armv7 aarch64 s390x
 fetched || { echo "Debian's rustc-web $least cannot be fetched here." >&2; exit 1; }
 export RUSTC="$at/usr/bin/rustc" CARGO_TARGET_DIR="$PWD/target/foreign"

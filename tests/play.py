@@ -4,7 +4,7 @@ C, by the program tests/c/play.c.
 
 Messages and their digests are spelled here (spelling.py), so they come from outside the library.
 Each answer is compared with that of the transcript. Then each allocation of each line is refused in
-turn, as crates/transcripts/src/refusing.rt does: the call must say so. If the call is made again,
+turn, as rust/checks/src/player/refusals.rs does: the call must say so. If the call is made again,
 everything goes on as the transcript says, and if it is not, as in a transcript without its line.
 Each play frees all blocks.
 

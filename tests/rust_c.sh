@@ -56,7 +56,7 @@ ${CC:-cc} -std=c99 -Os -Wall -Wextra -Wpedantic -Werror -Iinclude tests/c/three_
     "$out/libstunp.a" -Wl,--gc-sections -o "$out/three_calls"
 three=$(size_of "$out/three_calls") shared=$(size_of "$out/libstunp.so")
 [ "$three" -le 20000 ] || fail "a program of three calls has $three bytes"
-[ "$shared" -le 280000 ] || fail "the shared library has $shared bytes"
+[ "$shared" -le 340000 ] || fail "the shared library has $shared bytes"
 echo "rust_c: a program of three calls has $three bytes, the shared library $shared"
 case $(uname -sm) in
 'Linux x86_64' | 'Linux aarch64')
@@ -89,14 +89,15 @@ LIBRARIES="$libraries" tests/memory.sh "$out"
 sed -n 's/^ \*     //p; /\*\/$/q' include/stunp.h > "$out/answer.h"
 sed -n 's/^ \*     //p; /\*\/$/q' include/stunp_state.h > "$out/ask.h"
 sed -n 's/^ \*     //p; /\*\/$/q' include/stunp_endpoint.h > "$out/serve.h"
-for name in agents endpoint handles hostile ice many users worked play; do
+for name in agents client endpoint handles hostile ice many users worked play; do
     ${CC:-cc} $strict -I"$out" "tests/c/$name.c" examples/c/heap.c "$out/libstunp.a" $libraries \
         -o "$out/$name"
     [ $name = play ] || expect "$name: passed" "$out/$name"
 done
-endpoints=rust/tests/transcripts/data
-python3 tests/play.py "$out/play" crates/transcripts/data/*.txt $endpoints/look-ups.*.txt \
-    $endpoints/ice.*.txt > "$out/played" || { cat "$out/played" >&2; exit 1; }
+endpoints=tests/transcripts/endpoints
+python3 tests/play.py "$out/play" tests/transcripts/*.txt $endpoints/look-ups.*.txt \
+    $endpoints/ice.*.txt $endpoints/client.*.txt > "$out/played" ||
+    { cat "$out/played" >&2; exit 1; }
 tail -n 1 "$out/played"
 # The same installed, in the place of the three archives, and the manual.
 tests/manual.sh

@@ -27,7 +27,7 @@ TELLING = (
     "client signs-unchecked", "client size", "client supported", "client user", "digest hmac",
     "digest same", "memory", "message attribute",
     "message digest-lengths", "message header", "message ids", "message prefixes", "message tails",
-    "endpoint server nonce", "server expiry", "server hashes", "server realm",
+    "endpoint client outstanding", "endpoint server nonce", "server expiry", "server hashes", "server realm",
     "server signs-unchecked", "server sizes", "server supported",
     "write room",
 )
@@ -37,7 +37,8 @@ WRITERS = ("agent", "client", "meet", "serve", "server", "short-term", "write")
 ALLOCATING = (
     "agent-handle", "agent-new", "agent-new-with", "agent-send-request", "agent-validated-peer",
     "client-new", "client-set-credentials", "client-sign", "client-validate",
-    "endpoint-build", "endpoint-server-identify", "endpoint-server-receive",
+    "endpoint-build", "endpoint-client-new", "endpoint-client-receive",
+    "endpoint-client-request", "endpoint-server-identify", "endpoint-server-receive",
     "endpoint-server-resume", "endpoint-users-add", "endpoint-users-add-keys",
     "ice-check", "ice-new", "ice-receive",
     "server-add-user", "server-new", "server-sign", "server-validate",
@@ -46,10 +47,6 @@ ALLOCATING = (
 BUILT_FIRST = ("hears", "identifies", "add-user", "remove-user", "responds")
 # The settings of an endpoint that are yes or no.
 YES_OR_NO = {"yes": True, "no": False}
-
-
-class Left(Exception):
-    """A call that the archives lack."""
 
 
 class Child:
@@ -385,7 +382,9 @@ class Stage(Endpoints):
 
     def spelled(self, before, response):
         """A response in the written words, if those spell its bytes."""
-        front = f"{before}: "
+        return self.spelled_behind(f"{before}: ", response)
+
+    def spelled_behind(self, front, response):
         if self.written.startswith(front):
             try:
                 if self.message(self.written[len(front):].split()) == response:

@@ -26,6 +26,10 @@ NO_MESSAGE = (-1, -2, -3)
 VERDICTS = {1: "Sha1", 2: "Sha256", 3: "resend", 4: "resend Sha1", 5: "resend Sha256"}
 
 
+class Left(Exception):
+    """A call that the archives lack."""
+
+
 def wide(address):
     """An address as play.c reads it."""
     octets, port = address

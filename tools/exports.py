@@ -30,7 +30,8 @@ PASSED = {
     "Header": "stunp_header", "Cursor": "stunp_cursor", "&[u8; 32]": "const uint8_t *",
     "Received": "stunp_received", "Reply": "stunp_reply",
     "IceReceived": "stunp_ice_received", "IceCheck": "stunp_ice_check",
-    "&[u8; 12]": "const uint8_t *",
+    "&[u8; 12]": "const uint8_t *", "Event": "stunp_event", "Dropped": "stunp_dropped",
+    "ClientOptions": "stunp_client_options",
 }
 # The enum of a number by its name in Rattle and Rust.
 ENUMS = {"class": "stunp_message_class", "message_class": "stunp_message_class",
@@ -45,6 +46,7 @@ NUMBERS = {
     "stunp_drop": ("stun_c_endpoint/src/received.rt", r"DropReason::(\w+) => (\d+)"),
     "stunp_cause": ("stun_c_endpoint/src/server.rt", r"Cause::(\w+)\) => (\d+)"),
     "stunp_drop of ICE": ("stun_c_endpoint/src/ice/told.rt", r"DropReason::(\w+) => (\d+)"),
+    "stunp_drop of clients": ("stun_c_endpoint/src/client/event.rt", r"DropReason::(\w+) => (\d+)"),
 }
 # Names of the header that are other ones in the sources, and the enums of which they are.
 RENAMED = {"NO_FINGERPRINT": "ABSENT", "RIGHT_FINGERPRINT": "RIGHT", "WRONG_FINGERPRINT": "WRONG",
@@ -56,8 +58,11 @@ RENAMED = {"NO_FINGERPRINT": "ABSENT", "RIGHT_FINGERPRINT": "RIGHT", "WRONG_FING
            "CAUSE_NO_SIGNATURE": "NOSIGNATURE", "CAUSE_INCOMPLETE": "INCOMPLETE",
            "CAUSE_OTHER_ALGORITHMS": "OTHERALGORITHMS", "CAUSE_OTHER_FEATURES": "OTHERFEATURES",
            "CAUSE_STALE_NONCE": "STALENONCE", "CAUSE_WRONG_CREDENTIALS": "WRONGCREDENTIALS",
-           "CAUSE_UNKNOWN_ATTRIBUTE": "UNKNOWNATTRIBUTE"}
-RENAMING = ("fingerprint", "stunp_drop", "stunp_cause", "stunp_drop of ICE")
+           "CAUSE_UNKNOWN_ATTRIBUTE": "UNKNOWNATTRIBUTE", "DROP_NOT_VERIFIED": "NOTVERIFIED",
+           "DROP_UNANSWERABLE_CHALLENGE": "UNANSWERABLECHALLENGE",
+           "DROP_WEAKER_CHALLENGE": "WEAKERCHALLENGE", "DROP_OUT_OF_MEMORY": "OUTOFMEMORY"}
+RENAMING = ("fingerprint", "stunp_drop", "stunp_cause", "stunp_drop of ICE",
+            "stunp_drop of clients")
 # Lengths of the header, each with the constant of the sources that it is.
 LENGTHS = {
     "ID_LENGTH": ("stun_numbers/src/id.rt", "ID_LENGTH"),
@@ -144,7 +149,8 @@ def functions_of_header(text):
 MAY_IGNORE = re.compile(
     r"stunp_((agent|server|client|user)_(new(_with|_of_keys)?|set_\w+|add_user|remove_\w+|"
     r"forget\w*|cancel\w*|configure|statistics|validated_peer|send)|read_header|id|error_text|"
-    r"endpoint_(server_new_(with|short_term|open)|users_(new_own|add(_keys)?|remove))|"
+    r"endpoint_(server_new_(with|short_term|open)|users_(new_own|add(_keys)?|remove)|"
+    r"client_(new_with|request_with|cancel))|"
     r"ice_checker_(new_with|set_tie_breaker)|"
     r"(state_|endpoint_)?(version|release_\w+))")
 
@@ -179,14 +185,15 @@ def attributes_of_header(text):
 def structs_of_rust(text, enums):
     fields = re.compile(r"(\w+): \[?(\w+)((?:; \d+\])?)")
     structs = re.compile(r"struct (Address|Cursor|Header|Timeouts|Statistics|Received|Reply|IceCheck|"
-                         r"IceReceived) \{(.*?)\}", re.DOTALL)
+                         r"IceReceived|Event|Dropped|ClientOptions) \{(.*?)\}", re.DOTALL)
     return {PASSED[name]: [(in_c(kind, field, "", enums)[0], field + size)
                            for field, kind, size in fields.findall(body)]
             for name, body in structs.findall(text)}
 
 def structs_of_header(text):
     structs = re.compile(r"typedef struct \{([^}]*)\} (stunp_(?:address|cursor|header|timeouts|"
-                         r"statistics|received|reply|ice_check|ice_received));")
+                         r"statistics|received|reply|ice_check|ice_received|event|dropped|"
+                         r"client_options));")
     return {name: [(kind, field.replace("[", "; "))
                    for kind, fields in re.findall(r"(\w+) ([^;]+);", body)
                    for field in re.split(r",\s*", fields)]
@@ -263,8 +270,8 @@ def main():
                                  "calls/release", "address", "agent")),
                   "crates/stun_handles/src/address.rt",
                   *(f"crates/stun_c_endpoint/src/{name}.rt"
-                    for name in ("calls/server", "calls/users", "calls/ice", "release", "received",
-                                 "ice/told")))
+                    for name in ("calls/server", "calls/users", "calls/ice", "calls/client", "release",
+                                 "received", "ice/told", "client/event", "client/settings")))
     enums = enums_of_header(header)
     # An enum that is passed has the size of a u32: no number is below zero or above an int.
     passed = {name: numbers for name, numbers in enums.items() if name in ENUMS.values()}

@@ -37,8 +37,7 @@ BUILT_PROGRAMS = tuple("crates/%s/out/%s" % (name, name) for name in PROGRAMS)
 BUILT = (*BUILT_ARCHIVES, *BUILT_PROGRAMS, "target/export/Cargo.toml")
 # What is copied, and to where.
 KEPT = (
-    ("crates/transcripts/data", "transcripts"),
-    ("rust/tests/transcripts/data", "transcripts/endpoints"),
+    ("tests/transcripts", "transcripts"),
     ("docs/maintainers/TRANSCRIPTS.md", "transcripts/README.md"),
     ("docs", "docs"),
     ("CHANGELOG.md", "CHANGELOG.md"),

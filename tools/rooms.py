@@ -17,7 +17,6 @@ import sys
 
 from definitions import Repository, crates, sources
 
-TEST_CRATES = ("tests", "fail_alloc")
 
 
 def place(definition):
@@ -45,10 +44,9 @@ def main():
     repository = Repository(".")
     stated = set()
     for crate in crates("."):
-        if not any(part in crate for part in TEST_CRATES):
-            for source in sources(".", crate):
-                for clause in source.public:
-                    stated.update(repository.cited_in(None, source.imports, clause.split("\n")))
+        for source in sources(".", crate):
+            for clause in source.public:
+                stated.update(repository.cited_in(None, source.imports, clause.split("\n")))
     because = repository.closure(stated)
     missing = list(without_a_file())
     for line in missing:
@@ -57,8 +55,6 @@ def main():
     counts = collections.Counter()
     for read in repository.files.values():
         crate = read.module.split(".")[1]
-        if any(part in crate for part in TEST_CRATES):
-            continue
         for definition in read.definitions:
             counts[(crate, is_code(definition))] += 1
             if is_code(definition) and definition in because:

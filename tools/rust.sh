@@ -73,6 +73,7 @@ cargo doc --quiet --no-deps
 # The tests of the calls for C are in C (rust_c.sh).
 cargo test --quiet --workspace --exclude seatcrane-stun-c --all-features
 cargo build --quiet --package seatcrane-checks
-target/debug/transcripts ../../crates/transcripts/data/*.txt
+target/debug/transcripts ../../tests/transcripts/*.txt
 python3 ../../tests/programs/tool/check.py --exported target/debug/stun_tool
+python3 ../../tests/programs/tool/transcripts.py target/debug/stun_tool
 python3 ../../tests/programs/captures/check.py "$PWD/target/debug/stun_inspect"

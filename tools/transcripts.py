@@ -29,6 +29,10 @@ import sys
 import tempfile
 
 TOP = os.path.normpath(os.path.join(os.path.dirname(os.path.abspath(__file__)), ".."))
+# Blocks that are run by name: each stands after a paragraph of a page that ends with these words.
+SHOWN = {"rt": ("README.md", "not proved yet:"), "rust": ("README.md", "section 2.1."),
+         "c": ("README.md", "authenticators of both sides."),
+         "c++": ("examples/README.md", "and the archives:")}
 
 
 def text_of(path):
@@ -88,7 +92,7 @@ def missing(command, path):
 
 def lay_request(folder):
     """request.bin, the request of RFC 5769, section 2.1."""
-    digits = "".join(text_of("crates/stun_tool/stdin").split())
+    digits = "".join(text_of("examples/request.hex").split())
     path = os.path.join(folder, "request.bin")
     with open(path, "wb") as opened:
         opened.write(bytes.fromhex(digits))
@@ -152,18 +156,20 @@ def in_clone(work):
 
 
 def first_minute(clone):
-    shown = ["sh", "-ec", block_after(text_of("README.md"), "not proved yet:")]
-    if not prints("valid MESSAGE-INTEGRITY\n", shown, cwd=clone):
+    found = {name: block_named(name) for name in SHOWN}  # all of them, before the gate's long parts
+    if not prints("valid MESSAGE-INTEGRITY\n", ["sh", "-ec", found["rt"]], cwd=clone):
         return False
     print("transcripts: the command of README.md that needs no proof prints what README.md says")
     return True
 
 
-def block_after(text, words):
-    """The indented block after a paragraph that ends with these words."""
+def block_named(name):
+    page, words = SHOWN[name]
     end = r"\s+".join(map(re.escape, words.split()))
-    return re.sub(r"(?m)^    ", "",
-                  re.search(end + r"\n\n((?:(?:    .*)?\n)+)", text).group(1)).strip() + "\n"
+    found = re.search(end + r"\n\n((?:(?:    .*)?\n)+)", text_of(page))
+    if found is None:
+        sys.exit("transcripts: %s shows no block after the words '%s'" % (page, words))
+    return re.sub(r"(?m)^    ", "", found.group(1)).strip() + "\n"
 
 
 def prints(wanted, command, **how):
@@ -178,7 +184,7 @@ def wrapped_in_c(scratch):
     """The commands of examples/README.md for C++, over the proved archives."""
     for name in ("include", "examples", "tests", "crates"):
         os.symlink(os.path.join(TOP, name), os.path.join(scratch, name))
-    shown = block_after(text_of("examples/README.md"), "and the archives:")
+    shown = block_named("c++")
     return prints(text_of("tests/cpp/check.txt"), ["sh", "-ec", shown + "./a.out"], cwd=scratch)
 
 
@@ -190,7 +196,7 @@ def in_c(archives):
     with tempfile.TemporaryDirectory() as scratch:
         source, program = os.path.join(scratch, "check.c"), os.path.join(scratch, "check")
         with open(source, "w") as opened:
-            opened.write(block_after(text_of("README.md"), "behind handles."))
+            opened.write(block_named("c"))
         compiler = [*(named or ["cc"]), "-Wall", "-Wextra", "-Werror",
                     "-I" + os.path.join(TOP, "include"), source]
         if not prints("", compiler + archives + ["-o", program]):
@@ -219,8 +225,7 @@ def write_jobs(path):
 
 
 def in_rust(folder):
-    command = block_after(text_of("README.md"), "section 2.1.")
-    if not prints("valid MESSAGE-INTEGRITY\n", ["sh", "-ec", command], cwd=TOP):
+    if not prints("valid MESSAGE-INTEGRITY\n", ["sh", "-ec", block_named("rust")], cwd=TOP):
         return False
     source = os.path.join(folder, "examples", "readme.rs")
     try:

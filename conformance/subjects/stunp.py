@@ -33,7 +33,13 @@ class Address(ctypes.Structure):
 
 
 class Handle(ctypes.Structure):
+    """A handle of stunp_endpoint.h."""
     _fields_ = [("is_full", c_bool), ("state", c_void_p)]
+
+
+class StateHandle(ctypes.Structure):
+    """A handle of stunp_state.h."""
+    _fields_ = [("kind", c_uint32), ("state", c_void_p)]
 
 
 class Reply(ctypes.Structure):
@@ -394,7 +400,7 @@ class Transactions:
             address("10.0.0.1:12345"))
 
     def made(self):
-        if not self.agent.is_full:
+        if self.agent.kind == 0:
             self.agent_new("udp")
         return byref(self.agent)
 
@@ -441,7 +447,7 @@ class Transactions:
 
 class Subject(Reading, Writing, Credentials, Transactions):
     def __init__(self):
-        self.server, self.client, self.agent = None, Handle(), Handle()
+        self.server, self.client, self.agent = None, StateHandle(), StateHandle()
 
     def __del__(self):
         LIBRARY.stunp_client_clear(byref(self.client))

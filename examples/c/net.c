@@ -240,6 +240,15 @@ int open_own(const struct peer *at, stunp_address *own) {
     return fd;
 }
 
+/* Returns whether this machine has a route to a server. It connects a socket, which sends nothing. */
+static bool has_route(const struct peer *server) {
+    int fd = socket(server->name.ss_family, SOCK_DGRAM | SOCK_CLOEXEC, 0);
+    if (fd < 0) return false;
+    int error = connect(fd, (const struct sockaddr *)&server->name, server->name_length);
+    give_up(fd);
+    return error == 0;
+}
+
 int open_client(const char *host, const char *port, struct peer *server, stunp_address *own) {
     struct addrinfo wanted = {.ai_socktype = SOCK_DGRAM}, *found;
     int error = getaddrinfo(host, port, &wanted, &found), fd = -1;
@@ -250,6 +259,7 @@ int open_client(const char *host, const char *port, struct peer *server, stunp_a
     for (struct addrinfo *one = found; one != NULL && fd < 0; one = one->ai_next) {
         *server = (struct peer){.name_length = one->ai_addrlen};
         memcpy(&server->name, one->ai_addr, one->ai_addrlen);
+        if (!has_route(server)) continue;
         fd = open_own(&(struct peer){.name.ss_family = server->name.ss_family,
                                      .name_length = server->name_length}, own);
     }
@@ -260,9 +270,10 @@ int open_client(const char *host, const char *port, struct peer *server, stunp_a
     return fd;
 }
 
-enum arrival wait_for(int socket, uint64_t nanoseconds) {
+enum arrival wait_until(int socket, uint64_t until) {
     struct pollfd one = {socket, POLLIN, 0};
-    struct timespec most = {(time_t)(nanoseconds / SECOND), (long)(nanoseconds % SECOND)};
+    uint64_t now = moment(), left = until > now ? until - now : 0;
+    struct timespec most = {(time_t)(left / SECOND), (long)(left % SECOND)};
     if (ppoll(&one, 1, &most, NULL) <= 0) return NOTHING;
     return (one.revents & POLLERR) != 0 ? ERROR_REPORT : DATAGRAM;
 }

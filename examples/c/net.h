@@ -72,14 +72,14 @@ void close_server(const struct listener *listener);
 int open_own(const struct peer *at, stunp_address *own);
 
 /* Finds a server, and opens a socket of its family, whose own address it writes. If the host has
- * several addresses, it is the first to which a socket opens. Returns the socket, or -1 after it
- * printed the reason on standard error. */
+ * several addresses, it is the first that this machine has a route to. Returns the socket, or -1
+ * after it printed the reason on standard error. */
 int open_client(const char *host, const char *port, struct peer *server, stunp_address *own);
 
-/* What arrives at a socket within this many nanoseconds: a datagram, or an error report about one
- * that was sent. */
+/* What arrives at a socket until this time of moment(): a datagram, or an error report about one that
+ * was sent. */
 enum arrival { NOTHING, DATAGRAM, ERROR_REPORT };
-enum arrival wait_for(int socket, uint64_t nanoseconds);
+enum arrival wait_until(int socket, uint64_t until);
 
 /* Reads what ICMP reported about the datagrams that a client sent. Returns the error if none of
  * them will ever be answered, such as from a closed port, or 0. */

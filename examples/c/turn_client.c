@@ -4,9 +4,10 @@
  *     turn_client HOST PORT NAME PASSWORD PEER PORT [--within SECONDS]
  *
  * The peer, an IP address, must send back what arrives, as turnutils_peer of coturn does. The
- * program prints what was allocated, and which data came back. It gives up after 30 s, and ends the
- * allocation after an error too. Status 0; or 1, and why on standard error; or 2 for wrong
- * arguments. What follows `--` is not an option, such as a PASSWORD that begins with `-`. */
+ * program prints what was allocated, and which data came back. It gives up after 30 s. Once it has
+ * read what was allocated, it ends the allocation after an error too. Status 0; or 1, and why on
+ * standard error; or 2 for wrong arguments. What follows `--` is not an option, such as a PASSWORD
+ * that begins with `-`. */
 #define _GNU_SOURCE
 #include "asker.h"
 #include "heap.h"
@@ -21,31 +22,6 @@ static const uint64_t REPEAT = SECOND / 2; /* data that does not come back is se
 static bool fails(const char *step, const char *why) {
     fprintf(stderr, "%s: %s\n", step, why);
     return false;
-}
-
-/* ---- Requests: what each has, by the peer */
-
-/* The relayed address is of IPv4 unless a family is asked for; the number of IPv6 is 2. */
-static void fill_allocate(stunp_writer *request, const void *peer) {
-    stunp_write_number(request, STUNP_REQUESTED_TRANSPORT, IPPROTO_UDP << 24, 4);
-    if (((const stunp_address *)peer)->length == 16)
-        stunp_write_number(request, STUNP_REQUESTED_ADDRESS_FAMILY, 2 << 24, 4);
-}
-
-static void fill_peer(stunp_writer *request, const void *what) {
-    const stunp_address *peer = what;
-    stunp_write_xor_address(request, STUNP_XOR_PEER_ADDRESS, peer->octets, peer->length,
-                            peer->port);
-}
-
-static void fill_channel(stunp_writer *request, const void *peer) {
-    stunp_write_number(request, STUNP_CHANNEL_NUMBER, CHANNEL << 16, 4);
-    fill_peer(request, peer);
-}
-
-static void fill_end(stunp_writer *request, const void *peer) {
-    (void)peer;
-    stunp_write_number(request, STUNP_LIFETIME, 0, 4);
 }
 
 /* Reads the address of an attribute. */
@@ -66,7 +42,7 @@ static stunp_writer write_indication(const stunp_address *peer, const char *text
     uint8_t id[STUNP_ID_LENGTH];
     fill_randomly(id, sizeof id);
     stunp_writer out = stunp_write(STUNP_INDICATION, STUNP_SEND, id, bytes, MOST_BYTES);
-    fill_peer(&out, peer);
+    stunp_write_xor_address(&out, STUNP_XOR_PEER_ADDRESS, peer->octets, peer->length, peer->port);
     stunp_write_text(&out, STUNP_DATA, text);
     return out;
 }
@@ -123,16 +99,21 @@ static bool carry(struct asker *asker, const stunp_address *peer, write_data *wr
 
 /* ---- The session */
 
-static bool transact(struct asker *asker, const char *step, uint32_t method, fill_request *fill,
-                     const stunp_address *peer, struct datagram *got) {
-    return ask(asker, method, fill, peer, got) || fails(step, asker->why);
+static bool transact(struct asker *asker, const char *step, uint32_t method, const stunp_body *body,
+                     struct datagram *got) {
+    return ask(asker, method, body, got) || fails(step, asker->why);
 }
 
+/* The relayed address is of IPv4 unless a family is asked for; the number of IPv6 is 2. */
 static bool allocate(struct asker *asker, const stunp_address *peer) {
+    uint8_t room[32];
+    stunp_body body = stunp_body_on(room, sizeof room);
     struct datagram got;
     stunp_address relayed;
     uint64_t seconds;
-    if (!transact(asker, "Allocate", STUNP_ALLOCATE, fill_allocate, peer, &got)) return false;
+    stunp_body_add_number(&body, STUNP_REQUESTED_TRANSPORT, IPPROTO_UDP << 24, 4);
+    if (peer->length == 16) stunp_body_add_number(&body, STUNP_REQUESTED_ADDRESS_FAMILY, 2 << 24, 4);
+    if (!transact(asker, "Allocate", STUNP_ALLOCATE, &body, &got)) return false;
     if (!find_address(&got, STUNP_XOR_RELAYED_ADDRESS, &relayed)
         || stunp_find_number(got.bytes, got.length, STUNP_LIFETIME, &seconds) != 4)
         return fails("Allocate", "no address or no lifetime");
@@ -141,15 +122,22 @@ static bool allocate(struct asker *asker, const stunp_address *peer) {
 }
 
 static bool run(struct asker *asker, const stunp_address *peer) {
+    uint8_t rooms[3][32];
+    stunp_body permission = stunp_body_on(rooms[0], 32), channel = stunp_body_on(rooms[1], 32),
+               end = stunp_body_on(rooms[2], 32);
     struct datagram got;
+    stunp_body_add_peer(&permission, peer);
+    stunp_body_add_number(&channel, STUNP_CHANNEL_NUMBER, CHANNEL << 16, 4);
+    stunp_body_add_peer(&channel, peer);
+    stunp_body_add_number(&end, STUNP_LIFETIME, 0, 4);
     if (!allocate(asker, peer)) return false;
     bool is_right =
-        transact(asker, "CreatePermission", STUNP_CREATE_PERMISSION, fill_peer, peer, &got)
+        transact(asker, "CreatePermission", STUNP_CREATE_PERMISSION, &permission, &got)
         && carry(asker, peer, write_indication, is_indication, "by indication")
-        && transact(asker, "ChannelBind", STUNP_CHANNEL_BIND, fill_channel, peer, &got)
+        && transact(asker, "ChannelBind", STUNP_CHANNEL_BIND, &channel, &got)
         && carry(asker, peer, write_on_channel, is_on_channel, "on the channel");
     asker->give_up += SECOND;
-    if (!transact(asker, "Refresh", STUNP_REFRESH, fill_end, peer, &got)) return false;
+    if (!transact(asker, "Refresh", STUNP_REFRESH, &end, &got)) return false;
     puts("ended");
     return is_right;
 }
@@ -163,17 +151,18 @@ int main(int count, char **words) {
         {"--within", .nanoseconds = &within, .least = 0, .most = 1000000},
         {.name = NULL},
     };
-    if (read_options(count, words, options) != 6 || !read_number(words[5], 0, 65535, &port)
-        || !read_host(words[4], port, &peer)) {
+    if (read_options(count, words, options) != 6 || *words[2] == 0
+        || !read_number(words[5], 0, 65535, &port) || !read_host(words[4], port, &peer)) {
         fprintf(stderr, "usage: turn_client HOST PORT NAME PASSWORD PEER PORT "
                         "[--within SECONDS]\n");
         return 2;
     }
+    stunp_endpoint_client_settings settings = STUNP_INIT(stunp_endpoint_client_settings);
+    settings.name = words[2], settings.password = words[3];
     stunp_heap_bound(MOST_MEMORY);
-    bool is_open = open_asker(&asker, words[0], words[1], within);
-    int64_t answer = is_open ? set_user(&asker, words[2], words[3], true) : 0;
-    if (answer < 0) fails("turn_client", stunp_strerror(answer));
-    bool is_right = is_open && answer >= 0 && run(&asker, &peer);
+    bool is_right = open_asker(&asker, words[0], words[1], &settings, within);
+    explicit_bzero(words[3], strlen(words[3]));
+    is_right = is_right && run(&asker, &peer);
     close_asker(&asker);
     return is_right ? 0 : 1;
 }

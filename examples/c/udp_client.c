@@ -8,8 +8,8 @@
  * --                  what follows is not an option, such as a PASSWORD that begins with `-`
  *
  * Without a name it accepts an unsigned response; with a name, only a response that the server has
- * signed. Status 0; or 1, and why on standard error: `no answer`, `refused CODE`, `unsupported ..`
- * or `failed ..`; or 2 for wrong arguments. */
+ * signed. Status 0; or 1, and why on standard error: `no answer`, `refused CODE` or `failed ..`; or
+ * 2 for wrong arguments. */
 #define _GNU_SOURCE
 #include "asker.h"
 #include "heap.h"
@@ -19,24 +19,21 @@
 
 enum { MOST_MEMORY = 1 << 20 };
 
-/* Sets the user of the arguments or of a file. A file without a user is an error, because its owner
- * wants no answer that nobody signed. */
-static bool set_credentials(struct asker *asker, char **pair, const char *file, bool has_sha256) {
-    char line[LONGEST_LINE], *words[2] = {NULL, NULL};
-    if (pair != NULL) memcpy(words, pair, sizeof words);
-    else if (file == NULL) return true;
-    else if (!read_user(file, line, words)) return false;
-    int64_t answer = set_user(asker, words[0], words[1], has_sha256);
-    explicit_bzero(words[1], strlen(words[1]));
-    explicit_bzero(line, sizeof line);
-    if (answer < 0) fprintf(stderr, "failed: %s\n", stunp_strerror(answer));
-    return answer >= 0;
+/* Reads the user of the arguments or of a file, if there is one, into `line`. A file without a user
+ * is an error, because its owner wants no answer that nobody signed. */
+static bool set_user(stunp_endpoint_client_settings *settings, char **words, int count,
+                     const char *file, char line[LONGEST_LINE]) {
+    char *pair[2] = {NULL, NULL};
+    if (count == 4) memcpy(pair, words + 2, sizeof pair);
+    else if (file != NULL && !read_user(file, line, pair)) return false;
+    settings->name = pair[0], settings->password = pair[1];
+    return true;
 }
 
 static bool print_address(struct asker *asker) {
     struct datagram got;
     stunp_address seen;
-    if (!ask(asker, STUNP_BINDING, NULL, NULL, &got)) {
+    if (!ask(asker, STUNP_BINDING, NULL, &got)) {
         fprintf(stderr, "%s\n", asker->why);
         return false;
     }
@@ -49,6 +46,7 @@ static bool print_address(struct asker *asker) {
 
 int main(int count, char **words) {
     bool has_sha256 = false;
+    char line[LONGEST_LINE] = "";
     const char *file = NULL;
     uint64_t within = 60 * SECOND;
     const struct option options[] = {
@@ -58,16 +56,20 @@ int main(int count, char **words) {
         {.name = NULL},
     };
     count = read_options(count, words, options);
-    if (count != 2 && (count != 4 || file != NULL)) {
+    if (count != 2 && (count != 4 || file != NULL || *words[2] == 0)) {
         fprintf(stderr, "usage: udp_client HOST PORT [NAME PASSWORD] [--user FILE] [--sha256] "
                         "[--within SECONDS]\n");
         return 2;
     }
-    struct asker asker;
+    struct asker asker = {.socket = -1};
+    stunp_endpoint_client_settings settings = STUNP_INIT(stunp_endpoint_client_settings);
+    settings.algorithms = has_sha256 ? 0 : STUNP_SHA1;
     stunp_heap_bound(MOST_MEMORY);
-    bool is_right = open_asker(&asker, words[0], words[1], within)
-                    && set_credentials(&asker, count == 4 ? words + 2 : NULL, file, has_sha256)
-                    && print_address(&asker);
+    bool is_right = set_user(&settings, words, count, file, line)
+                    && open_asker(&asker, words[0], words[1], &settings, within);
+    if (count == 4) explicit_bzero(words[3], strlen(words[3]));
+    explicit_bzero(line, sizeof line);
+    is_right = is_right && print_address(&asker);
     close_asker(&asker);
     return is_right ? 0 : 1;
 }

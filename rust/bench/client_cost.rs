@@ -7,8 +7,11 @@
 //!
 //! The difference between 3 and 1 times, divided by 2,000, is the cost of one request and its
 //! response. The client is `endpoint` (`endpoint::Client`), or `calls`: the calls of `agent` and
-//! `auth` that it makes, in a row. With `signed` it has long-term credentials, with `unsigned` none.
-//! The responses are made before, by an `endpoint::Server`.
+//! `auth` that it makes, in a row. `calls` derives the transaction IDs as the endpoint does: the
+//! n-th is the first 96 bits of HMAC-SHA1(seed, n). `counted` is the same calls with IDs that are
+//! counted up, which cost nothing, and which a program must not use. With `signed` the client has
+//! long-term credentials, with `unsigned` none. The responses are made before, by an
+//! `endpoint::Server`.
 
 use seatcrane_stun::Instant;
 use seatcrane_stun::agent::{StunAgent, StunAgentPollRet};
@@ -59,11 +62,13 @@ fn by_endpoint(is_signed: bool, peer: &mut Peer<'_>) {
 struct Calls {
     agent: StunAgent,
     auth: LongTermClientAuth,
-    next_id: u128,
+    // Without a seed the IDs are counted up.
+    seed: Option<PreparedKey>,
+    next_id: u64,
 }
 
 impl Calls {
-    fn new(is_signed: bool) -> Calls {
+    fn new(is_signed: bool, has_seed: bool) -> Calls {
         let agent = StunAgent::builder(TransportType::Udp, ([192, 0, 2, 2], 4000).into());
         let mut auth = LongTermClientAuth::new();
         if is_signed {
@@ -74,14 +79,25 @@ impl Calls {
         Calls {
             agent: agent.remote_addr(server_address()).stats(true).build(),
             auth,
+            seed: has_seed.then(|| {
+                PreparedKey::new(IntegrityKey::new(&[7; 32]), IntegrityAlgorithm::Sha1)
+            }),
             next_id: 0,
         }
     }
 
+    fn new_id(&mut self) -> TransactionId {
+        self.next_id += 1;
+        let Some(seed) = &self.seed else {
+            return TransactionId::from_u128(self.next_id.into()).unwrap();
+        };
+        let digest = seed.hmac_sha1(&[&self.next_id.to_be_bytes()]);
+        TransactionId::from(<[u8; 12]>::try_from(&digest[..12]).unwrap())
+    }
+
     /// Sends one request, and returns its response.
     fn response(&mut self, peer: &mut Peer<'_>, now: Instant) -> Vec<u8> {
-        self.next_id += 1;
-        let id = TransactionId::from_u128(self.next_id).unwrap();
+        let id = self.new_id();
         let page = Message::builder_request_with_id(BINDING, id, MessageWriteVec::new());
         let bytes = self.auth.sign_outgoing_message(page).unwrap().finish();
         let sent = self.agent.send_request(bytes, server_address(), now);
@@ -103,8 +119,8 @@ impl Calls {
     }
 }
 
-fn by_calls(is_signed: bool, peer: &mut Peer<'_>) {
-    let (mut client, now) = (Calls::new(is_signed), Instant::ZERO);
+fn by_calls(is_signed: bool, has_seed: bool, peer: &mut Peer<'_>) {
+    let (mut client, now) = (Calls::new(is_signed, has_seed), Instant::ZERO);
     for _ in 0..REQUESTS {
         loop {
             let response = client.response(peer, now);
@@ -120,11 +136,12 @@ fn by_calls(is_signed: bool, peer: &mut Peer<'_>) {
 fn main() {
     let words: Vec<String> = std::env::args().skip(1).collect();
     let [kind, credentials, times] = &words[..] else {
-        panic!("usage: client_cost endpoint|calls signed|unsigned TIMES");
+        panic!("usage: client_cost endpoint|calls|counted signed|unsigned TIMES");
     };
     let is_signed = credentials == "signed";
     let run = |peer: &mut Peer<'_>| match kind.as_str() {
-        "calls" => by_calls(is_signed, peer),
+        "calls" => by_calls(is_signed, true, peer),
+        "counted" => by_calls(is_signed, false, peer),
         _ => by_endpoint(is_signed, peer),
     };
     let settings = LongTerm::new("example.org", [9; 32]);

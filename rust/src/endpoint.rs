@@ -36,6 +36,7 @@
 //! ```
 
 use crate::exported::stun_base::attribute_type::AttributeType;
+use crate::exported::stun_client_endpoint::ended;
 use crate::exported::stun_endpoint::received;
 use core::fmt;
 
@@ -194,7 +195,8 @@ pub enum DropReason {
     /// It is a 401 or a 438 with a weaker algorithm, or without hashed names, although a request
     /// succeeded with the stronger one.
     WeakerChallenge,
-    /// An allocation failed. Whoever sent the request sends it again.
+    /// An allocation failed, or a client has no transaction ID left to send a request again under.
+    /// The sender of the request sends it again, until it times out.
     OutOfMemory,
 }
 
@@ -256,6 +258,18 @@ impl From<received::DropReason> for DropReason {
             received::DropReason::Malformed => DropReason::Malformed,
             received::DropReason::WrongFingerprint => DropReason::WrongFingerprint,
             received::DropReason::UnknownAttribute => DropReason::UnknownAttribute,
+        }
+    }
+}
+
+impl From<ended::DropReason> for DropReason {
+    fn from(why: ended::DropReason) -> DropReason {
+        match why {
+            ended::DropReason::WrongFingerprint => DropReason::WrongFingerprint,
+            ended::DropReason::NotVerified => DropReason::NotVerified,
+            ended::DropReason::UnanswerableChallenge => DropReason::UnanswerableChallenge,
+            ended::DropReason::WeakerChallenge => DropReason::WeakerChallenge,
+            ended::DropReason::OutOfMemory => DropReason::OutOfMemory,
         }
     }
 }

@@ -1,7 +1,13 @@
 //! Events of the crate `tracing`, if the feature of that name is on.
 
 use crate::message::Message;
+#[cfg(feature = "tracing")]
+use crate::message::MessageHeader;
+#[cfg(feature = "tracing")]
+use crate::transaction::TransactionId;
 use core::fmt::Debug;
+#[cfg(feature = "tracing")]
+use tracing::field::DisplayValue;
 
 /// Records an event of the level DEBUG with the target `seatcrane_stun`.
 macro_rules! event {
@@ -20,4 +26,11 @@ pub(crate) fn judged<V: Debug, E: Debug>(
 ) -> Result<V, E> {
     event!(id = %message.transaction_id(), class = %message.class(), ?verdict, "judged");
     verdict
+}
+
+/// Returns the transaction ID of a message, to be recorded.
+#[cfg(feature = "tracing")]
+pub(crate) fn id_in(bytes: &[u8]) -> Option<DisplayValue<TransactionId>> {
+    let header = MessageHeader::from_bytes(bytes).ok()?;
+    Some(tracing::field::display(header.transaction_id()))
 }

@@ -4,6 +4,7 @@
 use seatcrane_stun::Instant;
 use seatcrane_stun::agent::{StunAgent, StunAgentPollRet};
 use seatcrane_stun::auth::LongTermServerAuth;
+use seatcrane_stun::endpoint::{Body, Client, Input, Output, RequestError};
 use seatcrane_stun::types::TransportType;
 use seatcrane_stun::types::message::*;
 use seatcrane_stun::types::prelude::*;
@@ -87,4 +88,40 @@ fn a_request_and_its_verdict_are_recorded() {
     found.dedup();
     assert_eq!(found, expected);
     assert!(!found.concat().contains("wonderland"));
+    lines.0.lock().unwrap().clear();
+    a_client_records_its_requests(&lines);
+}
+
+/// The first request is answered at once, and the second one times out.
+fn a_client_records_its_requests(lines: &Lines) {
+    let server = "192.0.2.2:2".parse().unwrap();
+    let mut client = Client::builder(server).build([7; 32]).unwrap();
+    client.request(BINDING, Body::new(), Instant::ZERO).unwrap();
+    let Output::Transmit(bytes) = client.poll(Instant::ZERO) else {
+        panic!("nothing is sent");
+    };
+    let request = Message::from_bytes(bytes).unwrap();
+    let id = request.transaction_id();
+    let response = Message::builder_success(&request, MessageWriteVec::new()).finish();
+    let input = client.receive(&response, server, Instant::ZERO);
+    assert!(matches!(input, Input::Consumed));
+    client.request(BINDING, Body::new(), Instant::ZERO).unwrap();
+    let mut now = Instant::ZERO;
+    loop {
+        match client.poll(now) {
+            Output::Wait(until) => now = until.unwrap(),
+            Output::Ended(_, Err(RequestError::TimedOut(_))) => break,
+            _ => {}
+        }
+    }
+    let expected = [
+        "message=sent a request to=192.0.2.2:2 bytes=20".to_string(),
+        format!("message=got a response id={id}"),
+        "message=sent a request to=192.0.2.2:2 bytes=20".to_string(),
+        "message=sent a request again to=192.0.2.2:2 bytes=20".to_string(),
+        "message=a request timed out request=RequestId(1)".to_string(),
+    ];
+    let mut found = lines.0.lock().unwrap().clone();
+    found.dedup();
+    assert_eq!(found, expected);
 }

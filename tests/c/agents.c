@@ -46,7 +46,7 @@ static void make_agents(void) {
          STUNP_BAD_ARGUMENT);
     want("new_with, remote", stunp_agent_new_with(&agent, STUNP_TCP, &local, &nowhere, &timeouts),
          STUNP_BAD_ARGUMENT);
-    want("still empty", agent.is_full, 0);
+    want("still empty", agent.kind, 0);
     want_no_blocks("refused agents");
     want("new", stunp_agent_new(&agent, STUNP_UDP, &local), 0);
     want("new again", stunp_agent_new(&agent, OTHER, &nowhere), STUNP_FULL_HANDLE);
@@ -54,7 +54,7 @@ static void make_agents(void) {
          STUNP_FULL_HANDLE);
     stunp_agent_free(&agent);
     stunp_agent_free(&agent);
-    want("empty again", agent.is_full, 0);
+    want("empty again", agent.kind, 0);
     want("new_with", stunp_agent_new_with(&agent, STUNP_UDP, &local, &none, &timeouts), 0);
     stunp_agent_free(&agent);
     want_no_blocks("agents");
@@ -221,7 +221,7 @@ static void no_waits(void) {
              STUNP_NO_WAIT);
         want("nowhere first", stunp_agent_new_with(&agent, STUNP_UDP, &local, &nowhere,
                                                    &refused[i]), STUNP_BAD_ARGUMENT);
-        want("still empty", agent.is_full, 0);
+        want("still empty", agent.kind, 0);
     }
     want_no_blocks("no waits");
     for (size_t i = 0; i < TAKEN; i++) {
@@ -268,7 +268,7 @@ static void sizes(void) {
              STUNP_BAD_ARGUMENT);
         want("new_with, remote", stunp_agent_new_with(&fresh, STUNP_TCP, &local, &remote, cut),
              STUNP_BAD_ARGUMENT);
-        want("still empty", fresh.is_full, 0);
+        want("still empty", fresh.kind, 0);
         want("configure", stunp_agent_configure(&agent, request.bytes + ID_AT, ID, cut),
              STUNP_BAD_ARGUMENT);
         want("statistics", stunp_agent_statistics(&agent, short_counts), STUNP_BAD_ARGUMENT);

@@ -266,7 +266,7 @@ static void tells(void) {
           0);
     CHECK(strcmp(stunp_strerror(STUNP_TOO_MANY_ADDRESSES), "as many addresses are kept as may be"),
           0);
-    CHECK(strcmp(stunp_strerror(last), "the handle has a value of another kind"), 0);
+    CHECK(strcmp(stunp_strerror(last), "the handle has a value of another kind, realm or algorithm"), 0);
     CHECK(strcmp(stunp_strerror(last - 1), "unknown refusal"), 0);
     CHECK(strcmp(stunp_strerror(0), "no error"), 0);
     for (int64_t i = -1000; i < 1000; i++) tells_the_same(i);

@@ -283,6 +283,8 @@ static void causes(void) {
     want("its text", strcmp(stunp_cause_text(STUNP_CAUSE_STALE_NONCE),
                             "the nonce is not valid any more"), 0);
     want("none", strcmp(stunp_cause_text(0), "it is not refused"), 0);
+    want("an error", strcmp(stunp_cause_text(STUNP_EMPTY_HANDLE), "the handle is empty"), 0);
+    want("a later one", strcmp(stunp_cause_text(99), "the request is refused"), 0);
     /* The errors, in their order. */
     stunp_endpoint_server_settings open = STUNP_INIT(stunp_endpoint_server_settings);
     open.credentials = STUNP_NO_CREDENTIALS;
@@ -415,6 +417,12 @@ static int64_t resume(const struct realm *realm, const stunp_found_user *found,
                                         &from, NOW, out, sizeof out, received);
 }
 
+static int64_t cause_for(const struct realm *realm, const stunp_found_user *found,
+                         const struct message *message, uint64_t now) {
+    return stunp_endpoint_server_cause_for(&realm->server, found, message->bytes, message->length,
+                                           &from, now);
+}
+
 static void look_ups(bool is_hashed) {
     stunp_endpoint_server_settings settings = settings_of(NULL, 0);
     settings.answers_binding = true;
@@ -444,6 +452,10 @@ static void look_ups(bool is_hashed) {
     found.name = "name", found.name_length = 4, found.password = "password", good = found;
     want("nobody", resume(&realm, NULL, &message, &received), STUNP_ANSWER);
     want("401", received.code, 401);
+    want("why", cause_for(&realm, NULL, &message, NOW), STUNP_CAUSE_WRONG_CREDENTIALS);
+    want("why not", cause_for(&realm, &good, &message, NOW), 0);
+    want("unsigned", cause_for(&realm, NULL, &plain, NOW), STUNP_CAUSE_NO_SIGNATURE);
+    want("later", cause_for(&realm, &good, &message, NOW + 7200), STUNP_CAUSE_STALE_NONCE);
     want("no hash", received.is_hash, false);
     found.name = "Name";
     want("another name", resume(&realm, &found, &message, &received), STUNP_ANSWER);
@@ -463,19 +475,30 @@ static void look_ups(bool is_hashed) {
     found.sha256_key = NULL, found.sha1_key = sha1;
     want("by another key", resume(&realm, &found, &message, &received), STUNP_ANSWER);
     want("401", received.code, 401);
+    want("no such key", cause_for(&realm, &found, &message, NOW), STUNP_CAUSE_WRONG_CREDENTIALS);
     /* Without a nonce that was sent to the address nobody is looked up. */
     want("later", identify(&realm, &message, NOW + 7200, sizeof out, &received), STUNP_ANSWER);
     want("438", received.code, 438);
     /* Each refusal in its order. */
     found.sha1_key = NULL;
     want("no secret", resume(&realm, &found, &message, &received), STUNP_BAD_ARGUMENT);
+    want("no secret", cause_for(&realm, &found, &message, LAST + 1), STUNP_BAD_ARGUMENT);
     found = good, found.name = NULL;
     want("no name", resume(&realm, &found, &message, &received), STUNP_BAD_ARGUMENT);
     found = good, found.size--, none.server.is_full = false;
     want("size", resume(&none, &found, &message, &received), STUNP_BAD_ARGUMENT);
     found = good, found.name = "\xff", found.name_length = 1;
     want("no server", resume(&none, &found, &message, &received), STUNP_EMPTY_HANDLE);
+    want("no server", cause_for(&none, &found, &message, LAST + 1), STUNP_EMPTY_HANDLE);
     want("no text", resume(&realm, &found, &message, &received), STUNP_NOT_TEXT);
+    want("no text", cause_for(&realm, &found, &message, LAST + 1), STUNP_NOT_TEXT);
+    want("time", cause_for(&realm, &good, &message, LAST + 1), STUNP_BAD_ARGUMENT);
+    stunp_endpoint_users table = {0};
+    want("no text", stunp_endpoint_users_new_found(&table, &realm.server, &found), STUNP_NOT_TEXT);
+    want("no table", table.is_full, false);
+    want("a table", stunp_endpoint_users_new_found(&table, &realm.server, &good), 0);
+    want("full", stunp_endpoint_users_new_found(&table, &none.server, &found), STUNP_FULL_HANDLE);
+    stunp_endpoint_users_free(&table);
     before.size--;
     want("no server", identify(&none, &message, NOW, 0, &before), STUNP_EMPTY_HANDLE);
     want("size", identify(&realm, &message, NOW, 0, &before), STUNP_BAD_ARGUMENT);
@@ -486,6 +509,7 @@ static void look_ups(bool is_hashed) {
     stunp_heap_bound(0);
     want("memory", identify(&realm, &message, NOW, 0, &received), STUNP_OUT_OF_MEMORY);
     want("memory", resume(&realm, &good, &message, &received), STUNP_OUT_OF_MEMORY);
+    want("memory", cause_for(&realm, &good, &message, NOW), STUNP_OUT_OF_MEMORY);
     stunp_heap_bound(SIZE_MAX);
     want_same("as it was", &received, &before, sizeof received);
     want("no room", identify(&realm, &plain, NOW, 20, &received), STUNP_BUFFER_TOO_SMALL);

@@ -7,45 +7,47 @@
 
 /* ---- The server */
 
-static void empty_servers(void) {
-    stunp_server server = {0};
+/* Each call on a handle that has no server. */
+static void refuse_servers(stunp_server *server, int64_t wanted) {
     stunp_address from = nowhere;
     uint8_t byte = 0xff;
     const uint8_t other = 0xff; // what is read, where `byte` is written
     size_t length = 7;
-    want("set_algorithms", stunp_server_set_algorithms(&server, 9), STUNP_EMPTY_HANDLE);
-    want("set_anonymous_username", stunp_server_set_anonymous_username(&server, STUNP_AUTO),
-         STUNP_EMPTY_HANDLE);
-    want("set_nonce_expiry", stunp_server_set_nonce_expiry(&server, 9), STUNP_EMPTY_HANDLE);
-    want("add_user", stunp_server_add_user(&server, &byte, 1, &byte, 1), STUNP_EMPTY_HANDLE);
-    want("remove_user", stunp_server_remove_user(&server, &byte, 1), STUNP_EMPTY_HANDLE);
-    want("set_most_addresses", stunp_server_set_most_addresses(&server, 9), STUNP_EMPTY_HANDLE);
-    want("address_count", stunp_server_address_count(&server), STUNP_EMPTY_HANDLE);
-    want("remove_client", stunp_server_remove_client(&server, &nowhere), STUNP_EMPTY_HANDLE);
-    want("forget", stunp_server_forget(&server, &nowhere), STUNP_EMPTY_HANDLE);
-    want("forget_expired", stunp_server_forget_expired(&server, 9, 0), STUNP_EMPTY_HANDLE);
-    want("forget some", stunp_server_forget_expired_within(&server, 9, 0, &from, 9),
-         STUNP_EMPTY_HANDLE);
-    want("client", stunp_server_client(&server, &nowhere, &byte, 1, &length), STUNP_EMPTY_HANDLE);
-    want("nonce", stunp_server_nonce(&server, &nowhere, &byte, 1), STUNP_EMPTY_HANDLE);
-    want("validate", stunp_server_validate(&server, &byte, 1, &nowhere, 0, some_words),
-         STUNP_EMPTY_HANDLE);
-    want("sign", stunp_server_sign(&server, &byte, 1, 2, &nowhere), STUNP_EMPTY_HANDLE);
-    want("named_user", stunp_server_named_user(&server, &other, 1, &nowhere, &byte, 1, &length),
-         STUNP_EMPTY_HANDLE);
-    want("validate_of", stunp_server_validate_of(&server, &byte, 1, &nowhere, 0, some_words,
-         &byte, 1, "", 0), STUNP_EMPTY_HANDLE);
-    want("sign_of", stunp_server_sign_of(&server, &byte, 1, 2, &nowhere, &other, 1, "", 0),
-         STUNP_EMPTY_HANDLE);
-    want("validate_of_keys", stunp_server_validate_of_keys(&server, &byte, 1, &nowhere, 0,
-         some_words, &byte, 1, &byte, 1, &byte, 1), STUNP_EMPTY_HANDLE);
-    want("sign_of_keys", stunp_server_sign_of_keys(&server, &byte, 1, 2, &nowhere, &other, 1,
-         &other, 1, &other, 1), STUNP_EMPTY_HANDLE);
-    stunp_server_free(&server);
+    want("set_algorithms", stunp_server_set_algorithms(server, 9), wanted);
+    want("set_anonymous_username", stunp_server_set_anonymous_username(server, STUNP_AUTO), wanted);
+    want("set_nonce_expiry", stunp_server_set_nonce_expiry(server, 9), wanted);
+    want("add_user", stunp_server_add_user(server, &byte, 1, &byte, 1), wanted);
+    want("remove_user", stunp_server_remove_user(server, &byte, 1), wanted);
+    want("set_most_addresses", stunp_server_set_most_addresses(server, 9), wanted);
+    want("address_count", stunp_server_address_count(server), wanted);
+    want("remove_client", stunp_server_remove_client(server, &nowhere), wanted);
+    want("forget", stunp_server_forget(server, &nowhere), wanted);
+    want("forget_expired", stunp_server_forget_expired(server, 9, 0), wanted);
+    want("forget some", stunp_server_forget_expired_within(server, 9, 0, &from, 9), wanted);
+    want("client", stunp_server_client(server, &nowhere, &byte, 1, &length), wanted);
+    want("nonce", stunp_server_nonce(server, &nowhere, &byte, 1), wanted);
+    want("validate", stunp_server_validate(server, &byte, 1, &nowhere, 0, some_words), wanted);
+    want("sign", stunp_server_sign(server, &byte, 1, 2, &nowhere), wanted);
+    want("named_user", stunp_server_named_user(server, &other, 1, &nowhere, &byte, 1, &length),
+         wanted);
+    want("validate_of", stunp_server_validate_of(server, &byte, 1, &nowhere, 0, some_words,
+         &byte, 1, "", 0), wanted);
+    want("sign_of", stunp_server_sign_of(server, &byte, 1, 2, &nowhere, &other, 1, "", 0), wanted);
+    want("validate_of_keys", stunp_server_validate_of_keys(server, &byte, 1, &nowhere, 0,
+         some_words, &byte, 1, &byte, 1, &byte, 1), wanted);
+    want("sign_of_keys", stunp_server_sign_of_keys(server, &byte, 1, 2, &nowhere, &other, 1,
+         &other, 1, &other, 1), wanted);
+    stunp_server_free(server);
     want("outputs", byte == 0xff && length == 7, 1);
     want_same("an address", &from, &nowhere, sizeof from);
+}
+
+static void empty_servers(void) {
+    stunp_server server = {0};
+    uint8_t byte = 0xff;
+    refuse_servers(&server, STUNP_EMPTY_HANDLE);
     want("no text", stunp_server_new(&server, &byte, 1), STUNP_NOT_TEXT);
-    want("still empty", server.is_full, 0);
+    want("still empty", server.kind, 0);
     want_no_blocks("empty servers");
     want("new", stunp_server_new(&server, text("realm"), 5), 0);
     want("new again", stunp_server_new(&server, &byte, 1), STUNP_FULL_HANDLE);
@@ -444,18 +446,23 @@ static void most_room(void) {
 
 /* ---- The client */
 
+/* Each call on a handle that has no client. */
+static void refuse_clients(stunp_client *client, int64_t wanted) {
+    uint8_t byte = 0xff;
+    want("set_credentials", stunp_client_set_credentials(client, &byte, 1, &byte, 1), wanted);
+    want("set_algorithms", stunp_client_set_algorithms(client, 9), wanted);
+    want("set_anonymous_username", stunp_client_set_anonymous_username(client, STUNP_AUTO), wanted);
+    want("signing_algorithm", stunp_client_signing_algorithm(client), wanted);
+    want("sign", stunp_client_sign(client, &byte, 1, 2), wanted);
+    want("validate", stunp_client_validate(client, &byte, 1), wanted);
+    stunp_client_free(client);
+    want("the buffer is left", byte, 0xff);
+}
+
 static void clients(void) {
     stunp_client client = {0};
     uint8_t byte = 0xff;
-    want("set_credentials", stunp_client_set_credentials(&client, &byte, 1, &byte, 1),
-         STUNP_EMPTY_HANDLE);
-    want("set_algorithms", stunp_client_set_algorithms(&client, 9), STUNP_EMPTY_HANDLE);
-    want("set_anonymous_username", stunp_client_set_anonymous_username(&client, STUNP_AUTO),
-         STUNP_EMPTY_HANDLE);
-    want("signing_algorithm", stunp_client_signing_algorithm(&client), STUNP_EMPTY_HANDLE);
-    want("sign", stunp_client_sign(&client, &byte, 1, 2), STUNP_EMPTY_HANDLE);
-    want("validate", stunp_client_validate(&client, &byte, 1), STUNP_EMPTY_HANDLE);
-    stunp_client_free(&client);
+    refuse_clients(&client, STUNP_EMPTY_HANDLE);
     want("new", stunp_client_new(&client), 0);
     want("new again", stunp_client_new(&client), STUNP_FULL_HANDLE);
     want("no text", stunp_client_set_credentials(&client, &byte, 1, text("a"), 1), STUNP_NOT_TEXT);
@@ -468,6 +475,61 @@ static void clients(void) {
         want("is_resend", stunp_is_resend(answer), answer == STUNP_RESEND
              || answer == STUNP_RESEND_SHA1 || answer == STUNP_RESEND_SHA256);
     want("is_resend", stunp_is_resend(INT64_MIN) || stunp_is_resend(INT64_MAX), 0);
+}
+
+/* A handle that has an object of another type is refused by each call, and left as it was. */
+static void other_objects(void) {
+    union handle {
+        stunp_agent agent;
+        stunp_server server;
+        stunp_client client;
+        stunp_user user;
+    } agent, server, client, user, *const made[] = {&agent, &server, &client, &user};
+    const stunp_address local = address_of(1);
+    stunp_server none = {0};
+    stunp_user none_user = {0};
+    uint8_t byte = 0xff;
+    for (int i = 0; i < 4; i++) memset(made[i], 0, sizeof *made[i]);
+    want("an agent", stunp_agent_new(&agent.agent, STUNP_UDP, &local), 0);
+    want("a server", stunp_server_new(&server.server, text("realm"), 5), 0);
+    want("a client", stunp_client_new(&client.client), 0);
+    want("a user", stunp_user_new(&user.user, &server.server, "name", 4, "password", 8), 0);
+    for (int i = 0; i < 4; i++) {
+        union handle *one = made[i], left = *one;
+        if (one != &agent) {
+            want("no agent", stunp_agent_peer_count(&one->agent), STUNP_WRONG_HANDLE);
+            want("full", stunp_agent_new(&one->agent, STUNP_UDP, &local), STUNP_FULL_HANDLE);
+            stunp_agent_free(&one->agent);
+        }
+        if (one != &server) {
+            refuse_servers(&one->server, STUNP_WRONG_HANDLE);
+            want("full", stunp_server_new(&one->server, &byte, 1), STUNP_FULL_HANDLE);
+            want("no server for a user", stunp_user_new(&none_user, &one->server, "", 0, "", 0),
+                 STUNP_WRONG_HANDLE);
+        }
+        if (one != &client) {
+            refuse_clients(&one->client, STUNP_WRONG_HANDLE);
+            want("full", stunp_client_new(&one->client), STUNP_FULL_HANDLE);
+        }
+        // (a call on two handles takes two)
+        if (one != &user && one != &server) {
+            want("no user", stunp_server_validate_user(&server.server, &byte, 1, &nowhere, 0,
+                 some_words, &one->user), STUNP_WRONG_HANDLE);
+            want("no user signs", stunp_server_sign_user(&server.server, &byte, 1, 2, &nowhere,
+                 &one->user), STUNP_WRONG_HANDLE);
+            want("the server first", stunp_server_sign_user(&none, &byte, 1, 2, &nowhere,
+                 &one->user), STUNP_EMPTY_HANDLE);
+            want("full", stunp_user_new(&one->user, &none, "", 0, "", 0), STUNP_FULL_HANDLE);
+            stunp_user_free(&one->user);
+        }
+        want_same("it is left", one, &left, sizeof left);
+    }
+    stunp_agent_free(&agent.agent);
+    stunp_server_free(&server.server);
+    stunp_client_free(&client.client);
+    stunp_user_free(&user.user);
+    for (int i = 0; i < 4; i++) want("it is empty", made[i]->agent.kind, 0);
+    want_no_blocks("other_objects");
 }
 
 static void versions(void) {
@@ -504,6 +566,7 @@ int main(void) {
     most_room();
     clients();
     late_settings();
+    other_objects();
     versions();
     puts("handles: passed");
     return 0;

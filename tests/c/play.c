@@ -199,9 +199,10 @@ static stunp_client client;
 
 #define MAKES(kind, call)                                                     \
     do {                                                                      \
-        stunp_##kind fresh = {false, NULL};                                    \
+        stunp_##kind fresh = {0, NULL};                                        \
         int64_t answer = call;                                                \
-        if (fresh.is_full != (answer == 0)) fail("a handle that is not made"); \
+        if ((fresh.state != NULL) != (answer == 0))                           \
+            fail("a handle that is not made");                                \
         if (answer < 0) return answer;                                        \
         stunp_##kind##_free(&kind);                                            \
         kind = fresh;                                                         \
@@ -501,6 +502,75 @@ static int64_t ice_receive(void) {
     return kind;
 }
 
+/* ---- A client of a server. */
+
+static stunp_endpoint_client endpoint_client;
+
+static int64_t endpoint_client_new(void) {
+    const stunp_address *at = address();
+    block *seed = bytes(), *name = bytes(), *password = bytes(), *software = bytes();
+    block *types = numbers(bytes());
+    stunp_client_options options;
+    memset(&options, 0, sizeof options);
+    options.initial = number(), options.longest = number();
+    options.transmissions = short_number(), options.last = number();
+    options.challenges = short_number(), options.credentials = short_number();
+    options.algorithms = short_number(), options.anonymous_username = short_number();
+    options.is_stream = number() != 0, options.accepts_unsigned = number() != 0;
+    options.has_fingerprint = number() != 0;
+    if (seed->length != 32) fail("no seed");
+    MAKES(endpoint_client, stunp_endpoint_client_new_with(
+                               &fresh, at, seed->at, ALL(name), ALL(password), ALL(software),
+                               VALUE(uint16_t, types), types->length / 2, &options));
+}
+
+/* Answers the number of the request. */
+static int64_t endpoint_client_request(void) {
+    uint32_t method = short_number();
+    block *body = bytes();
+    uint64_t now = number();
+    block *request = block_of(sizeof(uint64_t));
+    int64_t answer = stunp_endpoint_client_request_with(&endpoint_client, method, ALL(body), now,
+                                                        VALUE(uint64_t, request));
+    wrote_all(request, answer >= 0);
+    return answer;
+}
+
+/* Answers why a datagram is dropped, after the number of the kind. */
+static int64_t endpoint_client_receive(void) {
+    block *message = bytes();
+    const stunp_address *from = address();
+    uint64_t now = number();
+    block *why = block_of(sizeof(uint32_t));
+    int64_t kind = stunp_endpoint_client_receive(&endpoint_client, ALL(message), from, now,
+                                                 VALUE(uint32_t, why));
+    wrote_all(why, kind == STUNP_DROPPED);
+    return kind;
+}
+
+/* Answers the bytes, if there are any, and then the event. */
+static int64_t endpoint_client_poll(void) {
+    static const stunp_event fresh = STUNP_INIT(stunp_event);
+    uint64_t now = number();
+    block *out = output(), *told = block_of_value(&fresh, sizeof fresh);
+    stunp_event *event = VALUE(stunp_event, told);
+    int64_t kind = stunp_endpoint_client_poll(&endpoint_client, now, ALL(out), event);
+    wrote_all(told, kind >= 0);
+    out->written = kind >= 0 ? event->length : 0;
+    return kind;
+}
+
+CALL(endpoint_client_cancel, (void)0, stunp_endpoint_client_cancel(&endpoint_client, number()))
+
+static int64_t endpoint_client_dropped(void) {
+    uint64_t request = number();
+    block *dropped = block_of(sizeof(stunp_dropped));
+    int64_t answer = stunp_endpoint_client_dropped(&endpoint_client, request,
+                                                   VALUE(stunp_dropped, dropped));
+    wrote_all(dropped, answer == 1);
+    return answer;
+}
+
 /* ---- Lines. */
 
 static const struct { const char *name; int64_t (*call)(void); } calls[] = {
@@ -538,6 +608,12 @@ static const struct { const char *name; int64_t (*call)(void); } calls[] = {
     {"endpoint-server-resume", endpoint_server_resume}, {"ice-new", ice_new},
     {"ice-is-controlling", ice_is_controlling}, {"ice-set-tie-breaker", ice_set_tie_breaker},
     {"ice-check", ice_check}, {"ice-receive", ice_receive},
+    {"endpoint-client-new", endpoint_client_new},
+    {"endpoint-client-request", endpoint_client_request},
+    {"endpoint-client-receive", endpoint_client_receive},
+    {"endpoint-client-poll", endpoint_client_poll},
+    {"endpoint-client-cancel", endpoint_client_cancel},
+    {"endpoint-client-dropped", endpoint_client_dropped},
 };
 
 static void print_bytes(const uint8_t *at, size_t length) {
@@ -563,7 +639,7 @@ static void finish(int64_t answer) {
     block_count = 0;
 }
 
-#define IS_SAME(one, other) ((one).is_full == (other).is_full && (one).state == (other).state)
+#define IS_SAME(one, other) ((one).state == (other).state)
 
 static void make(int64_t (*call)(void)) {
     stunp_agent old_agent = agent;
@@ -572,12 +648,14 @@ static void make(int64_t (*call)(void)) {
     stunp_endpoint_server old_endpoint = endpoint_server;
     stunp_endpoint_users old_users = endpoint_users;
     stunp_ice_checker old_checker = ice_checker;
+    stunp_endpoint_client old_asker = endpoint_client;
     size_t asked = stunp_heap_asked();
     int64_t answer = call();
     if (answer < 0 && !(IS_SAME(agent, old_agent) && IS_SAME(server, old_server)
                         && IS_SAME(client, old_client) && IS_SAME(endpoint_server, old_endpoint)
                         && IS_SAME(endpoint_users, old_users)
-                        && IS_SAME(ice_checker, old_checker)))
+                        && IS_SAME(ice_checker, old_checker)
+                        && IS_SAME(endpoint_client, old_asker)))
         fail("a refusal changes a handle");
     printf("%lld %zu", (long long)answer, stunp_heap_asked() - asked);
     finish(answer);
@@ -596,6 +674,7 @@ static void play(const char *name) {
         stunp_endpoint_server_free(&endpoint_server);
         stunp_endpoint_users_free(&endpoint_users);
         stunp_ice_checker_free(&ice_checker);
+        stunp_endpoint_client_free(&endpoint_client);
     }
     if (strcmp(name, "reset") == 0 || strcmp(name, "blocks") == 0) {
         printf("%zu %zu", stunp_heap_blocks(), stunp_heap_bytes());

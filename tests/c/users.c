@@ -234,7 +234,7 @@ static void refuses_users(struct pair *pair, const stunp_address *from) {
     want("no memory, keys", stunp_user_new_of_keys(&user, server, "name", 4, NULL, 0, NULL, 0),
          STUNP_OUT_OF_MEMORY);
     stunp_heap_bound(SIZE_MAX);
-    want("still empty", user.is_full, 0);
+    want("still empty", user.kind, 0);
     want("new", stunp_user_new(&user, server, "name", 4, "password", 8), 0);
     want("new again", stunp_user_new(&user, &empty, &byte, 1, &byte, 1), STUNP_FULL_HANDLE);
     want("new of keys", stunp_user_new_of_keys(&user, &empty, &byte, 1, &byte, 1, &byte, 1),
@@ -271,7 +271,7 @@ static void refuses_users(struct pair *pair, const stunp_address *from) {
     stunp_user_free(&user);
     stunp_user_free(&user);
     stunp_user_free(NULL);
-    want("free", user.is_full, 0);
+    want("free", user.kind, 0);
     stunp_server_free(&elsewhere);
     free_pair(&other);
 }

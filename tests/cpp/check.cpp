@@ -187,6 +187,11 @@ static void long_term_server() {
     found.name = "name", found.name_length = 4, found.password = "password";
     say(server->resume(&found, request, home, 1700000000));
     say(server->resume(nullptr, request, home, 1700000000));
+    auto cause = server->cause_for(nullptr, request, home, 1700000000);
+    show("cause", stunp_cause_text(cause.number()));
+    cause = server->cause(*users, request_of(nullptr, STUNP_BINDING), home, 1700000000);
+    show("cause", stunp_cause_text(cause.number()));
+    show("cause", stunp_cause_text(server->cause(*users, request, home, ~0ull).number()));
     got = server->receive(*users, request_of(&*client, STUNP_ALLOCATE), home, 1700000000);
     say(got);
     const stunp_reply &reply = *got->request();
@@ -228,6 +233,60 @@ static void other_servers() {
     static_assert(!std::is_copy_constructible_v<stunp::endpoint::users>);
     static_assert(!std::is_copy_constructible_v<stunp::endpoint::received>);
     static_assert(!std::is_copy_constructible_v<stunp::ice::checker>);
+}
+
+// A client whose requests a server answers, until one ends.
+static void ask_until_answered(stunp::endpoint::client &client,
+                               const stunp::endpoint::server &server,
+                               const stunp::endpoint::users &users) {
+    for (;;) {
+        auto next = client.poll(0);
+        if (!next) return show("no poll", next.text());
+        if (next->wait()) return show("nothing", "is outstanding");
+        if (auto ended = next->ended()) {
+            std::printf("request %u: %s, %zu bytes\n", unsigned(ended->request),
+                        stunp_result_text(ended->result), next->datagram.size());
+            return;
+        }
+        auto got = server.receive(users, *next->transmit(), home, 1700000000);
+        say(got);
+        auto answer = stunp::bytes();
+        if (got->answer()) answer = *got->answer();
+        else if (auto reply = got->request())
+            answer = *stunp::endpoint::success(*reply)
+                          .add_address(STUNP_XOR_RELAYED_ADDRESS, home).sign(*reply).finish();
+        auto kind = client.receive(answer, home, 0);
+        std::printf("the client: %d\n", kind ? *kind : -1);
+    }
+}
+
+static void client_with_a_user() {
+    static const uint8_t secret[32] = {1}, seed[32] = {2};
+    static const uint16_t types[] = {STUNP_LIFETIME, STUNP_XOR_PEER_ADDRESS};
+    auto settings = STUNP_INIT(stunp::endpoint::settings);
+    settings.realm = "realm", settings.secret = secret;
+    settings.understood = types, settings.understood_count = 2;
+    auto own = STUNP_INIT(stunp::endpoint::client_settings);
+    own.server = home, own.seed = seed, own.name = "name", own.password = "password";
+    auto server = stunp::endpoint::server::make(settings);
+    auto client = stunp::endpoint::client::make(own);
+    if (!server || !client) return show("no", "memory");
+    auto users = stunp::endpoint::users::make(*server);
+    if (!users || !users->add("name", "password")) return show("no", "memory");
+    auto body = stunp::endpoint::body().add_number(STUNP_LIFETIME, 600, 4).add_peer(home);
+    if (!client->request(STUNP_ALLOCATE, body, 0)) return show("not", "asked");
+    ask_until_answered(*client, *server, *users);
+    auto moved = std::move(*client);
+    show("what is left", client->request(STUNP_BINDING, 0).text());
+    show("its own", moved.request(STUNP_BINDING, body.add(STUNP_REALM, "realm"), 0).text());
+    auto number = moved.request(STUNP_BINDING, 0);
+    auto dropped = moved.dropped(*number);
+    std::printf("%u dropped, cancelled: %d\n", (*dropped)->count, *moved.cancel(*number));
+    show("not outstanding", moved.dropped(*number)->has_value() ? "dropped" : "nothing");
+    ask_until_answered(moved, *server, *users);
+    ask_until_answered(moved, *server, *users);
+    static_assert(!std::is_copy_constructible_v<stunp::endpoint::client>);
+    static_assert(!std::is_copy_constructible_v<stunp::endpoint::body>);
 }
 
 static void check_a_pair() {
@@ -274,6 +333,7 @@ int main() {
     meet_from_a_database();
     long_term_server();
     other_servers();
+    client_with_a_user();
     check_a_pair();
     move_handles();
 }

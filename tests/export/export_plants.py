@@ -2,7 +2,11 @@
 """Plants wrong rules in export.py and wrong lines in the library under the sources, one at a time,
 and tells which are found.
 
-usage: tests/export/export_plants.py [--turn | NUMBER ..]
+usage: tests/export/export_plants.py [--look | --turn | NUMBER ..]
+
+First it says which plants, of all, cannot be made in the files as they are, and ends with status 1
+if there are any. With --look it does no more than that. Nor does it plant anything if the files as
+they are cannot be exported and compiled, because then each plant would seem to be found.
 
 Each is planted in a copy in a scratch folder, which is exported, compiled and tested. (`rt ci`
 refuses a second crates.txt in the repository, under target/ too.) It is found where the export, the
@@ -57,35 +61,58 @@ PLANTS = [
      "        match string::String::from_utf8(bytes) {",
      "        if bytes.len() > 64 {\n"
      "            let text = string::String::from_utf8_lossy(&bytes).into_owned();\n"
-     "            return Ok(String { text, room });\n        }\n"
+     "            return Ok(String { text, alloc });\n        }\n"
      "        match string::String::from_utf8(bytes) {"),
     ("a block that is no UTF-8 is taken", KIT + "utf8.rs",
      "str::from_utf8(&block.0).is_ok()", "str::from_utf8(&block.0[..60]).is_ok()"),
-    ("room that is not given back when it grows", KIT + "alloc.rs",
-     "        self.leave();\n        self.places = places;", "        self.places = places;"),
-    ("room that is not given back at the end", KIT + "alloc.rs",
-     "    fn drop(&mut self) {\n        self.leave();", "    fn drop(&mut self) {"),
+    ("memory that is not given back when a collection grows", KIT + "alloc.rs",
+     "    leave::<T>(alloc, before);\n", "    let _ = before;\n"),
+    ("memory that is not given back at the end", KIT + "vec.rs",
+     "    fn drop(&mut self) {\n        leave::<T>(&self.alloc, self.items.capacity());",
+     "    fn drop(&mut self) {"),
     ("what the process refuses stays granted", KIT + "alloc.rs",
-     "            self.alloc.deallocate(after, align_of::<T>());\n            return",
-     "            return"),
-    ("a map that loses an entry of a refused split", KIT + "map.rs",
+     "        alloc.deallocate(size, align_of::<T>());\n        return", "        return"),
+    ("what the process refuses is taken for granted", KIT + "alloc.rs",
+     "    if reserve().is_err() {", "    if reserve().is_err() && before > 0 {"),
+    ("what the allocator refuses is taken for granted", KIT + "alloc.rs",
+     "    alloc.allocate(size, align_of::<T>())?;",
+     "    let _ = alloc.allocate(size, align_of::<T>());"),
+    ("a map that loses an entry of a refused split", KIT + "map/node.rs",
      "        let mut next = Node::new(child.is_leaf(), alloc)?;",
      "        let Ok(mut next) = Node::new(child.is_leaf(), alloc) else {\n"
      "            child.take(0);\n            return Err(AllocError);\n        };"),
-    ("a map that puts the value of a last key before its place", KIT + "map.rs",
-     "        self.values.insert(at, value);",
-     "        self.values.insert(at.saturating_sub(usize::from(at + 1 == self.keys.len())), value);"),
-    ("a map whose nodes stay when they are empty", KIT + "map.rs",
+    ("a map that loses the first entry of a leaf that is split", KIT + "map/node.rs",
+     "        let (key, value) = child.take(middle);",
+     "        if child.is_leaf() && !is_ascending {\n            child.take(0);\n        }\n"
+     "        let (key, value) = child.take(child.len() - 1);"),
+    ("a map that leaves the last value where another was removed", KIT + "map/node.rs",
+     "                *moved = free;", "                *moved = free.max(1);"),
+    ("a map whose nodes stay when they are empty", KIT + "map/node.rs",
      "        if before + 1 + after > most {", "        if before + 1 + after > 0 * most {"),
-    ("a range that begins one entry later", KIT + "map.rs",
-     "self.node = node.keys[at..].iter().zip(&node.values[at..]);",
-     "let at = (at + 1).min(node.len());\n"
-     "                self.node = node.keys[at..].iter().zip(&node.values[at..]);"),
+    ("a removal from a small map that moves its last key", KIT + "map/node.rs",
+     "        let value = self.take_value(at);\n        self.take_key(at);",
+     "        let value = self.take_value(at);\n"
+     "        self.keys.swap_remove(at);\n        self.places.swap(at, self.keys.len());"),
+    ("a removal after which the last key has another value", KIT + "map/node.rs",
+     "        self.places.copy_within(at + 1..self.keys.len(), at);",
+     "        self.places.copy_within(at + 1..(self.keys.len() - 1).max(at + 1), at);"),
+    ("a retain that keeps the first entry of a node above the leaves", KIT + "map/node.rs",
+     "            if !is_kept[at] {", "            if at > 0 && !is_kept[at] {"),
+    ("a retain that skips the second entry if the first is removed", KIT + "map/node.rs",
+     "                if condition(&self.keys[at], value) {",
+     "                if (kept == 0 && at == 1) || condition(&self.keys[at], value) {"),
+    ("a walk that goes to the recent key and not past it", KIT + "map/entries.rs",
+     "        let at = last + usize::from(is_past);",
+     "        let at = last + usize::from(is_past && last > 0);"),
+    ("a range that begins one entry later", KIT + "map/entries.rs",
+     "                self.node = node.entries(at);",
+     "                self.node = node.entries((at + 1).min(node.len()));"),
     ("a vector that drops what it refuses", KIT + "vec.rs",
      "        self.reserve(items.len())?;", "        if self.reserve(items.len()).is_err() {\n"
      "            self.items.clear();\n            return Err(AllocError);\n        }"),
     ("a text that grows without asking", KIT + "string.rs",
-     "        if least > self.room.places() {", "        if least > self.room.places().max(64) {"),
+     "        if least > self.text.capacity() {",
+     "        if least > self.text.capacity().max(64) {"),
     ("a copy with room that nobody granted", KIT + "vec.rs",
      "        let mut vec = Vec::with_capacity(alloc, items.len())?;",
      "        let mut vec = Vec::new(alloc);"),
@@ -96,10 +123,10 @@ PLANTS = [
     ("a hash whose copy is a new one", KIT + "hashes.rs",
      "Ok(self.clone())", "Ok(Digest::new())"),
     ("an inline row that takes too few", KIT + "inline.rs",
-     "length: items.len(),", "length: items.len().min(N - 1),"),
+     "            length,\n", "            length: length.min(N as u8 - 1),\n"),
     ("a clone that takes half of a text", KIT + "string.rs",
-     "        String::from_str(self.room.alloc, &self.text)",
-     "        String::from_str(self.room.alloc, &self.text[..self.text.len() & !1])"),
+     "        String::from_str(self.alloc, &self.text)",
+     "        String::from_str(self.alloc, &self.text[..self.text.len() & !1])"),
     ("durations without their nanoseconds", KIT + "convert.rs",
      "u32::try_from(nanos % second)", "u32::try_from(nanos % second / 1000 * 1000)"),
 ]
@@ -113,7 +140,7 @@ STEPS = [
     ("rustc", CARGO + ["seatcrane-checks", "--no-run"], "target/export"),
     ("exported tests", CARGO + ["seatcrane-checks", "--lib"], "target/export"),
     ("transcripts", ["sh", "-c", "cargo build --quiet -p seatcrane-checks && "
-                     "target/debug/transcripts ../../crates/transcripts/data/*.txt"],
+                     "target/debug/transcripts ../../tests/transcripts/*.txt"],
      "target/export"),
 ]
 
@@ -130,6 +157,38 @@ def refuses(command, folder):
             return True
 
 
+def refusing(steps):
+    """The first of the steps that refuses the copy, or None."""
+    return next((step for step, *how in steps if refuses(*how)), None)
+
+
+def look():
+    """Prints which plants cannot be made in the files as they are, and returns their number."""
+    here, wrong = Path(__file__).resolve(), 0
+    lines = here.read_text().splitlines()
+    for number, (name, file, old, _) in enumerate(PLANTS, 1):
+        times = (ROOT / file).read_text().count(old) if (ROOT / file).is_file() else 0
+        if times != 1:
+            wrong += 1
+            line = next(at for at, text in enumerate(lines, 1) if f'("{name}"' in text)
+            print(f"{here.relative_to(ROOT)}:{line}: plant {number} cannot be made: {file} has "
+                  f"{times} times {old!r}: write it for the file as it is")
+    print(f"plants: {len(PLANTS)} looked at, {wrong} cannot be made", flush=True)
+    return wrong
+
+
+def copy_anew():
+    """Makes the copy one of the files as they are."""
+    (COPY / "target").mkdir(parents=True, exist_ok=True)
+    for folder in ("crates", "rust", "tools", "tests/export", "tests/transcripts"):
+        shutil.copytree(ROOT / folder, COPY / folder, dirs_exist_ok=True,
+                        ignore=shutil.ignore_patterns("out", "specs", "proofs", "must-fail"))
+    shutil.copy(ROOT / "crates.txt", COPY)
+    config = ROOT / "target" / "export" / ".cargo"
+    if config.exists():
+        shutil.copytree(config, COPY / "target" / "export" / ".cargo", dirs_exist_ok=True)
+
+
 def in_turn():
     """The numbers of the three plants whose turn it is."""
     asked = subprocess.run(["git", "rev-list", "--count", "HEAD"], cwd=ROOT, capture_output=True,
@@ -142,24 +201,26 @@ def in_turn():
 
 def main():
     words = sys.argv[1:]
+    if look():
+        return 1
+    if words == ["--look"]:
+        return 0
     wanted = (in_turn() if words == ["--turn"] else [int(word) for word in words]
               or range(1, len(PLANTS) + 1))
-    (COPY / "target").mkdir(parents=True, exist_ok=True)
+    copy_anew()
+    step = refusing(STEPS[:3])
+    if step:
+        sys.exit(f"Nothing is planted, because the files as they are do not pass: {step}. "
+                 "Run `make rust`, which says why.")
     missed = 0
     for number in wanted:
         name, file, old, new = PLANTS[number - 1]
-        for folder in ("crates", "rust", "tools", "tests/export"):
-            shutil.copytree(ROOT / folder, COPY / folder, dirs_exist_ok=True,
-                            ignore=shutil.ignore_patterns("out", "specs", "proofs", "must-fail"))
-        shutil.copy(ROOT / "crates.txt", COPY)
-        config = ROOT / "target" / "export" / ".cargo"
-        if config.exists():
-            shutil.copytree(config, COPY / "target" / "export" / ".cargo", dirs_exist_ok=True)
-        text = (COPY / file).read_text()
-        if text.count(old) != 1:
-            sys.exit(f"{number}: {file} has {text.count(old)} times {old!r}")
-        (COPY / file).write_text(text.replace(old, new))
-        step = next((step for step, *how in STEPS if refuses(*how)), "NOT FOUND")
+        copy_anew()
+        before, found, after = (COPY / file).read_text().partition(old)
+        if not found:
+            sys.exit(f"{file} was changed meanwhile: {old!r} is no longer there")
+        (COPY / file).write_text(before + new + after)
+        step = refusing(STEPS) or "NOT FOUND"
         odd_forms = [sys.executable, "tests/export/export_test.py"]
         if file in (EXPORT, DERIVES) and refuses(odd_forms, "."):
             step += ", odd forms"

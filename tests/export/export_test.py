@@ -11,7 +11,7 @@ sys.path.insert(0, str(Path(__file__).resolve().parents[2] / "tools" / "export")
 import export
 
 PLACES = {"stun_base": "crate::exported::stun_base", "stun_auth": "crate::exported::stun_auth",
-          "stun_tool": "crate::programs::stun_tool", "fail_alloc": "crate::programs::fail_alloc"}
+          "stun_tool": "crate::programs::stun_tool", "stun_cli": "crate::programs::stun_cli"}
 
 CASES = [
     ("a table that keeps its layout", "stun_base", """
@@ -169,7 +169,7 @@ const fn f() { g("Contracts see it. The law `x`.") } // Contracts see it.
 /// them. The count takes no bytes, and the sources' contracts alone see it.
 struct B;
 """),
-    ("promises that a value may go away", "fail_alloc", """
+    ("promises that a value may go away", "stun_cli", """
 #[derive(Drop)]
 struct S<T: Drop, U: Copy + Drop> { inner: T, other: U }
 impl<T: Drop> Drop for S<T> {
@@ -186,7 +186,7 @@ fn g() { let Drop = 1; }
 struct S<T, U: Copy> { inner: T, other: U }
 fn g() { let Drop = 1; }
 """),
-    ("allocators", "fail_alloc", """
+    ("allocators", "stun_cli", """
 use std::alloc::{AllocError, Allocator};
 unsafe impl<B: Allocator> Allocator for R<B> {
     ghost dealloc_token = { λ _ _ _. ffalse };
@@ -358,10 +358,9 @@ mod tests;
 #[cfg(test)]
 use std::net::SocketAddr;
 use std::{env, io};
-use fail_alloc::RefusingAllocator;
+use stun_cli::words::words_of;
 fn main(rt: HostRuntime) -> ExitCode {
     println!(rt; "rt; {}", 1);
-    print!(rt; "{text}").is_ok()
 }
 #[test]
 fn each(rt: HostRuntime) -> Result<(), Fail> {
@@ -386,12 +385,11 @@ mod tests;
 #[cfg(test)]
 use std::net::SocketAddr;
 use crate::host::env; use crate::host::io;
-use crate::programs::fail_alloc::RefusingAllocator;
+use crate::programs::stun_cli::words::words_of;
 /// Runs the program.
 pub fn main() -> ExitCode {
     let rt = HostRuntime;
     println!("rt; {}", 1);
-    crate::host::print!("{text}").is_ok()
 }
 #[test]
 fn each() {

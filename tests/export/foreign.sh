@@ -37,7 +37,7 @@ passes() {
     # program alone.
     # No length of 64 bits is one on a target of 32.
     data=$CARGO_TARGET_DIR/data
-    rm -rf "$data" && cp -r crates/transcripts/data "$data"
+    rm -rf "$data" && cp -r tests/transcripts "$data"
     case $1 in i686 | armv7) sed -i '/^attribute takes 18446744073709551615 /d' "$data"/*.txt ;; esac
     cd target/export
     cargo test --quiet --workspace --exclude seatcrane-stun-c --all-features --lib --tests \

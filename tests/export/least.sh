@@ -21,5 +21,5 @@ cargo test --quiet --workspace --exclude seatcrane-stun-c --all-features --lib -
     --examples >"$CARGO_TARGET_DIR.log" 2>&1 || { cat "$CARGO_TARGET_DIR.log" >&2; exit 1; }
 cargo build --quiet --no-default-features
 cargo build --quiet --package seatcrane-stun-c --package seatcrane-checks
-"$CARGO_TARGET_DIR/debug/transcripts" ../../crates/transcripts/data/*.txt
+"$CARGO_TARGET_DIR/debug/transcripts" ../../tests/transcripts/*.txt
 echo "rust $least, the least: passed"

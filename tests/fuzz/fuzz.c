@@ -84,7 +84,7 @@ static size_t answer_to(const uint8_t *id, int64_t verdict, const stunp_address 
             ? stunp_server_sign_of(&world.server, out, room, (size_t)length, to, HANDED)
             : stunp_server_sign(&world.server, out, room, (size_t)length, to);
     if (are_refused(by))
-        require(answer == (world.server.is_full ? STUNP_BAD_ARGUMENT : STUNP_EMPTY_HANDLE),
+        require(answer == (world.server.kind != 0 ? STUNP_BAD_ARGUMENT : STUNP_EMPTY_HANDLE),
                 "signed by keys of other lengths");
     return signed_length(answer, room, (size_t)length);
 }
@@ -108,7 +108,7 @@ static int64_t server_hears(const uint8_t *message, size_t length, const stunp_a
                             enum handing by) {
     uint8_t name[1024], nonce[64];
     size_t name_length = 77;
-    bool is_full = world.server.is_full;
+    bool is_full = world.server.kind != 0;
     int64_t parsed = stunp_parse(message, length);
     int64_t kept = stunp_server_address_count(&world.server);
     bool is_kept = stunp_server_nonce(&world.server, from, nonce, sizeof nonce) > 0;
@@ -147,7 +147,7 @@ static int64_t server_hears(const uint8_t *message, size_t length, const stunp_a
 }
 
 static int64_t client_hears(const uint8_t *message, size_t length) {
-    bool is_full = world.client.is_full;
+    bool is_full = world.client.kind != 0;
     int64_t parsed = stunp_parse(message, length),
             answer = named(stunp_client_validate(&world.client, message, length));
     require(answer != 0 && answer <= STUNP_RESEND_SHA256, "another verdict of the client");
@@ -185,7 +185,7 @@ static bool change(struct bytes m, size_t length) {
 static void exchange(struct bytes m, uint8_t setting) {
     uint8_t id[STUNP_ID_LENGTH] = {setting, 1};
     const stunp_address *from = address_of(setting);
-    bool is_both_full = world.server.is_full && world.client.is_full, is_request_changed = false;
+    bool is_both_full = world.server.kind != 0 && world.client.kind != 0, is_request_changed = false;
     fill_out();
     int64_t begun = stunp_begin(STUNP_REQUEST, STUNP_BINDING, id, sizeof id, out, ROOM / 2);
     memcpy(before, out, ROOM);
@@ -214,7 +214,7 @@ static void agent_sends(struct bytes m, uint8_t setting) {
     stunp_address to = {{0}, 0, 0};
     const stunp_address *peer = address_of(setting);
     int64_t parsed = stunp_parse(m.at, m.length), kind = stunp_class(m.at, m.length);
-    bool is_full = world.agent.is_full, is_allowed = world.remote == NULL || world.remote == peer;
+    bool is_full = world.agent.kind != 0, is_allowed = world.remote == NULL || world.remote == peer;
     int64_t was =
         parsed < 0 ? 0
         : stunp_agent_is_outstanding(&world.agent, m.at + ID_AT, STUNP_ID_LENGTH, &to);
@@ -250,7 +250,7 @@ static void agent_hears(struct bytes m, uint8_t setting) {
     int64_t parsed = stunp_parse(m.at, m.length), kind = stunp_class(m.at, m.length), asked = 0;
     if (parsed == 0)
         asked = stunp_agent_is_outstanding(&world.agent, m.at + ID_AT, STUNP_ID_LENGTH, &to);
-    bool is_asked = asked == 1 && memcmp(&to, from, sizeof to) == 0, is_full = world.agent.is_full;
+    bool is_asked = asked == 1 && memcmp(&to, from, sizeof to) == 0, is_full = world.agent.kind != 0;
     int64_t answer = named(stunp_agent_handle(&world.agent, m.at, m.length, from, world.now));
     if (answer == STUNP_OUT_OF_MEMORY) return;
     require(answer
@@ -329,7 +329,7 @@ static void agent_is_asked(struct bytes m, uint8_t setting) {
     send_again(ROOM / 4 + setting * 2);
     end_requests();
     require(stunp_agent_statistics(&world.agent, &statistics)
-                == (world.agent.is_full ? 0 : STUNP_EMPTY_HANDLE),
+                == (world.agent.kind != 0 ? 0 : STUNP_EMPTY_HANDLE),
             "no statistics");
     statistics.size = setting;
     require(setting == sizeof statistics || stunp_agent_statistics(&world.agent, &statistics) < 0,
@@ -409,7 +409,7 @@ static void make_handles(struct bytes m, uint8_t setting) {
     if (setting & 1) stunp_server_free(&world.server);
     if (setting & 2) stunp_client_free(&world.client);
     if (setting & 4) stunp_agent_free(&world.agent);
-    bool were_full[] = {world.server.is_full, world.client.is_full, world.agent.is_full};
+    bool were_full[] = {world.server.kind != 0, world.client.kind != 0, world.agent.kind != 0};
     int64_t answers[] = {
         setting & 8 ? stunp_server_new(&world.server, m.at, m.length)
                     : stunp_server_new(&world.server, TEXT("realm")),
@@ -418,7 +418,7 @@ static void make_handles(struct bytes m, uint8_t setting) {
                                            address_of(setting), &timeouts)
                      : stunp_agent_new(&world.agent, setting / 32 % 2, addresses),
     };
-    bool are_full[] = {world.server.is_full, world.client.is_full, world.agent.is_full};
+    bool are_full[] = {world.server.kind != 0, world.client.kind != 0, world.agent.kind != 0};
     if (answers[0] == 0) world.most = SIZE_MAX;
     if (answers[2] == 0) world.remote = setting & 16 ? address_of(setting) : NULL;
     for (int i = 0; i < 3; i++) {

@@ -21,7 +21,7 @@ def step(name, setting=0, given=b""):
 
 def messages():
     """The samples, and what was captured: lines of digits under a line `from PROGRAM`."""
-    samples = (TOP / "crates/transcripts/data/message.rfc5769.txt").read_text()
+    samples = (TOP / "tests/transcripts/message.rfc5769.txt").read_text()
     for digits in re.findall(r"^sample = bytes ([0-9a-f ]+)$", samples, re.M):
         yield bytes.fromhex(digits)
     for path in sorted((TOP / "tests/programs/captures").glob("*.txt")):

@@ -122,7 +122,6 @@ def cases(servers, clients, tokio, hosts):
         if beside.exists():
             for words in BOTH:
                 yield named(label(client), pairs.many, servers[0], beside, words)
-    yield named(label(clients[0]), pairs.drained, clients[0])
     yield named(label(clients[0]), pairs.password_of_a_file, servers[0], clients[0])
 
 

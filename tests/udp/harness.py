@@ -72,9 +72,6 @@ def build_helpers(folder):
     archives = (STATE, ENDPOINT, STATELESS, *BESIDE.split())
     wiped = (HERE / "wiped.c", parts / "heap.c", *archives, "-o", folder / "wiped")
     subprocess.run([*command, *wiped], check=True)
-    client = (parts / name for name in ("exchange.c", "net.c", "heap.c"))
-    drained = (HERE / "drained.c", *client, *archives, "-o", folder / "drained")
-    subprocess.run([*command, *drained], check=True)
     for name in ("faults", "exhausted"):
         library = ("-shared", "-fPIC", HERE / f"{name}.c", "-o", folder / f"{name}.so", "-ldl")
         subprocess.run([*command, *library], check=True)

@@ -311,13 +311,6 @@ def nobody_in_the_file(client):
     fails(ask(client, "127.0.0.1", 9, "--user", "/dev/null"), "failed: nobody in the file")
 
 
-def drained(client):
-    """While many requests are due, what comes is read between a few that are sent (drained.c)."""
-    program = pathlib.Path(client).parent / "drained"
-    run = subprocess.run([program], capture_output=True, text=True, timeout=20)
-    assert run.stdout == "drained: passed\n", run
-
-
 def many(server, program, words):
     """200 threads share one client: each request is answered, the first ones after a challenge to
     each. Nobody is answered without a name."""

@@ -4,7 +4,7 @@
 usage: tools/export/export.py OUT
 
 OUT becomes a workspace of two packages: what stands in `rust/`, with `src/exported` (the crates of
-the library) and `checks/src/programs` (programs and tests) written from `crates/`.
+the library) and `checks/src/programs` (programs) written from `crates/`.
 
 This script knows no meaning. Each rule, here and in `export_derives.py`, erases or renames one form
 of text in code, comments and texts apart. A form that no rule knows stays as it is, so that rustc
@@ -24,11 +24,10 @@ from export_text import DOCS, Unknown, closing, erase, in_code, in_docs, mask
 ROOT = Path(__file__).resolve().parent.parent.parent
 
 # The crates of the library, which stand alone; what is exported of the others, `crates.txt` tells:
-# these programs, all crates of tests, and what they use.
+# these programs, and what they use.
 LIBRARY = ["stun_base", "stun_types", "stun_agent", "stun_auth", "stun_proto", "stun_extra",
            "stun_endpoint", "stun_client", "stun_client_loop", "stun_client_endpoint", "stun_ice"]
-PROGRAMS = ["stun_tool", "stun_inspect", "transcripts"]
-TESTS = re.compile(r"\w+_tests")
+PROGRAMS = ["stun_tool", "stun_inspect"]
 # The style of the sources, and what they could do more simply, is that of another language.
 STYLE = "#![allow(clippy::complexity, clippy::style, clippy::large_enum_variant)]\n\n"
 
@@ -206,7 +205,6 @@ def rewrite_macros(text):
     """A macro is not handed the process, and a text is made where an allocator says."""
     text = in_code(text, r"\b(assert|assert_eq|assert_ne|panic|println|eprintln)!\(\s*rt;\s*",
                    r"\1!(")
-    text = in_code(text, r"\bprint!\(rt;\s*", "crate::host::print!(")
     text = in_code(text, r"\bformat!\(in\s+", "crate::host::format_in!(")
     return in_code(text, r"\.(collect|to_string)\((?=\w)", r".\1_in(")
 
@@ -330,23 +328,20 @@ def main():
     for folder in ("src", "checks", "examples", "bench", "tests"):
         shutil.rmtree(out / folder, ignore_errors=True)
     shutil.copytree(ROOT / "rust", out, dirs_exist_ok=True)
+    shutil.copytree(ROOT / "tests/transcripts/endpoints", out / "tests/transcripts/data")
     uses = crates_known()
-    crates = with_used(uses, [name for name in uses
-                              if name in LIBRARY + PROGRAMS or TESTS.fullmatch(name)])
+    crates = with_used(uses, LIBRARY + PROGRAMS)
     places = {crate: f"crate::{'exported' if crate in LIBRARY else 'programs'}::{crate}"
               for crate in crates}
     library, programs = out / "src" / "exported", out / "checks" / "src" / "programs"
     commit = export_argued.commit_of(ROOT)
     for crate in crates:
         export_crate(crate, places, library if crate in LIBRARY else programs, commit)
-    shown = with_used(uses, PROGRAMS)
     for folder, words, names in (
             (library, "crates of the library", LIBRARY),
-            (programs, "programs and the crates of tests", set(crates) - set(LIBRARY))):
-        (folder / "mod.rs").write_text(
-            f"//! The {words}, exported.\n" + STYLE
-            + "".join(("" if crate in shown + LIBRARY else "#[cfg(test)]\n") + f"pub mod {crate};\n"
-                      for crate in sorted(names)))
+            (programs, "programs, and the crates that they share", set(crates) - set(LIBRARY))):
+        (folder / "mod.rs").write_text(f"//! The {words}, exported.\n" + STYLE + "".join(
+            f"pub mod {crate};\n" for crate in sorted(names)))
     export_c.write(out, exported, places, ROOT)
     # rustup has a rustfmt that runs nothing where the component is not there.
     asks = ["cargo", "fmt", "--version"]

@@ -2,10 +2,9 @@
 writes.
 
 The crates `stun_numbers`, `stun_handles`, `stun_c`, `stun_state` and `stun_c_endpoint` are exported
-as the others, but for what a caller in C keeps: a handle is a flag and a pointer, which
-`capi/src/handle.rs` has by hand. Their
-`extern "C"` functions become plain ones, and `border.rs` has those that C calls, where a slice is a
-pointer and a length (`capi/src/passed.rs`).
+as the others, but for what a caller in C keeps: a handle, with its pointer, which
+`capi/src/handle.rs` has by hand. Their `extern "C"` functions become plain ones, and `border.rs`
+has those that C calls, where a slice is a pointer and a length (`capi/src/passed.rs`).
 """
 import re
 import shutil
@@ -19,7 +18,8 @@ CALL = re.compile(r'((?:^///[^\n]*\n)+)^#\[unsafe\(no_mangle\)\]\npub extern "C"
 SIZES = [("IS_PROVED: bool = true;", "IS_PROVED: bool = false;"),
          ("usize = 9_223_372_036_854_775_807;", "usize = isize::MAX as usize;"),
          (" RECEIVED_SIZE: usize = 640;", " RECEIVED_SIZE: usize = size_of::<Received>();"),
-         ("ICE_RECEIVED_SIZE: usize = 64;", "ICE_RECEIVED_SIZE: usize = size_of::<IceReceived>();")]
+         ("ICE_RECEIVED_SIZE: usize = 64;", "ICE_RECEIVED_SIZE: usize = size_of::<IceReceived>();"),
+         (" EVENT_SIZE: usize = 64;", " EVENT_SIZE: usize = size_of::<Event>();")]
 SLICES = {"&[u8]": ("*const u8", "read"), "&mut [u8]": ("*mut u8", "written"),
           "&[u16]": ("*const u16", "read"), "&mut [u16]": ("*mut u16", "written")}
 
@@ -58,6 +58,8 @@ def write(out, exported, places, root):
     border = ("//! The calls that `include/stunp.h`, `include/stunp_state.h` and\n"
               "//! `include/stunp_endpoint.h` declare.\n\n"
               "use super::stun_c::header::Header;\nuse super::stun_c::walk::Cursor;\n"
+              "use super::stun_c_endpoint::client::event::{Dropped, Event};\n"
+              "use super::stun_c_endpoint::client::settings::ClientOptions;\n"
               "use super::stun_c_endpoint::ice::told::{IceCheck, IceReceived};\n"
               "use super::stun_c_endpoint::received::Received;\n"
               "use super::stun_handles::address::Address as EndpointAddress;\n"
@@ -72,7 +74,7 @@ def write(out, exported, places, root):
         source = root / "crates" / crate / "src"
         for path in sorted(source.rglob("*.rt")):
             name = path.relative_to(source).with_suffix(".rs")
-            if name.parts[0] in ("laws.rs", "handle.rs", "handle"):
+            if name.parts[0] in ("laws.rs", "handle.rs", "handle", "slot.rs"):
                 continue
             text = exported(path.read_text(), crate, {**places, **PLACES})
             for old, new in SIZES:
@@ -83,6 +85,7 @@ def write(out, exported, places, root):
                             + f"pub fn {found.group(2)}({found.group(3)})"
                             + (f" -> {found.group(4)}" if found.group(4) else ""), text)
             text = re.sub(r"^(pub )?mod handle;\n", "use crate::handle;\n", text, flags=re.M)
+            text = re.sub(r"^pub mod slot;\n", "", text, flags=re.M)
             text = re.sub(r"^mod (\w+);\n", r"pub mod \1;\n", text, flags=re.M)
             if str(name) == "lib.rs":
                 name = Path("mod.rs")
@@ -94,4 +97,4 @@ def write(out, exported, places, root):
         "//! The calls for C, exported, and what C calls of them.\n"
         "#![allow(clippy::complexity, clippy::style, unreachable_patterns, unused_imports)]\n"
         "#![allow(dead_code, unused_mut)]\n\npub mod "
-        "border;\n" + "".join(f"#[deny(unsafe_code)]\nmod {crate};\n" for crate in CRATES))
+        "border;\n" + "".join(f"#[deny(unsafe_code)]\npub(crate) mod {crate};\n" for crate in CRATES))

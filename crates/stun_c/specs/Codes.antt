@@ -60,7 +60,7 @@ refusal_text number =
     else if number == 26 then ended_text (codes "a request would be sent again without a wait")
     else if number == 27 then ended_text (codes "as many addresses are kept as may be")
     else if number == 28 then ended_text (codes "there is no key to sign with")
-    else if number == 29 then ended_text (codes "the handle has a value of another kind")
+    else if number == 29 then ended_text (codes "the handle has a value of another kind, realm or algorithm")
     else ended_text (codes "unknown refusal")
 
 -- what an answer says

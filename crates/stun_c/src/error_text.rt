@@ -37,7 +37,7 @@ fn refusal_text(number: u64) -> &'static [u8]
         26 => b"a request would be sent again without a wait\0",
         27 => b"as many addresses are kept as may be\0",
         28 => b"there is no key to sign with\0",
-        29 => b"the handle has a value of another kind\0",
+        29 => b"the handle has a value of another kind, realm or algorithm\0",
         _ => b"unknown refusal\0",
     }
 }

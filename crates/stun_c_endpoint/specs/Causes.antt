@@ -21,8 +21,8 @@ use Rattle.stun_numbers.specs.declared.refusal.Refusal.TheVariants.{WrongHandle}
 use Rattle.stun_c_endpoint.specs.Kept.{at_handle}
 use Rattle.stun_c_endpoint.specs.Told.{LAST_SECOND}
 use Rattle.stun_c_endpoint.specs.declared.handle.endpoint.Kept.{Kept}
-use Rattle.stun_c_endpoint.specs.declared.handle.endpoint.Kept.TheVariants.{Checker, Server, Users}
-use Rattle.stun_c_endpoint.specs.declared.handle.endpoint.Kept.TheVariants.{Open, ShortTerm}
+use Rattle.stun_c_endpoint.specs.declared.handle.endpoint.Kept.TheVariants.{Checker, Client, Server}
+use Rattle.stun_c_endpoint.specs.declared.handle.endpoint.Kept.TheVariants.{Open, ShortTerm, Users}
 use Rattle.stun_c_endpoint.specs.declared.handle.endpoint.Kept.TheVariants.{ShortTermUsers}
 
 -- a server with long-term credentials, and its users
@@ -38,6 +38,7 @@ with_table s (Open t) = Err WrongHandle
 with_table s (ShortTerm t) = Err WrongHandle
 with_table s (ShortTermUsers t) = Err WrongHandle
 with_table s (Checker t) = Err WrongHandle
+with_table s (Client t) = Err WrongHandle
 
 -- a server of another kind has no causes, and is refused before the table is looked at
 abbrev pub long_term_with : Option Kept → Kept → Result OfRealm Refusal
@@ -47,6 +48,7 @@ long_term_with users (Open t) = Err WrongHandle
 long_term_with users (ShortTerm t) = Err WrongHandle
 long_term_with users (ShortTermUsers t) = Err WrongHandle
 long_term_with users (Checker t) = Err WrongHandle
+long_term_with users (Client t) = Err WrongHandle
 
 abbrev pub long_term_and_users : Option Kept → Option Kept → Result OfRealm Refusal
 long_term_and_users server users = at_handle server (λ s. long_term_with users s)

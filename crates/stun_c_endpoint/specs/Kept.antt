@@ -1,5 +1,5 @@
--- What a handle has: a server, a table of users or an agent of ICE. One that is empty is refused, and
--- one of another kind by another name.
+-- What a handle has: a server, a table of users, an agent of ICE or a client. One that is empty is
+-- refused, and one of another kind by another name.
 use Rattle.std.specs.Prelude.{Option, Some, None, Result, Ok, Err}
 use Rattle.stun_auth.specs.Validation.{ServerSeen}
 use Rattle.stun_endpoint.specs.Responding.{Responding}
@@ -11,7 +11,7 @@ use Rattle.stun_numbers.specs.declared.refusal.Refusal.TheVariants.{EmptyHandle,
 use Rattle.stun_c_endpoint.specs.declared.handle.endpoint.Kept.{Kept}
 use Rattle.stun_c_endpoint.specs.declared.handle.endpoint.Kept.TheVariants.{Checker, Server, Users}
 use Rattle.stun_c_endpoint.specs.declared.handle.endpoint.Kept.TheVariants.{Open, ShortTerm}
-use Rattle.stun_c_endpoint.specs.declared.handle.endpoint.Kept.TheVariants.{ShortTermUsers}
+use Rattle.stun_c_endpoint.specs.declared.handle.endpoint.Kept.TheVariants.{Client, ShortTermUsers}
 
 -- what is done with the value of a handle, unless that is empty
 abbrev pub at_handle : {V : Type 0} → Option Kept → (Kept → Result V Refusal) → Result V Refusal
@@ -33,6 +33,7 @@ with_realm s (Open t) = Err WrongHandle
 with_realm s (ShortTerm t) = Err WrongHandle
 with_realm s (ShortTermUsers t) = Err WrongHandle
 with_realm s (Checker t) = Err WrongHandle
+with_realm s (Client t) = Err WrongHandle
 
 abbrev pub with_keys : Responding → Kept → Result Judge Refusal
 with_keys s (ShortTermUsers u) = Ok (by_users s u)
@@ -41,6 +42,7 @@ with_keys s (Users t) = Err WrongHandle
 with_keys s (Open t) = Err WrongHandle
 with_keys s (ShortTerm t) = Err WrongHandle
 with_keys s (Checker t) = Err WrongHandle
+with_keys s (Client t) = Err WrongHandle
 
 -- a server with credentials needs a table of its kind; the table of one without is not looked at
 abbrev pub judge_with : Option Kept → Kept → Result Judge Refusal
@@ -50,6 +52,7 @@ judge_with users (Open s) = Ok (openly s)
 judge_with users (Users t) = Err WrongHandle
 judge_with users (ShortTermUsers t) = Err WrongHandle
 judge_with users (Checker t) = Err WrongHandle
+judge_with users (Client t) = Err WrongHandle
 
 -- what two handles judge by. That of the server is looked at first
 abbrev pub judge_of : Option Kept → Option Kept → Result Judge Refusal
@@ -64,6 +67,7 @@ agent_of (Users u) = Err WrongHandle
 agent_of (Open s) = Err WrongHandle
 agent_of (ShortTerm s) = Err WrongHandle
 agent_of (ShortTermUsers u) = Err WrongHandle
+agent_of (Client c) = Err WrongHandle
 
 abbrev pub agent_in : Option Kept → Result Agent Refusal
 agent_in handle = at_handle handle (λ kept. agent_of kept)

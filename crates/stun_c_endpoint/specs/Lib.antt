@@ -1,6 +1,6 @@
 -- What the contracts of this crate say, in the order to read it.
 
--- which server, which users or which agent of ICE a handle has
+-- which server, which users, which agent of ICE or which client a handle has
 pub mod Kept
 -- the settings that a caller gives, and the server of them
 pub mod Given
@@ -18,5 +18,13 @@ pub mod Agents
 pub mod Checks
 -- what a datagram comes to at an agent of ICE, as a caller gets it
 pub mod Judged
+-- the client that a caller makes
+pub mod ClientsGiven
+-- what it is to do next, as a caller gets it
+pub mod Events
+-- the body of a request that a caller gives
+pub mod Attributes
+-- what the calls on it return, write and leave
+pub mod Clients
 -- what no clause of a public call cites: what representations alone use
 pub mod code

@@ -19,7 +19,7 @@ use Rattle.stun_c_endpoint.specs.Kept.{at_handle}
 use Rattle.stun_c_endpoint.specs.declared.handle.endpoint.Kept.{Kept}
 use Rattle.stun_c_endpoint.specs.declared.handle.endpoint.Kept.TheVariants.{Checker, Server, Users}
 use Rattle.stun_c_endpoint.specs.declared.handle.endpoint.Kept.TheVariants.{Open, ShortTerm}
-use Rattle.stun_c_endpoint.specs.declared.handle.endpoint.Kept.TheVariants.{ShortTermUsers}
+use Rattle.stun_c_endpoint.specs.declared.handle.endpoint.Kept.TheVariants.{Client, ShortTermUsers}
 use Rattle.stun_c_endpoint.specs.declared.received.Received.{Received}
 
 -- what is judged without users: one of another kind than a server with long-term credentials has no
@@ -31,6 +31,7 @@ long_term_of (Open t) = Err WrongHandle
 long_term_of (ShortTerm t) = Err WrongHandle
 long_term_of (ShortTermUsers t) = Err WrongHandle
 long_term_of (Checker t) = Err WrongHandle
+long_term_of (Client t) = Err WrongHandle
 
 abbrev pub long_term_in : Option Kept → Result Settings Refusal
 long_term_in handle = at_handle handle (λ kept. long_term_of kept)

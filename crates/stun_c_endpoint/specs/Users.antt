@@ -16,7 +16,7 @@ use Rattle.stun_numbers.specs.declared.refusal.Refusal.TheVariants.{TextTooLong,
 use Rattle.stun_c_endpoint.specs.declared.handle.endpoint.Kept.{Kept}
 use Rattle.stun_c_endpoint.specs.declared.handle.endpoint.Kept.TheVariants.{Checker, Server, Users}
 use Rattle.stun_c_endpoint.specs.declared.handle.endpoint.Kept.TheVariants.{Open, ShortTerm}
-use Rattle.stun_c_endpoint.specs.declared.handle.endpoint.Kept.TheVariants.{ShortTermUsers}
+use Rattle.stun_c_endpoint.specs.declared.handle.endpoint.Kept.TheVariants.{Client, ShortTermUsers}
 
 -- no USERNAME carries a longer name (section 14.3)
 abbrev pub name_refusal : List ℕ → Option Refusal
@@ -42,6 +42,7 @@ adding name password (Server s) = Err WrongHandle
 adding name password (Open s) = Err WrongHandle
 adding name password (ShortTerm s) = Err WrongHandle
 adding name password (Checker a) = Err WrongHandle
+adding name password (Client c) = Err WrongHandle
 
 -- a table with a user of stored keys
 abbrev pub keys_added : ServerSeen → List ℕ → Result StoredKeys Refusal → Result Kept Refusal
@@ -66,6 +67,7 @@ adding_keys name sha1 sha256 (Open s) = Err WrongHandle
 adding_keys name sha1 sha256 (ShortTerm s) = Err WrongHandle
 adding_keys name sha1 sha256 (ShortTermUsers u) = Err WrongHandle
 adding_keys name sha1 sha256 (Checker a) = Err WrongHandle
+adding_keys name sha1 sha256 (Client c) = Err WrongHandle
 
 -- what is left once a user is removed
 abbrev pub removing : List ℕ → Kept → Result Kept Refusal
@@ -77,6 +79,7 @@ removing name (Server s) = Err WrongHandle
 removing name (Open s) = Err WrongHandle
 removing name (ShortTerm s) = Err WrongHandle
 removing name (Checker a) = Err WrongHandle
+removing name (Client c) = Err WrongHandle
 
 -- the empty table of a server's users. One without credentials has no users
 abbrev pub table_for : Kept → Result Kept Refusal
@@ -86,6 +89,7 @@ table_for (Open s) = Err WrongHandle
 table_for (Users u) = Err WrongHandle
 table_for (ShortTermUsers u) = Err WrongHandle
 table_for (Checker a) = Err WrongHandle
+table_for (Client c) = Err WrongHandle
 
 -- a call leaves this table in its handle and returns 0, or it is refused and leaves what was there
 abbrev pub LeavesTable : Result Kept Refusal → ℤ → Option Kept → Option Kept → Type 0

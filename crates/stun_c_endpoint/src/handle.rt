@@ -1,4 +1,4 @@
-//! The handle with which a program in C holds a server, a table of users or an agent of ICE on the
-//! heap.
+//! The handle with which a program in C holds a server, a table of users, a client or an agent of ICE
+//! on the heap.
 
 pub mod endpoint;

@@ -5,6 +5,7 @@
 #![tactic(auto)]
 
 mod calls;
+mod client;
 mod handle;
 mod ice;
 mod received;

@@ -78,7 +78,7 @@ pub struct Received {
 }
 
 /// Copies at most `most` bytes to the front of an array, after which zeros follow.
-fn front<const N: usize>(bytes: &[u8], most: usize) -> [u8; N]
+pub fn front<const N: usize>(bytes: &[u8], most: usize) -> [u8; N]
     requires { most ≤ N }
     ensures { result ≡ at_front N most bytes.now }
 {
@@ -98,7 +98,7 @@ pub fn id_bytes(id: TransactionId) -> [u8; 12]
 }
 
 /// Returns the number of an integrity attribute, or 0 for none.
-fn integrity_number(algorithm: Option<IntegrityAlgorithm>) -> u8
+pub fn integrity_number(algorithm: Option<IntegrityAlgorithm>) -> u8
     ensures { result ≡ integrity_number algorithm }
 {
     match algorithm {

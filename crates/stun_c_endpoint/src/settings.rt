@@ -79,7 +79,7 @@ fn nonce_seconds(seconds: u64) -> u64
 }
 
 /// Converts numbers to attribute types.
-fn types(alloc: Global, numbers: &[u16]) -> Result<Vec<AttributeType, Global>, AllocError>
+pub fn types(alloc: Global, numbers: &[u16]) -> Result<Vec<AttributeType, Global>, AllocError>
     ensures { IfOk result (λ types. types.items ≡ types_of numbers.now) }
 {
     let mut types = Vec::new(alloc);
@@ -99,7 +99,7 @@ fn copy_types(types: &mut [AttributeType], numbers: &[u16])
 }
 
 /// Copies a text, if it has bytes.
-fn text_if_any(alloc: Global, text: &str) -> Result<Option<String<Global>>, AllocError>
+pub fn text_if_any(alloc: Global, text: &str) -> Result<Option<String<Global>>, AllocError>
     ensures { IfOk result (λ copy. option_map string_bytes copy ≡ if_any text.now) }
 {
     if text.len() == 0 {
@@ -109,7 +109,7 @@ fn text_if_any(alloc: Global, text: &str) -> Result<Option<String<Global>>, Allo
 }
 
 /// Puts a server into an empty handle, or returns the number of the error.
-fn placed(alloc: Global, handle: &mut EndpointHandle, server: Kept) -> i64
+pub fn placed(alloc: Global, handle: &mut EndpointHandle, server: Kept) -> i64
     requires { handle.old.kept ≡ None }
     ensures { OrOutOfMemory result None handle.new.kept (pos 0) (Some server) }
 {

@@ -1,3 +1,12 @@
 pub mod BodyLemmas
 pub mod FormLemmas
+pub mod KeptLemmas
+pub mod LawLemmas
 pub mod NumberLemmas
+pub mod PendingLemmas
+pub mod PollLemmas
+pub mod ReceivingLemmas
+pub mod RequestingLemmas
+pub mod StoredLemmas
+pub mod TallyLemmas
+pub mod WrittenLemmas

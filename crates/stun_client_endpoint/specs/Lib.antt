@@ -6,5 +6,15 @@ pub mod Bodies
 pub mod Written
 -- the transaction ID of the next request
 pub mod Numbers
+-- how requests end, and what is dropped for them
+pub mod Ends
+-- what is stored of requests until their ends are handed out
+pub mod Pendings
+-- a client, and what each call makes of it
+pub mod Endpoints
+-- what is done to a client, call by call
+pub mod Runs
+-- laws over any calls
+pub mod Laws
 -- what no clause of a public call cites: views of the code's own structs
 pub mod code

@@ -92,9 +92,21 @@ abbrev pub completed_request : Form → Identity → Option Answered → List �
 completed_request form identity challenge page =
     and_then (with_own_software form.software page) (closed_request form identity challenge)
 
--- a request: the header with its method and its ID, the body, SOFTWARE, the signature for a
--- challenge, and FINGERPRINT
-unfoldable pub request_bytes : Form → Identity → Option Answered → ℕ → ℕ → Body → Page?
-request_bytes form identity challenge method id body =
+-- whether SOFTWARE has more than 763 bytes (section 14.14)
+abbrev pub is_text_too_long : Option (List ℕ) → Bool
+is_text_too_long None = false
+is_text_too_long (Some text) = nat_lt TEXT_LIMIT (length text)
+
+-- the header with its method and its ID, the body, SOFTWARE, the signature for a challenge, and
+-- FINGERPRINT
+abbrev pub whole_request : Form → Identity → Option Answered → ℕ → ℕ → Body → Page?
+whole_request form identity challenge method id body =
     and_then (with_body id body (empty_message Request method id))
     (completed_request form identity challenge)
+
+-- a request, or why it cannot be written: a text of SOFTWARE that is too long comes first, and then
+-- the first part that cannot be added
+unfoldable pub request_bytes : Form → Identity → Option Answered → ℕ → ℕ → Body → Page?
+request_bytes form identity challenge method id body =
+    if is_text_too_long form.software then Err TooLarge
+    else whole_request form identity challenge method id body

@@ -1,6 +1,6 @@
 //! The attributes of a request.
 ghost use Rattle.std.specs.Prelude.{◌≡◌, ◌≤◌, ◌++◌, ◌∷◌, ◌⊎◌, [], Err, IfErr, IfOk, IsOkUnless};
-ghost use Rattle.std.specs.Prelude.{MatchOption, Ok, OnErr, OnOk, length, true};
+ghost use Rattle.std.specs.Prelude.{IsOk, MatchOption, Ok, OnErr, OnOk, length, true};
 ghost use Rattle.stun_types.specs.Attribute.{attribute_length};
 ghost use Rattle.stun_client_endpoint.specs.Bodies.{body_refusal, fits, is_reserved, of_peer};
 ghost use Rattle.stun_client_endpoint.specs.Bodies.{body_size_refusal, piece_length, with_value};
@@ -15,8 +15,8 @@ use stun_types::message::{MessageWriteVec, StunWriteError, TransactionId};
 use stun_types::prelude::*;
 use thiserror::Error;
 
-/// The most bytes of the attributes of a body. What a client adds to a request fits after them,
-/// unless the server's list of algorithms is very long.
+/// The most bytes of the attributes of a body, where each XOR-PEER-ADDRESS counts as 24. What a
+/// client adds to a request fits after them, unless the server's list of algorithms is very long.
 pub const BODY_LIMIT: usize = 60_000;
 
 /// Why an attribute is not added to a body. The body is then as it was.
@@ -27,7 +27,7 @@ pub enum BodyError {
     /// ERROR-CODE, which no request has.
     #[error("a body cannot have this attribute")]
     NotAllowed,
-    /// The attributes would have more than `BODY_LIMIT` bytes.
+    /// The attributes would have more than `BODY_LIMIT` bytes, by the count that is described there.
     #[error("the body is too large")]
     TooLarge,
     /// An allocation failed.
@@ -119,7 +119,10 @@ impl<A: Allocator + Copy> Body<A> {
     ///
     /// # Errors
     ///
-    /// Those of `add`, but not `NotAllowed`.
+    /// The first of these that applies. The body is then as it was.
+    ///
+    /// - `TooLarge`: the attributes would have more than `BODY_LIMIT` bytes.
+    /// - `OutOfMemory`: an allocation failed.
     pub fn add_xor_peer_address(&mut self, address: SocketAddr) -> Result<(), BodyError>
         ensures refused { MatchOption (body_size_refusal self.old 20)
             (IsOkUnless result BodyError.OutOfMemory) (λ why. result ≡ Err why) }
@@ -133,7 +136,7 @@ impl<A: Allocator + Copy> Body<A> {
         self.push(piece, 20)
     }
 
-    /// Returns whether one more attribute fits, whose value has so many bytes.
+    /// Returns whether an attribute whose value has this many bytes still fits.
     pub fn has_room(&self, length: usize) -> bool
         ensures { result ≡ fits self.now length }
     {
@@ -155,9 +158,10 @@ impl<A: Allocator + Copy> Body<A> {
         Ok(())
     }
 
-    /// Copies the body. Fails if an allocation fails.
+    /// Copies the body. Fails if an allocation fails. A body without attributes takes no memory.
     pub fn cloned(&self) -> Result<Body<A>, AllocError>
-        ensures { IfOk result (λ copy. copy ≡ self.now) }
+        ensures copied { IfOk result (λ copy. copy ≡ self.now) }
+        ensures no_memory { self.now ≡ [] → IsOk result }
     {
         let mut pieces = Vec::new(self.alloc);
         for piece in &self.pieces {

@@ -5,7 +5,8 @@ ghost use Rattle.std.specs.String.{string_bytes};
 ghost use Rattle.stun_types.specs.Writing.{empty_message};
 ghost use Rattle.stun_client.specs.Judging.{identity_of};
 ghost use Rattle.stun_client_endpoint.specs.Written.{closed_request, completed_request};
-ghost use Rattle.stun_client_endpoint.specs.Written.{request_bytes, with_body, with_credentials};
+ghost use Rattle.stun_client_endpoint.specs.Written.{is_text_too_long, request_bytes, whole_request};
+ghost use Rattle.stun_client_endpoint.specs.Written.{with_body, with_credentials};
 ghost use Rattle.stun_client_endpoint.specs.Written.{with_one, with_own_end, with_own_software};
 ghost use Rattle.stun_client_endpoint.specs.Written.{with_software_text};
 
@@ -16,6 +17,7 @@ use stun_client::challenge::Challenge;
 use stun_client::credentials::Credentials;
 use stun_extra::attribute::Software;
 use stun_extra::fingerprint::finish_with_fingerprint;
+use stun_types::limits::TEXT_LIMIT;
 use stun_types::message::{
     Message, MessageClass, MessageWriteVec, Method, StunWriteError, TransactionId,
 };
@@ -44,8 +46,9 @@ impl<A: Allocator> Model for Form<A> {
 }
 
 impl<A: Allocator + Copy> Form<A> {
-    /// Has each request contain SOFTWARE with this text, if there is one, and FINGERPRINT, if you
-    /// want it. A request is refused as `TooLarge` if the text has more than 763 bytes.
+    /// Creates a form: each request has SOFTWARE with this text, if there is one, and FINGERPRINT if
+    /// the last argument is true. A request is refused as `TooLarge` if the text has more than 763
+    /// bytes.
     pub fn new(software: Option<String<A>>, has_fingerprint: bool) -> Form<A>
         ensures { result ≡ record {
           software = option_map string_bytes software;
@@ -63,8 +66,10 @@ impl<A: Allocator + Copy> Form<A> {
     ///
     /// # Errors
     ///
-    /// The first reason why one of these cannot be added, such as `TooLarge`, or `OutOfMemory` if
-    /// an allocation fails.
+    /// - `TooLarge`, before anything is allocated: the text of SOFTWARE has more than 763 bytes.
+    /// - Otherwise the first reason why one of the parts cannot be added, in the order above, such as
+    ///   `TooLarge` if the message would be longer than the longest one, or `OutOfMemory` if an
+    ///   allocation fails before.
     #[tactic(auto, unfolding(crate::specs::Written::request_bytes))]
     pub fn written(
         &self,
@@ -80,6 +85,41 @@ impl<A: Allocator + Copy> Form<A> {
             method id body.now ≡ Ok bytes.items) }
         ensures refused { IfErr result (λ why. (why ≡ StunWriteError.OutOfMemory)
             ⊎ (request_bytes self.now (identity_of credentials.now)
+            (option_copied signed_for.entry) method id body.now ≡ Err why)) }
+        ensures at_once { is_text_too_long self.now.software ≡ true
+            → result ≡ Err StunWriteError.TooLarge }
+    {
+        if self.is_text_too_long() {
+            return Err(StunWriteError::TooLarge);
+        }
+        self.whole(alloc, credentials, signed_for, method, id, body)
+    }
+
+    /// Returns whether the text of SOFTWARE has more than 763 bytes.
+    fn is_text_too_long(&self) -> bool
+        ensures { result ≡ is_text_too_long self.now.software }
+    {
+        match &self.software {
+            Some(text) => text.as_str().len() > TEXT_LIMIT,
+            None => false,
+        }
+    }
+
+    /// Writes a request.
+    fn whole(
+        &self,
+        alloc: A,
+        credentials: &Credentials<A>,
+        signed_for: Option<&Challenge<A>>,
+        method: Method,
+        id: TransactionId,
+        body: &Body<A>,
+    ) -> Result<Vec<u8, A>, StunWriteError>
+        ensures ok { IfOk result (λ bytes.
+            whole_request self.now (identity_of credentials.now) (option_copied signed_for.entry)
+            method id body.now ≡ Ok bytes.items) }
+        ensures refused { IfErr result (λ why. (why ≡ StunWriteError.OutOfMemory)
+            ⊎ (whole_request self.now (identity_of credentials.now)
             (option_copied signed_for.entry) method id body.now ≡ Err why)) }
     {
         let page = begun_with(alloc, method, id, body)?;

@@ -1,10 +1,16 @@
-//! The requests of a client: their bodies, their bytes, and their transaction IDs (RFC 8489,
-//! sections 5, 6.1, 9.1.2 and 9.2.5).
+//! A client of one STUN server as one value: it sends requests again, answers challenges, verifies
+//! responses and returns how requests end (RFC 8489, sections 5, 6.1 to 6.3, 9.1 and 9.2).
 //!
-//! `seatcrane_stun::endpoint::Client` writes its requests by it.
+//! `seatcrane_stun::endpoint::Client` is a front of its `ClientEndpoint`.
 #![tactic(auto)]
 
 pub mod body;
+pub mod ended;
+pub mod endpoint;
 pub mod form;
+pub mod laws;
 pub mod numbers;
+mod pending;
 mod piece;
+mod reading;
+pub mod told;

@@ -1,5 +1,7 @@
 //! The transaction ID of the next request.
-ghost use Rattle.std.specs.Prelude.{◌≡◌};
+ghost use Rattle.std.specs.Option.{IfSome};
+ghost use Rattle.std.specs.Prelude.{◌≡◌, ◌<◌};
+ghost use Rattle.stun_client.specs.Requests.{LAST_NUMBER};
 ghost use Rattle.stun_client_endpoint.specs.Numbers.{free_number, is_taken};
 
 use std::alloc::Allocator;
@@ -21,7 +23,8 @@ pub fn free_number<A: Allocator + Copy>(
     agent: &StunAgent<A>,
     next: u64,
 ) -> Option<u64>
-    ensures { result ≡ free_number seed.now agent.now next }
+    ensures free { result ≡ free_number seed.now agent.now next }
+    ensures low { IfSome result (λ number. number < LAST_NUMBER) }
 {
     for number in next..u64::MAX {
         if !is_taken(seed, agent, number) {

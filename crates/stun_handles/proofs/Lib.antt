@@ -1,3 +1,4 @@
 pub mod AsBox
+pub mod SlotWords
 pub mod Steps
 pub mod Words

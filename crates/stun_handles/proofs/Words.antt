@@ -3,7 +3,7 @@ use Rattle.stun_handles.proofs.Steps.{◌≡◌, ℕ, List, [], ◌∷◌, ◌++
 use Rattle.stun_handles.proofs.Steps.{via, never_e, ftrue, bare, Val, vbool, vstruct, vcons, vnil}
 use Rattle.stun_handles.proofs.Steps.{of_list, Logic, sem, Item, Goal, Seq, Step, step, ‵, given}
 use Rattle.stun_handles.proofs.Steps.{◌$◌, drop, use1, learn, fsplit, fjoin, fpick, fpack, feq_i}
-use Rattle.stun_handles.proofs.Steps.{feq_l, bool, no, lone, RattleType, Valss, Ptr, RawPtr}
+use Rattle.stun_handles.proofs.Steps.{feq_l, bool, lone, RattleType, Valss, Ptr, RawPtr}
 use Rattle.stun_handles.proofs.Steps.{block_ptr, null_ptr, ptr_val, in_a_block, nothing, within}
 use Rattle.stun_handles.proofs.Steps.{shape, Ptr-Good, Bool, true, false, Option, Some, None}
 use lib.Dec.{T as IsTrue}

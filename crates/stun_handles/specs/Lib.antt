@@ -4,6 +4,8 @@
 pub mod Addresses
 -- the numbers that calls return
 pub mod Numbers
+-- the kinds of handles
+pub mod Kinds
 -- the stored keys of a user
 pub mod Keys
 -- what calls share: an address that may be none, and texts

@@ -6,7 +6,7 @@ ghost use Rattle.std.specs.Prelude.{◌≡◌, Some, None, Option, IfSome, IfNon
 ghost use Rattle.std.specs.Coded.{coded_option};
 ghost use Rattle.stun_handles.specs.code.Handle.{handle_owns};
 
-mod parts;
+pub(crate) mod parts;
 
 use parts::Parts;
 use std::alloc::Global;

@@ -1,7 +1,7 @@
 -- Definitions that no clause of a public call cites: what private functions and representations
 -- alone cite.
 
--- what a handle owns
+-- the value that a handle has
 pub mod Handle
 -- how much of its memory a message has taken
 pub mod Desk

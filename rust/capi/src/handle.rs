@@ -1,5 +1,6 @@
-//! What a caller in C keeps: a flag and a pointer to a value on the heap.
+//! What a caller in C keeps: a pointer to a value on the heap, and before it a kind or a flag.
 
+use crate::calls::stun_handles::kind;
 use crate::kit::alloc::Global;
 use crate::kit::prelude::Box;
 use alloc::boxed;
@@ -34,6 +35,34 @@ impl<T> Handle<T> {
     }
 }
 
+/// All zero where it is empty, and else what `put` wrote, or a handle of another kind.
+#[repr(C)]
+pub struct Tagged<T, const KIND: u32> {
+    pub kind: u32,
+    at: *mut T,
+}
+
+impl<T, const KIND: u32> Tagged<T, KIND> {
+    /// Takes the value out, if there is one, and leaves the handle empty. A handle of another kind
+    /// is left as it is.
+    pub fn take(&mut self, _alloc: Global) -> Option<Box<T>> {
+        if self.kind != KIND {
+            return None;
+        }
+        self.kind = kind::EMPTY;
+        let at = mem::replace(&mut self.at, ptr::null_mut());
+        // SAFETY: a handle of this kind has what `put` wrote, and no call leaves two that do.
+        let taken = unsafe { boxed::Box::from_raw(ptr::slice_from_raw_parts_mut(at, 1)) };
+        Some(Box::from_std(taken))
+    }
+
+    /// Puts a value into an empty handle.
+    pub fn put(&mut self, value: Box<T>) {
+        self.at = boxed::Box::into_raw(value.into_std()).cast();
+        self.kind = KIND;
+    }
+}
+
 pub mod agent {
     //! The handle of an agent.
 
@@ -45,7 +74,7 @@ pub mod agent {
     }
 
     /// What a caller keeps of an agent.
-    pub type AgentHandle = super::Handle<Agent>;
+    pub type AgentHandle = super::Tagged<Agent, { super::kind::AGENT }>;
 }
 
 pub mod server {
@@ -61,7 +90,7 @@ pub mod server {
     }
 
     /// What a caller keeps of a server.
-    pub type ServerHandle = super::Handle<Server>;
+    pub type ServerHandle = super::Tagged<Server, { super::kind::SERVER }>;
 }
 
 pub mod client {
@@ -75,7 +104,7 @@ pub mod client {
     }
 
     /// What a caller keeps of a client.
-    pub type ClientHandle = super::Handle<Client>;
+    pub type ClientHandle = super::Tagged<Client, { super::kind::CLIENT }>;
 }
 
 pub mod user {
@@ -89,19 +118,20 @@ pub mod user {
     }
 
     /// What a caller keeps of a prepared user.
-    pub type UserHandle = super::Handle<User>;
+    pub type UserHandle = super::Tagged<User, { super::kind::USER }>;
 }
 
 pub mod endpoint {
-    //! The handle of a server or of a table of users, of the endpoint, or of an agent of ICE.
+    //! The handle of a server, a table of users or a client, of the endpoint, or of an agent of ICE.
 
+    use crate::exported::stun_client_endpoint::endpoint::ClientEndpoint;
     use crate::exported::stun_endpoint::open::OpenServer;
     use crate::exported::stun_endpoint::server::Server;
     use crate::exported::stun_endpoint::short_term::{ShortTermServer, ShortTermUsers};
     use crate::exported::stun_endpoint::users::Users;
     use crate::exported::stun_ice::checker::Checker;
 
-    /// A value of the heap: a server, a table of users, or an agent of ICE.
+    /// A value of the heap: a server, a table of users, an agent of ICE, or a client.
     #[allow(clippy::large_enum_variant, reason = "a handle keeps it on the heap, and there are few")]
     pub enum Kept {
         Server(Server),
@@ -110,6 +140,7 @@ pub mod endpoint {
         ShortTermUsers(ShortTermUsers),
         Open(OpenServer),
         Checker(Checker),
+        Client(ClientEndpoint),
     }
 
     /// What a caller keeps of any.

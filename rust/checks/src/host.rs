@@ -85,16 +85,11 @@ pub mod io {
 }
 
 pub mod fs {
-    use super::{Global, HostRuntime, String, io};
+    use super::io;
 
     /// A file that is read.
     pub fn open(_files: &impl super::Files, name: &str) -> io::Result<std::fs::File> {
         std::fs::File::open(name)
-    }
-
-    /// The text of a file.
-    pub fn read_to_string(_rt: &HostRuntime, name: &str) -> io::Result<String> {
-        Ok(String::from_str(Global, &std::fs::read_to_string(name)?)?)
     }
 }
 
@@ -160,14 +155,6 @@ pub mod hex {
         Ok(digits)
     }
 }
-
-/// `print!` that tells whether it was printed.
-macro_rules! print {
-    ($($words:tt)*) => {
-        std::io::Write::write_fmt(&mut std::io::stdout(), format_args!($($words)*))
-    };
-}
-pub(crate) use print;
 
 /// `format!` into memory of an allocator.
 macro_rules! format_in {

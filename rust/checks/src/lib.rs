@@ -1,4 +1,5 @@
-//! The programs and tests that are exported with the crate, over the same files as the crate.
+//! Programs and tests over the same files as the crate: the programs that are exported with it, the
+//! player of transcripts, and tests of the exported calls.
 #![forbid(unsafe_code)]
 // The sources of programs and tests may have what nobody calls or reads. They may import traits
 // that Rust finds without, and take a process that a macro is no longer handed.
@@ -15,6 +16,9 @@ pub mod exported;
 pub mod host;
 #[path = "../../src/kit/mod.rs"]
 pub mod kit;
+#[warn(dead_code, unused_imports, unused_variables)]
+pub mod player;
 pub mod programs;
+pub mod refusing;
 #[cfg(test)]
 mod test_support;

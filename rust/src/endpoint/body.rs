@@ -103,7 +103,9 @@ impl Body {
     ///
     /// # Errors
     ///
-    /// Those of [`add`](Self::add), but not `NotAllowed`.
+    /// - [`BodyError::TooLarge`]: the attributes would have more than [`BODY_LIMIT`] bytes, where each
+    ///   XOR-PEER-ADDRESS counts as 24.
+    /// - [`BodyError::OutOfMemory`]: an allocation failed.
     pub fn add_xor_peer_address(mut self, peer: SocketAddr) -> Result<Body, BodyError> {
         self.core.add_xor_peer_address(peer)?;
         Ok(self)

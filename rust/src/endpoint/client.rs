@@ -1,45 +1,21 @@
 //! A client as one value.
 
-use super::client_outcomes::{
-    Drops, ErrorResponse, Input, Output, Redirect, RequestError, RequestId, Response,
-};
-use super::client_settings::{ClientBuilder, Kind};
-use super::{Body, DropReason};
+use super::Body;
+use super::client_outcomes::{Drops, Input, Output, RequestError, RequestId, result_of};
+use super::client_settings::ClientBuilder;
 use crate::Instant;
-use crate::copies::{granted, text};
+use crate::copies::granted;
 use crate::exported::stun_agent::agent::StunAgent;
-use crate::exported::stun_client::challenge::Challenge;
-use crate::exported::stun_client::client::{Client as Core, Heard};
-use crate::exported::stun_client::credentials::{Credentials, LongTerm, ShortTerm};
-use crate::exported::stun_client::ids::id_of;
-use crate::exported::stun_client::judged::{Distrust, Judged, Outcome};
-use crate::exported::stun_client_endpoint::form::Form;
-use crate::exported::stun_client_endpoint::numbers::free_number;
-use crate::exported::stun_client_loop::client_loop::{ClientLoop, Timed};
-use crate::exported::stun_client_loop::refusal::LoopRefusal;
-use crate::exported::stun_extra::attribute::{AlternateDomain, AlternateServer};
-use crate::exported::stun_types::message::{
-    IntegrityAlgorithm, IntegrityKey, MessageClass, Method, PreparedKey, StunWriteError,
-};
+use crate::exported::stun_client::credentials::Credentials;
+use crate::exported::stun_client_endpoint::endpoint::{ClientEndpoint, Settings};
+use crate::exported::stun_client_endpoint::told::{Polled, Received};
+use crate::exported::stun_types::message::Method;
 use crate::kit::alloc::Global;
-use crate::kit::collections::BTreeMap;
 use crate::message::Message;
 use crate::stats::StunAgentStats;
 use crate::trace::event;
-use crate::transaction::TransactionId;
-use alloc::collections::VecDeque;
-use alloc::string::String;
-use alloc::vec::Vec;
 use core::fmt;
-use core::mem;
 use core::net::SocketAddr;
-
-/// What is stored of a request beside what the core has of it.
-struct Sent {
-    body: Body,
-    id: TransactionId,
-    drops: Drops,
-}
 
 /// A client of one server on one transport, with any number of requests at the same time.
 ///
@@ -55,8 +31,8 @@ struct Sent {
 /// settings, as those of [`Server`](super::Server) do.
 ///
 /// If an allocation fails, [`request`](Client::request) returns an error, and a datagram is dropped
-/// with [`DropReason::OutOfMemory`]. `poll` and `cancel` do not allocate. Only
-/// [`build`](ClientBuilder::build) aborts the program then.
+/// with [`DropReason::OutOfMemory`](super::DropReason::OutOfMemory). `poll` and `cancel` do not
+/// allocate. Only [`build`](ClientBuilder::build) aborts the program then.
 ///
 /// # Examples
 ///
@@ -89,17 +65,9 @@ struct Sent {
 /// }
 /// ```
 pub struct Client {
-    settings: ClientBuilder,
-    // What each request has beside its body and its signature.
-    form: Form<Global>,
-    // The requests, their challenges and their timers.
-    state: ClientLoop<Global>,
-    seed: PreparedKey<Global>,
-    next_id: u64,
-    requests: BTreeMap<RequestId, Sent>,
-    unsent: VecDeque<(TransactionId, Vec<u8>)>,
-    ended: VecDeque<(RequestId, Result<Response, RequestError>)>,
-    lent: Vec<u8>,
+    core: ClientEndpoint<Global>,
+    #[cfg(feature = "tracing")]
+    server: SocketAddr,
 }
 
 impl fmt::Debug for Client {
@@ -110,25 +78,17 @@ impl fmt::Debug for Client {
 
 impl Client {
     pub(super) fn new(
-        mut settings: ClientBuilder,
-        mut agent: StunAgent<Global>,
-        seed: [u8; 32],
+        agent: StunAgent<Global>,
+        server: SocketAddr,
+        credentials: Credentials<Global>,
+        settings: Settings<Global>,
+        seed: &[u8; 32],
     ) -> Client {
-        let credentials = credentials_of(&mut settings);
-        let (server, challenges) = (settings.server, settings.challenges);
-        let form = Form::new(settings.software.take().map(text), settings.has_fingerprint);
-        // A peer that the agent knows takes no memory when it answers.
-        granted(agent.validated_peer(server));
+        let core = ClientEndpoint::new(Global, agent, server, credentials, settings, seed);
         Client {
-            settings,
-            form,
-            state: ClientLoop::new(Global, agent, server, credentials, challenges),
-            seed: prepared(&seed, IntegrityAlgorithm::Sha1),
-            next_id: 0,
-            requests: BTreeMap::new(Global),
-            unsent: VecDeque::new(),
-            ended: VecDeque::new(),
-            lent: Vec::new(),
+            core: granted(core),
+            #[cfg(feature = "tracing")]
+            server,
         }
     }
 
@@ -141,7 +101,8 @@ impl Client {
     ///
     /// # Errors
     ///
-    /// The first of these that applies. Nothing has changed then.
+    /// The first of these that applies, but `OutOfMemory` may come before `TooLarge`. Nothing has
+    /// changed then.
     ///
     /// - [`RequestError::NoId`]: the seed has no transaction ID left.
     /// - [`RequestError::TooLarge`]: the message would be too long.
@@ -152,343 +113,87 @@ impl Client {
         body: Body,
         now: Instant,
     ) -> Result<RequestId, RequestError> {
-        let (id, next_id) = self.new_id()?;
-        let bytes = self.written(method, &body, id, self.core().challenge().as_ref())?;
-        self.reserve(bytes.len())?;
-        let number = self.state.request(&bytes, now).map_err(unsent)?;
-        event!(to = %self.settings.server, bytes = bytes.len(), "sent a request");
-        let (request, drops) = (RequestId(number), Drops::default());
-        if self.requests.insert(request, Sent { body, id, drops }).is_err() {
-            self.state.cancel(id.0);
-            return Err(RequestError::OutOfMemory);
-        }
-        self.next_id = next_id;
-        self.unsent.push_back((id, bytes));
-        Ok(request)
+        let number = self.core.request(method, body.core, now)?;
+        Ok(RequestId(number))
     }
 
     /// Reads a datagram that came from this address. If the result is [`Input::NotOurs`], offer the
     /// datagram to the next client on the socket. If it is [`Input::Consumed`], `poll` returns what
     /// comes of it.
     pub fn receive<'a>(&mut self, bytes: &'a [u8], from: SocketAddr, now: Instant) -> Input<'a> {
-        match self.state.receive(bytes, from) {
-            Ok(Heard::NotOurs) => Input::NotOurs,
-            Ok(Heard::Indication(message)) => Input::Indication(Message(message)),
-            Ok(Heard::Response(message, number, judged)) => {
-                let (request, message) = (RequestId(number), Message(message));
-                match judged {
-                    Judged::Believed(by) => self.answered(request, &message, by, now),
-                    Judged::Anew(challenge) => self.anew(request, challenge, &message, now),
-                    Judged::Dropped(why) => self.dropped_for(request, reason_of(why), &message),
-                }
+        match self.core.receive(bytes, from, now) {
+            Received::Consumed => {
+                event!(id = crate::trace::id_in(bytes), "got a response");
+                Input::Consumed
             }
-            Err(_) => self.unread(bytes),
+            Received::Indication(message) => Input::Indication(Message(message)),
+            Received::NotOurs => Input::NotOurs,
+            Received::Dropped(why) => Input::Dropped(why.into()),
         }
     }
 
     /// Returns the next thing to do. Call it until it returns [`Output::Wait`]: after each `request`,
     /// `receive` and `cancel`, and when the wait is over.
+    ///
+    /// First come the bytes that it has not returned yet, then those that are due to be sent again,
+    /// then the requests that have ended, and then a request whose timers are over. Among several
+    /// requests whose bytes were not returned yet, and among several that have ended, the one that was
+    /// started first comes first.
     pub fn poll(&mut self, now: Instant) -> Output<'_> {
-        while let Some((id, bytes)) = self.unsent.pop_front() {
-            if self.state.client().get(id.0).is_some() {
-                self.lent.clear();
-                self.lent.extend_from_slice(&bytes);
-                return Output::Transmit(&self.lent);
+        #[cfg(feature = "tracing")]
+        let sent_before = self.stats().bytes_sent();
+        match self.core.poll(now) {
+            Polled::Transmit(number) => {
+                #[cfg(feature = "tracing")]
+                self.record_sent(number, sent_before);
+                // An outstanding request has bytes.
+                Output::Transmit(self.core.bytes_of(number).unwrap_or_default())
             }
-        }
-        // `reserve` has made room for each request.
-        if let Some(again) = self.state.poll_transmit(now) {
-            event!(to = %again.to, bytes = again.data.len(), "sent a request again");
-            self.lent.clear();
-            self.lent.extend_from_slice(again.data);
-            return Output::Transmit(&self.lent);
-        }
-        loop {
-            if let Some((request, result)) = self.ended.pop_front() {
-                return Output::Ended(request, result);
-            }
-            match self.state.poll_timers(now) {
-                Timed::WaitUntil(until) => {
-                    return Output::Wait((!self.requests.is_empty()).then_some(until));
+            Polled::Ended(ended) => {
+                let (request, result) = (RequestId(ended.number()), result_of(ended));
+                if let Err(RequestError::TimedOut(_)) = result {
+                    event!(?request, "a request timed out");
                 }
-                Timed::TimedOut(number) => self.timed_out(RequestId(number)),
-                // Its request ended before.
-                Timed::Forgotten => {}
+                Output::Ended(request, result)
             }
+            Polled::Wait(until) => Output::Wait(until),
         }
     }
 
     /// Ends a request with [`RequestError::Cancelled`], which `poll` then returns. Returns `false` if
     /// it has ended already.
     pub fn cancel(&mut self, request: RequestId) -> bool {
-        let Some(sent) = self.requests.get(&request) else {
-            return false;
-        };
-        let id = sent.id;
-        self.state.cancel(id.0);
-        self.end(request, Err(RequestError::Cancelled));
-        true
+        self.core.cancel(request.0)
     }
 
     /// Returns what was dropped for a request, while it is outstanding.
     pub fn dropped(&self, request: RequestId) -> Option<Drops> {
-        Some(self.requests.get(&request)?.drops)
+        self.core.dropped(request.0).map(Drops::from)
     }
 
     /// Returns the number of outstanding requests.
     pub fn outstanding(&self) -> usize {
-        self.requests.len()
+        self.core.outstanding()
     }
 
     /// Returns what was sent and received, in numbers.
     #[expect(clippy::missing_panics_doc, reason = "`build` has them kept")]
     pub fn stats(&self) -> &StunAgentStats {
-        let agent = self.state.agent();
+        let agent = self.core.state().agent();
         agent.stats().expect("the agent was built with them")
     }
 
-    fn core(&self) -> &Core<Global> {
-        self.state.client()
-    }
-
-    // ---- What comes of a response
-
-    /// Counts a challenge for which there was no memory.
-    fn unread(&mut self, bytes: &[u8]) -> Input<'static> {
-        let Ok(message) = Message::from_bytes(bytes) else {
-            return Input::NotOurs;
-        };
-        match self.core().get(message.transaction_id().0) {
-            Some(asked) => {
-                let request = RequestId(asked.number());
-                self.dropped_for(request, DropReason::OutOfMemory, &message)
-            }
-            None => Input::NotOurs,
+    /// Records that the bytes of a request are returned: again, if the agent has counted them now.
+    #[cfg(feature = "tracing")]
+    fn record_sent(&self, number: u64, sent_before: u64) {
+        let (to, bytes) = (
+            self.server,
+            self.core.bytes_of(number).map_or(0, <[u8]>::len),
+        );
+        if self.stats().bytes_sent() > sent_before {
+            event!(%to, bytes, "sent a request again");
+        } else {
+            event!(%to, bytes, "sent a request");
         }
     }
-
-    fn dropped_for(
-        &mut self,
-        request: RequestId,
-        why: DropReason,
-        message: &Message<'_>,
-    ) -> Input<'static> {
-        if let Some(sent) = self.requests.get_mut(&request) {
-            sent.drops.note(why, code_of(message));
-        }
-        Input::Dropped(why)
-    }
-
-    /// Ends a request by a response.
-    fn answered(
-        &mut self,
-        request: RequestId,
-        message: &Message<'_>,
-        signed_by: Option<IntegrityAlgorithm>,
-        now: Instant,
-    ) -> Input<'static> {
-        let mut bytes = Vec::new();
-        if bytes.try_reserve_exact(message.as_bytes().len()).is_err() {
-            return self.dropped_for(request, DropReason::OutOfMemory, message);
-        }
-        bytes.extend_from_slice(message.as_bytes());
-        let Some(result) = self.result_of(message, Response { bytes, signed_by }) else {
-            return self.dropped_for(request, DropReason::OutOfMemory, message);
-        };
-        if self.state.answer(&message.0, now).is_err() {
-            return self.dropped_for(request, DropReason::OutOfMemory, message);
-        }
-        event!(id = %message.transaction_id(), "got a response");
-        self.end(request, result);
-        Input::Consumed
-    }
-
-    /// Returns what a response ends its request with, or `None` if there is no memory for it.
-    fn result_of(
-        &self,
-        message: &Message<'_>,
-        response: Response,
-    ) -> Option<Result<Response, RequestError>> {
-        Some(Err(match Outcome::of(&message.0, &self.settings.understood) {
-            Outcome::Success => return Some(Ok(response)),
-            Outcome::Refused(code) => RequestError::Refused(ErrorResponse { response, code }),
-            Outcome::Redirected => RequestError::Redirected(redirect(message, response.signed_by)?),
-            Outcome::NotUnderstood(kind) => RequestError::NotUnderstood(kind),
-            Outcome::Malformed => RequestError::MalformedResponse,
-        }))
-    }
-
-    /// Sends a request again under another ID, signed for this challenge or unsigned, or ends it if
-    /// that was done too often.
-    fn anew(
-        &mut self,
-        request: RequestId,
-        challenge: Option<Challenge<Global>>,
-        message: &Message<'_>,
-        now: Instant,
-    ) -> Input<'static> {
-        match self.send_again(request, message, challenge, now) {
-            Ok(()) => {}
-            Err(RequestError::Unauthorized) => {
-                if self.state.answer(&message.0, now).is_err() {
-                    self.state.cancel(message.transaction_id().0);
-                }
-                self.end(request, Err(RequestError::Unauthorized));
-            }
-            // The request stays as it was.
-            Err(RequestError::TooLarge) => {
-                return self.dropped_for(request, DropReason::UnanswerableChallenge, message);
-            }
-            Err(_) => return self.dropped_for(request, DropReason::OutOfMemory, message),
-        }
-        Input::Consumed
-    }
-
-    /// Ends a request that was not answered in time.
-    fn timed_out(&mut self, request: RequestId) {
-        event!(?request, "a request timed out");
-        let drops = self.dropped(request).unwrap_or_default();
-        self.end(request, Err(RequestError::TimedOut(drops)));
-    }
-
-    fn end(&mut self, request: RequestId, result: Result<Response, RequestError>) {
-        if self.requests.remove(&request).is_some() {
-            self.ended.push_back((request, result));
-        }
-    }
-
-    // ---- Sending
-
-    /// Makes room for one more request in the lists, for the end of each outstanding request, and
-    /// for this many bytes that `poll` returns.
-    fn reserve(&mut self, length: usize) -> Result<(), RequestError> {
-        let ends = self.requests.len() + 1;
-        let room = length.saturating_sub(self.lent.len());
-        self.unsent
-            .try_reserve(1)
-            .and_then(|()| self.ended.try_reserve(ends))
-            .and_then(|()| self.lent.try_reserve(room))
-            .map_err(|_| RequestError::OutOfMemory)
-    }
-
-    /// Returns the next ID that is not outstanding, and the number after it. The n-th ID is the first
-    /// 96 bits of HMAC-SHA1(seed, n).
-    fn new_id(&self) -> Result<(TransactionId, u64), RequestError> {
-        let agent = self.state.agent();
-        let number = free_number(&self.seed, agent, self.next_id).ok_or(RequestError::NoId)?;
-        let next = number.checked_add(1).ok_or(RequestError::NoId)?;
-        Ok((TransactionId(id_of(&self.seed, number)), next))
-    }
-
-    /// Sends the request that a message answers again under another ID, signed for this challenge or
-    /// unsigned.
-    fn send_again(
-        &mut self,
-        request: RequestId,
-        message: &Message<'_>,
-        challenge: Option<Challenge<Global>>,
-        now: Instant,
-    ) -> Result<(), RequestError> {
-        let id = message.transaction_id();
-        let (Some(asked), Some(sent)) = (self.core().get(id.0), self.requests.get(&request)) else {
-            return Err(RequestError::NoId);
-        };
-        if asked.challenges() >= self.settings.challenges {
-            return Err(RequestError::Unauthorized);
-        }
-        let (new_id, next_id) = self.new_id()?;
-        let bytes = self.written(asked.method(), &sent.body, new_id, challenge.as_ref())?;
-        self.reserve(bytes.len())?;
-        let again = self.state.again(&message.0, &bytes, challenge, now);
-        again.map_err(unsent)?;
-        event!(to = %self.settings.server, bytes = bytes.len(), "sent a request");
-        self.next_id = next_id;
-        if let Some(sent) = self.requests.get_mut(&request) {
-            sent.id = new_id;
-        }
-        self.unsent.push_back((new_id, bytes));
-        Ok(())
-    }
-
-    /// The bytes of a request.
-    fn written(
-        &self,
-        method: Method,
-        body: &Body,
-        id: TransactionId,
-        signed_for: Option<&Challenge<Global>>,
-    ) -> Result<Vec<u8>, RequestError> {
-        let credentials = self.core().credentials();
-        let written = self
-            .form
-            .written(Global, credentials, signed_for, method, id.0, &body.core);
-        match written {
-            Ok(bytes) => Ok(bytes.into_std()),
-            Err(StunWriteError::OutOfMemory) => Err(RequestError::OutOfMemory),
-            Err(_) => Err(RequestError::TooLarge),
-        }
-    }
-}
-
-/// Moves the credentials of the settings to the core.
-fn credentials_of(settings: &mut ClientBuilder) -> Credentials<Global> {
-    match mem::replace(&mut settings.credentials.0, Kind::None) {
-        Kind::None => Credentials::Unsigned,
-        Kind::Short(name, password, algorithm) => Credentials::ShortTerm(ShortTerm {
-            name: text(name),
-            password: prepared(password.password().as_bytes(), algorithm),
-            algorithm,
-        }),
-        Kind::Long(user) => Credentials::LongTerm(LongTerm {
-            user: user.0,
-            preferences: settings.preferences,
-            accepts_unsigned: settings.accepts_unsigned,
-        }),
-    }
-}
-
-/// Returns why a request was not sent. Only an ID that the agent still has is refused.
-fn unsent(refusal: LoopRefusal) -> RequestError {
-    match refusal {
-        LoopRefusal::NotSent(_) => RequestError::NoId,
-        LoopRefusal::NotStarted(_) | LoopRefusal::OutOfMemory => RequestError::OutOfMemory,
-    }
-}
-
-/// Returns a key that is prepared for an algorithm. One of at most 32 bytes takes no memory.
-fn prepared(bytes: &[u8], algorithm: IntegrityAlgorithm) -> PreparedKey<Global> {
-    PreparedKey::new(granted(IntegrityKey::from_bytes(Global, bytes)), algorithm)
-}
-
-/// Returns where a response with the code 300 leads, or `None` if there is no memory for the name.
-fn redirect(message: &Message<'_>, signed_by: Option<IntegrityAlgorithm>) -> Option<Redirect> {
-    let server = message.attribute::<AlternateServer>().ok();
-    let domain = match message.attribute::<AlternateDomain>() {
-        Ok(found) => {
-            let mut domain = String::new();
-            domain.try_reserve_exact(found.domain().len()).ok()?;
-            domain.push_str(found.domain());
-            Some(domain)
-        }
-        Err(_) => None,
-    };
-    Some(Redirect {
-        server: server.map(|found| found.server()),
-        domain,
-        signed_by,
-    })
-}
-
-fn reason_of(why: Distrust) -> DropReason {
-    match why {
-        Distrust::WrongFingerprint => DropReason::WrongFingerprint,
-        Distrust::NotVerified => DropReason::NotVerified,
-        Distrust::UnanswerableChallenge => DropReason::UnanswerableChallenge,
-        Distrust::WeakerChallenge => DropReason::WeakerChallenge,
-    }
-}
-
-fn code_of(message: &Message<'_>) -> Option<u16> {
-    let is_error = message.has_class(MessageClass::Error);
-    message.error_code().ok().filter(|_| is_error)
 }

@@ -2,10 +2,13 @@
 
 use super::DropReason;
 use crate::Instant;
+use crate::exported::stun_client::judged::Outcome;
+use crate::exported::stun_client_endpoint::{ended, told};
+use crate::exported::stun_extra::attribute::{AlternateDomain, AlternateServer};
 use crate::exported::stun_types::attribute::AttributeType;
 use crate::exported::stun_types::message::IntegrityAlgorithm;
+use crate::kit::alloc::Global;
 use crate::message::Message;
-use alloc::string::String;
 use alloc::vec::Vec;
 use core::fmt;
 use core::net::SocketAddr;
@@ -17,8 +20,8 @@ pub struct RequestId(pub(super) u64);
 /// A response that the client accepted.
 #[derive(Clone, PartialEq, Eq)]
 pub struct Response {
-    pub(super) bytes: Vec<u8>,
-    pub(super) signed_by: Option<IntegrityAlgorithm>,
+    bytes: Vec<u8>,
+    signed_by: Option<IntegrityAlgorithm>,
 }
 
 impl fmt::Debug for Response {
@@ -49,8 +52,8 @@ impl Response {
 /// An error response that the client accepted.
 #[derive(Clone, Debug, PartialEq, Eq)]
 pub struct ErrorResponse {
-    pub(super) response: Response,
-    pub(super) code: u16,
+    response: Response,
+    code: u16,
 }
 
 impl ErrorResponse {
@@ -71,27 +74,46 @@ impl ErrorResponse {
 }
 
 /// A response that names another server (300; RFC 8489, section 10).
-#[derive(Clone, Debug, PartialEq, Eq)]
+#[derive(Clone)]
 pub struct Redirect {
-    pub(super) server: Option<SocketAddr>,
-    pub(super) domain: Option<String>,
-    pub(super) signed_by: Option<IntegrityAlgorithm>,
+    response: Response,
 }
+
+impl fmt::Debug for Redirect {
+    fn fmt(&self, f: &mut fmt::Formatter<'_>) -> fmt::Result {
+        f.debug_struct("Redirect")
+            .field("server", &self.server())
+            .field("domain", &self.domain())
+            .field("signed_by", &self.signed_by())
+            .finish()
+    }
+}
+
+impl PartialEq for Redirect {
+    fn eq(&self, other: &Redirect) -> bool {
+        (self.server(), self.domain(), self.signed_by())
+            == (other.server(), other.domain(), other.signed_by())
+    }
+}
+
+impl Eq for Redirect {}
 
 impl Redirect {
     /// Returns the address of the other server.
     pub fn server(&self) -> Option<SocketAddr> {
-        self.server
+        let found = self.response.message().attribute::<AlternateServer>();
+        Some(found.ok()?.server())
     }
 
     /// Returns the domain that the certificate of the other server must have, for TLS.
     pub fn domain(&self) -> Option<&str> {
-        self.domain.as_deref()
+        let found = self.response.message().attribute::<AlternateDomain>();
+        Some(found.ok()?.domain())
     }
 
     /// Returns the algorithm of the signature, or `None` if nobody signed the response.
     pub fn signed_by(&self) -> Option<IntegrityAlgorithm> {
-        self.signed_by
+        self.response.signed_by
     }
 }
 
@@ -119,10 +141,15 @@ impl Drops {
     pub fn code(&self) -> Option<u16> {
         self.code
     }
+}
 
-    pub(super) fn note(&mut self, why: DropReason, code: Option<u16>) {
-        self.count = self.count.saturating_add(1);
-        (self.last, self.code) = (Some(why), code);
+impl From<ended::Drops> for Drops {
+    fn from(drops: ended::Drops) -> Drops {
+        Drops {
+            count: drops.count,
+            last: drops.last.map(DropReason::from),
+            code: drops.code,
+        }
     }
 }
 
@@ -157,7 +184,7 @@ pub enum RequestError {
     MalformedResponse,
     /// You called [`Client::cancel`](super::Client::cancel).
     Cancelled,
-    /// The body does not fit a message.
+    /// The request would be too long for a message.
     TooLarge,
     /// The seed has no transaction ID left.
     NoId,
@@ -169,7 +196,7 @@ impl fmt::Display for RequestError {
     fn fmt(&self, f: &mut fmt::Formatter<'_>) -> fmt::Result {
         match self {
             RequestError::Refused(error) => write!(f, "refused {}", error.code),
-            RequestError::Redirected(to) => match to.server {
+            RequestError::Redirected(to) => match to.server() {
                 Some(server) => write!(f, "redirected to {server}"),
                 None => f.write_str("redirected to nowhere"),
             },
@@ -194,6 +221,35 @@ impl fmt::Display for RequestError {
 }
 
 impl core::error::Error for RequestError {}
+
+impl From<told::RequestError> for RequestError {
+    fn from(why: told::RequestError) -> RequestError {
+        match why {
+            told::RequestError::NoId => RequestError::NoId,
+            told::RequestError::TooLarge => RequestError::TooLarge,
+            told::RequestError::OutOfMemory => RequestError::OutOfMemory,
+        }
+    }
+}
+
+/// Returns how a request ended, with the bytes of its response.
+pub(super) fn result_of(ended: ended::Ended<Global>) -> Result<Response, RequestError> {
+    let (outcome, signed_by) = match ended.end() {
+        ended::RequestEnd::Answered(outcome, signed_by) => (outcome, signed_by),
+        ended::RequestEnd::TimedOut(drops) => return Err(RequestError::TimedOut(drops.into())),
+        ended::RequestEnd::Unauthorized => return Err(RequestError::Unauthorized),
+        ended::RequestEnd::Cancelled => return Err(RequestError::Cancelled),
+    };
+    let bytes = ended.into_response().into_std();
+    let response = Response { bytes, signed_by };
+    Err(match outcome {
+        Outcome::Success => return Ok(response),
+        Outcome::Refused(code) => RequestError::Refused(ErrorResponse { response, code }),
+        Outcome::Redirected => RequestError::Redirected(Redirect { response }),
+        Outcome::NotUnderstood(kind) => RequestError::NotUnderstood(kind),
+        Outcome::Malformed => RequestError::MalformedResponse,
+    })
+}
 
 /// What to do next.
 #[derive(Clone, Debug, PartialEq, Eq)]

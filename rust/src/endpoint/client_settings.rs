@@ -1,14 +1,19 @@
 //! The settings of a client.
 
 use super::client::Client;
-use crate::exported::stun_agent::agent::StunAgent;
-use crate::kit::alloc::Global;
+use crate::copies::{granted, text};
 use crate::credentials::{LongTermCredentials, ShortTermCredentials};
+use crate::exported::stun_agent::agent::StunAgent;
 use crate::exported::stun_auth::auth::Feature;
+use crate::exported::stun_client::credentials as core_credentials;
 use crate::exported::stun_client::preferences::Preferences;
+use crate::exported::stun_client_endpoint::endpoint::Settings;
+use crate::exported::stun_client_endpoint::form::Form;
 use crate::exported::stun_extra::attribute::Software;
 use crate::exported::stun_types::attribute::{AttributeType, Username};
-use crate::exported::stun_types::message::IntegrityAlgorithm;
+use crate::exported::stun_types::message::{IntegrityAlgorithm, IntegrityKey, PreparedKey};
+use crate::kit::alloc::Global;
+use crate::kit::prelude::Vec as KitVec;
 use crate::types::TransportType;
 use alloc::string::String;
 use alloc::vec::Vec;
@@ -18,10 +23,10 @@ use core::time::Duration;
 
 /// How a client proves who it is.
 #[derive(Clone)]
-pub struct Credentials(pub(super) Kind);
+pub struct Credentials(Kind);
 
 #[derive(Clone)]
-pub(super) enum Kind {
+enum Kind {
     None,
     Short(String, ShortTermCredentials, IntegrityAlgorithm),
     Long(LongTermCredentials),
@@ -50,12 +55,40 @@ impl Credentials {
         Credentials(Kind::Short(name.into(), password, algorithm))
     }
 
-    /// Requests are signed once the server asks for it (RFC 8489, section 9.2).
+    /// Creates long-term credentials: requests are signed once the server asks for it (RFC 8489,
+    /// section 9.2).
     pub fn long_term(name: impl Into<String>, password: impl Into<String>) -> Credentials {
         Credentials(Kind::Long(LongTermCredentials::new(
             name.into(),
             password.into(),
         )))
+    }
+
+    /// The credentials as the core has them.
+    fn core(
+        self,
+        preferences: Preferences,
+        accepts_unsigned: bool,
+    ) -> core_credentials::Credentials<Global> {
+        match self.0 {
+            Kind::None => core_credentials::Credentials::Unsigned,
+            Kind::Short(name, password, algorithm) => {
+                let password = password.password().as_bytes();
+                let key = granted(IntegrityKey::from_bytes(Global, password));
+                core_credentials::Credentials::ShortTerm(core_credentials::ShortTerm {
+                    name: text(name),
+                    password: PreparedKey::new(key, algorithm),
+                    algorithm,
+                })
+            }
+            Kind::Long(user) => {
+                core_credentials::Credentials::LongTerm(core_credentials::LongTerm {
+                    user: user.0,
+                    preferences,
+                    accepts_unsigned,
+                })
+            }
+        }
     }
 }
 
@@ -105,16 +138,16 @@ pub enum Transport {
 /// Builds a [`Client`]. All calls but [`build`](Self::build) are optional.
 #[derive(Clone, Debug)]
 pub struct ClientBuilder {
-    pub(super) server: SocketAddr,
-    pub(super) transport: Transport,
-    pub(super) credentials: Credentials,
-    pub(super) preferences: Preferences,
-    pub(super) plan: Retransmission,
-    pub(super) challenges: u32,
-    pub(super) accepts_unsigned: bool,
-    pub(super) understood: Vec<AttributeType>,
-    pub(super) software: Option<String>,
-    pub(super) has_fingerprint: bool,
+    server: SocketAddr,
+    transport: Transport,
+    credentials: Credentials,
+    preferences: Preferences,
+    plan: Retransmission,
+    challenges: u32,
+    accepts_unsigned: bool,
+    understood: Vec<AttributeType>,
+    software: Option<String>,
+    has_fingerprint: bool,
 }
 
 /// Why a client was not built.
@@ -264,6 +297,27 @@ impl ClientBuilder {
         if !self.preferences.hmac_sha1 && !self.preferences.hmac_sha256 {
             return Err(ClientBuildError::NoAlgorithm);
         }
+        let agent = self.agent();
+        let credentials = self
+            .credentials
+            .core(self.preferences, self.accepts_unsigned);
+        let understood = granted(KitVec::from_slice(Global, &self.understood));
+        let settings = Settings {
+            form: Form::new(self.software.map(text), self.has_fingerprint),
+            understood,
+            challenges: self.challenges,
+        };
+        Ok(Client::new(
+            agent,
+            self.server,
+            credentials,
+            settings,
+            &seed,
+        ))
+    }
+
+    /// Builds the agent with the timers of the requests.
+    fn agent(&self) -> StunAgent<Global> {
         let transport = match self.transport {
             Transport::Datagram => TransportType::Udp,
             Transport::Stream => TransportType::Tcp,
@@ -274,12 +328,11 @@ impl ClientBuilder {
             sends,
             last,
         } = self.plan;
-        // The agent tells this address alone, so that any will do.
-        let agent = StunAgent::builder(Global, transport, self.server)
+        // The agent only returns its local address, so any will do.
+        StunAgent::builder(Global, transport, self.server)
             .request_retransmits(first, most, sends, last)
             .stats(true)
-            .build();
-        Ok(Client::new(self, agent, seed))
+            .build()
     }
 }
 

@@ -57,12 +57,12 @@ impl<K: Ord, V, A: Allocator> BTreeMap<K, V, A> {
         K: Borrow<Q>,
     {
         if let Some((leaf, at)) = self.find_recent(key) {
-            return leaf.values.get(at);
+            return Some(leaf.value(at));
         }
         let mut node = &self.root;
         loop {
             match node.search(key) {
-                Ok(at) => return Some(&node.values[at]),
+                Ok(at) => return Some(node.value(at)),
                 Err(at) => node = node.children.get(at)?,
             }
         }
@@ -97,7 +97,7 @@ impl<K: Ord, V, A: Allocator> BTreeMap<K, V, A> {
             match place {
                 Ok(at) => {
                     *self.recent.get_mut() = way.indices;
-                    return node.values.get_mut(at);
+                    return Some(node.value_mut(at));
                 }
                 Err(at) => node = node.children.get_mut(at)?,
             }
@@ -116,9 +116,9 @@ impl<K: Ord, V, A: Allocator> BTreeMap<K, V, A> {
     /// an allocation fails, the error returns key and value.
     pub fn insert(&mut self, key: K, value: V) -> Result<Option<V>, AllocFailed<(K, V)>> {
         match self.place(&key) {
-            Ok((node, Ok(at))) => Ok(Some(mem::replace(&mut node.values[at], value))),
+            Ok((node, Ok(at))) => Ok(Some(mem::replace(node.value_mut(at), value))),
             Ok((node, Err(at))) => {
-                node.put(at, (key, value));
+                node.put(at, key, value);
                 self.len += 1;
                 Ok(None)
             }
@@ -187,6 +187,12 @@ impl<K: Ord, V, A: Allocator> BTreeMap<K, V, A> {
     where
         K: Borrow<Q>,
     {
+        if self.root.is_leaf() {
+            // A large value is moved once, and not through the levels of a tree.
+            let at = self.root.search(key).ok()?;
+            self.len -= 1;
+            return Some(self.root.remove_value(at));
+        }
         self.remove_entry(key).map(|(_, value)| value)
     }
 

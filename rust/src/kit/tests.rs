@@ -451,7 +451,8 @@ fn what_the_process_refuses_is_given_back() {
 fn short_rows_take_so_many_items() {
     let row = inline::SmallVec::<u8, 3, Global>::from_slice(Global, &[1, 2]).unwrap();
     assert_eq!(row.as_slice(), [1, 2]);
-    assert!(inline::SmallVec::<u8, 3, Global>::from_slice(Global, &[0; 3]).is_ok());
+    let full = inline::SmallVec::<u8, 3, Global>::from_slice(Global, &[1, 2, 3]).unwrap();
+    assert_eq!(full.as_slice(), [1, 2, 3]);
     assert!(inline::SmallVec::<u8, 3, Global>::from_slice(Global, &[0; 4]).is_err());
     assert_eq!(AsSlice::as_slice(&[4u8, 5]), [4, 5]);
 }

@@ -70,7 +70,7 @@ impl ClientStage {
         let method = u16::from_str_radix(method.strip_prefix("0x")?, 16).ok()?;
         let carrier = around.carrier(words)?;
         let mut body = Body::new();
-        for (kind, value) in attributes(&carrier) {
+        for (kind, value, _) in attributes(&carrier) {
             let added = match kind {
                 PEER => body.add_xor_peer_address(address_in(value, &CARRIER_ID)?),
                 kind => body.add(&RawAttribute::new(AttributeType::from(kind), value)),

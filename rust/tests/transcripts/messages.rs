@@ -1,7 +1,7 @@
 //! Messages that words spell, byte by byte and without the library, and the words of messages.
 
-use crate::digests::{Algorithm, fingerprint};
-use crate::words::*;
+use super::digests::{Algorithm, fingerprint};
+use super::words::*;
 use std::net::{IpAddr, Ipv4Addr, Ipv6Addr, SocketAddr};
 
 const COOKIE: [u8; 4] = [0x21, 0x12, 0xa4, 0x42];
@@ -48,14 +48,14 @@ impl Spelling {
         })
     }
 
-    /// The message so far, with a length that counts so many bytes more.
-    fn with_more(&self, more: usize) -> Vec<u8> {
-        let length = (self.attributes.len() + more) as u16;
+    /// The message so far, with a length that counts so many bytes more, if 16 bits are enough.
+    fn with_more(&self, more: usize) -> Option<Vec<u8>> {
+        let length = u16::try_from(self.attributes.len() + more).ok()?;
         let header = [self.kind.to_be_bytes(), length.to_be_bytes()].concat();
-        [&header[..], &COOKIE, &self.id, &self.attributes].concat()
+        Some([&header[..], &COOKIE, &self.id, &self.attributes].concat())
     }
 
-    pub fn finish(&self) -> Vec<u8> {
+    pub fn finish(&self) -> Option<Vec<u8>> {
         self.with_more(0)
     }
 
@@ -79,13 +79,13 @@ impl Spelling {
             }
         };
         let (kind, length) = algorithm.attribute();
-        let digest = algorithm.hmac(&key, &self.with_more(4 + length));
+        let digest = algorithm.hmac(&key, &self.with_more(4 + length)?);
         self.add(kind, &digest)
     }
 
     fn add_word(&mut self, word: &str) -> Option<()> {
         if word == "FP" {
-            let value = fingerprint(&self.with_more(8)).to_be_bytes();
+            let value = fingerprint(&self.with_more(8)?).to_be_bytes();
             return self.add(0x8028, &value);
         }
         let (name, value) = word.split_once('=')?;
@@ -113,8 +113,8 @@ impl Spelling {
                     Some((code, phrase)) => (number(code)?, text(phrase)),
                     None => (number(word)?, phrase_of(number(word)?).to_string()),
                 };
-                let code = [0, 0, (code / 100) as u8, (code % 100) as u8];
-                Some([&code, phrase.as_bytes()].concat())
+                let class = u8::try_from(code / 100).ok()?;
+                Some([&[0, 0, class, (code % 100) as u8], phrase.as_bytes()].concat())
             }
             "PASSWORD-ALGORITHM" | "PASSWORD-ALGORITHMS" => algorithms(word),
             "XOR-MAPPED-ADDRESS" => Some(xored(address(word)?, &self.id)),
@@ -131,7 +131,8 @@ fn phrase_of(code: u64) -> &'static str {
 fn algorithms(word: &str) -> Option<Vec<u8>> {
     let mut list = Vec::new();
     for name in word.split(',').filter(|name| *name != "-") {
-        list.extend([0, if name == "SHA256" { 2 } else { 1 }, 0, 0]);
+        let number = ["MD5", "SHA256"].iter().position(|known| *known == name)?;
+        list.extend([0, number as u8 + 1, 0, 0]);
     }
     Some(list)
 }
@@ -162,13 +163,17 @@ pub fn address_in(value: &[u8], id: &[u8; 12]) -> Option<SocketAddr> {
     Some(SocketAddr::new(ip, port))
 }
 
-/// The type and the value of each attribute, hidden ones too.
-pub fn attributes(message: &[u8]) -> Vec<(u16, &[u8])> {
+/// The type, the value and the bytes with padding of each attribute, hidden ones too, up to one
+/// that is cut off.
+pub fn attributes(message: &[u8]) -> Vec<(u16, &[u8], &[u8])> {
     let (mut rest, mut found) = (&message[20..], Vec::new());
-    while let [a, b, c, d, values @ ..] = rest {
-        let length = usize::from(u16::from_be_bytes([*c, *d]));
-        found.push((u16::from_be_bytes([*a, *b]), &values[..length]));
-        rest = &values[length.next_multiple_of(4)..];
+    while let [a, b, c, d, ..] = *rest {
+        let length = usize::from(u16::from_be_bytes([c, d]));
+        let Some((whole, others)) = rest.split_at_checked(4 + length.next_multiple_of(4)) else {
+            break;
+        };
+        found.push((u16::from_be_bytes([a, b]), &whole[4..4 + length], whole));
+        rest = others;
     }
     found
 }
@@ -187,7 +192,7 @@ pub fn message(words: &[&str], known: &impl Known) -> Option<Vec<u8>> {
     }
     if let Some(mut spelling) = Spelling::new(first) {
         add_words(&mut spelling, words, known)?;
-        return Some(spelling.finish());
+        return spelling.finish();
     }
     changed(known.stored(first)?, words, known)
 }
@@ -212,25 +217,28 @@ fn changed(mut bytes: Vec<u8>, words: &[&str], known: &impl Known) -> Option<Vec
         Some((&"bytes", words)) => {
             for word in words {
                 let (at, digits) = word.split_once('=')?;
-                *bytes.get_mut(number(at)? as usize)? = *unhex(digits)?.first()?;
+                let [byte] = unhex(digits)?[..] else {
+                    return None;
+                };
+                *bytes.get_mut(usize::try_from(number(at)?).ok()?)? = byte;
             }
             Some(bytes)
         }
         Some((&"with", words)) => {
             let mut spelling = Spelling::of(&bytes)?;
             add_words(&mut spelling, words, known)?;
-            Some(spelling.finish())
+            spelling.finish()
         }
         Some((&"without", words)) => {
             let without = words.iter().map(|word| attribute_type(word));
             let without: Vec<u16> = without.collect::<Option<_>>()?;
-            let mut spelling = Spelling::of(&bytes[..20])?;
-            for (kind, value) in attributes(&bytes) {
+            let mut spelling = Spelling::of(bytes.get(..20)?)?;
+            for (kind, _, whole) in attributes(&bytes) {
                 if !without.contains(&kind) {
-                    spelling.add(kind, value)?;
+                    spelling.attributes.extend(whole);
                 }
             }
-            Some(spelling.finish())
+            spelling.finish()
         }
         _ => None,
     }
@@ -248,16 +256,16 @@ pub fn in_words(message: &[u8]) -> String {
     if id != *b"\0\0\0\0\0\0\0\0\0\0\0\x01" {
         words += &format!(" ID=0x{}", hex(&id));
     }
-    for (kind, value) in attributes(message) {
+    for (kind, value, _) in attributes(message) {
         words += &match type_name(kind) {
-            Some(name) => format!(" {name}={}", shown(name, value, &id)),
+            Some(name) => format!(" {name}={}", shown_value(name, value, &id)),
             None => format!(" 0x{kind:04x}={}", hex(value)),
         };
     }
     words
 }
 
-fn shown(name: &str, value: &[u8], id: &[u8; 12]) -> String {
+fn shown_value(name: &str, value: &[u8], id: &[u8; 12]) -> String {
     match name {
         "REALM" | "NONCE" | "SOFTWARE" | "USERNAME" => shown_text(value),
         "ERROR-CODE" => {

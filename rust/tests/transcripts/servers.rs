@@ -68,6 +68,6 @@ pub fn respond(around: &Around<'_>, reply: &Reply, words: &[&str]) -> Option<Str
     })
 }
 
-fn add(writer: ReplyWriter, (kind, value): &(u16, &[u8])) -> ReplyWriter {
+fn add(writer: ReplyWriter, (kind, value, _): &(u16, &[u8], &[u8])) -> ReplyWriter {
     writer.add(&RawAttribute::new(AttributeType::from(*kind), value))
 }

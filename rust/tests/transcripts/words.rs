@@ -29,7 +29,7 @@ pub fn span(word: &str) -> Option<Duration> {
     }
     for (suffix, unit) in [("ns", 1), ("ms", 1_000_000), ("s", 1_000_000_000)] {
         if let Some(count) = word.strip_suffix(suffix) {
-            return Some(Duration::from_nanos(number(count)? * unit));
+            return number(count)?.checked_mul(unit).map(Duration::from_nanos);
         }
     }
     number(word).map(Duration::from_nanos)
@@ -81,7 +81,10 @@ pub fn shown_text(value: &[u8]) -> String {
 pub fn attribute_type(word: &str) -> Option<u16> {
     match TYPES.iter().find(|(name, _)| *name == word) {
         Some((_, kind)) => Some(*kind),
-        None => u16::from_str_radix(word.strip_prefix("0x")?, 16).ok(),
+        None => {
+            let bytes = unhex(word.strip_prefix("0x")?)?;
+            bytes.try_into().ok().map(u16::from_be_bytes)
+        }
     }
 }
 

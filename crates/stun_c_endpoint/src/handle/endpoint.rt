@@ -1,4 +1,4 @@
-//! The handle of a server, of a table of users or of an agent of ICE.
+//! The handle of a server, of a table of users, of an agent of ICE or of a client.
 ghost use Rattle.std.specs.Prelude.{◌≡◌, Some, None, Option, IfSome, IfNone};
 ghost use Rattle.stun_c_endpoint.specs.declared.handle.endpoint.Kept.{Kept};
 ghost use Rattle.stun_handles.specs.code.Handle.{handle_owns};
@@ -7,6 +7,7 @@ ghost use Rattle.stun_c_endpoint.specs.code.Handle.{kept_row, kept_coded};
 use std::alloc::Global;
 use std::marker::Model;
 use std::mem::replace;
+use stun_client_endpoint::endpoint::ClientEndpoint;
 use stun_endpoint::open::OpenServer;
 use stun_endpoint::server::Server;
 use stun_endpoint::short_term::{ShortTermServer, ShortTermUsers};
@@ -14,7 +15,7 @@ use stun_endpoint::users::Users;
 use stun_handles::handle::Loose;
 use stun_ice::checker::Checker;
 
-/// A value on the heap: a server, a table of users, or an agent of ICE.
+/// A value on the heap: a server, a table of users, an agent of ICE, or a client.
 #[derive(Drop)]
 pub enum Kept {
     Server(Server<Global>),
@@ -23,6 +24,7 @@ pub enum Kept {
     ShortTermUsers(ShortTermUsers<Global>),
     Open(OpenServer<Global>),
     Checker(Checker<Global>),
+    Client(ClientEndpoint<Global>),
 }
 
 /// The caller's handle: all zero if it is empty, and otherwise what `put` wrote.

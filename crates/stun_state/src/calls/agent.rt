@@ -1,15 +1,17 @@
 //! The calls on an agent: requests and their time (RFC 8489, section 6.2).
 //!
-//! A call fails first with `EmptyHandle` if its handle is empty; `stunp_agent_new` and
-//! `stunp_agent_new_with` fail with `FullHandle` if it is full. Bytes that are not a message fail
-//! with `Truncated`, `NotStun` or `TooLarge`. An address whose length is neither 4 nor 16, and an
-//! ID that does not have 12 bytes, fail with `BadArgument`. Times are in nanoseconds.
+//! A call fails first with `EmptyHandle` if its handle is empty, or with `WrongHandle` if it has an
+//! object of another type; `stunp_agent_new` and `stunp_agent_new_with` fail with `FullHandle` if
+//! the handle is not empty. Bytes that are not a message fail with `Truncated`, `NotStun` or
+//! `TooLarge`. An address whose length is neither 4 nor 16, and an ID that does not have 12 bytes,
+//! fail with `BadArgument`. Times are in nanoseconds.
 
-ghost use Rattle.std.specs.Prelude.{◌≡◌, ◌⊎◌, length, pos, MatchResult};
+ghost use Rattle.std.specs.Prelude.{◌≡◌, ◌≢◌, ◌⊎◌, length, pos, MatchResult};
 ghost use Rattle.std.specs.Prelude.{Some, None, Ok, IfNone, IfSome, IsTrue};
 ghost use Rattle.stun_agent.specs.Agent.{after_poll, after_poll_transmit};
 ghost use Rattle.stun_agent.specs.Agent.{after_send, poll_answer, sent_by_poll};
 ghost use Rattle.stun_agent.specs.Transactions.{with_cancellation, without_retransmissions};
+ghost use Rattle.stun_handles.specs.Kinds.{EMPTY as empty_kind, missing};
 ghost use Rattle.stun_numbers.specs.Refusals.{refusal_number};
 ghost use Rattle.stun_state.specs.Addresses.{socket_address};
 ghost use Rattle.stun_state.specs.Agent.{bytes_told, outstanding_answer, receiving_answer, id_in};
@@ -32,6 +34,7 @@ use crate::agent::{Statistics, Timeouts};
 use crate::handle::agent::{Agent, AgentHandle};
 use crate::{agent, answers};
 use std::alloc::Global;
+use stun_handles::kind::{EMPTY, missing};
 use stun_numbers::refusal::Refusal;
 
 /// Creates an agent that sends over a transport, 0 for UDP and 1 for TCP, from a local address.
@@ -44,16 +47,18 @@ pub extern "C" fn stunp_agent_new(
     transport: u32,
     local: &Address,
 ) -> i64
-    ensures full { IfSome handle.old.agent (λ kept. (result ≡ refusal_number Refusal.FullHandle)
-        × (handle.new.agent ≡ Some kept)) }
-    ensures made { IfNone handle.old.agent (MatchResult
+    ensures full { handle.old.kind ≢ empty_kind →
+        (result ≡ refusal_number Refusal.FullHandle) × (handle.new ≡ handle.old) }
+    ensures made { handle.old.kind ≡ empty_kind → MatchResult
         (agent_at (transport_numbered transport) (socket_address local.now))
-        (λ agent. OrOutOfMemory result None handle.new.agent (pos 0)
+        (λ agent. OrOutOfMemory result None handle.new.slot.agent (pos 0)
         (Some (record { agent = agent })))
-        (λ refusal. (result ≡ refusal_number refusal) × (handle.new.agent ≡ None))) }
+        (λ refusal. (result ≡ refusal_number refusal) × (handle.new.slot.agent ≡ None)) }
+
+    // A handle that gets no value is left as it was.
+    ensures left { IfNone handle.new.slot.agent (handle.new ≡ handle.old) }
 {
-    if let Some(kept) = handle.take(alloc) {
-        handle.put(alloc, kept);
+    if handle.kind != EMPTY {
         return Refusal::FullHandle.code();
     }
     let agent = match agent::new(alloc, transport, local) {
@@ -62,7 +67,7 @@ pub extern "C" fn stunp_agent_new(
     };
     match Box::new(alloc, Agent { agent }) {
         Ok(kept) => {
-            handle.put(alloc, kept);
+            handle.put(kept);
             0
         }
         Err(_) => Refusal::OutOfMemory.code(),
@@ -83,17 +88,19 @@ pub extern "C" fn stunp_agent_new_with(
     remote: &Address,
     timeouts: &Timeouts,
 ) -> i64
-    ensures full { IfSome handle.old.agent (λ kept. (result ≡ refusal_number Refusal.FullHandle)
-        × (handle.new.agent ≡ Some kept)) }
-    ensures made { IfNone handle.old.agent (MatchResult
+    ensures full { handle.old.kind ≢ empty_kind →
+        (result ≡ refusal_number Refusal.FullHandle) × (handle.new ≡ handle.old) }
+    ensures made { handle.old.kind ≡ empty_kind → MatchResult
         (agent_with_timeouts (agent_at (transport_numbered transport) (socket_address local.now))
         remote.now timeouts.now)
-        (λ agent. OrOutOfMemory result None handle.new.agent (pos 0)
+        (λ agent. OrOutOfMemory result None handle.new.slot.agent (pos 0)
         (Some (record { agent = agent })))
-        (λ refusal. (result ≡ refusal_number refusal) × (handle.new.agent ≡ None))) }
+        (λ refusal. (result ≡ refusal_number refusal) × (handle.new.slot.agent ≡ None)) }
+
+    // A handle that gets no value is left as it was.
+    ensures left { IfNone handle.new.slot.agent (handle.new ≡ handle.old) }
 {
-    if let Some(kept) = handle.take(alloc) {
-        handle.put(alloc, kept);
+    if handle.kind != EMPTY {
         return Refusal::FullHandle.code();
     }
     let agent = match agent::new_with(alloc, transport, local, remote, timeouts) {
@@ -102,7 +109,7 @@ pub extern "C" fn stunp_agent_new_with(
     };
     match Box::new(alloc, Agent { agent }) {
         Ok(kept) => {
-            handle.put(alloc, kept);
+            handle.put(kept);
             0
         }
         Err(_) => Refusal::OutOfMemory.code(),
@@ -117,27 +124,29 @@ pub extern "C" fn stunp_agent_statistics(
     handle: &mut AgentHandle,
     statistics: &mut Statistics,
 ) -> i64
-    ensures empty { IfNone handle.old.agent ((result ≡ refusal_number Refusal.EmptyHandle)
-        × (handle.new.agent ≡ None)
+    ensures missing { IfNone handle.old.slot.agent ((result ≡ missing handle.old.kind)
+        × (handle.new ≡ handle.old)
         × (statistics.new ≡ statistics.old)) }
-    ensures answer { IfSome handle.old.agent (λ _. result
+    ensures answer { IfSome handle.old.slot.agent (λ _. result
         ≡ done_answer (statistics_answer statistics.old)) }
-    ensures told { IfSome handle.old.agent (λ kept. statistics.new ≡ left_by result statistics.old
+    ensures told { IfSome handle.old.slot.agent (λ kept. statistics.new
+        ≡ left_by result statistics.old
         (caller_statistics_after kept.agent.statistics statistics.old)) }
-    ensures same { handle.new.agent ≡ handle.old.agent }
+    ensures same { handle.new.slot.agent ≡ handle.old.slot.agent }
 {
     let Some(mut kept) = handle.take(alloc) else {
-        return Refusal::EmptyHandle.code();
+        return missing(handle.kind);
     };
     let answer = answers::done(agent::tell_statistics(&kept.agent, statistics));
-    handle.put(alloc, kept);
+    handle.put(kept);
     answer
 }
 
-/// Frees the agent, and makes the handle empty.
+/// Frees the agent, and makes the handle empty. Does nothing if the handle has no agent.
 #[unsafe(no_mangle)]
 pub extern "C" fn stunp_agent_clear(alloc: Global, handle: &mut AgentHandle)
-    ensures { handle.new.agent ≡ None }
+    ensures freed { IfSome handle.old.slot.agent (λ _. handle.new.kind ≡ empty_kind) }
+    ensures left { IfNone handle.old.slot.agent (handle.new ≡ handle.old) }
 {
     let _agent = handle.take(alloc);
 }
@@ -156,25 +165,25 @@ pub extern "C" fn stunp_agent_send_request(
     to: &Address,
     now: u64,
 ) -> i64
-    ensures empty { IfNone handle.old.agent ((result ≡ refusal_number Refusal.EmptyHandle)
-        × (handle.new.agent ≡ None)) }
-    ensures answer { IfSome handle.old.agent (λ kept. IsOrOutOfMemory result (done_answer
+    ensures missing { IfNone handle.old.slot.agent ((result ≡ missing handle.old.kind)
+        × (handle.new ≡ handle.old)) }
+    ensures answer { IfSome handle.old.slot.agent (λ kept. IsOrOutOfMemory result (done_answer
         (at_address (socket_address to.now) (request_answer kept.agent message.now)))) }
-    ensures state { IfSome handle.old.agent (λ kept. handle.new.agent ≡ Some (record {
+    ensures state { IfSome handle.old.slot.agent (λ kept. handle.new.slot.agent ≡ Some (record {
       agent = left_by result kept.agent
           (kept_after_request kept.agent message.now to.now now);
     })) }
 
     // A failed allocation is returned only if the request would be taken.
-    ensures taken { IfSome handle.old.agent (λ kept. (result ≡ done_answer
+    ensures taken { IfSome handle.old.slot.agent (λ kept. (result ≡ done_answer
         (at_address (socket_address to.now) (request_answer kept.agent message.now)))
         ⊎ IsRequestTaken kept.agent message.now (socket_address to.now)) }
 {
     let Some(mut kept) = handle.take(alloc) else {
-        return Refusal::EmptyHandle.code();
+        return missing(handle.kind);
     };
     let answer = answers::done(agent::send_request(&mut kept.agent, message, to, now));
-    handle.put(alloc, kept);
+    handle.put(kept);
     answer
 }
 
@@ -188,19 +197,19 @@ pub extern "C" fn stunp_agent_send(
     message: &[u8],
     to: &Address,
 ) -> i64
-    ensures empty { IfNone handle.old.agent ((result ≡ refusal_number Refusal.EmptyHandle)
-        × (handle.new.agent ≡ None)) }
-    ensures answer { IfSome handle.old.agent (λ kept. result ≡ done_answer
+    ensures missing { IfNone handle.old.slot.agent ((result ≡ missing handle.old.kind)
+        × (handle.new ≡ handle.old)) }
+    ensures answer { IfSome handle.old.slot.agent (λ kept. result ≡ done_answer
         (at_address (socket_address to.now) (sending_answer kept.agent message.now))) }
-    ensures state { IfSome handle.old.agent (λ kept. handle.new.agent ≡ Some (record {
+    ensures state { IfSome handle.old.slot.agent (λ kept. handle.new.slot.agent ≡ Some (record {
       agent = left_by result kept.agent (after_send message.now kept.agent);
     })) }
 {
     let Some(mut kept) = handle.take(alloc) else {
-        return Refusal::EmptyHandle.code();
+        return missing(handle.kind);
     };
     let answer = answers::done(agent::send(&mut kept.agent, message, to));
-    handle.put(alloc, kept);
+    handle.put(kept);
     answer
 }
 
@@ -215,26 +224,26 @@ pub extern "C" fn stunp_agent_handle(
     from: &Address,
     now: u64,
 ) -> i64
-    ensures empty { IfNone handle.old.agent ((result ≡ refusal_number Refusal.EmptyHandle)
-        × (handle.new.agent ≡ None)) }
-    ensures answer { IfSome handle.old.agent (λ kept. IsOrOutOfMemory result (number_answer
+    ensures missing { IfNone handle.old.slot.agent ((result ≡ missing handle.old.kind)
+        × (handle.new ≡ handle.old)) }
+    ensures answer { IfSome handle.old.slot.agent (λ kept. IsOrOutOfMemory result (number_answer
         (at_address (socket_address from.now) (receiving_answer kept.agent message.now)))) }
-    ensures state { IfSome handle.old.agent (λ kept. handle.new.agent ≡ Some (record {
+    ensures state { IfSome handle.old.slot.agent (λ kept. handle.new.slot.agent ≡ Some (record {
       agent = left_by result kept.agent
           (kept_after_message kept.agent message.now from.now now);
     })) }
 
     // If no address is added to those that are kept, no failed allocation is returned.
-    ensures no_memory { IfSome handle.old.agent (λ kept.
+    ensures no_memory { IfSome handle.old.slot.agent (λ kept.
         IsTrue (message_adds_none kept.agent message.now (socket_address from.now)) →
         result ≡ number_answer
         (at_address (socket_address from.now) (receiving_answer kept.agent message.now))) }
 {
     let Some(mut kept) = handle.take(alloc) else {
-        return Refusal::EmptyHandle.code();
+        return missing(handle.kind);
     };
     let answer = answers::number(agent::handle(&mut kept.agent, message, from, now));
-    handle.put(alloc, kept);
+    handle.put(kept);
     answer
 }
 
@@ -248,26 +257,26 @@ pub extern "C" fn stunp_agent_poll_transmit(
     out: &mut [u8],
     to: &mut Address,
 ) -> i64
-    ensures empty { IfNone handle.old.agent ((result ≡ refusal_number Refusal.EmptyHandle)
-        × (handle.new.agent ≡ None)
+    ensures missing { IfNone handle.old.slot.agent ((result ≡ missing handle.old.kind)
+        × (handle.new ≡ handle.old)
         × (out.new ≡ out.old) × (to.new ≡ to.old)) }
-    ensures answer { IfSome handle.old.agent (λ kept. result ≡ length_answer
+    ensures answer { IfSome handle.old.slot.agent (λ kept. result ≡ length_answer
         (sent_again (length out.old) (sent_by_poll now kept.agent))) }
 
     // Too small a buffer leaves the agent, so no transmission is lost.
-    ensures state { IfSome handle.old.agent (λ kept. handle.new.agent ≡ Some (record {
+    ensures state { IfSome handle.old.slot.agent (λ kept. handle.new.slot.agent ≡ Some (record {
       agent = left_by result kept.agent (after_poll_transmit now kept.agent);
     })) }
-    ensures out { IfSome handle.old.agent (λ kept. out.new ≡ left_by result out.old
+    ensures out { IfSome handle.old.slot.agent (λ kept. out.new ≡ left_by result out.old
         (bytes_told (sent_by_poll now kept.agent) out.old)) }
-    ensures to { IfSome handle.old.agent (λ kept. to.new ≡ left_by result to.old
+    ensures to { IfSome handle.old.slot.agent (λ kept. to.new ≡ left_by result to.old
         (sent_to (sent_by_poll now kept.agent) to.old)) }
 {
     let Some(mut kept) = handle.take(alloc) else {
-        return Refusal::EmptyHandle.code();
+        return missing(handle.kind);
     };
     let answer = answers::length(agent::poll_transmit(&mut kept.agent, now, out, to));
-    handle.put(alloc, kept);
+    handle.put(kept);
     answer
 }
 
@@ -282,24 +291,24 @@ pub extern "C" fn stunp_agent_poll(
     until: &mut u64,
     id: &mut [u8],
 ) -> i64
-    ensures empty { IfNone handle.old.agent ((result ≡ refusal_number Refusal.EmptyHandle)
-        × (handle.new.agent ≡ None)
+    ensures missing { IfNone handle.old.slot.agent ((result ≡ missing handle.old.kind)
+        × (handle.new ≡ handle.old)
         × (until.new ≡ until.old) × (id.new ≡ id.old)) }
-    ensures answer { IfSome handle.old.agent (λ kept. result ≡ number_answer
+    ensures answer { IfSome handle.old.slot.agent (λ kept. result ≡ number_answer
         (polling_answer (length id.old) (poll_answer now kept.agent))) }
-    ensures state { IfSome handle.old.agent (λ kept. handle.new.agent ≡ Some (record {
+    ensures state { IfSome handle.old.slot.agent (λ kept. handle.new.slot.agent ≡ Some (record {
       agent = left_by result kept.agent (after_poll now kept.agent);
     })) }
-    ensures until { IfSome handle.old.agent (λ kept. until.new ≡ left_by result until.old
+    ensures until { IfSome handle.old.slot.agent (λ kept. until.new ≡ left_by result until.old
         (moment_told (poll_answer now kept.agent) until.old)) }
-    ensures id { IfSome handle.old.agent (λ kept. id.new ≡ left_by result id.old
+    ensures id { IfSome handle.old.slot.agent (λ kept. id.new ≡ left_by result id.old
         (id_told (poll_answer now kept.agent) id.old)) }
 {
     let Some(mut kept) = handle.take(alloc) else {
-        return Refusal::EmptyHandle.code();
+        return missing(handle.kind);
     };
     let answer = answers::number(agent::poll(&mut kept.agent, now, until, id));
-    handle.put(alloc, kept);
+    handle.put(kept);
     answer
 }
 
@@ -312,39 +321,39 @@ pub extern "C" fn stunp_agent_is_outstanding(
     id: &[u8],
     peer: &mut Address,
 ) -> i64
-    ensures empty { IfNone handle.old.agent ((result ≡ refusal_number Refusal.EmptyHandle)
-        × (handle.new.agent ≡ None)
+    ensures missing { IfNone handle.old.slot.agent ((result ≡ missing handle.old.kind)
+        × (handle.new ≡ handle.old)
         × (peer.new ≡ peer.old)) }
-    ensures answer { IfSome handle.old.agent (λ kept. result ≡ number_answer
+    ensures answer { IfSome handle.old.slot.agent (λ kept. result ≡ number_answer
         (outstanding_answer (id_in id.now) kept.agent)) }
-    ensures peer { IfSome handle.old.agent (λ kept. peer.new
+    ensures peer { IfSome handle.old.slot.agent (λ kept. peer.new
         ≡ peer_found (id_in id.now) kept.agent peer.old) }
-    ensures same { handle.new.agent ≡ handle.old.agent }
+    ensures same { handle.new.slot.agent ≡ handle.old.slot.agent }
 {
     let Some(mut kept) = handle.take(alloc) else {
-        return Refusal::EmptyHandle.code();
+        return missing(handle.kind);
     };
     let answer = answers::number(agent::is_outstanding(&kept.agent, id, peer));
-    handle.put(alloc, kept);
+    handle.put(kept);
     answer
 }
 
 /// Cancels the request with this ID. Returns 1, or 0 if none is outstanding.
 #[unsafe(no_mangle)]
 pub extern "C" fn stunp_agent_cancel(alloc: Global, handle: &mut AgentHandle, id: &[u8]) -> i64
-    ensures empty { IfNone handle.old.agent ((result ≡ refusal_number Refusal.EmptyHandle)
-        × (handle.new.agent ≡ None)) }
-    ensures answer { IfSome handle.old.agent (λ kept. result ≡ number_answer
+    ensures missing { IfNone handle.old.slot.agent ((result ≡ missing handle.old.kind)
+        × (handle.new ≡ handle.old)) }
+    ensures answer { IfSome handle.old.slot.agent (λ kept. result ≡ number_answer
         (outstanding_answer (id_in id.now) kept.agent)) }
-    ensures state { IfSome handle.old.agent (λ kept. handle.new.agent ≡ Some (record {
+    ensures state { IfSome handle.old.slot.agent (λ kept. handle.new.slot.agent ≡ Some (record {
       agent = with_changed with_cancellation (id_in id.now) kept.agent;
     })) }
 {
     let Some(mut kept) = handle.take(alloc) else {
-        return Refusal::EmptyHandle.code();
+        return missing(handle.kind);
     };
     let answer = answers::number(agent::cancel(&mut kept.agent, id));
-    handle.put(alloc, kept);
+    handle.put(kept);
     answer
 }
 
@@ -355,19 +364,19 @@ pub extern "C" fn stunp_agent_cancel_retransmissions(
     handle: &mut AgentHandle,
     id: &[u8],
 ) -> i64
-    ensures empty { IfNone handle.old.agent ((result ≡ refusal_number Refusal.EmptyHandle)
-        × (handle.new.agent ≡ None)) }
-    ensures answer { IfSome handle.old.agent (λ kept. result ≡ number_answer
+    ensures missing { IfNone handle.old.slot.agent ((result ≡ missing handle.old.kind)
+        × (handle.new ≡ handle.old)) }
+    ensures answer { IfSome handle.old.slot.agent (λ kept. result ≡ number_answer
         (outstanding_answer (id_in id.now) kept.agent)) }
-    ensures state { IfSome handle.old.agent (λ kept. handle.new.agent ≡ Some (record {
+    ensures state { IfSome handle.old.slot.agent (λ kept. handle.new.slot.agent ≡ Some (record {
       agent = with_changed without_retransmissions (id_in id.now) kept.agent;
     })) }
 {
     let Some(mut kept) = handle.take(alloc) else {
-        return Refusal::EmptyHandle.code();
+        return missing(handle.kind);
     };
     let answer = answers::number(agent::cancel_retransmissions(&mut kept.agent, id));
-    handle.put(alloc, kept);
+    handle.put(kept);
     answer
 }
 
@@ -381,19 +390,19 @@ pub extern "C" fn stunp_agent_configure(
     id: &[u8],
     timeouts: &Timeouts,
 ) -> i64
-    ensures empty { IfNone handle.old.agent ((result ≡ refusal_number Refusal.EmptyHandle)
-        × (handle.new.agent ≡ None)) }
-    ensures answer { IfSome handle.old.agent (λ kept. result ≡ number_answer
+    ensures missing { IfNone handle.old.slot.agent ((result ≡ missing handle.old.kind)
+        × (handle.new ≡ handle.old)) }
+    ensures answer { IfSome handle.old.slot.agent (λ kept. result ≡ number_answer
         (unless_untimed timeouts.now (outstanding_answer (id_in id.now) kept.agent))) }
-    ensures state { IfSome handle.old.agent (λ kept. handle.new.agent ≡ Some (record {
+    ensures state { IfSome handle.old.slot.agent (λ kept. handle.new.slot.agent ≡ Some (record {
       agent = kept_after_configuring timeouts.now (id_in id.now) kept.agent;
     })) }
 {
     let Some(mut kept) = handle.take(alloc) else {
-        return Refusal::EmptyHandle.code();
+        return missing(handle.kind);
     };
     let answer = answers::number(agent::configure(&mut kept.agent, id, timeouts));
-    handle.put(alloc, kept);
+    handle.put(kept);
     answer
 }
 
@@ -405,24 +414,24 @@ pub extern "C" fn stunp_agent_validated_peer(
     handle: &mut AgentHandle,
     peer: &Address,
 ) -> i64
-    ensures empty { IfNone handle.old.agent ((result ≡ refusal_number Refusal.EmptyHandle)
-        × (handle.new.agent ≡ None)) }
-    ensures answer { IfSome handle.old.agent (λ _. IsOrOutOfMemory result (done_answer
+    ensures missing { IfNone handle.old.slot.agent ((result ≡ missing handle.old.kind)
+        × (handle.new ≡ handle.old)) }
+    ensures answer { IfSome handle.old.slot.agent (λ _. IsOrOutOfMemory result (done_answer
         (done_if_given (socket_address peer.now)))) }
-    ensures state { IfSome handle.old.agent (λ kept. handle.new.agent ≡ Some (record {
+    ensures state { IfSome handle.old.slot.agent (λ kept. handle.new.slot.agent ≡ Some (record {
       agent = left_by result kept.agent (kept_after_naming kept.agent peer.now);
     })) }
 
     // If the address is kept already, no failed allocation is returned.
-    ensures there { IfSome handle.old.agent (λ kept.
+    ensures there { IfSome handle.old.slot.agent (λ kept.
         IsTrue (naming_adds_none kept.agent (socket_address peer.now)) →
         result ≡ done_answer (done_if_given (socket_address peer.now))) }
 {
     let Some(mut kept) = handle.take(alloc) else {
-        return Refusal::EmptyHandle.code();
+        return missing(handle.kind);
     };
     let answer = answers::done(agent::validated_peer(&mut kept.agent, peer));
-    handle.put(alloc, kept);
+    handle.put(kept);
     answer
 }
 
@@ -434,34 +443,34 @@ pub extern "C" fn stunp_agent_is_validated_peer(
     handle: &mut AgentHandle,
     peer: &Address,
 ) -> i64
-    ensures empty { IfNone handle.old.agent ((result ≡ refusal_number Refusal.EmptyHandle)
-        × (handle.new.agent ≡ None)) }
-    ensures answer { IfSome handle.old.agent (λ kept. result ≡ number_answer
+    ensures missing { IfNone handle.old.slot.agent ((result ≡ missing handle.old.kind)
+        × (handle.new ≡ handle.old)) }
+    ensures answer { IfSome handle.old.slot.agent (λ kept. result ≡ number_answer
         (at_address (socket_address peer.now) (peer_answer kept.agent))) }
-    ensures same { handle.new.agent ≡ handle.old.agent }
+    ensures same { handle.new.slot.agent ≡ handle.old.slot.agent }
 {
     let Some(mut kept) = handle.take(alloc) else {
-        return Refusal::EmptyHandle.code();
+        return missing(handle.kind);
     };
     let answer = answers::number(agent::is_validated_peer(&kept.agent, peer));
-    handle.put(alloc, kept);
+    handle.put(kept);
     answer
 }
 
 /// Returns the number of validated peers.
 #[unsafe(no_mangle)]
 pub extern "C" fn stunp_agent_peer_count(alloc: Global, handle: &mut AgentHandle) -> i64
-    ensures empty { IfNone handle.old.agent ((result ≡ refusal_number Refusal.EmptyHandle)
-        × (handle.new.agent ≡ None)) }
-    ensures answer { IfSome handle.old.agent (λ kept. result
+    ensures missing { IfNone handle.old.slot.agent ((result ≡ missing handle.old.kind)
+        × (handle.new ≡ handle.old)) }
+    ensures answer { IfSome handle.old.slot.agent (λ kept. result
         ≡ length_answer (Ok (length kept.agent.peers))) }
-    ensures same { handle.new.agent ≡ handle.old.agent }
+    ensures same { handle.new.slot.agent ≡ handle.old.slot.agent }
 {
     let Some(kept) = handle.take(alloc) else {
-        return Refusal::EmptyHandle.code();
+        return missing(handle.kind);
     };
     let answer = answers::length(Ok(kept.agent.validated_peer_count()));
-    handle.put(alloc, kept);
+    handle.put(kept);
     answer
 }
 
@@ -473,18 +482,18 @@ pub extern "C" fn stunp_agent_forget_peer(
     handle: &mut AgentHandle,
     peer: &Address,
 ) -> i64
-    ensures empty { IfNone handle.old.agent ((result ≡ refusal_number Refusal.EmptyHandle)
-        × (handle.new.agent ≡ None)) }
-    ensures answer { IfSome handle.old.agent (λ _. result ≡ done_answer
+    ensures missing { IfNone handle.old.slot.agent ((result ≡ missing handle.old.kind)
+        × (handle.new ≡ handle.old)) }
+    ensures answer { IfSome handle.old.slot.agent (λ _. result ≡ done_answer
         (done_if_given (socket_address peer.now))) }
-    ensures state { IfSome handle.old.agent (λ kept. handle.new.agent ≡ Some (record {
+    ensures state { IfSome handle.old.slot.agent (λ kept. handle.new.slot.agent ≡ Some (record {
       agent = kept_after_forgetting kept.agent peer.now;
     })) }
 {
     let Some(mut kept) = handle.take(alloc) else {
-        return Refusal::EmptyHandle.code();
+        return missing(handle.kind);
     };
     let answer = answers::done(agent::forget_peer(&mut kept.agent, peer));
-    handle.put(alloc, kept);
+    handle.put(kept);
     answer
 }

@@ -1,13 +1,14 @@
 //! The calls on the long-term authenticator of a client (RFC 8489, sections 9.2.3 and 9.2.5).
 //!
-//! A call fails first with `EmptyHandle` if its handle is empty; `stunp_client_new` fails with
-//! `FullHandle` if it is full. Bytes that are not a message fail with `Truncated`, `NotStun` or
-//! `TooLarge`.
+//! A call fails first with `EmptyHandle` if its handle is empty, or with `WrongHandle` if it has an
+//! object of another type; `stunp_client_new` fails with `FullHandle` if the handle is not empty.
+//! Bytes that are not a message fail with `Truncated`, `NotStun` or `TooLarge`.
 
-ghost use Rattle.std.specs.Prelude.{◌≡◌, ◌⊎◌, length, pos, MatchOption};
+ghost use Rattle.std.specs.Prelude.{◌≡◌, ◌≢◌, ◌⊎◌, length, pos, MatchOption};
 ghost use Rattle.std.specs.Prelude.{Some, None, Ok, IfNone, IfSome};
 ghost use Rattle.stun_auth.specs.ClientSigning.{signing_algorithm};
 ghost use Rattle.stun_auth.specs.Client.{new_client};
+ghost use Rattle.stun_handles.specs.Kinds.{EMPTY as empty_kind, missing};
 ghost use Rattle.stun_numbers.specs.Refusals.{refusal_number};
 ghost use Rattle.stun_numbers.specs.Buffers.{buffer_after, length_of};
 ghost use Rattle.stun_state.specs.Answers.{done_if_given, texts_refusal};
@@ -24,24 +25,28 @@ ghost use Rattle.stun_state.specs.Signing.{signed_by_client};
 use crate::handle::client::{Client, ClientHandle};
 use crate::{answers, client};
 use std::alloc::Global;
+use stun_handles::kind::{EMPTY, missing};
 use stun_numbers::refusal::Refusal;
 
 /// Creates a client without credentials. Fails with `FullHandle`, then `OutOfMemory`.
 #[unsafe(no_mangle)]
 pub extern "C" fn stunp_client_new(alloc: Global, handle: &mut ClientHandle) -> i64
-    ensures full { IfSome handle.old.client (λ kept. (result ≡ refusal_number Refusal.FullHandle)
-        × (handle.new.client ≡ Some kept)) }
-    ensures made { IfNone handle.old.client (OrOutOfMemory result None handle.new.client (pos 0)
-        (Some (record { client = new_client }))) }
+    ensures full { handle.old.kind ≢ empty_kind →
+        (result ≡ refusal_number Refusal.FullHandle) × (handle.new ≡ handle.old) }
+    ensures made { handle.old.kind ≡ empty_kind →
+        OrOutOfMemory result None handle.new.slot.client (pos 0)
+        (Some (record { client = new_client })) }
+
+    // A handle that gets no value is left as it was.
+    ensures left { IfNone handle.new.slot.client (handle.new ≡ handle.old) }
 {
-    if let Some(kept) = handle.take(alloc) {
-        handle.put(alloc, kept);
+    if handle.kind != EMPTY {
         return Refusal::FullHandle.code();
     }
     let client = client::new(alloc);
     match Box::new(alloc, Client { client }) {
         Ok(kept) => {
-            handle.put(alloc, kept);
+            handle.put(kept);
             0
         }
         Err(_) => Refusal::OutOfMemory.code(),
@@ -56,19 +61,20 @@ pub extern "C" fn stunp_client_set_credentials(
     name: &[u8],
     password: &[u8],
 ) -> i64
-    ensures empty { IfNone handle.old.client ((result ≡ refusal_number Refusal.EmptyHandle)
-        × (handle.new.client ≡ None)) }
-    ensures answer { IfSome handle.old.client (λ kept. MatchOption
+    ensures missing { IfNone handle.old.slot.client ((result ≡ missing handle.old.kind)
+        × (handle.new ≡ handle.old)) }
+    ensures answer { IfSome handle.old.slot.client (λ kept. MatchOption
         (texts_refusal name.now password.now)
-        (OrOutOfMemory result handle.old.client handle.new.client (pos 0)
+        (OrOutOfMemory result handle.old.slot.client handle.new.slot.client (pos 0)
         (Some (record { client = with_credentials name.now password.now kept.client })))
-        (λ refusal. (result ≡ refusal_number refusal) × (handle.new.client ≡ handle.old.client))) }
+        (λ refusal. (result ≡ refusal_number refusal)
+        × (handle.new.slot.client ≡ handle.old.slot.client))) }
 {
     let Some(mut kept) = handle.take(alloc) else {
-        return Refusal::EmptyHandle.code();
+        return missing(handle.kind);
     };
     let answer = answers::done(client::set_credentials(alloc, &mut kept.client, name, password));
-    handle.put(alloc, kept);
+    handle.put(kept);
     answer
 }
 
@@ -80,19 +86,19 @@ pub extern "C" fn stunp_client_set_algorithms(
     handle: &mut ClientHandle,
     algorithms: u32,
 ) -> i64
-    ensures empty { IfNone handle.old.client ((result ≡ refusal_number Refusal.EmptyHandle)
-        × (handle.new.client ≡ None)) }
-    ensures answer { IfSome handle.old.client (λ _. result ≡ done_answer
+    ensures missing { IfNone handle.old.slot.client ((result ≡ missing handle.old.kind)
+        × (handle.new ≡ handle.old)) }
+    ensures answer { IfSome handle.old.slot.client (λ _. result ≡ done_answer
         (done_if_given (algorithms_numbered algorithms))) }
-    ensures state { IfSome handle.old.client (λ kept. handle.new.client ≡ Some (record {
+    ensures state { IfSome handle.old.slot.client (λ kept. handle.new.slot.client ≡ Some (record {
       client = on_client.client_with_algorithms (algorithms_numbered algorithms) kept.client;
     })) }
 {
     let Some(mut kept) = handle.take(alloc) else {
-        return Refusal::EmptyHandle.code();
+        return missing(handle.kind);
     };
     let answer = answers::done(client::set_algorithms(&mut kept.client, algorithms));
-    handle.put(alloc, kept);
+    handle.put(kept);
     answer
 }
 
@@ -104,26 +110,27 @@ pub extern "C" fn stunp_client_set_anonymous_username(
     handle: &mut ClientHandle,
     feature: u32,
 ) -> i64
-    ensures empty { IfNone handle.old.client ((result ≡ refusal_number Refusal.EmptyHandle)
-        × (handle.new.client ≡ None)) }
-    ensures answer { IfSome handle.old.client (λ _. result ≡ done_answer
+    ensures missing { IfNone handle.old.slot.client ((result ≡ missing handle.old.kind)
+        × (handle.new ≡ handle.old)) }
+    ensures answer { IfSome handle.old.slot.client (λ _. result ≡ done_answer
         (done_if_given (feature_numbered feature))) }
-    ensures state { IfSome handle.old.client (λ kept. handle.new.client ≡ Some (record {
+    ensures state { IfSome handle.old.slot.client (λ kept. handle.new.slot.client ≡ Some (record {
       client = on_client.client_with_feature (feature_numbered feature) kept.client;
     })) }
 {
     let Some(mut kept) = handle.take(alloc) else {
-        return Refusal::EmptyHandle.code();
+        return missing(handle.kind);
     };
     let answer = answers::done(client::set_anonymous_username(&mut kept.client, feature));
-    handle.put(alloc, kept);
+    handle.put(kept);
     answer
 }
 
-/// Frees the client, and makes the handle empty.
+/// Frees the client, and makes the handle empty. Does nothing if the handle has no client.
 #[unsafe(no_mangle)]
 pub extern "C" fn stunp_client_clear(alloc: Global, handle: &mut ClientHandle)
-    ensures { handle.new.client ≡ None }
+    ensures freed { IfSome handle.old.slot.client (λ _. handle.new.kind ≡ empty_kind) }
+    ensures left { IfNone handle.old.slot.client (handle.new ≡ handle.old) }
 {
     let _client = handle.take(alloc);
 }
@@ -140,20 +147,20 @@ pub extern "C" fn stunp_client_sign(
     buffer: &mut [u8],
     length: usize,
 ) -> i64
-    ensures empty { IfNone handle.old.client ((result ≡ refusal_number Refusal.EmptyHandle)
-        × (handle.new.client ≡ None)
+    ensures missing { IfNone handle.old.slot.client ((result ≡ missing handle.old.kind)
+        × (handle.new ≡ handle.old)
         × (buffer.new ≡ buffer.old)) }
-    ensures answer { IfSome handle.old.client (λ kept. result
+    ensures answer { IfSome handle.old.slot.client (λ kept. result
         ≡ length_answer (length_of (signed_by_client kept.client.state buffer.old length))) }
-    ensures written { IfSome handle.old.client (λ kept. buffer.new
+    ensures written { IfSome handle.old.slot.client (λ kept. buffer.new
         ≡ buffer_after (signed_by_client kept.client.state buffer.old length) buffer.old) }
-    ensures same { handle.new.client ≡ handle.old.client }
+    ensures same { handle.new.slot.client ≡ handle.old.slot.client }
 {
     let Some(mut kept) = handle.take(alloc) else {
-        return Refusal::EmptyHandle.code();
+        return missing(handle.kind);
     };
     let answer = answers::length(client::sign(&mut kept.client, buffer, length));
-    handle.put(alloc, kept);
+    handle.put(kept);
     answer
 }
 
@@ -161,17 +168,17 @@ pub extern "C" fn stunp_client_sign(
 /// none.
 #[unsafe(no_mangle)]
 pub extern "C" fn stunp_client_signing_algorithm(alloc: Global, handle: &mut ClientHandle) -> i64
-    ensures empty { IfNone handle.old.client ((result ≡ refusal_number Refusal.EmptyHandle)
-        × (handle.new.client ≡ None)) }
-    ensures answer { IfSome handle.old.client (λ kept. result
+    ensures missing { IfNone handle.old.slot.client ((result ≡ missing handle.old.kind)
+        × (handle.new ≡ handle.old)) }
+    ensures answer { IfSome handle.old.slot.client (λ kept. result
         ≡ pos (algorithm_or_none (signing_algorithm kept.client.state))) }
-    ensures same { handle.new.client ≡ handle.old.client }
+    ensures same { handle.new.slot.client ≡ handle.old.slot.client }
 {
     let Some(mut kept) = handle.take(alloc) else {
-        return Refusal::EmptyHandle.code();
+        return missing(handle.kind);
     };
     let answer = i64::from(client::signing_algorithm(&kept.client));
-    handle.put(alloc, kept);
+    handle.put(kept);
     answer
 }
 
@@ -187,22 +194,22 @@ pub extern "C" fn stunp_client_validate(
     handle: &mut ClientHandle,
     message: &[u8],
 ) -> i64
-    ensures empty { IfNone handle.old.client ((result ≡ refusal_number Refusal.EmptyHandle)
-        × (handle.new.client ≡ None)) }
-    ensures answer { IfSome handle.old.client (λ kept. OrOutOfMemory result
-        handle.old.client handle.new.client
+    ensures missing { IfNone handle.old.slot.client ((result ≡ missing handle.old.kind)
+        × (handle.new ≡ handle.old)) }
+    ensures answer { IfSome handle.old.slot.client (λ kept. OrOutOfMemory result
+        handle.old.slot.client handle.new.slot.client
         (reading_answer (client_validation kept.client message.now))
         (Some (record { client = client_after_validation kept.client message.now }))) }
 
     // A failed allocation is returned only if another request is asked for.
-    ensures resend { IfSome handle.old.client (λ kept.
+    ensures resend { IfSome handle.old.slot.client (λ kept.
         (result ≡ reading_answer (client_validation kept.client message.now))
         ⊎ AsksAgain kept.client message.now) }
 {
     let Some(mut kept) = handle.take(alloc) else {
-        return Refusal::EmptyHandle.code();
+        return missing(handle.kind);
     };
     let answer = answers::reading(client::validate(&mut kept.client, message));
-    handle.put(alloc, kept);
+    handle.put(kept);
     answer
 }

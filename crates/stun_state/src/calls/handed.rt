@@ -1,11 +1,13 @@
 //! The calls of a server whose users are looked up elsewhere, such as in a database: first the
 //! caller asks whom a message names, and then validates and signs with that user.
 //!
-//! A call fails first with `EmptyHandle` if its handle is empty. An address and a message fail as
-//! in `calls/server.rt`. A stored key for HMAC-SHA1 has 16 bytes, and one for HMAC-SHA256 has 32. A
-//! key that is not stored has no bytes; any other length fails with `BadArgument`.
+//! A call fails first with `EmptyHandle` if its handle is empty, or with `WrongHandle` if it has an
+//! object of another type. An address and a message fail as in `calls/server.rt`. A stored key for
+//! HMAC-SHA1 has 16 bytes, and one for HMAC-SHA256 has 32. A key that is not stored has no bytes;
+//! any other length fails with `BadArgument`.
 
 ghost use Rattle.std.specs.Prelude.{◌≡◌, length, Some, None, IfNone, IfSome};
+ghost use Rattle.stun_handles.specs.Kinds.{missing};
 ghost use Rattle.stun_numbers.specs.Refusals.{refusal_number};
 ghost use Rattle.stun_numbers.specs.Buffers.{buffer_after, length_of};
 ghost use Rattle.stun_state.specs.Addresses.{socket_address};
@@ -22,7 +24,7 @@ use crate::handed::Given;
 use crate::handle::server::ServerHandle;
 use crate::{answers, handed};
 use std::alloc::Global;
-use stun_numbers::refusal::Refusal;
+use stun_handles::kind::missing;
 
 /// Determines with which user's key a message that arrived from an address will be verified.
 /// Returns 1 and writes the name, or 2 and writes its hash of 32 bytes, and writes the length of
@@ -39,28 +41,28 @@ pub extern "C" fn stunp_server_named_user(
     name: &mut [u8],
     name_length: &mut usize,
 ) -> i64
-    ensures empty { IfNone handle.old.server ((result ≡ refusal_number Refusal.EmptyHandle)
-        × (handle.new.server ≡ None)
+    ensures missing { IfNone handle.old.slot.server ((result ≡ missing handle.old.kind)
+        × (handle.new ≡ handle.old)
         × (name.new ≡ name.old) × (name_length.new ≡ name_length.old)) }
-    ensures answer { IfSome handle.old.server (λ kept. result ≡ number_answer
+    ensures answer { IfSome handle.old.slot.server (λ kept. result ≡ number_answer
         (at_address (socket_address from.now)
         (naming_answer kept.server message.now (length name.old)))) }
-    ensures name { IfSome handle.old.server (λ kept. name.new
+    ensures name { IfSome handle.old.slot.server (λ kept. name.new
         ≡ after_address (socket_address from.now) name.old
         (λ from. naming_written name.old (named_in_bytes kept.server message.now from))) }
 
     // Also where the buffer has no room for it.
-    ensures name_length { IfSome handle.old.server (λ kept. name_length.new
+    ensures name_length { IfSome handle.old.slot.server (λ kept. name_length.new
         ≡ after_address (socket_address from.now) name_length.old
         (λ from. naming_length (named_in_bytes kept.server message.now from) name_length.old)) }
-    ensures same { handle.new.server ≡ handle.old.server }
+    ensures same { handle.new.slot.server ≡ handle.old.slot.server }
 {
     let Some(kept) = handle.take(alloc) else {
-        return Refusal::EmptyHandle.code();
+        return missing(handle.kind);
     };
     let named = handed::named_user(&kept.server, message, from, name, name_length);
     let answer = answers::number(named);
-    handle.put(alloc, kept);
+    handle.put(kept);
     answer
 }
 
@@ -78,10 +80,10 @@ pub extern "C" fn stunp_server_validate_of(
     name: &[u8],
     password: &[u8],
 ) -> i64
-    ensures empty { IfNone handle.old.server ((result ≡ refusal_number Refusal.EmptyHandle)
-        × (handle.new.server ≡ None)) }
-    ensures answer { IfSome handle.old.server (λ kept. OrOutOfMemory result
-        handle.old.server handle.new.server
+    ensures missing { IfNone handle.old.slot.server ((result ≡ missing handle.old.kind)
+        × (handle.new ≡ handle.old)) }
+    ensures answer { IfSome handle.old.slot.server (λ kept. OrOutOfMemory result
+        handle.old.slot.server handle.new.slot.server
         (handed_validation_number kept message.now from.now now words.now
         (user_of_password name.now password.now))
         (Some (record kept {
@@ -90,12 +92,12 @@ pub extern "C" fn stunp_server_validate_of(
         }))) }
 {
     let Some(mut kept) = handle.take(alloc) else {
-        return Refusal::EmptyHandle.code();
+        return missing(handle.kind);
     };
     let given = Given::Password(password);
     let verdict = handed::validate(alloc, &mut kept, message, from, now, words, name, given);
     let answer = answers::algorithm(verdict);
-    handle.put(alloc, kept);
+    handle.put(kept);
     answer
 }
 
@@ -112,28 +114,29 @@ pub extern "C" fn stunp_server_sign_of(
     name: &[u8],
     password: &[u8],
 ) -> i64
-    ensures empty { IfNone handle.old.server ((result ≡ refusal_number Refusal.EmptyHandle)
-        × (handle.new.server ≡ None)
+    ensures missing { IfNone handle.old.slot.server ((result ≡ missing handle.old.kind)
+        × (handle.new ≡ handle.old)
         × (buffer.new ≡ buffer.old)) }
-    ensures answer { IfSome handle.old.server (λ kept. IsOrOutOfMemory result (length_answer
+    ensures answer { IfSome handle.old.slot.server (λ kept. IsOrOutOfMemory result (length_answer
         (length_of (handed_signing kept.server buffer.old length to.now
         (user_of_password name.now password.now))))) }
-    ensures written { IfSome handle.old.server (λ kept. buffer.new ≡ left_by result buffer.old
+    ensures written { IfSome handle.old.slot.server (λ kept. buffer.new ≡ left_by result buffer.old
         (buffer_after (handed_signing kept.server buffer.old length to.now
         (user_of_password name.now password.now)) buffer.old)) }
-    ensures state { IfSome handle.old.server (λ kept. handle.new.server ≡ Some (record kept {
-      server = left_by result kept.server
-          (kept_after_handed_signing kept.server buffer.old length to.now
-          (user_of_password name.now password.now));
-    })) }
+    ensures state { IfSome handle.old.slot.server (λ kept.
+        handle.new.slot.server ≡ Some (record kept {
+          server = left_by result kept.server
+              (kept_after_handed_signing kept.server buffer.old length to.now
+              (user_of_password name.now password.now));
+        })) }
 {
     let Some(mut kept) = handle.take(alloc) else {
-        return Refusal::EmptyHandle.code();
+        return missing(handle.kind);
     };
     let given = Given::Password(password);
     let signed = handed::sign(alloc, &mut kept.server, buffer, length, to, name, given);
     let answer = answers::length(signed);
-    handle.put(alloc, kept);
+    handle.put(kept);
     answer
 }
 
@@ -152,10 +155,10 @@ pub extern "C" fn stunp_server_validate_of_keys(
     sha1: &[u8],
     sha256: &[u8],
 ) -> i64
-    ensures empty { IfNone handle.old.server ((result ≡ refusal_number Refusal.EmptyHandle)
-        × (handle.new.server ≡ None)) }
-    ensures answer { IfSome handle.old.server (λ kept. OrOutOfMemory result
-        handle.old.server handle.new.server
+    ensures missing { IfNone handle.old.slot.server ((result ≡ missing handle.old.kind)
+        × (handle.new ≡ handle.old)) }
+    ensures answer { IfSome handle.old.slot.server (λ kept. OrOutOfMemory result
+        handle.old.slot.server handle.new.slot.server
         (handed_validation_number kept message.now from.now now words.now
         (user_of_keys name.now sha1.now sha256.now))
         (Some (record kept {
@@ -164,12 +167,12 @@ pub extern "C" fn stunp_server_validate_of_keys(
         }))) }
 {
     let Some(mut kept) = handle.take(alloc) else {
-        return Refusal::EmptyHandle.code();
+        return missing(handle.kind);
     };
     let given = Given::Keys(sha1, sha256);
     let verdict = handed::validate(alloc, &mut kept, message, from, now, words, name, given);
     let answer = answers::algorithm(verdict);
-    handle.put(alloc, kept);
+    handle.put(kept);
     answer
 }
 
@@ -187,27 +190,28 @@ pub extern "C" fn stunp_server_sign_of_keys(
     sha1: &[u8],
     sha256: &[u8],
 ) -> i64
-    ensures empty { IfNone handle.old.server ((result ≡ refusal_number Refusal.EmptyHandle)
-        × (handle.new.server ≡ None)
+    ensures missing { IfNone handle.old.slot.server ((result ≡ missing handle.old.kind)
+        × (handle.new ≡ handle.old)
         × (buffer.new ≡ buffer.old)) }
-    ensures answer { IfSome handle.old.server (λ kept. IsOrOutOfMemory result (length_answer
+    ensures answer { IfSome handle.old.slot.server (λ kept. IsOrOutOfMemory result (length_answer
         (length_of (handed_signing kept.server buffer.old length to.now
         (user_of_keys name.now sha1.now sha256.now))))) }
-    ensures written { IfSome handle.old.server (λ kept. buffer.new ≡ left_by result buffer.old
+    ensures written { IfSome handle.old.slot.server (λ kept. buffer.new ≡ left_by result buffer.old
         (buffer_after (handed_signing kept.server buffer.old length to.now
         (user_of_keys name.now sha1.now sha256.now)) buffer.old)) }
-    ensures state { IfSome handle.old.server (λ kept. handle.new.server ≡ Some (record kept {
-      server = left_by result kept.server
-          (kept_after_handed_signing kept.server buffer.old length to.now
-          (user_of_keys name.now sha1.now sha256.now));
-    })) }
+    ensures state { IfSome handle.old.slot.server (λ kept.
+        handle.new.slot.server ≡ Some (record kept {
+          server = left_by result kept.server
+              (kept_after_handed_signing kept.server buffer.old length to.now
+              (user_of_keys name.now sha1.now sha256.now));
+        })) }
 {
     let Some(mut kept) = handle.take(alloc) else {
-        return Refusal::EmptyHandle.code();
+        return missing(handle.kind);
     };
     let given = Given::Keys(sha1, sha256);
     let signed = handed::sign(alloc, &mut kept.server, buffer, length, to, name, given);
     let answer = answers::length(signed);
-    handle.put(alloc, kept);
+    handle.put(kept);
     answer
 }

@@ -1,16 +1,18 @@
 //! The calls on the long-term authenticator of a server (RFC 8489, section 9.2.4).
 //!
-//! A call fails first with `EmptyHandle` if its handle is empty; `stunp_server_new` fails with
-//! `FullHandle` if it is full. Bytes that are not a message fail with `Truncated`, `NotStun` or
-//! `TooLarge`, and an address whose length is neither 4 nor 16 with `BadArgument`.
+//! A call fails first with `EmptyHandle` if its handle is empty, or with `WrongHandle` if it has an
+//! object of another type; `stunp_server_new` fails with `FullHandle` if the handle is not empty.
+//! Bytes that are not a message fail with `Truncated`, `NotStun` or `TooLarge`, and an address whose
+//! length is neither 4 nor 16 with `BadArgument`.
 
 ghost use Rattle.std.specs.FinMap as map;
-ghost use Rattle.std.specs.Prelude.{◌≡◌, ◌-◌, length, pos};
+ghost use Rattle.std.specs.Prelude.{◌≡◌, ◌≢◌, ◌-◌, length, pos};
 ghost use Rattle.std.specs.Prelude.{MatchOption, Some, None, Ok, IfNone, IfSome};
 ghost use Rattle.stun_auth.specs.Forgetting.{after_forgetting, without_place};
 ghost use Rattle.stun_auth.specs.ForgettingSteps.{after_step, next_address};
 ghost use Rattle.stun_auth.specs.Registered.{with_user};
 ghost use Rattle.stun_auth.specs.Validation.{client_at, new_server};
+ghost use Rattle.stun_handles.specs.Kinds.{EMPTY as empty_kind, missing};
 ghost use Rattle.stun_numbers.specs.Refusals.{refusal_or, refusal_number};
 ghost use Rattle.stun_numbers.specs.Buffers.{buffer_after, length_of};
 ghost use Rattle.stun_state.specs.Addresses.{socket_address, start_for, start_told};
@@ -33,21 +35,24 @@ use crate::address::Address;
 use crate::handle::server::{Server, ServerHandle};
 use crate::{answers, server};
 use std::alloc::Global;
+use stun_handles::kind::{EMPTY, missing};
 use stun_numbers::refusal::Refusal;
 
 /// Creates a server for a realm, without users and without a limit on addresses. Fails with
 /// `FullHandle`, then `NotText`, then `OutOfMemory`.
 #[unsafe(no_mangle)]
 pub extern "C" fn stunp_server_new(alloc: Global, handle: &mut ServerHandle, realm: &[u8]) -> i64
-    ensures full { IfSome handle.old.server (λ kept. (result ≡ refusal_number Refusal.FullHandle)
-        × (handle.new.server ≡ Some kept)) }
-    ensures made { IfNone handle.old.server (MatchOption (text_refusal realm.now)
-        (OrOutOfMemory result None handle.new.server (pos 0)
+    ensures full { handle.old.kind ≢ empty_kind →
+        (result ≡ refusal_number Refusal.FullHandle) × (handle.new ≡ handle.old) }
+    ensures made { handle.old.kind ≡ empty_kind → MatchOption (text_refusal realm.now)
+        (OrOutOfMemory result None handle.new.slot.server (pos 0)
         (Some (record { server = new_server realm.now; most_addresses = UNBOUNDED })))
-        (λ refusal. (result ≡ refusal_number refusal) × (handle.new.server ≡ None))) }
+        (λ refusal. (result ≡ refusal_number refusal) × (handle.new.slot.server ≡ None)) }
+
+    // A handle that gets no value is left as it was.
+    ensures left { IfNone handle.new.slot.server (handle.new ≡ handle.old) }
 {
-    if let Some(kept) = handle.take(alloc) {
-        handle.put(alloc, kept);
+    if handle.kind != EMPTY {
         return Refusal::FullHandle.code();
     }
     let server = match server::new(alloc, realm) {
@@ -60,7 +65,7 @@ pub extern "C" fn stunp_server_new(alloc: Global, handle: &mut ServerHandle, rea
     };
     match Box::new(alloc, kept) {
         Ok(kept) => {
-            handle.put(alloc, kept);
+            handle.put(kept);
             0
         }
         Err(_) => Refusal::OutOfMemory.code(),
@@ -75,19 +80,20 @@ pub extern "C" fn stunp_server_set_algorithms(
     handle: &mut ServerHandle,
     algorithms: u32,
 ) -> i64
-    ensures empty { IfNone handle.old.server ((result ≡ refusal_number Refusal.EmptyHandle)
-        × (handle.new.server ≡ None)) }
-    ensures answer { IfSome handle.old.server (λ _. result ≡ done_answer
+    ensures missing { IfNone handle.old.slot.server ((result ≡ missing handle.old.kind)
+        × (handle.new ≡ handle.old)) }
+    ensures answer { IfSome handle.old.slot.server (λ _. result ≡ done_answer
         (done_if_given (algorithms_numbered algorithms))) }
-    ensures state { IfSome handle.old.server (λ kept. handle.new.server ≡ Some (record kept {
-      server = on_server.server_with_algorithms (algorithms_numbered algorithms) kept.server;
-    })) }
+    ensures state { IfSome handle.old.slot.server (λ kept.
+        handle.new.slot.server ≡ Some (record kept {
+          server = on_server.server_with_algorithms (algorithms_numbered algorithms) kept.server;
+        })) }
 {
     let Some(mut kept) = handle.take(alloc) else {
-        return Refusal::EmptyHandle.code();
+        return missing(handle.kind);
     };
     let answer = answers::done(server::set_algorithms(&mut kept.server, algorithms));
-    handle.put(alloc, kept);
+    handle.put(kept);
     answer
 }
 
@@ -99,19 +105,20 @@ pub extern "C" fn stunp_server_set_anonymous_username(
     handle: &mut ServerHandle,
     feature: u32,
 ) -> i64
-    ensures empty { IfNone handle.old.server ((result ≡ refusal_number Refusal.EmptyHandle)
-        × (handle.new.server ≡ None)) }
-    ensures answer { IfSome handle.old.server (λ _. result ≡ done_answer
+    ensures missing { IfNone handle.old.slot.server ((result ≡ missing handle.old.kind)
+        × (handle.new ≡ handle.old)) }
+    ensures answer { IfSome handle.old.slot.server (λ _. result ≡ done_answer
         (done_if_given (feature_numbered feature))) }
-    ensures state { IfSome handle.old.server (λ kept. handle.new.server ≡ Some (record kept {
-      server = on_server.server_with_feature (feature_numbered feature) kept.server;
-    })) }
+    ensures state { IfSome handle.old.slot.server (λ kept.
+        handle.new.slot.server ≡ Some (record kept {
+          server = on_server.server_with_feature (feature_numbered feature) kept.server;
+        })) }
 {
     let Some(mut kept) = handle.take(alloc) else {
-        return Refusal::EmptyHandle.code();
+        return missing(handle.kind);
     };
     let answer = answers::done(server::set_anonymous_username(&mut kept.server, feature));
-    handle.put(alloc, kept);
+    handle.put(kept);
     answer
 }
 
@@ -122,18 +129,19 @@ pub extern "C" fn stunp_server_set_nonce_expiry(
     handle: &mut ServerHandle,
     nanoseconds: u64,
 ) -> i64
-    ensures empty { IfNone handle.old.server ((result ≡ refusal_number Refusal.EmptyHandle)
-        × (handle.new.server ≡ None)) }
-    ensures answer { IfSome handle.old.server (λ _. result ≡ pos 0) }
-    ensures state { IfSome handle.old.server (λ kept. handle.new.server ≡ Some (record kept {
-      server = with_expiry nanoseconds kept.server;
-    })) }
+    ensures missing { IfNone handle.old.slot.server ((result ≡ missing handle.old.kind)
+        × (handle.new ≡ handle.old)) }
+    ensures answer { IfSome handle.old.slot.server (λ _. result ≡ pos 0) }
+    ensures state { IfSome handle.old.slot.server (λ kept.
+        handle.new.slot.server ≡ Some (record kept {
+          server = with_expiry nanoseconds kept.server;
+        })) }
 {
     let Some(mut kept) = handle.take(alloc) else {
-        return Refusal::EmptyHandle.code();
+        return missing(handle.kind);
     };
     server::set_nonce_expiry(&mut kept.server, nanoseconds);
-    handle.put(alloc, kept);
+    handle.put(kept);
     0
 }
 
@@ -144,25 +152,27 @@ pub extern "C" fn stunp_server_set_most_addresses(
     handle: &mut ServerHandle,
     most: usize,
 ) -> i64
-    ensures empty { IfNone handle.old.server ((result ≡ refusal_number Refusal.EmptyHandle)
-        × (handle.new.server ≡ None)) }
-    ensures answer { IfSome handle.old.server (λ _. result ≡ pos 0) }
-    ensures state { IfSome handle.old.server (λ kept. handle.new.server ≡ Some (record kept {
-      most_addresses = most;
-    })) }
+    ensures missing { IfNone handle.old.slot.server ((result ≡ missing handle.old.kind)
+        × (handle.new ≡ handle.old)) }
+    ensures answer { IfSome handle.old.slot.server (λ _. result ≡ pos 0) }
+    ensures state { IfSome handle.old.slot.server (λ kept.
+        handle.new.slot.server ≡ Some (record kept {
+          most_addresses = most;
+        })) }
 {
     let Some(mut kept) = handle.take(alloc) else {
-        return Refusal::EmptyHandle.code();
+        return missing(handle.kind);
     };
     kept.most_addresses = most;
-    handle.put(alloc, kept);
+    handle.put(kept);
     0
 }
 
-/// Frees the server, and makes the handle empty.
+/// Frees the server, and makes the handle empty. Does nothing if the handle has no server.
 #[unsafe(no_mangle)]
 pub extern "C" fn stunp_server_clear(alloc: Global, handle: &mut ServerHandle)
-    ensures { handle.new.server ≡ None }
+    ensures freed { IfSome handle.old.slot.server (λ _. handle.new.kind ≡ empty_kind) }
+    ensures left { IfNone handle.old.slot.server (handle.new ≡ handle.old) }
 {
     let _server = handle.take(alloc);
 }
@@ -176,24 +186,25 @@ pub extern "C" fn stunp_server_add_user(
     name: &[u8],
     password: &[u8],
 ) -> i64
-    ensures empty { IfNone handle.old.server ((result ≡ refusal_number Refusal.EmptyHandle)
-        × (handle.new.server ≡ None)) }
-    ensures answer { IfSome handle.old.server (λ kept. MatchOption
+    ensures missing { IfNone handle.old.slot.server ((result ≡ missing handle.old.kind)
+        × (handle.new ≡ handle.old)) }
+    ensures answer { IfSome handle.old.slot.server (λ kept. MatchOption
         (texts_refusal name.now password.now)
-        (OrOutOfMemory result handle.old.server handle.new.server (pos 0)
+        (OrOutOfMemory result handle.old.slot.server handle.new.slot.server (pos 0)
         (Some (record kept {
           server = record kept.server {
             registered = with_user kept.server.registered
                 (record { username = name.now; password = password.now });
           };
         })))
-        (λ refusal. (result ≡ refusal_number refusal) × (handle.new.server ≡ handle.old.server))) }
+        (λ refusal. (result ≡ refusal_number refusal)
+        × (handle.new.slot.server ≡ handle.old.slot.server))) }
 {
     let Some(mut kept) = handle.take(alloc) else {
-        return Refusal::EmptyHandle.code();
+        return missing(handle.kind);
     };
     let answer = answers::done(server::add_user(alloc, &mut kept.server, name, password));
-    handle.put(alloc, kept);
+    handle.put(kept);
     answer
 }
 
@@ -204,19 +215,20 @@ pub extern "C" fn stunp_server_remove_user(
     handle: &mut ServerHandle,
     name: &[u8],
 ) -> i64
-    ensures empty { IfNone handle.old.server ((result ≡ refusal_number Refusal.EmptyHandle)
-        × (handle.new.server ≡ None)) }
-    ensures answer { IfSome handle.old.server (λ _. result ≡ done_answer
+    ensures missing { IfNone handle.old.slot.server ((result ≡ missing handle.old.kind)
+        × (handle.new ≡ handle.old)) }
+    ensures answer { IfSome handle.old.slot.server (λ _. result ≡ done_answer
         (refusal_or (text_refusal name.now) (Ok tt))) }
-    ensures state { IfSome handle.old.server (λ kept. handle.new.server ≡ Some (record kept {
-      server = without_named (text_refusal name.now) kept.server name.now;
-    })) }
+    ensures state { IfSome handle.old.slot.server (λ kept.
+        handle.new.slot.server ≡ Some (record kept {
+          server = without_named (text_refusal name.now) kept.server name.now;
+        })) }
 {
     let Some(mut kept) = handle.take(alloc) else {
-        return Refusal::EmptyHandle.code();
+        return missing(handle.kind);
     };
     let answer = answers::done(server::remove_user(&mut kept.server, name));
-    handle.put(alloc, kept);
+    handle.put(kept);
     answer
 }
 
@@ -236,12 +248,12 @@ pub extern "C" fn stunp_server_validate(
     now: u64,
     words: &[u32; 16],
 ) -> i64
-    ensures empty { IfNone handle.old.server ((result ≡ refusal_number Refusal.EmptyHandle)
-        × (handle.new.server ≡ None)) }
+    ensures missing { IfNone handle.old.slot.server ((result ≡ missing handle.old.kind)
+        × (handle.new ≡ handle.old)) }
 
     // The number of what the authenticator returns, and what its call leaves.
-    ensures answer { IfSome handle.old.server (λ kept. OrOutOfMemory result
-        handle.old.server handle.new.server
+    ensures answer { IfSome handle.old.slot.server (λ kept. OrOutOfMemory result
+        handle.old.slot.server handle.new.slot.server
         (validation_number kept message.now from.now now words.now)
         (Some (record kept {
           server = kept_after_validating kept message.now from.now now words.now;
@@ -249,15 +261,15 @@ pub extern "C" fn stunp_server_validate(
 
     // If nothing of the server changes, as if the same client is accepted again, no failed
     // allocation is returned.
-    ensures unchanged { IfSome handle.old.server (λ kept.
+    ensures unchanged { IfSome handle.old.slot.server (λ kept.
         LeavesServer kept message.now now words.now (socket_address from.now) →
         result ≡ validation_number kept message.now from.now now words.now) }
 {
     let Some(mut kept) = handle.take(alloc) else {
-        return Refusal::EmptyHandle.code();
+        return missing(handle.kind);
     };
     let answer = answers::algorithm(server::validate(&mut kept, message, from, now, words));
-    handle.put(alloc, kept);
+    handle.put(kept);
     answer
 }
 
@@ -272,26 +284,26 @@ pub extern "C" fn stunp_server_client(
     name: &mut [u8],
     name_length: &mut usize,
 ) -> i64
-    ensures empty { IfNone handle.old.server ((result ≡ refusal_number Refusal.EmptyHandle)
-        × (handle.new.server ≡ None)
+    ensures missing { IfNone handle.old.slot.server ((result ≡ missing handle.old.kind)
+        × (handle.new ≡ handle.old)
         × (name.new ≡ name.old) × (name_length.new ≡ name_length.old)) }
-    ensures answer { IfSome handle.old.server (λ kept. result ≡ found_answer
+    ensures answer { IfSome handle.old.slot.server (λ kept. result ≡ found_answer
         (client_found kept.server at.now (length name.old))) }
-    ensures name { IfSome handle.old.server (λ kept. name.new
+    ensures name { IfSome handle.old.slot.server (λ kept. name.new
         ≡ after_address (socket_address at.now) name.old
         (λ at. name_written name.old (client_at kept.server at))) }
 
     // Also where the buffer has no room for the name.
-    ensures name_length { IfSome handle.old.server (λ kept. name_length.new
+    ensures name_length { IfSome handle.old.slot.server (λ kept. name_length.new
         ≡ after_address (socket_address at.now) name_length.old
         (λ at. name_length_of (client_at kept.server at) name_length.old)) }
-    ensures same { handle.new.server ≡ handle.old.server }
+    ensures same { handle.new.slot.server ≡ handle.old.slot.server }
 {
     let Some(mut kept) = handle.take(alloc) else {
-        return Refusal::EmptyHandle.code();
+        return missing(handle.kind);
     };
     let answer = answers::found(server::client(&kept.server, at, name, name_length));
-    handle.put(alloc, kept);
+    handle.put(kept);
     answer
 }
 
@@ -309,40 +321,41 @@ pub extern "C" fn stunp_server_sign(
     length: usize,
     to: &Address,
 ) -> i64
-    ensures empty { IfNone handle.old.server ((result ≡ refusal_number Refusal.EmptyHandle)
-        × (handle.new.server ≡ None)
+    ensures missing { IfNone handle.old.slot.server ((result ≡ missing handle.old.kind)
+        × (handle.new ≡ handle.old)
         × (buffer.new ≡ buffer.old)) }
-    ensures answer { IfSome handle.old.server (λ kept. result
+    ensures answer { IfSome handle.old.slot.server (λ kept. result
         ≡ length_answer (length_of (signed_for kept.server buffer.old length to.now))) }
-    ensures written { IfSome handle.old.server (λ kept. buffer.new
+    ensures written { IfSome handle.old.slot.server (λ kept. buffer.new
         ≡ buffer_after (signed_for kept.server buffer.old length to.now) buffer.old) }
-    ensures state { IfSome handle.old.server (λ kept. handle.new.server ≡ Some (record kept {
-      server = left_by result kept.server
-          (kept_after_signing kept.server buffer.old length to.now);
-    })) }
+    ensures state { IfSome handle.old.slot.server (λ kept.
+        handle.new.slot.server ≡ Some (record kept {
+          server = left_by result kept.server
+              (kept_after_signing kept.server buffer.old length to.now);
+        })) }
 {
     let Some(mut kept) = handle.take(alloc) else {
-        return Refusal::EmptyHandle.code();
+        return missing(handle.kind);
     };
     let answer = answers::length(server::sign(&mut kept.server, buffer, length, to));
-    handle.put(alloc, kept);
+    handle.put(kept);
     answer
 }
 
 /// Returns the number of addresses that have a record.
 #[unsafe(no_mangle)]
 pub extern "C" fn stunp_server_address_count(alloc: Global, handle: &mut ServerHandle) -> i64
-    ensures empty { IfNone handle.old.server ((result ≡ refusal_number Refusal.EmptyHandle)
-        × (handle.new.server ≡ None)) }
-    ensures answer { IfSome handle.old.server (λ kept. result
+    ensures missing { IfNone handle.old.slot.server ((result ≡ missing handle.old.kind)
+        × (handle.new ≡ handle.old)) }
+    ensures answer { IfSome handle.old.slot.server (λ kept. result
         ≡ length_answer (Ok (map.len kept.server.places))) }
-    ensures same { handle.new.server ≡ handle.old.server }
+    ensures same { handle.new.slot.server ≡ handle.old.slot.server }
 {
     let Some(kept) = handle.take(alloc) else {
-        return Refusal::EmptyHandle.code();
+        return missing(handle.kind);
     };
     let answer = answers::length(Ok(kept.server.address_count()));
-    handle.put(alloc, kept);
+    handle.put(kept);
     answer
 }
 
@@ -355,21 +368,21 @@ pub extern "C" fn stunp_server_nonce(
     at: &Address,
     nonce: &mut [u8],
 ) -> i64
-    ensures empty { IfNone handle.old.server ((result ≡ refusal_number Refusal.EmptyHandle)
-        × (handle.new.server ≡ None)
+    ensures missing { IfNone handle.old.slot.server ((result ≡ missing handle.old.kind)
+        × (handle.new ≡ handle.old)
         × (nonce.new ≡ nonce.old)) }
-    ensures answer { IfSome handle.old.server (λ kept. result ≡ length_answer
+    ensures answer { IfSome handle.old.slot.server (λ kept. result ≡ length_answer
         (nonce_found kept.server at.now (length nonce.old))) }
-    ensures nonce { IfSome handle.old.server (λ kept. nonce.new
+    ensures nonce { IfSome handle.old.slot.server (λ kept. nonce.new
         ≡ after_address (socket_address at.now) nonce.old
         (λ at. nonce_written nonce.old (nonce_at kept.server at))) }
-    ensures same { handle.new.server ≡ handle.old.server }
+    ensures same { handle.new.slot.server ≡ handle.old.slot.server }
 {
     let Some(mut kept) = handle.take(alloc) else {
-        return Refusal::EmptyHandle.code();
+        return missing(handle.kind);
     };
     let answer = answers::length(server::nonce(&kept.server, at, nonce));
-    handle.put(alloc, kept);
+    handle.put(kept);
     answer
 }
 
@@ -380,40 +393,42 @@ pub extern "C" fn stunp_server_remove_client(
     handle: &mut ServerHandle,
     at: &Address,
 ) -> i64
-    ensures empty { IfNone handle.old.server ((result ≡ refusal_number Refusal.EmptyHandle)
-        × (handle.new.server ≡ None)) }
-    ensures answer { IfSome handle.old.server (λ _. result ≡ done_answer
+    ensures missing { IfNone handle.old.slot.server ((result ≡ missing handle.old.kind)
+        × (handle.new ≡ handle.old)) }
+    ensures answer { IfSome handle.old.slot.server (λ _. result ≡ done_answer
         (done_if_given (socket_address at.now))) }
-    ensures state { IfSome handle.old.server (λ kept. handle.new.server ≡ Some (record kept {
-      server = after_address (socket_address at.now) kept.server
-          (without_client kept.server);
-    })) }
+    ensures state { IfSome handle.old.slot.server (λ kept.
+        handle.new.slot.server ≡ Some (record kept {
+          server = after_address (socket_address at.now) kept.server
+              (without_client kept.server);
+        })) }
 {
     let Some(mut kept) = handle.take(alloc) else {
-        return Refusal::EmptyHandle.code();
+        return missing(handle.kind);
     };
     let answer = answers::done(server::remove_client(&mut kept.server, at));
-    handle.put(alloc, kept);
+    handle.put(kept);
     answer
 }
 
 /// Removes the record of an address. Fails with `BadArgument` for the address.
 #[unsafe(no_mangle)]
 pub extern "C" fn stunp_server_forget(alloc: Global, handle: &mut ServerHandle, at: &Address) -> i64
-    ensures empty { IfNone handle.old.server ((result ≡ refusal_number Refusal.EmptyHandle)
-        × (handle.new.server ≡ None)) }
-    ensures answer { IfSome handle.old.server (λ _. result ≡ done_answer
+    ensures missing { IfNone handle.old.slot.server ((result ≡ missing handle.old.kind)
+        × (handle.new ≡ handle.old)) }
+    ensures answer { IfSome handle.old.slot.server (λ _. result ≡ done_answer
         (done_if_given (socket_address at.now))) }
-    ensures state { IfSome handle.old.server (λ kept. handle.new.server ≡ Some (record kept {
-      server = after_address (socket_address at.now) kept.server
-          (without_place kept.server);
-    })) }
+    ensures state { IfSome handle.old.slot.server (λ kept.
+        handle.new.slot.server ≡ Some (record kept {
+          server = after_address (socket_address at.now) kept.server
+              (without_place kept.server);
+        })) }
 {
     let Some(mut kept) = handle.take(alloc) else {
-        return Refusal::EmptyHandle.code();
+        return missing(handle.kind);
     };
     let answer = answers::done(server::forget(&mut kept.server, at));
-    handle.put(alloc, kept);
+    handle.put(kept);
     answer
 }
 
@@ -426,18 +441,19 @@ pub extern "C" fn stunp_server_forget_expired(
     now: u64,
     age: u64,
 ) -> i64
-    ensures empty { IfNone handle.old.server ((result ≡ refusal_number Refusal.EmptyHandle)
-        × (handle.new.server ≡ None)) }
-    ensures answer { IfSome handle.old.server (λ _. result ≡ pos 0) }
-    ensures state { IfSome handle.old.server (λ kept. handle.new.server ≡ Some (record kept {
-      server = after_forgetting kept.server (now - age);
-    })) }
+    ensures missing { IfNone handle.old.slot.server ((result ≡ missing handle.old.kind)
+        × (handle.new ≡ handle.old)) }
+    ensures answer { IfSome handle.old.slot.server (λ _. result ≡ pos 0) }
+    ensures state { IfSome handle.old.slot.server (λ kept.
+        handle.new.slot.server ≡ Some (record kept {
+          server = after_forgetting kept.server (now - age);
+        })) }
 {
     let Some(mut kept) = handle.take(alloc) else {
-        return Refusal::EmptyHandle.code();
+        return missing(handle.kind);
     };
     server::forget_expired(&mut kept.server, now, age);
-    handle.put(alloc, kept);
+    handle.put(kept);
     0
 }
 
@@ -454,24 +470,25 @@ pub extern "C" fn stunp_server_forget_expired_within(
     from: &mut Address,
     most: usize,
 ) -> i64
-    ensures empty { IfNone handle.old.server ((result ≡ refusal_number Refusal.EmptyHandle)
-        × (handle.new.server ≡ None)
+    ensures missing { IfNone handle.old.slot.server ((result ≡ missing handle.old.kind)
+        × (handle.new ≡ handle.old)
         × (from.new ≡ from.old)) }
-    ensures answer { IfSome handle.old.server (λ kept. result ≡ number_answer
+    ensures answer { IfSome handle.old.slot.server (λ kept. result ≡ number_answer
         (at_start (start_told from.old) (step_answer kept.server most))) }
-    ensures state { IfSome handle.old.server (λ kept. handle.new.server ≡ Some (record kept {
-      server = after_start (start_told from.old) kept.server
-          (λ start. after_step kept.server (now - age) start most);
-    })) }
-    ensures from { IfSome handle.old.server (λ kept. from.new
+    ensures state { IfSome handle.old.slot.server (λ kept.
+        handle.new.slot.server ≡ Some (record kept {
+          server = after_start (start_told from.old) kept.server
+              (λ start. after_step kept.server (now - age) start most);
+        })) }
+    ensures from { IfSome handle.old.slot.server (λ kept. from.new
         ≡ after_start (start_told from.old) from.old
         (λ start. start_for (next_address kept.server start most))) }
 {
     let Some(mut kept) = handle.take(alloc) else {
-        return Refusal::EmptyHandle.code();
+        return missing(handle.kind);
     };
     let more = server::forget_expired_within(&mut kept.server, now, age, from, most);
     let answer = answers::number(more);
-    handle.put(alloc, kept);
+    handle.put(kept);
     answer
 }

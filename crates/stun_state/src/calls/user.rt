@@ -1,12 +1,13 @@
 //! The calls of a user who is prepared once, and passed along with each message: for a server whose
 //! users are looked up elsewhere, and for whom a user is worth keeping.
 //!
-//! A call on a server fails first with `EmptyHandle` if the server's handle is empty, then if the
-//! user's is.
+//! A call on a server fails first with `EmptyHandle` if the server's handle is empty, or with
+//! `WrongHandle` if it has an object of another type, and then likewise for the user's handle.
 
-ghost use Rattle.std.specs.Prelude.{◌≡◌, pos, Some, None, IfNone, IfSome, MatchResult};
+ghost use Rattle.std.specs.Prelude.{◌≡◌, ◌≢◌, pos, Some, None, IfNone, IfSome, MatchResult};
 ghost use Rattle.stun_auth.specs.Handed.{with_users};
 ghost use Rattle.stun_numbers.specs.Buffers.{buffer_after, length_of};
+ghost use Rattle.stun_handles.specs.Kinds.{EMPTY as empty_kind, missing};
 ghost use Rattle.stun_numbers.specs.Refusals.{refusal_number};
 ghost use Rattle.stun_state.specs.Addresses.{socket_address};
 ghost use Rattle.stun_state.specs.Handed.{IsUserOf, just_given, kept_after_prepared_signing};
@@ -23,14 +24,15 @@ use crate::handle::server::ServerHandle;
 use crate::handle::user::UserHandle;
 use crate::{answers, prepared};
 use std::alloc::Global;
+use stun_handles::kind::{EMPTY, missing};
 use stun_numbers::refusal::Refusal;
 
 /// Prepares a user of a server from a name and a password: makes the keys at the server's realm for
 /// the algorithms that the server supports now. The server is unchanged, and does not register the
 /// user.
 ///
-/// Fails with `FullHandle` for the user's handle, then with `EmptyHandle` for the server's, then
-/// with `NotText`, then with `OutOfMemory`.
+/// Fails with `FullHandle` for the user's handle, then with `EmptyHandle` or `WrongHandle` for the
+/// server's, then with `NotText`, then with `OutOfMemory`.
 #[unsafe(no_mangle)]
 pub extern "C" fn stunp_user_new(
     alloc: Global,
@@ -39,28 +41,32 @@ pub extern "C" fn stunp_user_new(
     name: &[u8],
     password: &[u8],
 ) -> i64
-    ensures full { IfSome handle.old.user (λ kept. (result ≡ refusal_number Refusal.FullHandle)
-        × (handle.new.user ≡ Some kept)) }
-    ensures empty { IfNone handle.old.user (IfNone server.old.server
-        ((result ≡ refusal_number Refusal.EmptyHandle) × (handle.new.user ≡ None))) }
-    ensures made { IfNone handle.old.user (IfSome server.old.server (λ kept. MatchResult
+    ensures full { handle.old.kind ≢ empty_kind →
+        (result ≡ refusal_number Refusal.FullHandle) × (handle.new ≡ handle.old) }
+    ensures missing { handle.old.kind ≡ empty_kind → IfNone server.old.slot.server
+        ((result ≡ missing server.old.kind) × (handle.new ≡ handle.old)) }
+    ensures made { handle.old.kind ≡ empty_kind → IfSome server.old.slot.server (λ kept. MatchResult
         (just_given kept.server.registered (user_of_password name.now password.now))
-        (λ user. OrOutOfMemory result None handle.new.user (pos 0) (Some (record { user = user })))
-        (λ refusal. (result ≡ refusal_number refusal) × (handle.new.user ≡ None)))) }
-    ensures same { server.new.server ≡ server.old.server }
+        (λ user. OrOutOfMemory result None handle.new.slot.user (pos 0)
+        (Some (record { user = user })))
+        (λ refusal. (result ≡ refusal_number refusal) × (handle.new.slot.user ≡ None))) }
+
+    // A handle that gets no value is left as it was.
+    ensures left { IfNone handle.new.slot.user (handle.new ≡ handle.old) }
+    ensures same { server.new.slot.server ≡ server.old.slot.server }
+    ensures other { IfNone server.old.slot.server (server.new ≡ server.old) }
 {
-    if let Some(kept) = handle.take(alloc) {
-        handle.put(alloc, kept);
+    if handle.kind != EMPTY {
         return Refusal::FullHandle.code();
     }
     let Some(kept) = server.take(alloc) else {
-        return Refusal::EmptyHandle.code();
+        return missing(server.kind);
     };
     let made = prepared::boxed(alloc, &kept.server, name, Given::Password(password));
-    server.put(alloc, kept);
+    server.put(kept);
     match made {
         Ok(user) => {
-            handle.put(alloc, user);
+            handle.put(user);
             0
         }
         Err(refusal) => refusal.code(),
@@ -78,38 +84,43 @@ pub extern "C" fn stunp_user_new_of_keys(
     sha1: &[u8],
     sha256: &[u8],
 ) -> i64
-    ensures full { IfSome handle.old.user (λ kept. (result ≡ refusal_number Refusal.FullHandle)
-        × (handle.new.user ≡ Some kept)) }
-    ensures empty { IfNone handle.old.user (IfNone server.old.server
-        ((result ≡ refusal_number Refusal.EmptyHandle) × (handle.new.user ≡ None))) }
-    ensures made { IfNone handle.old.user (IfSome server.old.server (λ kept. MatchResult
+    ensures full { handle.old.kind ≢ empty_kind →
+        (result ≡ refusal_number Refusal.FullHandle) × (handle.new ≡ handle.old) }
+    ensures missing { handle.old.kind ≡ empty_kind → IfNone server.old.slot.server
+        ((result ≡ missing server.old.kind) × (handle.new ≡ handle.old)) }
+    ensures made { handle.old.kind ≡ empty_kind → IfSome server.old.slot.server (λ kept. MatchResult
         (just_given kept.server.registered (user_of_keys name.now sha1.now sha256.now))
-        (λ user. OrOutOfMemory result None handle.new.user (pos 0) (Some (record { user = user })))
-        (λ refusal. (result ≡ refusal_number refusal) × (handle.new.user ≡ None)))) }
-    ensures same { server.new.server ≡ server.old.server }
+        (λ user. OrOutOfMemory result None handle.new.slot.user (pos 0)
+        (Some (record { user = user })))
+        (λ refusal. (result ≡ refusal_number refusal) × (handle.new.slot.user ≡ None))) }
+
+    // A handle that gets no value is left as it was.
+    ensures left { IfNone handle.new.slot.user (handle.new ≡ handle.old) }
+    ensures same { server.new.slot.server ≡ server.old.slot.server }
+    ensures other { IfNone server.old.slot.server (server.new ≡ server.old) }
 {
-    if let Some(kept) = handle.take(alloc) {
-        handle.put(alloc, kept);
+    if handle.kind != EMPTY {
         return Refusal::FullHandle.code();
     }
     let Some(kept) = server.take(alloc) else {
-        return Refusal::EmptyHandle.code();
+        return missing(server.kind);
     };
     let made = prepared::boxed(alloc, &kept.server, name, Given::Keys(sha1, sha256));
-    server.put(alloc, kept);
+    server.put(kept);
     match made {
         Ok(user) => {
-            handle.put(alloc, user);
+            handle.put(user);
             0
         }
         Err(refusal) => refusal.code(),
     }
 }
 
-/// Frees the user, and makes the handle empty.
+/// Frees the user, and makes the handle empty. Does nothing if the handle has no user.
 #[unsafe(no_mangle)]
 pub extern "C" fn stunp_user_clear(alloc: Global, handle: &mut UserHandle)
-    ensures { handle.new.user ≡ None }
+    ensures freed { IfSome handle.old.slot.user (λ _. handle.new.kind ≡ empty_kind) }
+    ensures left { IfNone handle.old.slot.user (handle.new ≡ handle.old) }
 {
     let _user = handle.take(alloc);
 }
@@ -117,9 +128,9 @@ pub extern "C" fn stunp_user_clear(alloc: Global, handle: &mut UserHandle)
 /// Authenticates a message like `stunp_server_validate`, as a server whose only user is this one.
 /// The server's own users and this one are unchanged.
 ///
-/// Fails with `EmptyHandle` for the server, then for the user, then with `WrongHandle` if the user
-/// was prepared for another realm, or for other algorithms than the server supports now. Then it
-/// fails like `stunp_server_validate`.
+/// Fails with `EmptyHandle` or `WrongHandle` for the server's handle, then likewise for the user's,
+/// then with `WrongHandle` if the user was prepared for another realm, or for other algorithms than
+/// the server supports now. Then it fails like `stunp_server_validate`.
 #[unsafe(no_mangle)]
 pub extern "C" fn stunp_server_validate_user(
     alloc: Global,
@@ -130,17 +141,17 @@ pub extern "C" fn stunp_server_validate_user(
     words: &[u32; 16],
     user: &mut UserHandle,
 ) -> i64
-    ensures empty { IfNone handle.old.server ((result ≡ refusal_number Refusal.EmptyHandle)
-        × (handle.new.server ≡ None)) }
-    ensures nobody { IfSome handle.old.server (λ _. IfNone user.old.user
-        ((result ≡ refusal_number Refusal.EmptyHandle)
-        × (handle.new.server ≡ handle.old.server))) }
-    ensures foreign { IfSome handle.old.server (λ kept. IfSome user.old.user (λ one.
+    ensures missing { IfNone handle.old.slot.server ((result ≡ missing handle.old.kind)
+        × (handle.new ≡ handle.old)) }
+    ensures nobody { IfSome handle.old.slot.server (λ _. IfNone user.old.slot.user
+        ((result ≡ missing user.old.kind)
+        × (handle.new.slot.server ≡ handle.old.slot.server))) }
+    ensures foreign { IfSome handle.old.slot.server (λ kept. IfSome user.old.slot.user (λ one.
         ¬ (IsUserOf kept.server one.user) → (result ≡ refusal_number Refusal.WrongHandle)
-        × (handle.new.server ≡ handle.old.server))) }
-    ensures answer { IfSome handle.old.server (λ kept. IfSome user.old.user (λ one.
+        × (handle.new.slot.server ≡ handle.old.slot.server))) }
+    ensures answer { IfSome handle.old.slot.server (λ kept. IfSome user.old.slot.user (λ one.
         IsUserOf kept.server one.user → OrOutOfMemory result
-        handle.old.server handle.new.server
+        handle.old.slot.server handle.new.slot.server
         (validation_number (with_only kept one.user) message.now from.now now words.now)
         (Some (record kept {
           server = kept_after_prepared_validation kept message.now from.now now words.now one.user;
@@ -148,19 +159,20 @@ pub extern "C" fn stunp_server_validate_user(
 
     // If nothing of the server changes, as if the same client is accepted again, no failed
     // allocation is returned.
-    ensures unchanged { IfSome handle.old.server (λ kept. IfSome user.old.user (λ one.
+    ensures unchanged { IfSome handle.old.slot.server (λ kept. IfSome user.old.slot.user (λ one.
         IsUserOf kept.server one.user →
         LeavesServer (with_only kept one.user) message.now now words.now
         (socket_address from.now) → result
         ≡ validation_number (with_only kept one.user) message.now from.now now words.now)) }
-    ensures same { user.new.user ≡ user.old.user }
+    ensures same { user.new.slot.user ≡ user.old.slot.user }
+    ensures other { IfNone user.old.slot.user (user.new ≡ user.old) }
 {
     let Some(mut kept) = handle.take(alloc) else {
-        return Refusal::EmptyHandle.code();
+        return missing(handle.kind);
     };
     let Some(mut one) = user.take(alloc) else {
-        handle.put(alloc, kept);
-        return Refusal::EmptyHandle.code();
+        handle.put(kept);
+        return missing(user.kind);
     };
     let answer = if one.user.belongs_to(&kept.server) {
         let verdict = prepared::validate(&mut kept, message, from, now, words, &mut one.user);
@@ -168,18 +180,18 @@ pub extern "C" fn stunp_server_validate_user(
     } else {
         Refusal::WrongHandle.code()
     };
-    user.put(alloc, one);
-    handle.put(alloc, kept);
+    user.put(one);
+    handle.put(kept);
     answer
 }
 
 /// Signs a message like `stunp_server_sign`, as a server whose only user is this one. The server's
 /// own users and this one are unchanged.
 ///
-/// Fails with `EmptyHandle` for the server, then for the user, then with `WrongHandle` if the user
-/// was prepared for another realm, or for other algorithms than the server supports now. Then it
-/// fails like `stunp_server_sign`, and with `CannotSign` also if this user is not the client of the
-/// address, or has no key for the client's algorithm.
+/// Fails with `EmptyHandle` or `WrongHandle` for the server's handle, then likewise for the user's,
+/// then with `WrongHandle` if the user was prepared for another realm, or for other algorithms than
+/// the server supports now. Then it fails like `stunp_server_sign`, and with `CannotSign` also if
+/// this user is not the client of the address, or has no key for the client's algorithm.
 #[unsafe(no_mangle)]
 pub extern "C" fn stunp_server_sign_user(
     alloc: Global,
@@ -189,36 +201,37 @@ pub extern "C" fn stunp_server_sign_user(
     to: &Address,
     user: &mut UserHandle,
 ) -> i64
-    ensures empty { IfNone handle.old.server ((result ≡ refusal_number Refusal.EmptyHandle)
-        × (handle.new.server ≡ None)
+    ensures missing { IfNone handle.old.slot.server ((result ≡ missing handle.old.kind)
+        × (handle.new ≡ handle.old)
         × (buffer.new ≡ buffer.old)) }
-    ensures nobody { IfSome handle.old.server (λ _. IfNone user.old.user
-        ((result ≡ refusal_number Refusal.EmptyHandle)
-        × (handle.new.server ≡ handle.old.server)
+    ensures nobody { IfSome handle.old.slot.server (λ _. IfNone user.old.slot.user
+        ((result ≡ missing user.old.kind)
+        × (handle.new.slot.server ≡ handle.old.slot.server)
         × (buffer.new ≡ buffer.old))) }
-    ensures foreign { IfSome handle.old.server (λ kept. IfSome user.old.user (λ one.
+    ensures foreign { IfSome handle.old.slot.server (λ kept. IfSome user.old.slot.user (λ one.
         ¬ (IsUserOf kept.server one.user) → (result ≡ refusal_number Refusal.WrongHandle)
-        × (handle.new.server ≡ handle.old.server)
+        × (handle.new.slot.server ≡ handle.old.slot.server)
         × (buffer.new ≡ buffer.old))) }
-    ensures answer { IfSome handle.old.server (λ kept. IfSome user.old.user (λ one.
+    ensures answer { IfSome handle.old.slot.server (λ kept. IfSome user.old.slot.user (λ one.
         IsUserOf kept.server one.user → result ≡ length_answer (length_of
         (signed_for (with_users kept.server one.user) buffer.old length to.now)))) }
-    ensures written { IfSome handle.old.server (λ kept. IfSome user.old.user (λ one.
+    ensures written { IfSome handle.old.slot.server (λ kept. IfSome user.old.slot.user (λ one.
         IsUserOf kept.server one.user → buffer.new ≡ buffer_after
         (signed_for (with_users kept.server one.user) buffer.old length to.now) buffer.old)) }
-    ensures state { IfSome handle.old.server (λ kept. IfSome user.old.user (λ one.
-        IsUserOf kept.server one.user → handle.new.server ≡ Some (record kept {
+    ensures state { IfSome handle.old.slot.server (λ kept. IfSome user.old.slot.user (λ one.
+        IsUserOf kept.server one.user → handle.new.slot.server ≡ Some (record kept {
           server = left_by result kept.server
               (kept_after_prepared_signing kept.server buffer.old length to.now one.user);
         }))) }
-    ensures same { user.new.user ≡ user.old.user }
+    ensures same { user.new.slot.user ≡ user.old.slot.user }
+    ensures other { IfNone user.old.slot.user (user.new ≡ user.old) }
 {
     let Some(mut kept) = handle.take(alloc) else {
-        return Refusal::EmptyHandle.code();
+        return missing(handle.kind);
     };
     let Some(mut one) = user.take(alloc) else {
-        handle.put(alloc, kept);
-        return Refusal::EmptyHandle.code();
+        handle.put(kept);
+        return missing(user.kind);
     };
     let answer = if one.user.belongs_to(&kept.server) {
         let signed = sign_with(&mut kept.server, buffer, length, to, &mut one.user);
@@ -226,7 +239,7 @@ pub extern "C" fn stunp_server_sign_user(
     } else {
         Refusal::WrongHandle.code()
     };
-    user.put(alloc, one);
-    handle.put(alloc, kept);
+    user.put(one);
+    handle.put(kept);
     answer
 }

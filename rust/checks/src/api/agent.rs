@@ -18,12 +18,12 @@ use crate::kit::alloc::{Allocator, Global};
 use crate::kit::ledger::Brand;
 use crate::kit::ledger::{Blank, Ledger};
 use crate::kit::prelude::TryClone;
-use crate::programs::fail_alloc::RefusingAllocator;
+use crate::refusing::RefusingAllocator;
 use crate::test_support::datagrams::{REQUEST, at, id, local, message, peer};
 use std::fmt::Display;
 use std::time::Duration;
 
-type Heap = RefusingAllocator<Global>;
+type Heap = RefusingAllocator;
 
 /// What a poll answers that begins to count.
 fn counted<L: Ledger, A: Allocator + Copy>(
@@ -175,7 +175,7 @@ fn owns(rt: &impl Abort, heap: &Heap, nth: u64) -> Result<bool, Fail> {
 #[test]
 fn a_datagram_is_owned_or_not() {
     run(|rt| {
-        let heap = RefusingAllocator::new(rt.alloc());
+        let heap = RefusingAllocator::new();
         heap.each_refusal(|nth| owns(&rt, &heap, nth))
     });
 }

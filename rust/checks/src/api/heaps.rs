@@ -11,7 +11,7 @@ use crate::host::HostRuntime;
 use crate::host::LocalHeap;
 use crate::kit::alloc::{Allocator, Global};
 use crate::kit::prelude::String;
-use crate::programs::fail_alloc::RefusingAllocator;
+use crate::refusing::RefusingAllocator;
 use crate::test_support::client::{RESEND, sha1_client, told};
 use crate::test_support::datagrams::{REQUEST, at, id, local, message, peer};
 use crate::test_support::parts::{self, PLAIN_NONCE, Part};
@@ -19,7 +19,7 @@ use crate::test_support::server::{
     FULL_REQUEST, SHA256, ZEROS, address, asked, knocked, offering_server, user,
 };
 
-type Heap = RefusingAllocator<Global>;
+type Heap = RefusingAllocator;
 
 /// A challenge with a nonce of 16 bytes and a realm of five.
 const CHALLENGE: [Part<'static>; 3] = [
@@ -118,7 +118,7 @@ fn expect_told_by_agent(rt: &impl Abort, agent: &StunAgent<&Heap>) -> Result<(),
 #[test]
 fn what_an_agent_tells_takes_none() {
     crate::host::run(|rt: HostRuntime| -> Result<(), Fail> {
-        let heap = RefusingAllocator::new(rt.alloc());
+        let heap = RefusingAllocator::new();
         let mut agent = StunAgent::builder(&heap, TransportType::Udp, local()).build();
         ask(&mut agent, 1)?;
         let before = heap.allocations();
@@ -142,7 +142,7 @@ fn expect_told_by_server(rt: &impl Abort, server: &LongTermServerAuth<&Heap>) {
 #[test]
 fn what_a_server_tells_takes_none() {
     crate::host::run(|rt: HostRuntime| -> Result<(), Fail> {
-        let heap = RefusingAllocator::new(rt.alloc());
+        let heap = RefusingAllocator::new();
         let mut server = offering_server(rt.alloc(), &heap)?;
         accept(&rt, rt.alloc(), &mut server)?;
         let before = heap.allocations();
@@ -164,7 +164,7 @@ fn expect_told_by_client(rt: &impl Abort, client: &LongTermClientAuth<&Heap>) {
 #[test]
 fn what_a_client_tells_takes_none() {
     crate::host::run(|rt: HostRuntime| -> Result<(), Fail> {
-        let heap = RefusingAllocator::new(rt.alloc());
+        let heap = RefusingAllocator::new();
         let mut client = sha1_client(&heap, Feature::Auto)?;
         take_up(&rt, rt.alloc(), &mut client, &CHALLENGE)?;
         let before = heap.allocations();
@@ -194,8 +194,8 @@ fn expect_client_at<'a>(
 #[test]
 fn a_client_keeps_a_challenge_at_its_heap() {
     crate::host::run(|rt: HostRuntime| -> Result<(), Fail> {
-        let heap = RefusingAllocator::new(rt.alloc());
-        let users = RefusingAllocator::new(rt.alloc());
+        let heap = RefusingAllocator::new();
+        let users = RefusingAllocator::new();
         expect_client_at(&rt, rt.alloc(), &heap, &users)
     });
 }
@@ -220,9 +220,9 @@ fn expect_server_at<'a>(
 #[test]
 fn a_server_keeps_places_at_its_heap() {
     crate::host::run(|rt: HostRuntime| -> Result<(), Fail> {
-        let heap = RefusingAllocator::new(rt.alloc());
-        let realms = RefusingAllocator::new(rt.alloc());
-        let users = RefusingAllocator::new(rt.alloc());
+        let heap = RefusingAllocator::new();
+        let realms = RefusingAllocator::new();
+        let users = RefusingAllocator::new();
         expect_server_at(&rt, rt.alloc(), &heap, (&realms, &users))
     });
 }

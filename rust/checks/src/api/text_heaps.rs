@@ -7,10 +7,10 @@ use crate::exported::stun_types::message::{
 use crate::host::{Abort, Fail, HostRuntime, LocalHeap};
 use crate::kit::alloc::{AllocError, Allocator, Global};
 use crate::kit::prelude::{String, TryClone};
-use crate::programs::fail_alloc::RefusingAllocator;
+use crate::refusing::RefusingAllocator;
 use crate::test_support::parts::MD5_KEY;
 
-type Heap = RefusingAllocator<Global>;
+type Heap = RefusingAllocator;
 
 /// Where the name, the password and the realm of a user are.
 #[derive(Clone, Copy)]
@@ -91,9 +91,9 @@ fn expect_allocated(rt: &impl Abort, heaps: Heaps<'_>, names: u64, passwords: u6
 #[test]
 fn each_text_stays_at_its_heap() {
     crate::host::run(|rt: HostRuntime| -> Result<(), Fail> {
-        let names = RefusingAllocator::new(rt.alloc());
-        let passwords = RefusingAllocator::new(rt.alloc());
-        let realms = RefusingAllocator::new(rt.alloc());
+        let names = RefusingAllocator::new();
+        let passwords = RefusingAllocator::new();
+        let realms = RefusingAllocator::new();
         let heaps = Heaps {
             names: &names,
             passwords: &passwords,

@@ -1,13 +1,12 @@
 //! The entries of a B-tree in the order of their keys.
 
-use super::node::{HIGHEST, Node, Way};
-use core::{iter, slice};
+use super::node::{HIGHEST, Node, Run, Way};
 
 /// The entries of a tree from one on, in the order of their keys.
 pub(super) struct Entries<'a, K, V> {
     root: &'a Node<K, V>,
     // The entries of a node that come before those of the nodes above it.
-    node: iter::Zip<slice::Iter<'a, K>, slice::Iter<'a, V>>,
+    node: Run<'a, K, V>,
     // The way to that node: the index of the child in each node above it.
     way: [u8; HIGHEST],
     above: usize,
@@ -18,7 +17,7 @@ impl<'a, K: Ord, V> Entries<'a, K, V> {
     pub(super) fn new(root: &'a Node<K, V>) -> Self {
         Entries {
             root,
-            node: [].iter().zip(&[]),
+            node: Run::none(),
             way: [0; HIGHEST],
             above: 0,
         }
@@ -40,7 +39,7 @@ impl<'a, K: Ord, V> Entries<'a, K, V> {
         while !node.is_leaf() {
             node = self.enter(node, 0);
         }
-        self.node = node.keys.iter().zip(&node.values);
+        self.node = node.entries(0);
     }
 
     /// Goes to a key, or past it, if a way leads to it. Otherwise it goes nowhere.
@@ -62,7 +61,7 @@ impl<'a, K: Ord, V> Entries<'a, K, V> {
             indices = next;
         }
         let at = last + usize::from(is_past);
-        self.node = node.keys[at..].iter().zip(&node.values[at..]);
+        self.node = node.entries(at);
         way.push(at);
         Some(way)
     }
@@ -75,7 +74,7 @@ impl<'a, K: Ord, V> Entries<'a, K, V> {
             let at = place.map_or_else(|at| at, |at| at + usize::from(is_past));
             way.push(at);
             if node.is_leaf() {
-                self.node = node.keys[at..].iter().zip(&node.values[at..]);
+                self.node = node.entries(at);
                 return way;
             }
             node = self.enter(node, at);
@@ -84,7 +83,7 @@ impl<'a, K: Ord, V> Entries<'a, K, V> {
                 if is_past {
                     self.descend(node);
                 } else {
-                    self.node = [].iter().zip(&[]);
+                    self.node = Run::none();
                 }
                 // The first index is zero from here on.
                 return way;
@@ -106,7 +105,7 @@ impl<'a, K: Ord, V> Entries<'a, K, V> {
         self.above = above;
         let child = self.enter(node, at + 1);
         self.descend(child);
-        Some((&node.keys[at], &node.values[at]))
+        Some((&node.keys[at], node.value(at)))
     }
 }
 

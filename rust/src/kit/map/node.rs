@@ -4,7 +4,8 @@ use crate::kit::alloc::{AllocError, Allocator};
 use ::alloc::vec::Vec;
 use core::borrow::Borrow;
 use core::cmp::Ordering;
-use core::mem;
+use core::ops::Range;
+use core::{mem, slice};
 
 /// The maximum number of entries of a node. Each node has the capacity for that many.
 pub(super) const MOST: usize = 32;
@@ -51,10 +52,54 @@ impl Way {
 ///
 /// Two neighbors that together fill at most half a node are merged when an entry of them is
 /// removed. A node can still be empty if its neighbors are full.
+///
+/// The keys are in their order. The values are not, because they may be large: a new one is the
+/// last one, and the last one takes the place of one that is removed.
 pub(super) struct Node<K, V> {
     pub(super) keys: Vec<K>,
-    pub(super) values: Vec<V>,
+    values: Vec<V>,
+    // The index of the value of each key.
+    places: [u8; MOST],
     pub(super) children: Vec<Node<K, V>>,
+}
+
+/// Entries of a node in the order of their keys.
+pub(super) struct Run<'a, K, V> {
+    keys: slice::Iter<'a, K>,
+    places: slice::Iter<'a, u8>,
+    values: &'a [V],
+}
+
+impl<K, V> Run<'_, K, V> {
+    /// Returns no entries.
+    pub(super) fn none() -> Self {
+        Run {
+            keys: [].iter(),
+            places: [].iter(),
+            values: &[],
+        }
+    }
+}
+
+impl<'a, K, V> Iterator for Run<'a, K, V> {
+    type Item = (&'a K, &'a V);
+
+    fn next(&mut self) -> Option<Self::Item> {
+        let (key, place) = (self.keys.next()?, self.places.next()?);
+        Some((key, &self.values[usize::from(*place)]))
+    }
+}
+
+/// The place of a value that is removed, until its key is removed too.
+const NOWHERE: u8 = u8::MAX;
+
+/// Returns the index of a value as a place.
+#[allow(
+    clippy::cast_possible_truncation,
+    reason = "a node has few values"
+)]
+const fn place(at: usize) -> u8 {
+    at as u8
 }
 
 impl<K: Ord, V> Node<K, V> {
@@ -63,6 +108,7 @@ impl<K: Ord, V> Node<K, V> {
         Node {
             keys: Vec::new(),
             values: Vec::new(),
+            places: [NOWHERE; MOST],
             children: Vec::new(),
         }
     }
@@ -158,15 +204,81 @@ impl<K: Ord, V> Node<K, V> {
         }
     }
 
+    /// Returns the value of the key at an index.
+    pub(super) fn value(&self, at: usize) -> &V {
+        &self.values[usize::from(self.places[at])]
+    }
+
+    /// Returns a mutable reference to the value of the key at an index.
+    pub(super) fn value_mut(&mut self, at: usize) -> &mut V {
+        &mut self.values[usize::from(self.places[at])]
+    }
+
+    /// Returns the entries from an index on.
+    pub(super) fn entries(&self, from: usize) -> Run<'_, K, V> {
+        Run {
+            keys: self.keys[from..].iter(),
+            places: self.places[from..].iter(),
+            values: &self.values,
+        }
+    }
+
     /// Inserts an entry at an index. The node is not full.
-    pub(super) fn put(&mut self, at: usize, (key, value): (K, V)) {
+    #[inline]
+    pub(super) fn put(&mut self, at: usize, key: K, value: V) {
+        self.places.copy_within(at..self.keys.len(), at + 1);
+        self.places[at] = place(self.values.len());
         self.keys.insert(at, key);
-        self.values.insert(at, value);
+        self.values.push(value);
     }
 
     /// Removes the entry at an index.
     pub(super) fn take(&mut self, at: usize) -> (K, V) {
-        (self.keys.remove(at), self.values.remove(at))
+        let value = self.take_value(at);
+        (self.take_key(at), value)
+    }
+
+    /// Removes the entry at an index and returns its value.
+    pub(super) fn remove_value(&mut self, at: usize) -> V {
+        let value = self.take_value(at);
+        self.take_key(at);
+        value
+    }
+
+    /// Removes the key at an index, whose value is removed already.
+    fn take_key(&mut self, at: usize) -> K {
+        self.places.copy_within(at + 1..self.keys.len(), at);
+        self.keys.remove(at)
+    }
+
+    /// Removes the value of the key at an index. The key has no value then.
+    fn take_value(&mut self, at: usize) -> V {
+        let free = mem::replace(&mut self.places[at], NOWHERE);
+        let value = self.values.swap_remove(usize::from(free));
+        let last = place(self.values.len());
+        if free != last {
+            let mut places = self.places[..self.keys.len()].iter_mut();
+            if let Some(moved) = places.find(|place| **place == last) {
+                *moved = free;
+            }
+        }
+        value
+    }
+
+    /// Moves the entries in a range of indices to another node, before its entry at `at`.
+    fn pass(&mut self, range: Range<usize>, other: &mut Self, at: usize) {
+        let (start, count, len) = (range.start, range.len(), self.keys.len());
+        other.places.copy_within(at..other.keys.len(), at + count);
+        for (from, to) in range.clone().zip(at..) {
+            other.places[to] = place(other.values.len());
+            other.values.push(self.take_value(from));
+        }
+        self.places.copy_within(range.end..len, start);
+        if at == other.keys.len() {
+            other.keys.extend(self.keys.drain(range));
+        } else {
+            other.keys.splice(at..at, self.keys.drain(range));
+        }
     }
 
     /// Moves entries of a leaf that is full to a neighbor with room, so that both have as many. If
@@ -182,30 +294,21 @@ impl<K: Ord, V> Node<K, V> {
             return false;
         }
         let middle = if before < after { at } else { at - 1 };
+        let (key, value) = self.take(middle);
         let (upper, lower) = self.children.split_at_mut(middle + 1);
-        let (Some(left), Some(right)) = (upper.last_mut(), lower.first_mut()) else {
-            return false;
-        };
-        let (key, value) = (&mut self.keys[middle], &mut self.values[middle]);
-        if middle == at {
+        let (left, right) = (&mut upper[middle], &mut lower[0]);
+        let (key, value) = if middle == at {
+            right.put(0, key, value);
             let from = left.len() - count;
-            let mut keys = left.keys.drain(from..);
-            let mut values = left.values.drain(from..);
-            if let Some((next, item)) = keys.next().zip(values.next()) {
-                let (key, value) = (mem::replace(key, next), mem::replace(value, item));
-                right.keys.splice(..0, keys.chain([key]));
-                right.values.splice(..0, values.chain([value]));
-            }
+            left.pass(from + 1..left.len(), right, 0);
+            left.take(from)
         } else {
-            let mut keys = right.keys.drain(..count);
-            let mut values = right.values.drain(..count);
-            if let Some((next, item)) = keys.next_back().zip(values.next_back()) {
-                left.keys.push(mem::replace(key, next));
-                left.values.push(mem::replace(value, item));
-                left.keys.extend(keys);
-                left.values.extend(values);
-            }
-        }
+            let end = left.len();
+            left.put(end, key, value);
+            right.pass(0..count - 1, left, end + 1);
+            right.take(0)
+        };
+        self.put(middle, key, value);
         true
     }
 
@@ -223,13 +326,12 @@ impl<K: Ord, V> Node<K, V> {
         // If the keys are inserted in ascending order, the nodes are left nearly full.
         let is_ascending = is_last && child.keys.last().is_some_and(|last| last < key);
         let middle = if is_ascending { MOST - 2 } else { MOST / 2 };
-        next.keys.extend(child.keys.drain(middle + 1..));
-        next.values.extend(child.values.drain(middle + 1..));
+        child.pass(middle + 1..MOST, &mut next, 0);
         if !child.is_leaf() {
             next.children.extend(child.children.drain(middle + 1..));
         }
-        let between = child.take(middle);
-        self.put(at, between);
+        let (key, value) = child.take(middle);
+        self.put(at, key, value);
         self.children.insert(at + 1, next);
         Ok(())
     }
@@ -249,10 +351,8 @@ impl<K: Ord, V> Node<K, V> {
         let (key, value) = self.take(at);
         let mut next = self.children.remove(at + 1);
         let child = &mut self.children[at];
-        child.keys.push(key);
-        child.values.push(value);
-        child.keys.append(&mut next.keys);
-        child.values.append(&mut next.values);
+        child.put(before, key, value);
+        next.pass(0..after, child, before + 1);
         child.children.append(&mut next.children);
         next.leave(alloc);
     }
@@ -279,7 +379,8 @@ impl<K: Ord, V> Node<K, V> {
             }
             self.children.pop()?.leave(alloc);
         }
-        self.keys.pop().zip(self.values.pop())
+        let last = self.len().checked_sub(1)?;
+        Some(self.take(last))
     }
 
     /// Removes the entry at an index of a node that is no leaf. The last entry before it takes its
@@ -291,7 +392,7 @@ impl<K: Ord, V> Node<K, V> {
         };
         (
             mem::replace(&mut self.keys[at], key),
-            mem::replace(&mut self.values[at], value),
+            mem::replace(self.value_mut(at), value),
         )
     }
 
@@ -320,23 +421,27 @@ impl<K: Ord, V> Node<K, V> {
         if self.is_leaf() {
             let mut kept = 0;
             for at in 0..self.len() {
-                if condition(&self.keys[at], &mut self.values[at]) {
+                let value = &mut self.values[usize::from(self.places[at])];
+                if condition(&self.keys[at], value) {
                     if kept < at {
                         self.keys.swap(kept, at);
-                        self.values.swap(kept, at);
+                        self.places.swap(kept, at);
                     }
                     kept += 1;
                 }
             }
+            for at in kept..self.len() {
+                self.take_value(at);
+            }
             self.keys.truncate(kept);
-            self.values.truncate(kept);
             return;
         }
         let mut is_kept = [true; MOST];
         for (at, child) in self.children.iter_mut().enumerate() {
             child.retain(condition, alloc);
             if let Some(key) = self.keys.get(at) {
-                is_kept[at] = condition(key, &mut self.values[at]);
+                let value = &mut self.values[usize::from(self.places[at])];
+                is_kept[at] = condition(key, value);
             }
         }
         for at in (0..self.len()).rev() {

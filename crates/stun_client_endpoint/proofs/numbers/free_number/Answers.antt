@@ -6,8 +6,8 @@ use Rattle.stun_client_endpoint.specs.Numbers.{free_number, is_taken}
 use Rattle.stun_client_endpoint.proofs.NumberLemmas.{free_at}
 use Rattle.stun_client_endpoint.proofs.numbers.free_number.Goals as goal
 
-pub returns-then-not-is_taken : goal.returns-then-not-is_taken
-returns-then-not-is_taken g c =
+pub returns-then-not-is_taken-clause-free : goal.returns-then-not-is_taken-clause-free
+returns-then-not-is_taken-clause-free g c =
     let before : c.loop-number.number < LAST_NUMBER = omega arith in
     let free : is_taken c.args.seed.now c.args.agent.now c.loop-number.number ≡ false =
     grind (arith, c.is_taken.ensures, c.if-not-is_taken.true, c.if-not-is_taken.ensures) in

@@ -3,7 +3,7 @@ use Rattle.stun_handles.proofs.Steps.{◌≡◌, [], ◌∷◌, refl, lit<, prov
 use Rattle.stun_handles.proofs.Steps.{fact_i, tables, a_type, inst_fn, Val, ‵, raw, ◌⊛◌, ◌$◌, ◌∵◌, ! }
 use Rattle.stun_handles.proofs.Steps.{qed, by, keep, use0, use1, split, agg, enter, lit, false_lit}
 use Rattle.stun_handles.proofs.Steps.{no_more, and_then, returns, alloc_all, pass_all, free_all}
-use Rattle.stun_handles.proofs.Steps.{look_at, sets, env, param, layouts, RattleType, owns, null_ptr}
+use Rattle.stun_handles.proofs.Steps.{look_at, sets, param, layouts, RattleType, owns, null_ptr}
 use Rattle.stun_handles.proofs.Steps.{types_at, type_at, nothing, alive, Stays, false, None}
 use Rattle.stun_handles.proofs.Words.{word, closed}
 use Rattle.stun_handles.specs.code.Handle.{handle_owns, full_or_empty}

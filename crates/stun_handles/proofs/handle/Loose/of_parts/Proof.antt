@@ -5,7 +5,7 @@ use Rattle.stun_handles.proofs.Steps.{inst_fn, Val, ‵, raw, ◌⊛◌, ◌$◌
 use Rattle.stun_handles.proofs.Steps.{use0, use1, split, fsplit, fjoin, fpack, suffices, agg, sub}
 use Rattle.stun_handles.proofs.Steps.{whole, enter, of_opd, true_lit, stop, fld, no_more, and_then}
 use Rattle.stun_handles.proofs.Steps.{returns, alloc_all, pass_all, free_all, look_at, get, get_in}
-use Rattle.stun_handles.proofs.Steps.{sets, env, no, param, layouts, RattleType, owns, block_ptr}
+use Rattle.stun_handles.proofs.Steps.{sets, no, param, layouts, RattleType, owns, block_ptr}
 use Rattle.stun_handles.proofs.Steps.{types_at, type_at, plain, nothing, alive, Stays, stay_dropped}
 use Rattle.stun_handles.proofs.Steps.{walk_of, Goes-dropped, true, Some}
 use Rattle.std_alloc.specs.Box.Ownership.{box_owns}

@@ -9,11 +9,11 @@ use Rattle.stun_state.proofs.calls.agent.stunp_agent_poll_transmit.Goals as goal
 pub returns-clause-state : goal.returns-clause-state
 returns-clause-state c =
     let before = c.deref_mut.result.now in
-    let kept : c.args.handle.now.agent ≡ Some before = search rules in
+    let kept : c.args.handle.now.slot.agent ≡ Some before = search rules in
     let told : to_z w64 (of_z w64 c.length-answer.result) ≡ length_answer c.poll_transmit.result =
     search rules in
     let wrap : Agent → Option Kept = λ a. Some (record { agent = a }) in
-    let put : c.put.new.self.agent ≡ wrap c.poll_transmit.new.agent = search rules in
+    let put : c.put.new.self.slot.agent ≡ wrap c.poll_transmit.new.agent = search rules in
     some_is _ before _ kept
     (left_length _ wrap c.poll_transmit.result _ before.agent c.poll_transmit.new.agent
     (after_poll_transmit c.args.now before.agent) _ told put c.poll_transmit.ensures.ok

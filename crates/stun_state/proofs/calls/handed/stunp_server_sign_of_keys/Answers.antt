@@ -8,7 +8,7 @@ use Rattle.stun_state.proofs.calls.handed.stunp_server_sign_of_keys.Goals as goa
 pub returns-clause-written : goal.returns-clause-written
 returns-clause-written c =
     let before = c.deref_mut.result.now in
-    let kept : c.args.handle.now.server ≡ Some before = search rules in
+    let kept : c.args.handle.now.slot.server ≡ Some before = search rules in
     let told : to_z w64 (of_z w64 c.length-answer.result) ≡ length_answer c.sign-signed.result =
     search rules in
     let user = user_of_keys c.args.name.now c.args.sha1.now c.args.sha256.now in

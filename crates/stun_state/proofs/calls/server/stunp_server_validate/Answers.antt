@@ -7,7 +7,7 @@ use Rattle.stun_state.proofs.calls.server.stunp_server_validate.Goals as goal
 pub returns-clause-unchanged : goal.returns-clause-unchanged
 returns-clause-unchanged c =
     let before = c.deref_mut.result.now in
-    let kept : c.args.handle.now.server ≡ Some before = search rules in
+    let kept : c.args.handle.now.slot.server ≡ Some before = search rules in
     let told : to_z w64 (of_z w64 c.algorithm-answer.result) ≡ algorithm_answer c.validate.result =
     search rules in
     some_is _ before _ kept

@@ -8,7 +8,7 @@ use Rattle.stun_handles.proofs.Steps.{use0, use1, split, split3, join, fsplit, f
 use Rattle.stun_handles.proofs.Steps.{feq_l, pick, await, rewrite, suffices, agg, sub, whole}
 use Rattle.stun_handles.proofs.Steps.{enter, of_opd, stop, fld, no_more, and_then, returns}
 use Rattle.stun_handles.proofs.Steps.{alloc_all, pass_all, free_all, look_at, get, get_in, sets}
-use Rattle.stun_handles.proofs.Steps.{lands_as, env, no, layout, bounded, RattleType, owns, Ptr}
+use Rattle.stun_handles.proofs.Steps.{lands_as, no, layout, bounded, RattleType, owns, Ptr}
 use Rattle.stun_handles.proofs.Steps.{RawPtr, block_ptr, null_ptr, ptr_val, in_a_block, types_at}
 use Rattle.stun_handles.proofs.Steps.{plain, nothing, heard, only, Tuple, calls_at, triple_of}
 use Rattle.stun_handles.proofs.Steps.{Stays, stay_dropped, walk_of, Goes-blank, handle_tells, fm}

@@ -1,0 +1,87 @@
+-- What a client is to do next, as a caller in C gets it.
+use Rattle.std.specs.Prelude.{ℕ, length, Option, Some, None}
+use Rattle.std.specs.Option.{option_map_or}
+use Rattle.stun_client.specs.declared.judged.Outcome.{Outcome}
+use Rattle.stun_client.specs.declared.judged.Outcome.TheVariants.{Malformed, NotUnderstood}
+use Rattle.stun_client.specs.declared.judged.Outcome.TheVariants.{Redirected, Refused, Success}
+use Rattle.stun_client_endpoint.specs.Ends.{Ended}
+use Rattle.stun_client_endpoint.specs.declared.ended.DropReason.{DropReason}
+use Rattle.stun_client_endpoint.specs.declared.ended.DropReason.TheVariants.{NotVerified}
+use Rattle.stun_client_endpoint.specs.declared.ended.DropReason.TheVariants.{OutOfMemory}
+use Rattle.stun_client_endpoint.specs.declared.ended.DropReason.TheVariants.{UnanswerableChallenge}
+use Rattle.stun_client_endpoint.specs.declared.ended.DropReason.TheVariants.{WeakerChallenge}
+use Rattle.stun_client_endpoint.specs.declared.ended.DropReason.TheVariants.{WrongFingerprint}
+use Rattle.stun_client_endpoint.specs.declared.ended.Drops.{Drops}
+use Rattle.stun_client_endpoint.specs.declared.ended.RequestEnd.{RequestEnd}
+use Rattle.stun_client_endpoint.specs.declared.ended.RequestEnd.TheVariants.{Answered, Cancelled}
+use Rattle.stun_client_endpoint.specs.declared.ended.RequestEnd.TheVariants.{TimedOut, Unauthorized}
+use Rattle.stun_c_endpoint.specs.Told.{integrity_number}
+use Rattle.stun_c_endpoint.specs.declared.client.event.Dropped.{Dropped}
+use Rattle.stun_c_endpoint.specs.declared.client.event.Event.{Event}
+
+-- how many bytes a caller's event has, with which it begins
+abbrev pub EVENT_SIZE : ℕ
+EVENT_SIZE = 64
+
+-- the numbers of the reasons to drop a response
+abbrev pub drop_told : DropReason → ℕ
+drop_told WrongFingerprint = 3
+drop_told NotVerified = 9
+drop_told UnanswerableChallenge = 10
+drop_told WeakerChallenge = 11
+drop_told OutOfMemory = 12
+
+-- a number, and 0 of none
+abbrev pub or_zero : Option ℕ → ℕ
+or_zero None = 0
+or_zero (Some number) = number
+
+-- what was dropped for a request
+abbrev pub drops_told : Drops → Dropped
+drops_told d =
+    record { count = d.count; why = option_map_or drop_told d.last 0; code = or_zero d.code }
+
+abbrev pub nothing_dropped : Dropped
+nothing_dropped = record { count = 0; why = 0; code = 0 }
+
+-- the kind alone
+abbrev pub event_blank : ℕ → Event → Event
+event_blank kind e = record {
+  size = e.size;
+  kind = kind;
+  result = 0;
+  request = 0;
+  until = 0;
+  length = 0;
+  code = 0;
+  not_understood = 0;
+  signed_by = 0;
+  dropped = nothing_dropped;
+}
+
+abbrev pub wait_told : ℕ → Event → Event
+wait_told until e = record (event_blank 0 e) { until = until }
+
+abbrev pub sent_told : ℕ → Event → Event
+sent_told length e = record (event_blank 1 e) { length = length }
+
+-- how a response that is believed ends its request
+abbrev pub outcome_told : Outcome → Event → Event
+outcome_told Success e = record e { result = 1 }
+outcome_told (Refused code) e = record e { result = 2; code = code }
+outcome_told Redirected e = record e { result = 3; code = 300 }
+outcome_told (NotUnderstood kind) e = record e { result = 6; not_understood = kind.0 }
+outcome_told Malformed e = record e { result = 7 }
+
+-- how a request ends
+abbrev pub end_told : RequestEnd → Event → Event
+end_told (Answered outcome by) e =
+    outcome_told outcome (record e { signed_by = integrity_number by })
+end_told (TimedOut drops) e = record e { result = 4; dropped = drops_told drops }
+end_told Unauthorized e = record e { result = 5 }
+end_told Cancelled e = record e { result = 8 }
+
+-- which request has ended, and how, and how long the response is that ended it
+abbrev pub ended_told : Ended → Event → Event
+ended_told x e =
+    end_told x.end (record (event_blank 2 e) { request = x.number; length = length x.response })

@@ -1,0 +1,99 @@
+//! The body of a request, which a caller passes as encoded attributes.
+
+ghost use Rattle.std.specs.Prelude.{◌≡◌, ◌⊎◌, Err, IfErr, IfOk, Ok, OnOk, [], drop, length};
+ghost use Rattle.stun_types.specs.Attribute.{attribute_length};
+ghost use Rattle.stun_c_endpoint.specs.Attributes.{Reads, peer_of, refusal_of_attribute};
+ghost use Rattle.stun_c_endpoint.specs.Attributes.{with_attribute};
+
+use byteorder::{BigEndian, ByteOrder};
+use std::alloc::Global;
+use std::net::{Ipv4Addr, Ipv6Addr, SocketAddr, SocketAddrV4, SocketAddrV6};
+use stun_client_endpoint::body::{Body, BodyError};
+use stun_numbers::refusal::Refusal;
+use stun_types::attribute::RawAttribute;
+
+/// XOR-PEER-ADDRESS, whose value depends on the transaction ID.
+const XOR_PEER_ADDRESS: u16 = 0x0012;
+
+/// Returns the refusal of an attribute that cannot be in a body.
+fn refusal_of_attribute(error: BodyError) -> Refusal
+    ensures { result ≡ refusal_of_attribute error }
+{
+    match error {
+        BodyError::NotAllowed => Refusal::NotAllowed,
+        BodyError::TooLarge => Refusal::MessageTooLong,
+        BodyError::OutOfMemory => Refusal::OutOfMemory,
+        // There is no other one in this release.
+        _ => Refusal::BadArgument,
+    }
+}
+
+/// Reads the address of a peer, which is not XORed yet.
+fn peer_of(value: &[u8]) -> Option<SocketAddr>
+    ensures { result ≡ peer_of value.now }
+{
+    if value.len() == 8 && BigEndian::read_u16(value) == 1 {
+        let mut octets = [0; 4];
+        octets.copy_from_slice(&value[4..]);
+        let port = BigEndian::read_u16(&value[2..]);
+        return Some(SocketAddr::V4(SocketAddrV4::new(Ipv4Addr::from_octets(octets), port)));
+    }
+    if value.len() == 20 && BigEndian::read_u16(value) == 2 {
+        let mut octets = [0; 16];
+        octets.copy_from_slice(&value[4..]);
+        let port = BigEndian::read_u16(&value[2..]);
+        return Some(SocketAddr::V6(SocketAddrV6::new(Ipv6Addr::from_octets(octets), port, 0, 0)));
+    }
+    None
+}
+
+/// Adds an attribute to a body.
+fn add(body: &mut Body<Global>, attribute: &RawAttribute<'_>) -> Result<(), Refusal>
+    ensures ok { OnOk result (with_attribute body.old attribute.now ≡ Ok body.new) }
+    ensures refused { IfErr result (λ refusal. (refusal ≡ Refusal.OutOfMemory)
+        ⊎ (with_attribute body.old attribute.now ≡ Err refusal)) }
+{
+    let added = if attribute.get_type().value() == XOR_PEER_ADDRESS {
+        match peer_of(attribute.value()) {
+            Some(address) => body.add_xor_peer_address(address),
+            None => return Err(Refusal::BadArgument),
+        }
+    } else {
+        body.add(attribute.get_type(), attribute.value())
+    };
+    match added {
+        Ok(()) => Ok(()),
+        Err(error) => Err(refusal_of_attribute(error)),
+    }
+}
+
+/// Returns the bytes that follow the attribute with which bytes begin.
+fn after<'a>(bytes: &'a [u8], attribute: &RawAttribute<'_>) -> &'a [u8]
+    ensures { result.now ≡ drop (attribute_length (length attribute.now.value)) bytes.now }
+{
+    match bytes.get(attribute.padded_len()..) {
+        Some(after) => after,
+        None => &[],
+    }
+}
+
+/// Reads the body that these bytes encode.
+pub fn body_of(alloc: Global, bytes: &[u8]) -> Result<Body<Global>, Refusal>
+    ensures ok { IfOk result (λ body. Reads [] bytes.now (Ok body)) }
+    ensures refused { IfErr result (λ refusal. (refusal ≡ Refusal.OutOfMemory)
+        ⊎ Reads [] bytes.now (Err refusal)) }
+{
+    let mut body = Body::new(alloc);
+    let mut rest = bytes;
+    while !rest.is_empty() {
+        let Some(attribute) = RawAttribute::at(rest, 0) else {
+            return Err(Refusal::BadArgument);
+        };
+        match add(&mut body, &attribute) {
+            Ok(()) => {}
+            Err(refusal) => return Err(refusal),
+        }
+        rest = after(rest, &attribute);
+    }
+    Ok(body)
+}

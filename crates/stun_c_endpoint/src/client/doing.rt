@@ -1,0 +1,260 @@
+//! What the calls on a client do with the client of a handle.
+
+ghost use Rattle.std.specs.Prelude.{◌≡◌, Ok, Some, length, nat_lt};
+ghost use Rattle.stun_handles.specs.Numbers.{done_answer, number_answer};
+ghost use Rattle.stun_client_endpoint.specs.Endpoints.{told_of, transmit as transmitted};
+ghost use Rattle.stun_c_endpoint.specs.Clients.{AsksAs, CancelsAs, HearsAs, PollsAs};
+ghost use Rattle.stun_c_endpoint.specs.Clients.{Tells, TellsDropped, WritesTold, client_of};
+ghost use Rattle.stun_c_endpoint.specs.Clients.{or_for_ever, received_number, refusal_of_request, why_told};
+ghost use Rattle.stun_c_endpoint.specs.declared.handle.endpoint.Kept.TheVariants as kind;
+
+use crate::client::body::body_of;
+use crate::client::event::{Dropped, EVENT_SIZE, Event, drop_number};
+use crate::handle::endpoint::Kept;
+use std::alloc::Global;
+use stun_base::instant::Instant;
+use stun_client_endpoint::endpoint::ClientEndpoint;
+use stun_client_endpoint::told::{Polled, Received, RequestError};
+use stun_handles::address::Address;
+use stun_numbers::buffer::put;
+use stun_numbers::refusal::Refusal;
+use stun_types::message::Method;
+
+/// The end of a wait if no request is outstanding.
+const FOR_EVER: u64 = 18_446_744_073_709_551_615;
+
+/// Returns the refusal of a request that is not started.
+fn refusal_of_request(error: RequestError) -> Refusal
+    ensures { result ≡ refusal_of_request error }
+{
+    match error {
+        RequestError::NoId => Refusal::AlreadyInProgress,
+        RequestError::TooLarge => Refusal::MessageTooLong,
+        RequestError::OutOfMemory => Refusal::OutOfMemory,
+        // There is no other one in this release.
+        _ => Refusal::BadArgument,
+    }
+}
+
+/// Starts a request of the client of a handle, and writes its number.
+pub fn ask(
+    alloc: Global,
+    kept: &mut Kept,
+    method: u32,
+    body: &[u8],
+    now: u64,
+    request: &mut u64,
+) -> Result<(), Refusal>
+    ensures { AsksAs (client_of kept.old) method body.now now (done_answer result) request.old
+        request.new (Some kept.old) (Some kept.new) }
+{
+    match kept {
+        Kept::Client(client) => ask_of(alloc, client, method, body, now, request),
+        _ => Err(Refusal::WrongHandle),
+    }
+}
+
+/// Starts a request of this client, and writes its number.
+fn ask_of(
+    alloc: Global,
+    client: &mut ClientEndpoint<Global>,
+    method: u32,
+    body: &[u8],
+    now: u64,
+    request: &mut u64,
+) -> Result<(), Refusal>
+    ensures { AsksAs (Ok client.old) method body.now now (done_answer result) request.old
+        request.new (Some (kind.Client client.old)) (Some (kind.Client client.new)) }
+{
+    if method > 4095 {
+        return Err(Refusal::BadArgument);
+    }
+    let Some(method) = Method::new(method as u16) else {
+        return Err(Refusal::BadArgument);
+    };
+    let body = body_of(alloc, body)?;
+    match client.request(method, body, Instant::from_nanos(now)) {
+        Ok(number) => {
+            *request = number;
+            Ok(())
+        }
+        Err(error) => Err(refusal_of_request(error)),
+    }
+}
+
+/// Returns the number of the result for a datagram, and writes why it is dropped.
+fn told(received: &Received<'_>, why: &mut u32) -> u32
+    ensures number { result ≡ received_number received.now }
+    ensures why { why.new ≡ why_told received.now why.old }
+{
+    match received {
+        Received::Consumed => 4,
+        Received::Indication(_) => 3,
+        Received::NotOurs => 6,
+        Received::Dropped(reason) => {
+            *why = drop_number(*reason);
+            0
+        }
+        // There is no other one in this release.
+        _ => 0,
+    }
+}
+
+/// Reads a datagram with the client of a handle, and returns the number of the result.
+pub fn hear(
+    kept: &mut Kept,
+    message: &[u8],
+    from: &Address,
+    now: u64,
+    why: &mut u32,
+) -> Result<u32, Refusal>
+    ensures { HearsAs (client_of kept.old) from.now message.now now (number_answer result) why.old
+        why.new (Some kept.old) (Some kept.new) }
+{
+    match kept {
+        Kept::Client(client) => hear_by(client, message, from, now, why),
+        _ => Err(Refusal::WrongHandle),
+    }
+}
+
+/// Reads a datagram with this client, and returns the number of the result.
+fn hear_by(
+    client: &mut ClientEndpoint<Global>,
+    message: &[u8],
+    from: &Address,
+    now: u64,
+    why: &mut u32,
+) -> Result<u32, Refusal>
+    ensures { HearsAs (Ok client.old) from.now message.now now (number_answer result) why.old
+        why.new (Some (kind.Client client.old)) (Some (kind.Client client.new)) }
+{
+    let from = from.socket()?;
+    let received = client.receive(message, from, Instant::from_nanos(now));
+    Ok(told(&received, why))
+}
+
+/// Returns the time until which to wait.
+fn until_told(until: Option<Instant>) -> u64
+    ensures { result ≡ or_for_ever until }
+{
+    match until {
+        Some(until) => until.as_nanos(),
+        None => FOR_EVER,
+    }
+}
+
+/// Writes bytes to the front of the buffer and returns this number, if the bytes fit.
+fn written(bytes: &[u8], number: u32, out: &mut [u8]) -> Result<u32, Refusal>
+    ensures { WritesTold (nat_lt (length out.old) (length bytes.now)) bytes.now number
+        (number_answer result) out.old out.new }
+{
+    if out.len() < bytes.len() {
+        return Err(Refusal::BufferTooSmall);
+    }
+    put(out, bytes);
+    Ok(number)
+}
+
+/// Polls the client of a handle, and writes the next thing to do.
+pub fn poll(kept: &mut Kept, now: u64, out: &mut [u8], event: &mut Event) -> Result<u32, Refusal>
+    ensures { PollsAs (client_of kept.old) now (number_answer result) out.old out.new event.old
+        event.new (Some kept.old) (Some kept.new) }
+{
+    match kept {
+        Kept::Client(client) => poll_by(client, now, out, event),
+        _ => Err(Refusal::WrongHandle),
+    }
+}
+
+/// Polls this client, and writes the next thing to do.
+fn poll_by(
+    client: &mut ClientEndpoint<Global>,
+    now: u64,
+    out: &mut [u8],
+    event: &mut Event,
+) -> Result<u32, Refusal>
+    ensures { PollsAs (Ok client.old) now (number_answer result) out.old out.new event.old
+        event.new (Some (kind.Client client.old)) (Some (kind.Client client.new)) }
+{
+    if event.size != EVENT_SIZE {
+        return Err(Refusal::BadArgument);
+    }
+    let polled = client.poll(Instant::from_nanos(now));
+    tell(client, &polled, out, event)
+}
+
+/// Writes the next thing to do, and returns its number.
+fn tell(
+    client: &ClientEndpoint<Global>,
+    polled: &Polled<Global>,
+    out: &mut [u8],
+    event: &mut Event,
+) -> Result<u32, Refusal>
+    ensures { Tells client.now (told_of polled.now) (number_answer result) out.old out.new
+        event.old event.new }
+{
+    match polled {
+        Polled::Transmit(number) => transmit(client, *number, out, event),
+        Polled::Ended(ended) => {
+            event.ends(ended);
+            written(ended.response(), 2, out)
+        }
+        Polled::Wait(until) => {
+            event.waits(until_told(*until));
+            written(&[], 0, out)
+        }
+        // There is no other one in this release.
+        _ => Err(Refusal::BadArgument),
+    }
+}
+
+/// Writes the bytes of a request, which are to be sent.
+fn transmit(
+    client: &ClientEndpoint<Global>,
+    number: u64,
+    out: &mut [u8],
+    event: &mut Event,
+) -> Result<u32, Refusal>
+    ensures { Tells client.now (transmitted number) (number_answer result) out.old out.new
+        event.old event.new }
+{
+    match client.bytes_of(number) {
+        Some(bytes) => {
+            event.sends(bytes.len());
+            written(bytes, 1, out)
+        }
+        None => {
+            event.sends(0);
+            written(&[], 1, out)
+        }
+    }
+}
+
+/// Cancels a request of the client of a handle, and returns 1, or 0 if the request has ended.
+pub fn cancel(kept: &mut Kept, number: u64) -> Result<u32, Refusal>
+    ensures { CancelsAs (client_of kept.old) number (number_answer result) (Some kept.old)
+        (Some kept.new) }
+{
+    match kept {
+        Kept::Client(client) => Ok(u32::from(client.cancel(number))),
+        _ => Err(Refusal::WrongHandle),
+    }
+}
+
+/// Writes what was dropped for a request of the client of a handle, and returns 1, or 0 if the
+/// request has ended.
+pub fn tell_dropped(kept: &Kept, number: u64, dropped: &mut Dropped) -> Result<u32, Refusal>
+    ensures { TellsDropped (client_of kept.now) number (number_answer result) dropped.old
+        dropped.new }
+{
+    match kept {
+        Kept::Client(client) => match client.dropped(number) {
+            Some(drops) => {
+                *dropped = Dropped::of(drops);
+                Ok(1)
+            }
+            None => Ok(0),
+        },
+        _ => Err(Refusal::WrongHandle),
+    }
+}

@@ -1,0 +1,350 @@
+//! Creating a client from what a caller passes.
+
+ghost use Rattle.std.specs.Prelude.{◌≡◌, ◌++◌, IfOk, IsOkUnless, MatchOption, None, Err};
+ghost use Rattle.stun_extra.specs.Unknown.{types_of};
+ghost use Rattle.stun_client.specs.Judging.{identity_of};
+ghost use Rattle.stun_c_endpoint.specs.Given.{Makes};
+ghost use Rattle.stun_c_endpoint.specs.declared.handle.endpoint.Kept.TheVariants as kind;
+ghost use Rattle.stun_c_endpoint.specs.ClientsGiven.{MakesClient, agent_given, algorithm_given};
+ghost use Rattle.stun_c_endpoint.specs.ClientsGiven.{client_given, client_refusal, feature_given};
+ghost use Rattle.stun_c_endpoint.specs.ClientsGiven.{identity_given, is_out_of_range, or_else};
+ghost use Rattle.stun_c_endpoint.specs.ClientsGiven.{preferences_given, transport_given};
+
+use crate::handle::endpoint::{EndpointHandle, Kept};
+use crate::settings::{placed, text_if_any, types};
+use std::alloc::{AllocError, Global};
+use std::marker::Model;
+use std::net::SocketAddr;
+use std::time::Duration;
+use stun_agent::agent::StunAgent;
+use stun_auth::auth::Feature;
+use stun_base::attribute_type::AttributeType;
+use stun_base::key::IntegrityKey;
+use stun_base::transport::TransportType;
+use stun_client::credentials::{Credentials, LongTerm, ShortTerm};
+use stun_client::preferences::Preferences;
+use stun_client_endpoint::endpoint::{ClientEndpoint, Settings};
+use stun_client_endpoint::form::Form;
+use stun_handles::address::Address;
+use stun_handles::text::copied;
+use stun_numbers::refusal::Refusal;
+use stun_numbers::text::text;
+use stun_types::limits::{TEXT_LIMIT, USERNAME_LIMIT};
+use stun_types::message::{IntegrityAlgorithm, LongTermCredentials, PreparedKey};
+
+/// The types of attributes that must be understood and that the header names. Each client
+/// understands them in responses.
+pub const UNDERSTOOD: [AttributeType; 28] = [
+    AttributeType(0x0001),
+    AttributeType(0x0003),
+    AttributeType(0x0006),
+    AttributeType(0x0008),
+    AttributeType(0x0009),
+    AttributeType(0x000A),
+    AttributeType(0x000C),
+    AttributeType(0x000D),
+    AttributeType(0x0012),
+    AttributeType(0x0013),
+    AttributeType(0x0014),
+    AttributeType(0x0015),
+    AttributeType(0x0016),
+    AttributeType(0x0017),
+    AttributeType(0x0018),
+    AttributeType(0x0019),
+    AttributeType(0x001A),
+    AttributeType(0x001B),
+    AttributeType(0x001C),
+    AttributeType(0x001D),
+    AttributeType(0x001E),
+    AttributeType(0x0020),
+    AttributeType(0x0022),
+    AttributeType(0x0024),
+    AttributeType(0x0025),
+    AttributeType(0x0026),
+    AttributeType(0x0027),
+    AttributeType(0x002A),
+];
+
+/// The default wait after the first transmission of a request, in nanoseconds (RFC 8489, section
+/// 6.2.1).
+const INITIAL: u64 = 500_000_000;
+
+/// The default longest wait between two transmissions: they have no bound.
+const LONGEST: u64 = 18_446_744_073_709_551_615;
+
+/// The default wait after the last transmission, in nanoseconds.
+const LAST: u64 = 8_000_000_000;
+
+/// The default number of transmissions of a request.
+const TRANSMISSIONS: u32 = 7;
+
+/// The default number of challenges for which a request is sent again.
+const CHALLENGES: u32 = 6;
+
+/// The number of short-term credentials.
+const SHORT_TERM: u32 = 1;
+
+/// The number of HMAC-SHA1 alone.
+const ONLY_SHA1: u32 = 1;
+
+/// The number of HMAC-SHA256 alone.
+const ONLY_SHA256: u32 = 2;
+
+/// The number of both algorithms, which is the greatest one.
+const BOTH: u32 = 3;
+
+/// The greatest number for a feature: names are never hashed.
+const DISABLED: u32 = 2;
+
+/// The numbers among the settings of a client. A number that is 0 stands for its default.
+#[repr(C)]
+#[derive(Clone, Copy)]
+pub struct ClientOptions {
+    /// The wait after the first transmission of a request, in nanoseconds.
+    pub initial: u64,
+    /// The longest wait between two transmissions, in nanoseconds.
+    pub longest: u64,
+    /// The wait after the last transmission, in nanoseconds.
+    pub last: u64,
+    /// The number of transmissions of a request.
+    pub transmissions: u32,
+    /// The number of challenges for which a request is sent again.
+    pub challenges: u32,
+    /// The kind of the credentials.
+    pub credentials: u32,
+    /// The algorithms that are supported.
+    pub algorithms: u32,
+    /// Whether the user name is sent as a hash.
+    pub anonymous_username: u32,
+    /// Whether messages go over a stream.
+    pub is_stream: bool,
+    /// Whether an unsigned response to an unsigned request is accepted.
+    pub accepts_unsigned: bool,
+    /// Whether requests end with FINGERPRINT.
+    pub has_fingerprint: bool,
+}
+
+/// What a caller passes.
+///
+/// Contracts: they see bytes and numbers.
+#[derive(Drop)]
+pub struct ClientGiven<'a> {
+    pub server: &'a Address,
+    pub seed: &'a [u8; 32],
+    pub name: &'a [u8],
+    pub password: &'a [u8],
+    pub software: &'a [u8],
+    pub understood: &'a [u16],
+    pub options: &'a ClientOptions,
+}
+
+impl<'a> Model for ClientGiven<'a> {
+    ghost use Rattle.stun_c_endpoint.specs.ClientsGiven.{ClientGiven as GivenSeen};
+
+    ghost Value = { GivenSeen };
+
+    ghost view = { λ given. record {
+      server = given.server.now;
+      seed = given.seed.now;
+      name = given.name.now;
+      password = given.password.now;
+      software = given.software.now;
+      understood = given.understood.now;
+      options = given.options.now;
+    } };
+}
+
+/// Returns a number, or its default if the number is 0.
+fn or_else(number: u64, default: u64) -> u64
+    ensures { result ≡ or_else number default }
+{
+    if number == 0 { default } else { number }
+}
+
+/// Returns a smaller number, or its default if the number is 0.
+fn or_else_small(number: u32, default: u32) -> u32
+    ensures { result ≡ or_else number default }
+{
+    if number == 0 { default } else { number }
+}
+
+/// Returns whether the user name is to be sent as a hash.
+fn feature(number: u32) -> Feature
+    ensures { result ≡ feature_given number }
+{
+    match number {
+        1 => Feature::Required,
+        2 => Feature::Disabled,
+        _ => Feature::Auto,
+    }
+}
+
+/// Returns the algorithm that short-term credentials are used with.
+fn algorithm(number: u32) -> IntegrityAlgorithm
+    ensures { result ≡ algorithm_given number }
+{
+    if number == ONLY_SHA256 {
+        IntegrityAlgorithm::Sha256
+    } else {
+        IntegrityAlgorithm::Sha1
+    }
+}
+
+impl ClientOptions {
+    /// Returns the preferences that long-term credentials are used with.
+    fn preferences(&self) -> Preferences
+        ensures { result ≡ preferences_given self.now }
+    {
+        Preferences {
+            hmac_sha1: self.algorithms != ONLY_SHA256,
+            hmac_sha256: self.algorithms != ONLY_SHA1,
+            anonymous_username: feature(self.anonymous_username),
+        }
+    }
+
+    /// Returns whether a number is out of range, for a client with a user or without one.
+    fn is_out_of_range(&self, has_user: bool) -> bool
+        ensures { result ≡ is_out_of_range has_user self.now }
+    {
+        self.algorithms > BOTH
+            || self.anonymous_username > DISABLED
+            || (has_user && self.credentials > SHORT_TERM)
+            || (has_user && self.credentials == SHORT_TERM && self.algorithms == BOTH)
+    }
+
+    /// Returns the transport of the messages.
+    fn transport(&self) -> TransportType
+        ensures { result ≡ transport_given self.now.is_stream }
+    {
+        if self.is_stream {
+            TransportType::Tcp
+        } else {
+            TransportType::Udp
+        }
+    }
+
+    /// Creates the agent that has the timers. Its own address is never used.
+    fn agent(&self, alloc: Global, server: SocketAddr) -> StunAgent<Global>
+        ensures { result ≡ agent_given server self.now }
+    {
+        StunAgent::builder(alloc, self.transport(), server)
+            .request_retransmits(
+                Duration::from_nanos(or_else(self.initial, INITIAL)),
+                Duration::from_nanos(or_else(self.longest, LONGEST)),
+                or_else_small(self.transmissions, TRANSMISSIONS),
+                Duration::from_nanos(or_else(self.last, LAST)),
+            )
+            .build()
+    }
+
+    /// Creates the credentials of a user, if there is one.
+    fn credentials(
+        &self,
+        alloc: Global,
+        name: &str,
+        password: &str,
+    ) -> Result<Credentials<Global>, AllocError>
+        ensures { IfOk result (λ made. identity_of made
+            ≡ identity_given name.now password.now self.now) }
+    {
+        if name.is_empty() {
+            return Ok(Credentials::Unsigned);
+        }
+        let name = copied(alloc, name)?;
+        if self.credentials == SHORT_TERM {
+            let algorithm = algorithm(self.algorithms);
+            let key = IntegrityKey::from_bytes(alloc, password.as_bytes())?;
+            return Ok(Credentials::ShortTerm(ShortTerm {
+                name,
+                password: PreparedKey::new(key, algorithm),
+                algorithm,
+            }));
+        }
+        Ok(Credentials::LongTerm(LongTerm {
+            user: LongTermCredentials::new(name, copied(alloc, password)?),
+            preferences: self.preferences(),
+            accepts_unsigned: self.accepts_unsigned,
+        }))
+    }
+}
+
+/// Returns the types that a client understands.
+fn understood(alloc: Global, numbers: &[u16]) -> Result<Vec<AttributeType, Global>, AllocError>
+    ensures { IfOk result (λ types. types.items ≡ types_of numbers.now ++ UNDERSTOOD) }
+{
+    let mut types = types(alloc, numbers)?;
+    types.extend_from_slice(&UNDERSTOOD)?;
+    Ok(types)
+}
+
+impl<'a> ClientGiven<'a> {
+    /// Creates the client in an empty handle, and returns 0 or the number of the error.
+    pub fn place(&self, alloc: Global, handle: &mut EndpointHandle) -> i64
+        requires { handle.old.kept ≡ None }
+        ensures { MakesClient self.now result handle.new.kept }
+    {
+        match self.server.socket() {
+            Ok(server) => self.place_at(alloc, server, handle),
+            Err(refusal) => refusal.code(),
+        }
+    }
+
+    /// Creates the client of a server at this address.
+    fn place_at(&self, alloc: Global, server: SocketAddr, handle: &mut EndpointHandle) -> i64
+        requires { handle.old.kept ≡ None }
+        ensures { Makes (client_refusal self.now) (kind.Client (client_given self.now server)) result
+            handle.new.kept }
+    {
+        match self.client(alloc, server) {
+            Ok(client) => placed(alloc, handle, Kept::Client(client)),
+            Err(refusal) => refusal.code(),
+        }
+    }
+
+    /// Creates the client of a server.
+    #[tactic(auto, unfolding(crate::specs::ClientsGiven::client_refusal))]
+    fn client(&self, alloc: Global, server: SocketAddr) -> Result<ClientEndpoint<Global>, Refusal>
+        ensures refused { MatchOption (client_refusal self.now)
+            (IsOkUnless result Refusal.OutOfMemory) (λ refusal. result ≡ Err refusal) }
+        ensures made { IfOk result (λ client. client ≡ client_given self.now server) }
+    {
+        if self.options.is_out_of_range(!self.name.is_empty()) {
+            return Err(Refusal::BadArgument);
+        }
+        let name = text(self.name)?;
+        let password = text(self.password)?;
+        let software = text(self.software)?;
+        if name.len() > USERNAME_LIMIT || software.len() > TEXT_LIMIT {
+            return Err(Refusal::TextTooLong);
+        }
+        match self.made(alloc, server, name, password, software) {
+            Ok(client) => Ok(client),
+            Err(_) => Err(Refusal::OutOfMemory),
+        }
+    }
+
+    /// Creates the client with these texts.
+    fn made(
+        &self,
+        alloc: Global,
+        server: SocketAddr,
+        name: &str,
+        password: &str,
+        software: &str,
+    ) -> Result<ClientEndpoint<Global>, AllocError>
+        requires name { name.now ≡ self.now.name }
+        requires password { password.now ≡ self.now.password }
+        requires software { software.now ≡ self.now.software }
+        ensures { IfOk result (λ client. client ≡ client_given self.now server) }
+    {
+        let agent = self.options.agent(alloc, server);
+        let credentials = self.options.credentials(alloc, name, password)?;
+        let software = text_if_any(alloc, software)?;
+        let settings = Settings {
+            form: Form::new(software, self.options.has_fingerprint),
+            understood: understood(alloc, self.understood)?,
+            challenges: or_else_small(self.options.challenges, CHALLENGES),
+        };
+        ClientEndpoint::new(alloc, agent, server, credentials, settings, self.seed)
+    }
+}

@@ -1,0 +1,390 @@
+-- What holds of every client still holds after each change of its parts.
+use Rattle.std.proofs.Common.{◌≡◌, ◌∙◌, ◌+◌, ◌<◌, ◌≤◌, ℕ, Bool, true, false, List, Option, Some}
+use Rattle.std.proofs.Common.{None, ap, arith, inl, inr, refl, subst, sym}
+use Rattle.std.specs.BTreeMap.{insert_entry, is_at}
+use Rattle.std.specs.Map.{remove_entry}
+use Rattle.std.specs.Option.{is_some, option_map, option_map_or}
+use Rattle.std.specs.Ordering.{nat_cmp}
+use Rattle.stun_base.specs.Header.{transaction_id_field, type_field}
+use Rattle.stun_base.specs.MessageType.{method_of}
+use Rattle.stun_agent.proofs.Ascending.{IsAscending-insert, lookup-insert_same}
+use Rattle.stun_client.specs.Challenges.{Answered}
+use Rattle.stun_client.specs.Requests.{AskedSeen, RequestsSeen, after_replacing, asked_first, at, renewed}
+use Rattle.stun_client_loop.specs.Loops.{LoopSeen, after_again, after_request}
+use Rattle.stun_client_loop.specs.Timed.{IsLoop}
+use Rattle.stun_client_loop.proofs.CallLemmas.{loop_again, loop_request}
+use Rattle.stun_client_loop.proofs.NumberLemmas.{not_same}
+use Rattle.stun_client_loop.proofs.TimedLemmas.{left, put}
+use Rattle.stun_client_endpoint.specs.Bodies.{Body}
+use Rattle.stun_client_endpoint.specs.Laws.{AreKept, IsAwaited}
+use Rattle.stun_client_endpoint.specs.Pendings.{Pending, Pendings, changed_at, first_ended, new_pending}
+use Rattle.stun_client_endpoint.specs.Pendings.{request_at, sending, with_request, without_first}
+use Rattle.stun_client_endpoint.specs.Pendings.{without_request}
+use Rattle.stun_client_endpoint.proofs.PendingLemmas.{none_changed, none_without}
+use Rattle.stun_client_endpoint.proofs.PollLemmas.{again_next}
+use Rattle.stun_client_endpoint.proofs.StoredLemmas.{apart, changed_ascends, changed_from, changed_other}
+use Rattle.stun_client_endpoint.proofs.StoredLemmas.{changed_same, ended_is_there, put_ascends}
+use Rattle.stun_client_endpoint.proofs.StoredLemmas.{put_other, put_same, removed_ascends, removed_other}
+use Rattle.stun_client_endpoint.proofs.StoredLemmas.{same_or_apart}
+
+-- ---- one request
+
+awaited_as : (id n : ℕ) (all after : Pendings) → request_at n after ≡ request_at n all
+    → IsAwaited id n all → IsAwaited id n after
+awaited_as id n all after same is = record {
+  pending = is.pending;
+  there = same ∙ is.there;
+  named = is.named;
+  goes_on = is.goes_on;
+}
+
+-- a change that leaves the ID and the end of a request, after which no more bytes are to be handed out
+pub record IsQuiet (f : Pending → Pending) : Type 0 where
+  pub id_stays : (p : Pending) → (f p).id ≡ p.id
+  pub end_stays : (p : Pending) → (f p).end ≡ p.end
+  pub unsent_was : (p : Pending) → (f p).is_unsent ≡ true → p.is_unsent ≡ true
+
+awaited_changed : (f : Pending → Pending) (id n m : ℕ) (all : Pendings) → IsQuiet f
+    → IsAwaited id n all → IsAwaited id n (changed_at f m all)
+awaited_changed f id n m all quiet is = elim (same_or_apart n m) [
+  | inl same ↦ subst (λ k. IsAwaited id n (changed_at f k all)) (sym same) changed
+  | inr off ↦ awaited_as id n all (changed_at f m all) (changed_other f n m all off) is
+]
+  where
+    changed : IsAwaited id n (changed_at f n all)
+    changed = record {
+      pending = f is.pending;
+      there = changed_same f n all ∙ ap (option_map f) is.there;
+      named = quiet.id_stays is.pending ∙ is.named;
+      goes_on = quiet.end_stays is.pending ∙ is.goes_on;
+    }
+
+-- ---- changes that end nothing
+
+pub kept_changed : (f : Pending → Pending) (m : ℕ) (l : LoopSeen) (all : Pendings) → IsQuiet f
+    → AreKept l all → AreKept l (changed_at f m all)
+kept_changed f m l all quiet is = record {
+  loop = is.loop;
+  ascending = changed_ascends f m all is.ascending;
+  fresh = λ n low. none_changed f m n all (is.fresh n low);
+  awaited = λ id a here. awaited_changed f id a.number m all quiet (is.awaited id a here);
+  unsent = λ n p here sent. elim (changed_from f n m all p here) [
+    | inl was ↦
+        let before : was.1.is_unsent ≡ true =
+        quiet.unsent_was was.1 (ap (λ (x : Pending). x.is_unsent) (sym was.3) ∙ sent) in
+        ap (λ (x : Pending). x.end) was.3 ∙ quiet.end_stays was.1 ∙ is.unsent n was.1 was.2 before
+    | inr was ↦ is.unsent n p was.1 sent
+  ];
+}
+
+-- each request that has a timer had it before
+pub record HasFewer (l after : LoopSeen) : Type 0 where
+  pub loop : IsLoop after
+  pub next : after.client.requests.next ≡ l.client.requests.next
+  pub was : (id : ℕ) (a : AskedSeen) → at id after.client.requests.asked ≡ Some a
+      → at id l.client.requests.asked ≡ Some a
+
+pub kept_fewer : (l after : LoopSeen) (all : Pendings) → HasFewer l after → AreKept l all
+    → AreKept after all
+kept_fewer l after all fewer is = record {
+  loop = fewer.loop;
+  ascending = is.ascending;
+  fresh = λ n low. is.fresh n (subst (λ k. k ≤ n) fewer.next low);
+  awaited = λ id a here. is.awaited id a (fewer.was id a here);
+  unsent = is.unsent;
+}
+
+-- ---- ends
+
+-- each request that has a timer had it before, and has another number
+pub record Loses (m : ℕ) (l after : LoopSeen) : Type 0 where
+  pub loop : IsLoop after
+  pub next : after.client.requests.next ≡ l.client.requests.next
+  pub was : (id : ℕ) (a : AskedSeen) → at id after.client.requests.asked ≡ Some a
+      → (at id l.client.requests.asked ≡ Some a) × (a.number ≡ m → ⊥)
+
+-- the request with an ID has its timer no more
+pub loses_asked : (m id : ℕ) (a : AskedSeen) (l after : LoopSeen) → IsLoop l → IsLoop after
+    → after.client.requests.next ≡ l.client.requests.next
+    → after.client.requests.asked ≡ remove_entry (is_at (nat_cmp id)) l.client.requests.asked
+    → at id l.client.requests.asked ≡ Some a → a.number ≡ m → Loses m l after
+loses_asked m id a l after before loop next asked here named = record {
+  loop = loop;
+  next = next;
+  was = λ other b there. by other b (left id l.client.requests.asked before.timed.asked_ascend other b
+      (ap (at other) (sym asked) ∙ there));
+}
+  where
+    by : (other : ℕ) (b : AskedSeen)
+        → (is_at (nat_cmp other) id ≡ false) × (at other l.client.requests.asked ≡ Some b)
+        → (at other l.client.requests.asked ≡ Some b) × (b.number ≡ m → ⊥)
+    by other b found = (
+      found.1,
+      λ same. not_same other id found.0
+          (before.numbered.distinct id other a b here found.1 (named ∙ sym same)),
+    )
+
+kept_end_of : (m : ℕ) (l after : LoopSeen) (all now : Pendings) → Loses m l after → AreKept l all
+    → ((n : ℕ) → is_at (nat_cmp n) m ≡ false → request_at n now ≡ request_at n all)
+    → (id : ℕ) (a : AskedSeen) → at id after.client.requests.asked ≡ Some a
+    → IsAwaited id a.number now
+kept_end_of m l after all now loses is same id a here =
+    let was = loses.was id a here in
+    awaited_as id a.number all now (same a.number (apart a.number m (λ equal. was.1 (sym equal))))
+    (is.awaited id a was.0)
+
+-- a request ends
+pub kept_ended : (f : Pending → Pending) (m : ℕ) (l after : LoopSeen) (all : Pendings)
+    → Loses m l after → ((p : Pending) → (f p).is_unsent ≡ false) → AreKept l all
+    → AreKept after (changed_at f m all)
+kept_ended f m l after all loses silent is = record {
+  loop = loses.loop;
+  ascending = changed_ascends f m all is.ascending;
+  fresh = λ n low. none_changed f m n all (is.fresh n (subst (λ k. k ≤ n) loses.next low));
+  awaited = kept_end_of m l after all (changed_at f m all) loses is
+      (λ n off. changed_other f n m all off);
+  unsent = λ n p here sent. elim (changed_from f n m all p here) [
+    | inl was ↦
+        let no : p.is_unsent ≡ false = ap (λ (x : Pending). x.is_unsent) was.3 ∙ silent was.1 in
+        cc
+    | inr was ↦ is.unsent n p was.1 sent
+  ];
+}
+
+-- a request is stored no more
+pub kept_without : (m : ℕ) (l after : LoopSeen) (all : Pendings) → Loses m l after → AreKept l all
+    → AreKept after (without_request m all)
+kept_without m l after all loses is = record {
+  loop = loses.loop;
+  ascending = removed_ascends m all is.ascending;
+  fresh = λ n low. none_without m n all (is.fresh n (subst (λ k. k ≤ n) loses.next low));
+  awaited = kept_end_of m l after all (without_request m all) loses is
+      (λ n off. removed_other n m all off);
+  unsent = λ n p here sent. is.unsent n p (left m all is.ascending n p here).1 sent;
+}
+
+-- the first request that has ended is stored no more
+pub kept_first : (l : LoopSeen) (all : Pendings) → AreKept l all → AreKept l (without_first all)
+kept_first l all is = by (first_ended all) refl
+  where
+    by : (o : Option ℕ) → first_ended all ≡ o
+        → AreKept l (option_map_or (λ number. without_request number all) o all)
+    by None found = is
+    by (Some m) found =
+        let ended = ended_is_there all m is.ascending found in
+        kept_without m l l all (record {
+          loop = is.loop;
+          next = refl;
+          was = λ id a here. (here, λ same. clash ended.0 ended.1 ended.2 id a same (is.awaited id a here));
+        }) is
+      where
+        clash : (p : Pending) → request_at m all ≡ Some p → is_some p.end ≡ true → (id : ℕ)
+            (a : AskedSeen) → a.number ≡ m → IsAwaited id a.number all → ⊥
+        clash p at_m over id a same waits =
+            let there : request_at m all ≡ Some waits.pending =
+            subst (λ k. request_at k all ≡ Some waits.pending) same waits.there in
+            let equal : waits.pending ≡ p = cc in
+            let none : p.end ≡ None = ap (λ (x : Pending). x.end) (sym equal) ∙ waits.goes_on in
+            let some : is_some p.end ≡ false = ap is_some none in
+            cc
+
+-- a request is canceled: its ID is that of its timer
+pub loses_cancelled : (m : ℕ) (p : Pending) (l after : LoopSeen) (all : Pendings) → AreKept l all
+    → IsLoop after → after.client.requests.next ≡ l.client.requests.next
+    → after.client.requests.asked ≡ remove_entry (is_at (nat_cmp p.id)) l.client.requests.asked
+    → request_at m all ≡ Some p → Loses m l after
+loses_cancelled m p l after all is loop next asked here = record {
+  loop = loop;
+  next = next;
+  was = λ other b there. by other b
+      (left p.id l.client.requests.asked is.loop.timed.asked_ascend other b
+      (ap (at other) (sym asked) ∙ there));
+}
+  where
+    by : (other : ℕ) (b : AskedSeen)
+        → (is_at (nat_cmp other) p.id ≡ false) × (at other l.client.requests.asked ≡ Some b)
+        → (at other l.client.requests.asked ≡ Some b) × (b.number ≡ m → ⊥)
+    by other b found = (found.1, λ same. not_same other p.id found.0 (its same))
+      where
+        its : b.number ≡ m → p.id ≡ other
+        its same =
+            let waits = is.awaited other b found.1 in
+            let there : request_at m all ≡ Some waits.pending =
+            subst (λ k. request_at k all ≡ Some waits.pending) same waits.there in
+            let equal : p ≡ waits.pending = cc in
+            ap (λ (x : Pending). x.id) equal ∙ waits.named
+
+-- ---- a new request
+
+number_of : (id other : ℕ) (v b : AskedSeen) (s : RequestsSeen) → id ≡ other
+    → at other (insert_entry nat_cmp s.asked id v) ≡ Some b → b ≡ v
+number_of id other v b s is here =
+    let same : at other (insert_entry nat_cmp s.asked id v) ≡ Some v =
+    subst (λ k. at k (insert_entry nat_cmp s.asked id v) ≡ Some v) is (lookup-insert_same id v s.asked) in
+    cc
+
+pub kept_started : (l : LoopSeen) (all : Pendings) (body : Body) (id now : ℕ) (bytes : List ℕ)
+    → transaction_id_field bytes ≡ id → AreKept l all
+    → AreKept (after_request bytes now l)
+    (changed_at (sending id bytes) l.client.requests.next
+    (with_request l.client.requests.next (new_pending body) all))
+kept_started l all body id now bytes has is = record {
+  loop = loop_request bytes now l is.loop;
+  ascending = changed_ascends send next stored (put_ascends next fresh_one all is.ascending);
+  fresh = λ n low. none_changed send next n stored (put_other n next fresh_one all (after n low)
+      ∙ is.fresh n (omega (arith, low)));
+  awaited = λ other b here. elim (put (transaction_id_field bytes) first s.asked other b here) [
+    | inl new ↦ newly other b new (number_of (transaction_id_field bytes) other first b s new here)
+    | inr old ↦ before other b old.1
+  ];
+  unsent = λ n p here sent. elim (changed_from send n next stored p here) [
+    | inl was ↦ new_end n p was.0 was.1 was.2 was.3
+    | inr was ↦ is.unsent n p (sym (put_other n next fresh_one all (apart n next was.0)) ∙ was.1) sent
+  ];
+}
+  where
+    s : RequestsSeen
+    s = l.client.requests
+
+    next : ℕ
+    next = l.client.requests.next
+
+    send : Pending → Pending
+    send = sending id bytes
+
+    fresh_one : Pending
+    fresh_one = new_pending body
+
+    stored : Pendings
+    stored = with_request l.client.requests.next (new_pending body) all
+
+    first : AskedSeen
+    first = asked_first l.client.requests (method_of (type_field bytes)) l.client.standing.current
+
+    after : (n : ℕ) → l.client.requests.next + 1 ≤ n → is_at (nat_cmp n) l.client.requests.next ≡ false
+    after n low = apart n l.client.requests.next (λ same. omega (arith, same, low))
+
+    newly : (other : ℕ) (b : AskedSeen) → transaction_id_field bytes ≡ other
+        → b ≡ asked_first l.client.requests (method_of (type_field bytes)) l.client.standing.current
+        → IsAwaited other b.number (changed_at (sending id bytes) l.client.requests.next
+        (with_request l.client.requests.next (new_pending body) all))
+    newly other b new same =
+        subst (λ (x : AskedSeen). IsAwaited other x.number
+        (changed_at (sending id bytes) l.client.requests.next
+        (with_request l.client.requests.next (new_pending body) all))) (sym same)
+        (record {
+          pending = sending id bytes (new_pending body);
+          there = changed_same (sending id bytes) l.client.requests.next
+              (with_request l.client.requests.next (new_pending body) all)
+              ∙ ap (option_map (sending id bytes)) (put_same l.client.requests.next (new_pending body) all);
+          named = sym has ∙ new;
+          goes_on = refl;
+        })
+
+    before : (other : ℕ) (b : AskedSeen) → at other l.client.requests.asked ≡ Some b
+        → IsAwaited other b.number (changed_at (sending id bytes) l.client.requests.next
+        (with_request l.client.requests.next (new_pending body) all))
+    before other b here =
+        let low : b.number < l.client.requests.next = is.loop.numbered.below other b here in
+        let off = apart b.number l.client.requests.next (λ same. omega (arith, same, low)) in
+        awaited_as other b.number all _
+        (changed_other (sending id bytes) b.number l.client.requests.next
+        (with_request l.client.requests.next (new_pending body) all) off
+        ∙ put_other b.number l.client.requests.next (new_pending body) all off)
+        (is.awaited other b here)
+
+    new_end : (n : ℕ) (p : Pending) → l.client.requests.next ≡ n → (q : Pending)
+        → request_at n (with_request l.client.requests.next (new_pending body) all) ≡ Some q
+        → p ≡ sending id bytes q → p.end ≡ None
+    new_end n p same q here is =
+        let there : request_at n (with_request l.client.requests.next (new_pending body) all)
+        ≡ Some (new_pending body) =
+        subst (λ k. request_at k (with_request l.client.requests.next (new_pending body) all)
+        ≡ Some (new_pending body)) same (put_same l.client.requests.next (new_pending body) all) in
+        let equal : q ≡ new_pending body = cc in
+        ap (λ (x : Pending). x.end) is ∙ ap (λ (x : Pending). x.end) equal
+
+-- ---- a request that is sent again
+
+pub kept_resent : (is_heard : Bool) (m id now : ℕ) (response bytes : List ℕ)
+    (challenge : Option Answered) (l : LoopSeen) (all : Pendings) (a : AskedSeen)
+    → at (transaction_id_field response) l.client.requests.asked ≡ Some a → a.number ≡ m
+    → transaction_id_field bytes ≡ id → AreKept l all
+    → AreKept (after_again is_heard response bytes challenge now l)
+    (changed_at (sending id bytes) m all)
+kept_resent is_heard m id now response bytes challenge l all a here named has is = record {
+  loop = loop_again is_heard response bytes challenge now l is.loop;
+  ascending = changed_ascends (sending id bytes) m all is.ascending;
+  fresh = λ n low. none_changed (sending id bytes) m n all
+      (is.fresh n (subst (λ k. k ≤ n) (again_next is_heard response bytes challenge now l) low));
+  awaited = λ other b there. by other b (subst (λ (r : RequestsSeen). at other r.asked ≡ Some b) moved
+      there);
+  unsent = λ n p there sent. elim (changed_from (sending id bytes) n m all p there) [
+    | inl was ↦ resent_end n p was.0 was.1 was.2 was.3
+    | inr was ↦ is.unsent n p was.1 sent
+  ];
+}
+  where
+    moved : (after_again is_heard response bytes challenge now l).client.requests
+        ≡ after_replacing l.client.requests (transaction_id_field response)
+        (transaction_id_field bytes) (renewed a challenge)
+    moved =
+        ap (λ (o : Option AskedSeen). option_map_or (λ x. after_replacing l.client.requests
+        (transaction_id_field response) (transaction_id_field bytes) (renewed x challenge)) o
+        l.client.requests) here
+
+    waits : IsAwaited (transaction_id_field response) a.number all
+    waits = is.awaited (transaction_id_field response) a here
+
+    stored_at : request_at m all ≡ Some waits.pending
+    stored_at = subst (λ k. request_at k all ≡ Some waits.pending) named waits.there
+
+    newly : (other : ℕ) (b : AskedSeen) → transaction_id_field bytes ≡ other
+        → b ≡ renewed a challenge
+        → IsAwaited other b.number (changed_at (sending id bytes) m all)
+    newly other b new same =
+        subst (λ k. IsAwaited other k (changed_at (sending id bytes) m all))
+        (sym (ap (λ (x : AskedSeen). x.number) same ∙ named))
+        (record {
+          pending = sending id bytes waits.pending;
+          there = changed_same (sending id bytes) m all
+              ∙ ap (option_map (sending id bytes)) stored_at;
+          named = sym has ∙ new;
+          goes_on = waits.goes_on;
+        })
+
+    before : (other : ℕ) (b : AskedSeen) → is_at (nat_cmp other) (transaction_id_field response) ≡ false
+        → at other l.client.requests.asked ≡ Some b
+        → IsAwaited other b.number (changed_at (sending id bytes) m all)
+    before other b off there =
+        let differs : m ≡ b.number → ⊥ =
+        λ (same : m ≡ b.number). not_same other (transaction_id_field response) off
+        (is.loop.numbered.distinct (transaction_id_field response) other a b here there (named ∙ same)) in
+        awaited_as other b.number all (changed_at (sending id bytes) m all)
+        (changed_other (sending id bytes) b.number m all (apart b.number m differs))
+        (is.awaited other b there)
+
+    by : (other : ℕ) (b : AskedSeen)
+        → at other (after_replacing l.client.requests (transaction_id_field response)
+        (transaction_id_field bytes) (renewed a challenge)).asked ≡ Some b
+        → IsAwaited other b.number (changed_at (sending id bytes) m all)
+    by other b there =
+        let new_id = transaction_id_field bytes in
+        let was = left (transaction_id_field response)
+        (insert_entry nat_cmp l.client.requests.asked new_id (renewed a challenge))
+        (IsAscending-insert l.client.requests.asked new_id (renewed a challenge)
+        is.loop.timed.asked_ascend) other b there in
+        elim (put new_id (renewed a challenge) l.client.requests.asked other b was.1) [
+          | inl new ↦ newly other b new
+              (number_of new_id other (renewed a challenge) b l.client.requests new was.1)
+          | inr old ↦ before other b was.0 old.1
+        ]
+
+    resent_end : (n : ℕ) (p : Pending) → m ≡ n → (q : Pending) → request_at n all ≡ Some q
+        → p ≡ sending id bytes q → p.end ≡ None
+    resent_end n p same q there sent =
+        let at_m : request_at m all ≡ Some q =
+        subst (λ k. request_at k all ≡ Some q) (sym same) there in
+        let found : request_at m all ≡ Some waits.pending = stored_at in
+        let equal : q ≡ waits.pending = cc in
+        ap (λ (x : Pending). x.end) sent ∙ ap (λ (x : Pending). x.end) equal ∙ waits.goes_on

@@ -1,0 +1,250 @@
+-- The bytes of a request have its transaction ID.
+use Rattle.std.proofs.Common.{◌≡◌, ◌∙◌, ◌-◌, ◌<◌, ◌≤◌, ◌^◌, ◌++◌, ◌∷◌, [], ℕ, zero, suc, Bool, true}
+use Rattle.std.proofs.Common.{false, List, Option, Some, None, Result, Ok, Err, arith, cond, drop}
+use Rattle.std.proofs.Common.{length}
+use Rattle.std.proofs.Common.{length-append, refl, subst}
+use Rattle.std.specs.Int.{byte_at, bytes_high_first}
+use Rattle.std.specs.List.{slice_index}
+use Rattle.std.specs.Prelude.{nat_lt}
+use Rattle.std.proofs.Math.Nat.{mod-lt}
+use Rattle.std.proofs.lemmas.List.{drop-append-le, length-drop}
+use Rattle.byteorder.specs.Numbers.{big_from-append, big_from-lt, big_number-reads_back}
+use Rattle.sha1.specs.Sha1.{digest_bytes, sha1}
+use Rattle.stun_base.specs.Header.{transaction_id_field}
+use Rattle.stun_base.specs.Hmac.{hmac}
+use Rattle.stun_base.specs.declared.wire.error.StunWriteError.{StunWriteError}
+use Rattle.stun_base.specs.declared.wire.error.StunWriteError.TheVariants.{TooLarge}
+use Rattle.stun_base.specs.declared.wire.message_type.MessageClass.TheVariants.{Request}
+use Rattle.stun_types.specs.Attribute.{TypedValue}
+use Rattle.stun_types.specs.Grammar.{spelled_attribute}
+use Rattle.stun_types.specs.Limits.{TEXT_LIMIT}
+use Rattle.stun_types.specs.Message.{with_length}
+use Rattle.stun_types.specs.Writing.{empty_message, integrity_attribute, with_attribute}
+use Rattle.stun_auth.specs.Additions.{Addition, Page, added_all, added_one, addition_refusal, after}
+use Rattle.stun_auth.specs.Additions.{attribute, growth_of, integrity, page_of, page_unless_refused}
+use Rattle.stun_auth.specs.Additions.{with_addition}
+use Rattle.stun_extra.specs.AttributeTypes.{SOFTWARE}
+use Rattle.stun_extra.specs.Fingerprint.{fingerprint_attribute, with_fingerprint}
+use Rattle.stun_client.specs.Challenges.{Answered}
+use Rattle.stun_client.specs.Ids.{id_of}
+use Rattle.stun_client.specs.Judging.{Identity}
+use Rattle.stun_client.specs.Signing.{additions_of}
+use Rattle.stun_client_endpoint.specs.Bodies.{Body, attribute_for}
+use Rattle.stun_client_endpoint.specs.Written.{Form, Page?, and_then, closed_request, completed_request}
+use Rattle.stun_client_endpoint.specs.Written.{is_text_too_long, page_bytes, request_bytes, unless}
+use Rattle.stun_client_endpoint.specs.Written.{whole_request, with_another, with_body}
+use Rattle.stun_client_endpoint.specs.Written.{with_credentials, with_one, with_own_end}
+use Rattle.stun_client_endpoint.specs.Written.{with_own_software}
+
+-- ---- bytes
+
+abbrev AreSmall : List ℕ → Type 0
+AreSmall xs = (k : ℕ) → slice_index xs k < 256
+
+small_cons : (x : ℕ) (xs : List ℕ) → x < 256 → AreSmall xs → AreSmall (x ∷ xs)
+small_cons x xs one others = by
+  where
+    by : (k : ℕ) → slice_index (x ∷ xs) k < 256
+    by zero = one
+    by (suc k) = others k
+
+small_append : (xs ys : List ℕ) → AreSmall xs → AreSmall ys → AreSmall (xs ++ ys)
+small_append [] ys one other = other
+small_append (x ∷ xs) ys one other =
+    small_cons x (xs ++ ys) (one zero) (small_append xs ys (λ j. one (suc j)) other)
+
+small_byte : (n x : ℕ) → byte_at n x < 256
+small_byte zero x = mod-lt x (omega arith)
+small_byte (suc n) x = mod-lt _ (omega arith)
+
+small_bytes : (n x : ℕ) → AreSmall (bytes_high_first n x)
+small_bytes zero x = λ k. omega arith
+small_bytes (suc n) x =
+    small_cons (byte_at n x) (bytes_high_first n x) (small_byte n x) (small_bytes n x)
+
+small_digest : (words : List ℕ) (n : ℕ) → AreSmall (digest_bytes words n)
+unfolding digest_bytes
+small_digest words zero = λ k. omega arith
+small_digest words (suc n) =
+    small_append (digest_bytes words n) (bytes_high_first 4 (slice_index words n))
+    (small_digest words n) (small_bytes 4 (slice_index words n))
+
+small_hmac : (key text : List ℕ) → AreSmall (hmac sha1 key text)
+unfolding hmac sha1
+small_hmac key text = small_digest _ 5
+
+-- an ID has 96 bits
+id_fits : (seed : List ℕ) (number : ℕ) → id_of seed number < 256 ^ 12
+id_fits seed number = big_from-lt 0 12 (hmac sha1 seed (bytes_high_first 8 number)) (small_hmac seed _)
+
+-- ---- the ID of a message
+
+-- a message with a header and this transaction ID
+pub record HasId (id : ℕ) (page : List ℕ) : Type 0 where
+  pub long : 20 ≤ length page
+  pub has : transaction_id_field page ≡ id
+
+raised : (id : ℕ) (message tail : List ℕ) (n : ℕ) → HasId id message
+    → HasId id (with_length message n ++ tail)
+raised id [] tail n is = absurd (omega (arith, is.long))
+raised id (x ∷ []) tail n is = absurd (omega (arith, is.long))
+raised id (x ∷ y ∷ []) tail n is = absurd (omega (arith, is.long))
+raised id (x ∷ y ∷ z ∷ []) tail n is = absurd (omega (arith, is.long))
+raised id (x ∷ y ∷ z ∷ w ∷ rest) tail n is =
+    let sixteen : 16 ≤ length rest = omega (arith, is.long) in
+    let sum = length-append rest tail in
+    let behind : drop 4 (rest ++ tail) ≡ drop 4 rest ++ tail =
+    drop-append-le 4 rest tail (omega arith) in
+    record {
+      long = omega (arith, sum);
+      has = rw behind (big_from-append 12 (drop 4 rest) tail (omega (arith, length-drop 4 rest)))
+          ∙ is.has;
+    }
+
+with_attribute_has : (id : ℕ) (message : List ℕ) (a : TypedValue) → HasId id message
+    → HasId id (with_attribute message a)
+with_attribute_has id message a is = raised id message (spelled_attribute a) _ is
+
+pub begun_has : (seed : List ℕ) (number method : ℕ)
+    → HasId (id_of seed number) (empty_message Request method (id_of seed number))
+begun_has seed number method = record {
+  long = omega arith;
+  has = big_number-reads_back 12 (id_of seed number) [] (id_fits seed number);
+}
+
+-- ---- each step
+
+then_is : (r : Page?) (next : List ℕ → Page?) (bytes : List ℕ) → and_then r next ≡ Ok bytes
+    → (page : List ℕ) × (r ≡ Ok page) × (next page ≡ Ok bytes)
+then_is (Err why) next bytes is = cc
+then_is (Ok page) next bytes is = (page, refl, is)
+
+unless_is : (o : Option StunWriteError) (page bytes : List ℕ) → unless o page ≡ Ok bytes
+    → page ≡ bytes
+unless_is None page bytes is = cc
+unless_is (Some why) page bytes is = cc
+
+another_has : (id : ℕ) (a : TypedValue) (page bytes : List ℕ) → HasId id page
+    → with_another a page ≡ Ok bytes → HasId id bytes
+another_has id a page bytes has is =
+    subst (HasId id) (unless_is _ (with_attribute page a) bytes is) (with_attribute_has id page a has)
+
+one_has : (id : ℕ) (a : TypedValue) (page bytes : List ℕ) → HasId id page
+    → with_one a page ≡ Ok bytes → HasId id bytes
+one_has id a page bytes has is =
+    subst (HasId id) (unless_is _ (with_attribute page a) bytes is) (with_attribute_has id page a has)
+
+same_has : (id : ℕ) (page bytes : List ℕ) → HasId id page → ◌≡◌ {A = Page?} (Ok page) (Ok bytes)
+    → HasId id bytes
+same_has id page bytes has is = let same : page ≡ bytes = cc in subst (HasId id) same has
+
+body_has : (id : ℕ) (body : Body) (page bytes : List ℕ) → HasId id page
+    → with_body id body page ≡ Ok bytes → HasId id bytes
+body_has id [] page bytes has is = same_has id page bytes has is
+body_has id (piece ∷ others) page bytes has is =
+    let first = then_is (with_another (attribute_for id piece) page) (with_body id others) bytes is in
+    body_has id others first.0 bytes
+    (another_has id (attribute_for id piece) page first.0 has first.1) first.2
+
+software_has : (id : ℕ) (software : Option (List ℕ)) (page bytes : List ℕ) → HasId id page
+    → with_own_software software page ≡ Ok bytes → HasId id bytes
+software_has id None page bytes has is = same_has id page bytes has is
+software_has id (Some text) page bytes has is = by (nat_lt TEXT_LIMIT (length text)) is
+  where
+    by : (b : Bool)
+        → cond b (Err TooLarge) (with_one (record { kind = SOFTWARE; value = text }) page) ≡ Ok bytes
+        → HasId id bytes
+    by true is = cc
+    by false is = one_has id (record { kind = SOFTWARE; value = text }) page bytes has is
+
+addition_has : (id : ℕ) (x : Addition) (page : List ℕ) → HasId id page
+    → HasId id (with_addition x page)
+addition_has id (attribute a) page has = with_attribute_has id page a has
+addition_has id (integrity algorithm key) page has =
+    with_attribute_has id page (integrity_attribute page algorithm key) has
+
+added_has : (id : ℕ) (x : Addition) (p q : Page) → HasId id p.bytes → added_one x p ≡ Ok q
+    → HasId id q.bytes
+unfolding added_one
+added_has id x p q has is = by (addition_refusal x p) is
+  where
+    by : (o : Option StunWriteError)
+        → page_unless_refused o
+        (record { bytes = with_addition x p.bytes; room = p.room - growth_of x }) ≡ Ok q
+        → HasId id q.bytes
+    by None is =
+        subst (λ (r : Result Page StunWriteError). HasId id (bytes_of r)) is
+        (addition_has id x p.bytes has)
+      where
+        bytes_of : Result Page StunWriteError → List ℕ
+        bytes_of (Err why) = []
+        bytes_of (Ok page) = page.bytes
+    by (Some why) is = cc
+
+all_has : (id : ℕ) (list : List Addition) (p q : Page) → HasId id p.bytes → added_all list p ≡ Ok q
+    → HasId id q.bytes
+all_has id [] p q has is =
+    let same : p ≡ q = cc in
+    subst (λ (r : Page). HasId id r.bytes) same has
+all_has id (x ∷ others) p q has is =
+    by (added_one x p) refl is (λ m more. all_has id others m q more)
+  where
+    by : (r : Result Page StunWriteError) → added_one x p ≡ r → after r (added_all others) ≡ Ok q
+        → ((m : Page) → HasId id m.bytes → added_all others m ≡ Ok q → HasId id q.bytes)
+        → HasId id q.bytes
+    by (Err why) first is rest = cc
+    by (Ok m) first is rest = rest m (added_has id x p m has first) is
+
+credentials_has : (id : ℕ) (identity : Identity) (challenge : Option Answered) (page bytes : List ℕ)
+    → HasId id page → with_credentials identity challenge page ≡ Ok bytes → HasId id bytes
+credentials_has id identity challenge page bytes has is =
+    by (added_all (additions_of identity challenge) (page_of page)) refl is
+  where
+    by : (r : Result Page StunWriteError)
+        → added_all (additions_of identity challenge) (page_of page) ≡ r → page_bytes r ≡ Ok bytes
+        → HasId id bytes
+    by (Err why) added is = cc
+    by (Ok q) added is =
+        same_has id q.bytes bytes (all_has id (additions_of identity challenge) (page_of page) q has added)
+        is
+
+end_has : (id : ℕ) (has_fingerprint : Bool) (page bytes : List ℕ) → HasId id page
+    → with_own_end has_fingerprint page ≡ Ok bytes → HasId id bytes
+end_has id true page bytes has is =
+    subst (HasId id) (unless_is _ (with_fingerprint page) bytes is)
+    (with_attribute_has id page (fingerprint_attribute page) has)
+end_has id false page bytes has is = same_has id page bytes has is
+
+whole_id : (form : Form) (identity : Identity) (challenge : Option Answered)
+    (method number : ℕ) (seed : List ℕ) (body : Body) (bytes : List ℕ)
+    → whole_request form identity challenge method (id_of seed number) body ≡ Ok bytes
+    → transaction_id_field bytes ≡ id_of seed number
+whole_id form identity challenge method number seed body bytes is =
+    let id = id_of seed number in
+    let begun = empty_message Request method id in
+    let first = then_is (with_body id body begun) (completed_request form identity challenge) bytes is in
+    let filled = body_has id body begun first.0 (begun_has seed number method) first.1 in
+    let second =
+    then_is (with_own_software form.software first.0) (closed_request form identity challenge) bytes
+    first.2 in
+    let named = software_has id form.software first.0 second.0 filled second.1 in
+    let third =
+    then_is (with_credentials identity challenge second.0) (with_own_end form.has_fingerprint) bytes
+    second.2 in
+    let signed = credentials_has id identity challenge second.0 third.0 named third.1 in
+    (end_has id form.has_fingerprint third.0 bytes signed third.2).has
+
+-- the bytes of a request have the transaction ID that they are written for
+pub request_id : (form : Form) (identity : Identity) (challenge : Option Answered)
+    (method number : ℕ) (seed : List ℕ) (body : Body) (bytes : List ℕ)
+    → request_bytes form identity challenge method (id_of seed number) body ≡ Ok bytes
+    → transaction_id_field bytes ≡ id_of seed number
+unfolding request_bytes
+request_id form identity challenge method number seed body bytes is =
+    by (is_text_too_long form.software) is
+  where
+    by : (b : Bool)
+        → cond b (Err TooLarge) (whole_request form identity challenge method (id_of seed number) body)
+        ≡ Ok bytes → transaction_id_field bytes ≡ id_of seed number
+    by true is = cc
+    by false is = whole_id form identity challenge method number seed body bytes is

@@ -1,0 +1,19 @@
+-- One request is unsent no more and has ended.
+use Rattle.std.proofs.Common.{false, true, ap}
+use Rattle.stun_client_endpoint.specs.code.Tallies.{is_of}
+use Rattle.stun_client_endpoint.specs.declared.pending.Kind.TheVariants.{Ended, Unsent}
+use Rattle.stun_client_endpoint.proofs.TallyLemmas.{tally_set}
+use Rattle.stun_client_endpoint.proofs.pending.finish.Goals as goal
+
+pub invariant_of-all : goal.invariant_of-all
+invariant_of-all g c =
+    let made = (c.get_mut.follows.holds c.finish.new.self).0 in (
+      tally_set Unsent c.args.number c.in-Some.pending.now c.finish.new.self _ false
+          c.all.inside.map.entries _ c.all.inside.unsent c.recount.new.self c.get_mut.ensures.ordered
+          c.in-Some.ensures.value made c.is_of-was_unsent.ensures (ap (is_of Unsent) c.finish.ensures)
+          c.recount.ensures c.all.invariant.0,
+      tally_set Ended c.args.number c.in-Some.pending.now c.finish.new.self _ true
+          c.all.inside.map.entries _ c.all.inside.ended c.recount-in-Some.new.self c.get_mut.ensures.ordered
+          c.in-Some.ensures.value made c.is_of-was_ended.ensures (ap (is_of Ended) c.finish.ensures)
+          c.recount-in-Some.ensures c.all.invariant.1,
+    )

@@ -1,0 +1,32 @@
+-- How requests end, and what is dropped for them (RFC 8489, sections 6.3.3, 6.3.4 and 9.2.5).
+use Rattle.std.specs.Prelude.{ℕ, ◌+◌, List, Option, Some, None, min}
+use Rattle.stun_client.specs.declared.judged.Distrust.{Distrust}
+use Rattle.stun_client.specs.declared.judged.Distrust.TheVariants as Distrusts
+use Rattle.stun_client_endpoint.specs.declared.ended.DropReason.{DropReason}
+use Rattle.stun_client_endpoint.specs.declared.ended.DropReason.TheVariants.{WrongFingerprint}
+use Rattle.stun_client_endpoint.specs.declared.ended.DropReason.TheVariants.{NotVerified}
+use Rattle.stun_client_endpoint.specs.declared.ended.DropReason.TheVariants.{UnanswerableChallenge}
+use Rattle.stun_client_endpoint.specs.declared.ended.DropReason.TheVariants.{WeakerChallenge}
+use Rattle.stun_client_endpoint.specs.declared.ended.Drops.{Drops}
+use Rattle.stun_client_endpoint.specs.declared.ended.RequestEnd.{RequestEnd}
+
+-- a request that has ended: its number, how, and the response that ended it, or no bytes
+pub record Ended : Type 0 where
+  pub number : ℕ
+  pub end : RequestEnd
+  pub response : List ℕ
+
+-- why a response is dropped that is not believed
+abbrev pub reason_of : Distrust → DropReason
+reason_of Distrusts.WrongFingerprint = WrongFingerprint
+reason_of Distrusts.NotVerified = NotVerified
+reason_of Distrusts.UnanswerableChallenge = UnanswerableChallenge
+reason_of Distrusts.WeakerChallenge = WeakerChallenge
+
+abbrev pub no_drops : Drops
+no_drops = record { count = 0; last = None; code = None }
+
+-- what was dropped, once one more response is. The count stops at its greatest number
+abbrev pub after_drop : DropReason → Option ℕ → Drops → Drops
+after_drop why code drops =
+    record { count = min (drops.count + 1) 4294967295; last = Some why; code = code }

@@ -1,0 +1,81 @@
+-- Laws of a client over any calls. Their times may go back (RFC 8489, sections 6.2, 6.3 and 9.2.5).
+use Rattle.std.specs.Prelude.{◌≡◌, ◌≤◌, ◌⊎◌, ℕ, true, List, None, Some}
+use Rattle.std.specs.List.Sorted.{IsStrictlySortedBy}
+use Rattle.std.specs.Map.{keys_of}
+use Rattle.std.specs.Option.{IsSome}
+use Rattle.std.specs.Ordering.{nat_cmp}
+use Rattle.std.specs.declared.net.socket_addr.SocketAddr.{SocketAddr}
+use Rattle.stun_base.specs.declared.wire.attribute_type.AttributeType.{AttributeType}
+use Rattle.stun_agent.specs.Agent.{Agent}
+use Rattle.stun_agent.specs.Transactions.{IsAscending}
+use Rattle.stun_client.specs.Judging.{Identity}
+use Rattle.stun_client.specs.Requests.{AskedSeen, at}
+use Rattle.stun_client_loop.specs.Loops.{LoopSeen}
+use Rattle.stun_client_loop.specs.Timed.{IsLoop}
+use Rattle.stun_client_endpoint.specs.Endpoints.{Endpoint, IsOver, Polls, new_endpoint}
+use Rattle.stun_client_endpoint.specs.Endpoints.{transmit}
+use Rattle.stun_client_endpoint.specs.Pendings.{Pending, Pendings, outstanding_at, request_at}
+use Rattle.stun_client_endpoint.specs.Runs.{Call, Calls, Event, count_ends, count_names, starts}
+use Rattle.stun_client_endpoint.specs.Written.{Form}
+
+-- the request with this number is stored under this transaction ID, and has not ended
+pub record IsAwaited (id number : ℕ) (all : Pendings) : Type 0 where
+  pub pending : Pending
+  pub there : request_at number all ≡ Some pending
+  pub named : pending.id ≡ id
+  pub goes_on : pending.end ≡ None
+
+-- what holds of every client: its requests are stored in the order of their numbers, which are below
+-- the next one; each request that has a timer is stored and has not ended; and bytes that are not
+-- handed out yet are those of a request that has not ended
+pub record AreKept (l : LoopSeen) (all : Pendings) : Type 0 where
+  pub loop : IsLoop l
+  pub ascending : IsStrictlySortedBy nat_cmp (keys_of all)
+  pub fresh : (number : ℕ) → l.client.requests.next ≤ number → request_at number all ≡ None
+  pub awaited : (id : ℕ) (a : AskedSeen) → at id l.client.requests.asked ≡ Some a
+      → IsAwaited id a.number all
+  pub unsent : (number : ℕ) (p : Pending) → request_at number all ≡ Some p → p.is_unsent ≡ true
+      → p.end ≡ None
+
+abbrev pub IsEndpoint : Endpoint → Type 0
+IsEndpoint e = AreKept e.state e.requests
+
+-- a request with this number was started, and its end was not handed out yet
+pub record IsStarted (number : ℕ) (e : Endpoint) : Type 0 where
+  pub pending : Pending
+  pub there : request_at number e.requests ≡ Some pending
+
+-- it holds of a client that has asked nothing, over an agent that has its transactions in order
+abbrev pub BeginsAsEndpoint : Type 0
+BeginsAsEndpoint = (agent : Agent) (server : SocketAddr) (identity : Identity) (form : Form)
+    (understood : List AttributeType) (challenges : ℕ) (seed : List ℕ)
+    → IsAscending agent.transactions
+    → IsEndpoint (new_endpoint agent server identity form understood challenges seed)
+
+-- over any calls, what holds of every client still holds
+abbrev pub StaysAnEndpoint : Type 0
+StaysAnEndpoint = (e after : Endpoint) (events : List Event) → IsEndpoint e → Calls e events after
+    → IsEndpoint after
+
+-- `request` returns the number of a request that is started, and was not before
+abbrev pub StartsOne : Type 0
+StartsOne = (e after : Endpoint) (number : ℕ) → IsEndpoint e → Call e (starts number) after
+    → IsStarted number after × (request_at number e.requests ≡ None)
+
+-- over any calls, a started request is stored and its end was not handed out, or it is over and its
+-- end was handed out once
+abbrev pub EndsOnce : Type 0
+EndsOnce = (number : ℕ) (e after : Endpoint) (events : List Event) → IsEndpoint e → IsStarted number e
+    → Calls e events after
+    → (IsStarted number after × (count_ends number events ≡ 0))
+    ⊎ (IsOver number after × (count_ends number events ≡ 1))
+
+-- a request that is over stays over, and no call names it again
+abbrev pub StaysOver : Type 0
+StaysOver = (number : ℕ) (e after : Endpoint) (events : List Event) → IsEndpoint e → IsOver number e
+    → Calls e events after → IsOver number after × (count_names number events ≡ 0)
+
+-- a request whose bytes a poll asks for is outstanding, so that there are bytes
+abbrev pub TransmitsWhatIsThere : Type 0
+TransmitsWhatIsThere = (now number : ℕ) (e after : Endpoint) → IsEndpoint e
+    → Polls now e (transmit number) after → IsSome (outstanding_at number after.requests)

@@ -1,0 +1,109 @@
+-- What a client stores of its requests until their ends are handed out.
+use Rattle.std.specs.Prelude.{ℕ, Bool, true, false, List, [], Option, Some, None, find}
+use Rattle.std.specs.Prelude.{if◌then◌else◌}
+use Rattle.std.specs.BTreeMap.{insert_entry, is_at}
+use Rattle.std.specs.Map.{lookup, remove_entry, set_value}
+use Rattle.std.specs.Option.{is_none, is_some, option_and_then, option_map, option_map_or}
+use Rattle.std.specs.Ordering.{nat_cmp}
+use Rattle.stun_client_endpoint.specs.Bodies.{Body}
+use Rattle.stun_client_endpoint.specs.Ends.{Ended, after_drop, no_drops}
+use Rattle.stun_client_endpoint.specs.declared.ended.DropReason.{DropReason}
+use Rattle.stun_client_endpoint.specs.declared.ended.Drops.{Drops}
+use Rattle.stun_client_endpoint.specs.declared.ended.RequestEnd.{RequestEnd}
+use Rattle.stun_client_endpoint.specs.declared.ended.RequestEnd.TheVariants as how
+
+-- a request: the transaction ID and the bytes that it has now, whether these were not handed out yet,
+-- what was dropped for it, and how it ended, if it has, with the response that ended it
+pub record Pending : Type 0 where
+  pub id : ℕ
+  pub body : Body
+  pub bytes : List ℕ
+  pub is_unsent : Bool
+  pub drops : Drops
+  pub end : Option RequestEnd
+  pub response : List ℕ
+
+-- each request under its number, in the order of the numbers
+abbrev pub Pendings : Type 0
+Pendings = List (ℕ × Pending)
+
+abbrev pub request_at : ℕ → Pendings → Option Pending
+request_at number all = lookup (is_at (nat_cmp number)) all
+
+-- the request with a number is changed, if there is one
+abbrev pub changed_at : (Pending → Pending) → ℕ → Pendings → Pendings
+changed_at f number all =
+    option_map_or (λ p. set_value (is_at (nat_cmp number)) all (f p)) (request_at number all) all
+
+abbrev pub with_request : ℕ → Pending → Pendings → Pendings
+with_request number p all = insert_entry nat_cmp all number p
+
+abbrev pub without_request : ℕ → Pendings → Pendings
+without_request number all = remove_entry (is_at (nat_cmp number)) all
+
+-- a request before it has a transaction ID and bytes
+abbrev pub new_pending : Body → Pending
+new_pending body = record {
+  id = 0;
+  body = body;
+  bytes = [];
+  is_unsent = false;
+  drops = no_drops;
+  end = None;
+  response = [];
+}
+
+-- ---- changes
+
+-- it is sent under this transaction ID, by these bytes
+abbrev pub sending : ℕ → List ℕ → Pending → Pending
+sending id bytes p = record p { id = id; bytes = bytes; is_unsent = true }
+
+-- its bytes are handed out
+abbrev pub handing_out : Pending → Pending
+handing_out p = record p { is_unsent = false }
+
+-- a response to it is dropped
+abbrev pub noting : DropReason → Option ℕ → Pending → Pending
+noting why code p = record p { drops = after_drop why code p.drops }
+
+-- it ends. Nothing of it is sent any more
+abbrev pub ending : RequestEnd → List ℕ → Pending → Pending
+ending end response p = record p { is_unsent = false; end = Some end; response = response }
+
+-- ---- which one is next
+
+-- the first whose bytes were not handed out
+abbrev pub first_unsent : Pendings → Option ℕ
+first_unsent all = option_map (λ e. e.0) (find (λ e. e.1.is_unsent) all)
+
+-- the first that has ended
+abbrev pub first_ended : Pendings → Option ℕ
+first_ended all = option_map (λ e. e.0) (find (λ e. is_some e.1.end) all)
+
+-- the end of a request
+abbrev pub ended_of : ℕ → Pending → Option Ended
+ended_of number p =
+    option_map (λ end. record { number = number; end = end; response = p.response }) p.end
+
+-- the end of a request that was not answered in time
+abbrev pub timed_out : ℕ → Pending → Ended
+timed_out number p =
+    record { number = number; end = how.TimedOut p.drops; response = p.response }
+
+-- the end that is handed out, and what is stored then
+abbrev pub end_of_first : Pendings → Option Ended
+end_of_first all =
+    option_and_then (λ number. option_and_then (ended_of number) (request_at number all))
+    (first_ended all)
+
+abbrev pub without_first : Pendings → Pendings
+without_first all = option_map_or (λ number. without_request number all) (first_ended all) all
+
+-- a request that has not ended
+abbrev pub if_outstanding : Option Pending → Option Pending
+if_outstanding None = None
+if_outstanding (Some p) = if is_none p.end then Some p else None
+
+abbrev pub outstanding_at : ℕ → Pendings → Option Pending
+outstanding_at number all = if_outstanding (request_at number all)

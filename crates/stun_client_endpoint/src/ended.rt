@@ -1,0 +1,147 @@
+//! How requests end, and what is dropped for them.
+ghost use Rattle.std.specs.Prelude.{◌≡◌, ℕ, List};
+ghost use Rattle.stun_client_endpoint.specs.Ends.{after_drop, no_drops, reason_of};
+
+use std::alloc::{Allocator, Global};
+use std::marker::Model;
+use stun_client::judged::{Distrust, Outcome};
+use stun_types::message::IntegrityAlgorithm;
+
+/// Why a response to an outstanding request is dropped. The request goes on.
+#[derive(Clone, Copy, Debug, PartialEq, Eq)]
+#[non_exhaustive]
+pub enum DropReason {
+    /// The FINGERPRINT is wrong: the response is damaged, or belongs to another protocol.
+    WrongFingerprint,
+    /// The response has not the valid signature that it must have.
+    NotVerified,
+    /// The response is a 401 or a 438 that the client cannot answer, and is not signed, or one whose
+    /// list of algorithms is so long that the request would not fit in a message.
+    UnanswerableChallenge,
+    /// The response is a challenge that is weaker than the one which a success has confirmed.
+    WeakerChallenge,
+    /// An allocation failed, or the seed has no transaction ID left.
+    OutOfMemory,
+}
+
+/// Returns why a response is dropped, from why it is not believed.
+pub(crate) fn reason_of(why: Distrust) -> DropReason
+    ensures { result ≡ reason_of why }
+{
+    match why {
+        Distrust::WrongFingerprint => DropReason::WrongFingerprint,
+        Distrust::NotVerified => DropReason::NotVerified,
+        Distrust::UnanswerableChallenge => DropReason::UnanswerableChallenge,
+        _ => DropReason::WeakerChallenge,
+    }
+}
+
+/// What was dropped for one request. Show it to people, but never act on it, because anybody can
+/// send it.
+#[derive(Clone, Copy, Debug, PartialEq, Eq)]
+pub struct Drops {
+    /// How many responses were dropped, at most `u32::MAX`.
+    pub count: u32,
+    /// Why the last of them was dropped.
+    pub last: Option<DropReason>,
+    /// The error code of the last of them, if it had one.
+    pub code: Option<u16>,
+}
+
+impl Drops {
+    /// Returns that nothing was dropped.
+    pub fn none() -> Drops
+        ensures { result ≡ no_drops }
+    {
+        Drops {
+            count: 0,
+            last: None,
+            code: None,
+        }
+    }
+
+    /// Returns what was dropped once one more response is.
+    pub(crate) fn noted(self, why: DropReason, code: Option<u16>) -> Drops
+        ensures { result ≡ after_drop why code self }
+    {
+        Drops {
+            count: self.count.saturating_add(1),
+            last: Some(why),
+            code,
+        }
+    }
+}
+
+/// How a request ended.
+#[derive(Clone, Copy, Debug, PartialEq, Eq)]
+#[non_exhaustive]
+pub enum RequestEnd {
+    /// A response was accepted and ended the request with this outcome. It is signed with this
+    /// algorithm, or unsigned.
+    Answered(Outcome, Option<IntegrityAlgorithm>),
+    /// No acceptable response arrived in time.
+    TimedOut(Drops),
+    /// The request was challenged too often: the password is wrong, or somebody forges challenges.
+    Unauthorized,
+    /// It was canceled.
+    Cancelled,
+}
+
+/// A request that has ended.
+///
+/// Contracts: they see all of it.
+#[derive(Drop)]
+pub struct Ended<A: Allocator = Global> {
+    number: u64,
+    end: RequestEnd,
+    response: Vec<u8, A>,
+}
+
+impl<A: Allocator> Model for Ended<A> {
+    ghost use Rattle.stun_client_endpoint.specs.Ends.{Ended as EndedSeen};
+
+    ghost Value = { EndedSeen };
+
+    ghost view = { λ e. record { number = e.number; end = e.end; response = e.response.items } };
+}
+
+impl<A: Allocator> Ended<A> {
+    /// Joins the number of a request to its end.
+    pub(crate) fn new(number: u64, end: RequestEnd, response: Vec<u8, A>) -> Ended<A>
+        ensures { result ≡ record { number = number; end = end; response = response.items } }
+    {
+        Ended {
+            number,
+            end,
+            response,
+        }
+    }
+
+    /// Returns the number of the request.
+    pub fn number(&self) -> u64
+        ensures { result ≡ self.now.number }
+    {
+        self.number
+    }
+
+    /// Returns how the request ended.
+    pub fn end(&self) -> RequestEnd
+        ensures { result ≡ self.now.end }
+    {
+        self.end
+    }
+
+    /// Returns the bytes of the response that ended it, and none if no response did.
+    pub fn response(&self) -> &[u8]
+        ensures { result.now ≡ self.now.response }
+    {
+        self.response.as_slice()
+    }
+
+    /// Converts it to the bytes of the response.
+    pub fn into_response(self) -> Vec<u8, A>
+        ensures { result.items ≡ self.response }
+    {
+        self.response
+    }
+}

@@ -1,0 +1,164 @@
+//! A client of one server as one value.
+ghost use Rattle.std.specs.Option.{is_none, is_some, option_copied, option_map};
+ghost use Rattle.std.specs.Prelude.{◌≡◌, IfOk, count_by};
+ghost use Rattle.stun_client.specs.Judging.{identity_of};
+ghost use Rattle.stun_client_endpoint.specs.Endpoints.{cancelled, new_endpoint};
+ghost use Rattle.stun_client_endpoint.specs.Pendings.{outstanding_at};
+
+use crate::ended::{Drops, RequestEnd};
+use crate::form::Form;
+use crate::pending::{Pendings, finish, outstanding};
+use std::alloc::{AllocError, Allocator, Global};
+use std::marker::Model;
+use std::net::SocketAddr;
+use stun_agent::agent::StunAgent;
+use stun_client::credentials::Credentials;
+use stun_client_loop::client_loop::ClientLoop;
+use stun_types::attribute::AttributeType;
+use stun_types::message::{IntegrityAlgorithm, IntegrityKey, PreparedKey};
+
+mod polling;
+mod receiving;
+mod requesting;
+
+/// The settings of a client.
+#[derive(Drop)]
+pub struct Settings<A: Allocator = Global> {
+    /// What each request has beside its body and its signature.
+    pub form: Form<A>,
+    /// The types of attributes that are understood in responses.
+    pub understood: Vec<AttributeType, A>,
+    /// For how many challenges a request is sent again. The next one ends it.
+    pub challenges: u32,
+}
+
+/// A client of one server on one transport, with any number of requests at the same time.
+///
+/// It retransmits, answers challenges and verifies signatures. `poll` returns the end of a request
+/// once. Take every `now` from one clock that never goes back, because otherwise requests are sent
+/// again too late.
+///
+/// If an allocation fails, `request` returns an error, and a datagram is dropped as `OutOfMemory`.
+/// `poll` and `cancel` do not allocate.
+///
+/// Contracts: they see all of it. There is a password in it, so it has no `Debug`.
+#[derive(Drop)]
+pub struct ClientEndpoint<A: Allocator = Global> {
+    alloc: A,
+    form: Form<A>,
+    understood: Vec<AttributeType, A>,
+    challenges: u32,
+    seed: PreparedKey<A>,
+    next_id: u64,
+    next: u64,
+    state: ClientLoop<A>,
+    requests: Pendings<A>,
+}
+
+impl<A: Allocator> Model for ClientEndpoint<A> {
+    ghost use Rattle.stun_client_endpoint.specs.Endpoints.{Endpoint};
+    ghost use Rattle.stun_client_endpoint.specs.code.Stored.{IsStored};
+
+    ghost Value = { Endpoint };
+
+    ghost view = { λ e. record {
+      form = e.form;
+      understood = e.understood.items;
+      challenges = e.challenges;
+      seed = e.seed;
+      next_id = e.next_id;
+      state = e.state;
+      requests = e.requests.entries;
+    } };
+
+    ghost invariant = { λ e. IsStored e.next e.state e.requests.entries };
+}
+
+impl<A: Allocator + Copy> ClientEndpoint<A> {
+    /// Creates a client of this server that has asked nothing, over an agent that has sent nothing.
+    /// If the agent has a remote address, it must be that of the server.
+    /// The seed is 32 unpredictable bytes that are used for this client alone, because the
+    /// transaction IDs are derived from it.
+    ///
+    /// Fails if an allocation fails.
+    pub fn new(
+        alloc: A,
+        agent: StunAgent<A>,
+        server: SocketAddr,
+        credentials: Credentials<A>,
+        settings: Settings<A>,
+        seed: &[u8; 32],
+    ) -> Result<ClientEndpoint<A>, AllocError>
+        ensures { IfOk result (λ client. client ≡ new_endpoint agent server
+            (identity_of credentials) settings.form settings.understood.items settings.challenges
+            seed.now) }
+    {
+        let mut agent = agent;
+        // A peer that the agent knows takes no memory when it answers.
+        agent.validated_peer(server)?;
+        let key = IntegrityKey::from_bytes(alloc, seed)?;
+        let Settings {
+            form,
+            understood,
+            challenges,
+        } = settings;
+        Ok(ClientEndpoint {
+            alloc,
+            form,
+            understood,
+            challenges,
+            seed: PreparedKey::new(key, IntegrityAlgorithm::Sha1),
+            next_id: 0,
+            next: 0,
+            state: ClientLoop::new(alloc, agent, server, credentials, challenges),
+            requests: Pendings::new(alloc),
+        })
+    }
+
+    /// Returns the client's state and timers, without the stored requests.
+    pub fn state(&self) -> &ClientLoop<A>
+        ensures { result.now ≡ self.now.state }
+    {
+        &self.state
+    }
+
+    /// Returns the bytes of a request, while it is outstanding.
+    pub fn bytes_of(&self, number: u64) -> Option<&[u8]>
+        ensures { option_copied result
+            ≡ option_map (λ p. p.bytes) (outstanding_at number self.now.requests) }
+    {
+        let pending = outstanding(&self.requests, number)?;
+        Some(pending.bytes())
+    }
+
+    /// Returns what was dropped for a request, while it is outstanding.
+    pub fn dropped(&self, number: u64) -> Option<Drops>
+        ensures { result ≡ option_map (λ p. p.drops) (outstanding_at number self.now.requests) }
+    {
+        let pending = outstanding(&self.requests, number)?;
+        Some(pending.drops())
+    }
+
+    /// Returns the number of outstanding requests.
+    pub fn outstanding(&self) -> usize
+        ensures { result ≡ count_by (λ e. is_none e.1.end) self.now.requests }
+    {
+        self.requests.outstanding_count()
+    }
+
+    /// Ends a request as canceled, which `poll` then returns. Returns `false` if no outstanding
+    /// request has this number. It does not allocate.
+    pub fn cancel(&mut self, number: u64) -> bool
+        ensures known { result ≡ is_some (outstanding_at number self.old.requests) }
+        ensures after { self.new ≡ cancelled number self.old }
+    {
+        let Some(pending) = outstanding(&self.requests, number) else {
+            return false;
+        };
+        let id = pending.id();
+        let nothing = Vec::new(self.alloc);
+        self.state.cancel(id);
+        finish(&mut self.requests, number, RequestEnd::Cancelled, nothing);
+        true
+    }
+}

@@ -1,0 +1,23 @@
+//! Laws of a client over any calls. The calls may be made in any order, and their times may go back.
+ghost use Rattle.stun_client_endpoint.specs.Laws.{BeginsAsEndpoint, EndsOnce, StartsOne};
+ghost use Rattle.stun_client_endpoint.specs.Laws.{StaysAnEndpoint, StaysOver, TransmitsWhatIsThere};
+
+/// Each request that has a timer is stored and has not ended, from the creation of a client on and
+/// over any calls.
+pub fn each_outstanding_request_is_stored()
+    ensures begins { BeginsAsEndpoint }
+    ensures stays { StaysAnEndpoint }
+{}
+
+/// A request that `request` has started is stored. Over any calls it stays so until `poll` returns its
+/// end, and `poll` returns this once. No call names it again after that.
+pub fn a_request_ends_once()
+    ensures starts { StartsOne }
+    ensures once { EndsOnce }
+    ensures over { StaysOver }
+{}
+
+/// A request whose bytes `poll` asks to be sent is outstanding, so `bytes_of` returns them.
+pub fn what_is_to_be_sent_is_there()
+    ensures { TransmitsWhatIsThere }
+{}

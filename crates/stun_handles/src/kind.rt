@@ -1,0 +1,35 @@
+//! The kind with which a handle begins.
+//!
+//! A kind is large, so that memory that was never a handle rarely begins with one.
+
+ghost use Rattle.std.specs.Prelude.{◌≡◌};
+ghost use Rattle.stun_handles.specs.Kinds.{missing};
+
+use stun_numbers::refusal::Refusal;
+
+/// The kind of an empty handle.
+pub const EMPTY: u32 = 0;
+
+/// The kind of a handle that has an agent.
+pub const AGENT: u32 = 1_398_035_777;
+
+/// The kind of a handle that has a server with long-term credentials.
+pub const SERVER: u32 = 1_398_035_795;
+
+/// The kind of a handle that has a client with long-term credentials.
+pub const CLIENT: u32 = 1_398_035_779;
+
+/// The kind of a handle that has a prepared user.
+pub const USER: u32 = 1_398_035_797;
+
+/// Returns what a call returns if its handle has another kind than the call needs: the number of
+/// `EmptyHandle` if the handle is empty, and otherwise that of `WrongHandle`.
+pub fn missing(kind: u32) -> i64
+    ensures { result ≡ missing kind }
+{
+    if kind == EMPTY {
+        Refusal::EmptyHandle.code()
+    } else {
+        Refusal::WrongHandle.code()
+    }
+}

@@ -1,0 +1,104 @@
+//! A server that is one value: `endpoint server NAME WORD ..`.
+
+mod heard;
+mod respond;
+mod settings;
+
+use super::stage::Stage;
+use super::{Answer, Heap, OUT_OF_MEMORY};
+use crate::exported::stun_base::instant::Instant;
+use crate::exported::stun_endpoint::reply::Reply;
+use crate::exported::stun_endpoint::server::{BuildError, LongTerm, Server};
+use crate::exported::stun_endpoint::unix_time::UnixTime;
+use crate::exported::stun_endpoint::users::Users;
+use crate::exported::stun_types::message::LongTermCredentials;
+use crate::kit::alloc::Global;
+use crate::kit::prelude::String as HeapString;
+
+/// The settings so far, the server that was built from them, and what the server has returned.
+pub struct Endpoint<'a> {
+    settings: LongTerm,
+    built: Option<Realm<'a>>,
+    /// The means to respond to the last request that was returned to the caller.
+    reply: Option<Reply<&'a Heap>>,
+}
+
+/// A server and its users.
+struct Realm<'a> {
+    server: Server<&'a Heap>,
+    users: Users<&'a Heap>,
+}
+
+impl Endpoint<'_> {
+    /// Creates the settings for an empty realm, without a server.
+    pub fn new() -> Self {
+        Endpoint {
+            settings: LongTerm::new(Global, HeapString::new(Global), [0; 32]),
+            built: None,
+            reply: None,
+        }
+    }
+}
+
+/// Plays `endpoint server NAME WORD ..`.
+pub fn call(stage: &mut Stage<'_>, words: &[&str]) -> Answer {
+    match words {
+        ["build"] => build(stage),
+        ["add-user", name, password] => add_user(stage, name, password),
+        ["remove-user", name] => {
+            stage.begin();
+            stage.endpoint.built.as_mut()?.users.remove(name);
+            Some(String::new())
+        }
+        ["nonce"] => nonce(stage),
+        ["hears", words @ ..] => heard::hear(stage, words),
+        ["responds", words @ ..] => respond::respond(stage, words),
+        [name, word] => {
+            settings::set(&mut stage.endpoint.settings, name, word)?;
+            Some(String::new())
+        }
+        _ => None,
+    }
+}
+
+/// Plays `build`: a server of the settings, without users, which replaces the one before. Prints
+/// why there is none.
+fn build(stage: &mut Stage<'_>) -> Answer {
+    let settings = settings::on_heap(stage, &stage.endpoint.settings)?;
+    stage.begin();
+    match realm(stage.heap, settings) {
+        Ok(realm) => stage.endpoint.built = Some(realm),
+        Err(error) => return Some(format!("{error:?}")),
+    }
+    Some(String::new())
+}
+
+fn realm<'a>(heap: &'a Heap, settings: LongTerm<&'a Heap>) -> Result<Realm<'a>, BuildError> {
+    let server = Server::new(heap, settings)?;
+    let users = server.users().map_err(|_| BuildError::OutOfMemory)?;
+    Ok(Realm { server, users })
+}
+
+/// The time of the wall clock: the whole seconds of the time of the stage.
+fn seconds(now: Instant) -> UnixTime {
+    UnixTime::from_secs(now.as_nanos() / 1_000_000_000)
+}
+
+fn add_user(stage: &mut Stage<'_>, name: &str, password: &str) -> Answer {
+    let user = LongTermCredentials::new(stage.text(name)?, stage.on_heap(password)?);
+    stage.begin();
+    match stage.endpoint.built.as_mut()?.users.add(user) {
+        Ok(_) => Some(String::new()),
+        Err(_) => Some(OUT_OF_MEMORY.to_string()),
+    }
+}
+
+/// Plays `nonce`: prints the one that is current for the address.
+fn nonce(stage: &mut Stage<'_>) -> Answer {
+    stage.begin();
+    let server = &stage.endpoint.built.as_ref()?.server;
+    match server.nonce_for(stage.from, seconds(stage.now)) {
+        Ok(nonce) => Some(nonce.as_str().to_string()),
+        Err(_) => Some(OUT_OF_MEMORY.to_string()),
+    }
+}

@@ -1,0 +1,53 @@
+//! The settings of a server, one by one.
+
+use crate::exported::stun_endpoint::server::LongTerm;
+use crate::exported::stun_types::attribute::AttributeType;
+use crate::kit::alloc::Global;
+use crate::kit::prelude::{String as HeapString, Vec as HeapVec};
+use crate::player::Heap;
+use crate::player::stage::Stage;
+use crate::player::words::{secret, span, text, types, yes};
+
+/// Plays a setting: `realm REALM`, which resets all settings, with a secret of zeros; `secret HEX`,
+/// `previous-secret HEX`, `algorithms sha1,sha256`, `hashes yes`, `lifetime SPAN`, `understands
+/// TYPE,TYPE`, `software TEXT` or `binding yes`.
+pub fn set(settings: &mut LongTerm, name: &str, word: &str) -> Option<()> {
+    let owned = |word| HeapString::from(text(word));
+    match name {
+        "realm" => *settings = LongTerm::new(Global, owned(word), [0; 32]),
+        "secret" => settings.secret = secret(word)?,
+        "previous-secret" => settings.previous_secret = Some(secret(word)?),
+        "algorithms" => {
+            settings.hmac_sha1 = word.split(',').any(|name| name == "sha1");
+            settings.hmac_sha256 = word.split(',').any(|name| name == "sha256");
+        }
+        "hashes" => settings.user_hashes = yes(word)?,
+        "lifetime" => settings.nonce_lifetime = span(word)?.as_secs(),
+        "understands" => {
+            let types: Vec<AttributeType> =
+                types(word)?.into_iter().map(AttributeType::new).collect();
+            settings.understood = HeapVec::from_slice(Global, &types).ok()?;
+        }
+        "software" => settings.software = Some(owned(word)),
+        "binding" => settings.answers_binding = yes(word)?,
+        _ => return None,
+    }
+    Some(())
+}
+
+/// Copies settings to the heap.
+pub fn on_heap<'a>(stage: &Stage<'a>, settings: &LongTerm) -> Option<LongTerm<&'a Heap>> {
+    let realm = stage.on_heap(&settings.realm)?;
+    let mut copy = LongTerm::new(stage.heap, realm, settings.secret);
+    copy.previous_secret = settings.previous_secret;
+    copy.hmac_sha1 = settings.hmac_sha1;
+    copy.hmac_sha256 = settings.hmac_sha256;
+    copy.user_hashes = settings.user_hashes;
+    copy.nonce_lifetime = settings.nonce_lifetime;
+    copy.answers_binding = settings.answers_binding;
+    copy.understood = HeapVec::from_slice(stage.heap, &settings.understood).ok()?;
+    if let Some(software) = &settings.software {
+        copy.software = Some(stage.on_heap(software)?);
+    }
+    Some(copy)
+}

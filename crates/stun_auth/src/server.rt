@@ -266,7 +266,9 @@ impl<A: Allocator + Copy> LongTermServerAuth<A> {
         self.registry.add_user_with_keys(name, keys)
     }
 
-    /// Adds a supported algorithm, and makes its key for each user. It does not allocate.
+    /// Adds a supported algorithm, and makes the keys of each user anew. It does not allocate.
+    ///
+    /// With 100,000 users this takes most of a second, so call it before you add them.
     pub fn add_supported_integrity(&mut self, algorithm: IntegrityAlgorithm)
         ensures { self.new ≡ record self.old {
           registered = record self.old.registered {
@@ -281,8 +283,9 @@ impl<A: Allocator + Copy> LongTermServerAuth<A> {
     /// Makes this the only supported algorithm: each user has a key for it, and no other. It does
     /// not allocate.
     ///
-    /// Call it before the first message arrives, because messages to a client that uses another
-    /// algorithm can no longer be signed until you call `remove_client`.
+    /// Call it before you add users, because it makes the keys of each user anew, and before the
+    /// first message arrives, because messages to a client that uses another algorithm can no longer
+    /// be signed until you call `remove_client`.
     pub fn set_supported_integrity(&mut self, algorithm: IntegrityAlgorithm)
         ensures { self.new ≡ record self.old {
           registered = record self.old.registered { algorithms = only algorithm };

@@ -42,10 +42,10 @@ pub struct ClientRun<A: Allocator = Global> {
     pub late: u64,
 }
 
-/// Sends a request, and waits for its response in rounds, as the examples `udp_client` do over a
-/// socket: after what came while the loop waited, it sends again what is due, at most 16 requests
-/// at once, and asks `poll` how long to wait. Nothing is polled at the time of an event, and a round
-/// may come at any time.
+/// Sends a request, and waits for its response in rounds, as the worked example of the C header
+/// `stunp_state.h` does over a socket: after what came while the loop waited, it sends again what is
+/// due, at most 16 requests at once, and asks `poll` how long to wait. Nothing is polled at the time
+/// of an event, and a round may come at any time.
 ///
 /// The times of the calls must not go back, and none may be `Instant::MAX`.
 ///

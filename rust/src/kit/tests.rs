@@ -5,7 +5,7 @@ extern crate std;
 use super::alloc::{AllocError, AllocFailed, Allocator, Global};
 use super::collections::{BTreeMap, BTreeSet};
 use super::convert::{AsSlice, TryClone, from_nanos_u128};
-use super::hashes::{Digest, Md5, Sha1, Sha256};
+use super::hashes::{BegunSha1, BegunSha256, Digest, Md5, Sha1, Sha256};
 use super::prelude::{Box, String, Vec};
 use super::{base64, inline, random, utf8};
 use core::cell::{Cell, RefCell};
@@ -518,6 +518,41 @@ fn digest<H: Digest + TryClone>(pieces: &[&[u8]]) -> H::Bytes {
     let copy = hasher.try_clone().unwrap();
     hasher.update(b"more");
     copy.finalize()
+}
+
+/// The digest of a block and the pieces, by the state after the block, from which another message
+/// was hashed before.
+fn digest_after<B: From<H> + TryClone, H: Digest + From<B>>(
+    block: &[u8; 64],
+    pieces: &[&[u8]],
+) -> H::Bytes {
+    let mut hasher = H::new();
+    hasher.update(block);
+    let begun = B::from(hasher);
+    let mut other = H::from(begun.try_clone().unwrap());
+    other.update(b"other");
+    let mut hasher = H::from(begun);
+    for piece in pieces {
+        hasher.update(piece);
+    }
+    hasher.finalize()
+}
+
+#[test]
+fn hashers_start_from_the_state_after_a_block() {
+    let block: [u8; 64] = core::array::from_fn(|i| i as u8);
+    let text: Vec<u8> = (0..200).collect();
+    for length in 0..text.len() {
+        let (first, second) = text[..length].split_at(length / 3);
+        assert_eq!(
+            digest_after::<BegunSha1, Sha1>(&block, &[first, second]),
+            digest::<Sha1>(&[&block, first, second])
+        );
+        assert_eq!(
+            digest_after::<BegunSha256, Sha256>(&block, &[first, second]),
+            digest::<Sha256>(&[&block, first, second])
+        );
+    }
 }
 
 /// RFC 1321, section A.5; FIPS 180-4, as NIST's examples have them.

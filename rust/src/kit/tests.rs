@@ -520,38 +520,27 @@ fn digest<H: Digest + TryClone>(pieces: &[&[u8]]) -> H::Bytes {
     copy.finalize()
 }
 
-/// The digest of a block and the pieces, by the state after the block, from which another message
-/// was hashed before.
-fn digest_after<B: From<H> + TryClone, H: Digest + From<B>>(
-    block: &[u8; 64],
-    pieces: &[&[u8]],
-) -> H::Bytes {
+/// By the state after the first block of a text, from which another text was hashed before.
+fn begun_digest<B: From<H> + TryClone, H: Digest + From<B>>(text: &[u8], end: usize) -> H::Bytes {
     let mut hasher = H::new();
-    hasher.update(block);
+    hasher.update(&text[..64]);
     let begun = B::from(hasher);
-    let mut other = H::from(begun.try_clone().unwrap());
-    other.update(b"other");
+    H::from(begun.try_clone().unwrap()).update(b"other");
     let mut hasher = H::from(begun);
-    for piece in pieces {
-        hasher.update(piece);
-    }
+    hasher.update(&text[64..end]);
+    hasher.update(&text[end..]);
     hasher.finalize()
 }
 
 #[test]
-fn hashers_start_from_the_state_after_a_block() {
-    let block: [u8; 64] = core::array::from_fn(|i| i as u8);
-    let text: Vec<u8> = (0..200).collect();
-    for length in 0..text.len() {
-        let (first, second) = text[..length].split_at(length / 3);
-        assert_eq!(
-            digest_after::<BegunSha1, Sha1>(&block, &[first, second]),
-            digest::<Sha1>(&[&block, first, second])
-        );
-        assert_eq!(
-            digest_after::<BegunSha256, Sha256>(&block, &[first, second]),
-            digest::<Sha256>(&[&block, first, second])
-        );
+fn hashers_start_after_a_block() {
+    let text: vec::Vec<u8> = (0..=255).collect();
+    for length in 64..text.len() {
+        let (text, end) = (&text[..length], length - (length - 64) / 3);
+        let sha1 = begun_digest::<BegunSha1, Sha1>(text, end);
+        assert_eq!(sha1, digest::<Sha1>(&[text]));
+        let sha256 = begun_digest::<BegunSha256, Sha256>(text, end);
+        assert_eq!(sha256, digest::<Sha256>(&[text]));
     }
 }
 

@@ -53,8 +53,7 @@ PLANTS = [
      'for field, _ in variant[2]) or "true"', 'for field, _ in variant[2][:1]) or "true"'),
     ("hashes by another function", EXPORT,
      'return in_code(text, rf"(?<![\\w:.])(?!crate',
-     'text = in_code(text, r"H::start\\(\\);", "H::start().copy();", )\n'
-     '    text = in_code(text, r"OUTER_PAD\\);", "INNER_PAD);")\n'
+     'text = in_code(text, r"OUTER_PAD\\);", "INNER_PAD);")\n'
      '    return in_code(text, rf"(?<![\\w:.])(?!crate'),
     # Wrong lines in the library under the sources.
     ("long texts that are no UTF-8 are taken", KIT + "string.rs",
@@ -65,6 +64,8 @@ PLANTS = [
      "        match string::String::from_utf8(bytes) {"),
     ("a block that is no UTF-8 is taken", KIT + "utf8.rs",
      "str::from_utf8(&block.0).is_ok()", "str::from_utf8(&block.0[..60]).is_ok()"),
+    ("a hasher that starts without the block", KIT + "hashes.rs",
+     "CoreWrapper::from_core(begun.0)", "{ let _ = begun.0; digest::Digest::new() }"),
     ("memory that is not given back when a collection grows", KIT + "alloc.rs",
      "    leave::<T>(alloc, before);\n", "    let _ = before;\n"),
     ("memory that is not given back at the end", KIT + "vec.rs",

@@ -14,6 +14,15 @@ PLACES = {"stun_base": "crate::exported::stun_base", "stun_auth": "crate::export
           "stun_tool": "crate::programs::stun_tool", "stun_cli": "crate::programs::stun_cli"}
 
 CASES = [
+    ("a hasher after a block, for which the kit has a type", "stun_base", """
+use sha1::Sha1;
+use sha1::Sha1 as BegunSha1;
+use sha2::Sha256 as BegunSha256;
+""", """
+use crate::kit::hashes::Sha1;
+use crate::kit::hashes::BegunSha1;
+use crate::kit::hashes::BegunSha256;
+"""),
     ("a table that keeps its layout", "stun_base", """
 #[rattlefmt::skip]
 static TABLE: [u32; 2] = [

@@ -2,6 +2,7 @@
 //! (RFC 8489, sections 9 and 14.5; RFC 2104).
 
 pub mod algorithm;
+pub(crate) mod begun_hash;
 pub mod compare;
 pub mod credentials;
 pub(crate) mod hash;

@@ -5,7 +5,7 @@ extern crate std;
 use super::alloc::{AllocError, AllocFailed, Allocator, Global};
 use super::collections::{BTreeMap, BTreeSet};
 use super::convert::{AsSlice, TryClone, from_nanos_u128};
-use super::hashes::{Digest, Md5, Sha1, Sha256};
+use super::hashes::{BegunSha1, BegunSha256, Digest, Md5, Sha1, Sha256};
 use super::prelude::{Box, String, Vec};
 use super::{base64, inline, random, utf8};
 use core::cell::{Cell, RefCell};
@@ -518,6 +518,30 @@ fn digest<H: Digest + TryClone>(pieces: &[&[u8]]) -> H::Bytes {
     let copy = hasher.try_clone().unwrap();
     hasher.update(b"more");
     copy.finalize()
+}
+
+/// By the state after the first block of a text, from which another text was hashed before.
+fn begun_digest<B: From<H> + TryClone, H: Digest + From<B>>(text: &[u8], end: usize) -> H::Bytes {
+    let mut hasher = H::new();
+    hasher.update(&text[..64]);
+    let begun = B::from(hasher);
+    H::from(begun.try_clone().unwrap()).update(b"other");
+    let mut hasher = H::from(begun);
+    hasher.update(&text[64..end]);
+    hasher.update(&text[end..]);
+    hasher.finalize()
+}
+
+#[test]
+fn hashers_start_after_a_block() {
+    let text: vec::Vec<u8> = (0..=255).collect();
+    for length in 64..text.len() {
+        let (text, end) = (&text[..length], length - (length - 64) / 3);
+        let sha1 = begun_digest::<BegunSha1, Sha1>(text, end);
+        assert_eq!(sha1, digest::<Sha1>(&[text]));
+        let sha256 = begun_digest::<BegunSha256, Sha256>(text, end);
+        assert_eq!(sha256, digest::<Sha256>(&[text]));
+    }
 }
 
 /// RFC 1321, section A.5; FIPS 180-4, as NIST's examples have them.

@@ -30,10 +30,6 @@ pub(crate) trait HashFunction: Drop {
         ensures { (message : List ℕ) →
             holds self.old message → holds self.new (message ++ piece.now) };
 
-    /// A hasher that has been fed the same message.
-    fn copy(&self) -> Self
-        ensures { (message : List ℕ) → holds self.now message → holds result message };
-
     fn finish(self) -> Self::Digest
         ensures value { (message : List ℕ) →
             holds self message → Self.Digest.items result ≡ digest message }
@@ -65,10 +61,6 @@ impl HashFunction for Sha1 {
         self.update(piece);
     }
 
-    fn copy(&self) -> Sha1 {
-        self.clone().unwrap()
-    }
-
     fn finish(self) -> [u8; 20] {
         self.finalize()
     }
@@ -89,10 +81,6 @@ impl HashFunction for Sha256 {
         self.update(piece);
     }
 
-    fn copy(&self) -> Sha256 {
-        self.clone().unwrap()
-    }
-
     fn finish(self) -> [u8; 32] {
         self.finalize()
     }
@@ -111,10 +99,6 @@ impl HashFunction for Md5 {
 
     fn feed(&mut self, piece: &[u8]) {
         md5::Digest::update(self, piece);
-    }
-
-    fn copy(&self) -> Md5 {
-        self.clone().unwrap()
     }
 
     fn finish(self) -> [u8; 16] {

@@ -7,6 +7,7 @@ ghost use Rattle.sha2.specs.Sha256.{sha256};
 ghost use Rattle.stun_base.specs.Hmac as spec;
 ghost use Rattle.stun_base.specs.code.Padded.{IsBegun};
 
+use crate::keys::begun_hash::BegunHash;
 use crate::keys::hash::HashFunction;
 use sha1::Sha1;
 use sha2::Sha256;
@@ -95,32 +96,32 @@ fn hmac<H: HashFunction>(key: &[u8], pieces: &[&[u8]]) -> H::Digest
     outer.finish()
 }
 
-/// The part of HMAC that comes before the text (RFC 2104, section 4). One hasher has been fed the
-/// key's block under the inner pad, the other the key's block under the outer pad. They are as
-/// secret as the key: digests under the key can be made with them.
+/// The part of HMAC that comes before the text (RFC 2104, section 4): a hash function that has been
+/// fed the key's block under the inner pad, and one that has been fed the key's block under the
+/// outer pad. They are as secret as the key: digests under the key can be made with them.
 #[derive(Drop)]
-pub(crate) struct BegunHmac<H: HashFunction> {
-    inner: H,
-    outer: H,
+pub(crate) struct BegunHmac<B: BegunHash> {
+    inner: B,
+    outer: B,
 }
 
-impl<H: HashFunction> BegunHmac<H> {
-    /// The hashers of a key.
+impl<B: BegunHash> BegunHmac<B> {
+    /// The part for a key.
     pub(crate) fn of(key: &[u8]) -> Self
-        ensures { IsBegun H.holds H.digest key.now result.inner result.outer }
+        ensures { IsBegun B.has_begun B.Hasher.digest key.now result.inner result.outer }
     {
-        let block = key_block::<H>(key);
+        let block = key_block::<B::Hasher>(key);
         BegunHmac {
-            inner: begun::<H>(&block, INNER_PAD),
-            outer: begun::<H>(&block, OUTER_PAD),
+            inner: B::of(&padded(&block, INNER_PAD)),
+            outer: B::of(&padded(&block, OUTER_PAD)),
         }
     }
 
-    /// Hashers that have been fed the same.
+    /// The part for the same key.
     pub(crate) fn copy(&self) -> Self
         ensures { (key : List ℕ) →
-            IsBegun H.holds H.digest key self.now.inner self.now.outer →
-            IsBegun H.holds H.digest key result.inner result.outer }
+            IsBegun B.has_begun B.Hasher.digest key self.now.inner self.now.outer →
+            IsBegun B.has_begun B.Hasher.digest key result.inner result.outer }
     {
         BegunHmac {
             inner: self.inner.copy(),
@@ -128,17 +129,17 @@ impl<H: HashFunction> BegunHmac<H> {
         }
     }
 
-    /// HMAC of the pieces, in their order as one text, under the key of these hashers.
+    /// HMAC of the pieces, in their order as one text, under the same key.
     #[tactic(auto, unfolding(crate::specs::Hmac::hmac))]
-    pub(crate) fn digest(&self, pieces: &[&[u8]]) -> H::Digest
+    pub(crate) fn digest(&self, pieces: &[&[u8]]) -> <B::Hasher as HashFunction>::Digest
         ensures { (key : List ℕ) →
-            IsBegun H.holds H.digest key self.now.inner self.now.outer →
-            H.Digest.items result ≡
-            spec.hmac H.digest key (concat (map (λ piece. piece.now) pieces.now)) }
+            IsBegun B.has_begun B.Hasher.digest key self.now.inner self.now.outer →
+            B.Hasher.Digest.items result ≡
+            spec.hmac B.Hasher.digest key (concat (map (λ piece. piece.now) pieces.now)) }
     {
-        let mut inner = self.inner.copy();
+        let mut inner = self.inner.hasher();
         feed_all(&mut inner, pieces);
-        let mut outer = self.outer.copy();
+        let mut outer = self.outer.hasher();
         outer.feed(inner.finish().as_slice());
         outer.finish()
     }

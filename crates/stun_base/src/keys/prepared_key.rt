@@ -11,8 +11,8 @@ ghost use Rattle.stun_base.specs.Hmac.{hmac};
 use crate::keys::algorithm::IntegrityAlgorithm;
 use crate::keys::hmac::{BegunHmac, SHA1_LENGTH, SHA256_LENGTH, hmac_sha1, hmac_sha256};
 use crate::keys::key::IntegrityKey;
-use sha1::Sha1;
-use sha2::Sha256;
+use sha1::Sha1 as BegunSha1;
+use sha2::Sha256 as BegunSha256;
 use std::alloc::{AllocError, Allocator, Global};
 use std::fmt;
 use std::marker::Model;
@@ -22,7 +22,8 @@ use std::marker::Model;
 ///
 /// A digest with that algorithm hashes two blocks fewer than a digest with the key alone, as the
 /// code is written; this is not proved. With the other algorithm the key works too, at the usual
-/// cost. A prepared key is about 200 bytes larger than its key, and preparing does not allocate.
+/// cost. A prepared key is at most about 250 bytes larger than its key, and preparing does not
+/// allocate.
 ///
 /// Everything in it is as secret as the key, and `Debug` shows none of it.
 ///
@@ -33,11 +34,11 @@ pub struct PreparedKey<A: Allocator = Global> {
     begun: Begun,
 }
 
-/// The hashers of one algorithm.
+/// The part of HMAC that comes before the text, by one algorithm.
 #[derive(Drop)]
 enum Begun {
-    Sha1(BegunHmac<Sha1>),
-    Sha256(BegunHmac<Sha256>),
+    Sha1(BegunHmac<BegunSha1>),
+    Sha256(BegunHmac<BegunSha256>),
 }
 
 impl<A: Allocator> Model for PreparedKey<A> {

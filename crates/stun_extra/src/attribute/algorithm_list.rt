@@ -107,8 +107,8 @@ enum Source<'a> {
 /// PASSWORD-ALGORITHMS (RFC 8489, section 14.11) with all its entries: also those of algorithms
 /// that are unknown here, and with their parameters. It borrows a list, or the bytes of a message.
 ///
-/// [`PasswordAlgorithms`](stun_types::attribute::PasswordAlgorithms) has the algorithms that the
-/// authenticators know. Parse this one to print or to forward the list of a server.
+/// `PasswordAlgorithms` has only the algorithms that the authenticators know. Parse this one to
+/// print or to forward the list of a server.
 ///
 /// Contracts: the value is the list of the entries.
 #[derive(Debug, Drop)]

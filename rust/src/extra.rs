@@ -91,9 +91,9 @@ pub mod attribute {
     };
     pub use crate::bytes::{AccessToken, Data, MobilityTicket, Padding};
     pub use crate::exported::stun_extra::attribute::{
-        AdditionalAddressFamily, AddressFamily, ChangeRequest, ChannelNumber, DOMAIN_LIMIT,
-        DontFragment, EvenPort, RequestedAddressFamily, RequestedTransport, ReservationToken,
-        ResponsePort, UseCandidate,
+        AdditionalAddressFamily, AddressFamily, AlgorithmEntries, AlgorithmEntry, AlgorithmList,
+        ChangeRequest, ChannelNumber, DOMAIN_LIMIT, DontFragment, EvenPort, RequestedAddressFamily,
+        RequestedTransport, ReservationToken, ResponsePort, UseCandidate,
     };
     pub use crate::exported::stun_extra::unknown::UnknownAttributes;
     pub use crate::number::{ConnectionId, IceControlled, IceControlling, Lifetime, Priority};

@@ -348,6 +348,42 @@ fn reads_addresses_and_texts() {
 }
 
 /// The values of RFC 5780, section 7, written out by hand.
+/// MD5, and two algorithms without a name, of which the last has parameters and padding.
+#[test]
+fn keeps_algorithms_that_are_not_known() {
+    const VALUE: [u8; 16] = [0, 1, 0, 0, 0, 3, 0, 0, 0, 9, 0, 3, 0xAA, 0xBB, 0xCC, 0];
+    let entries = [(1, &[][..]), (3, &[]), (9, &[0xAA, 0xBB, 0xCC])];
+    let listed =
+        entries.map(|(number, parameters)| AlgorithmEntry::new(number, parameters).unwrap());
+    let id = TransactionId::from([0; 12]);
+    let mut request = Message::builder_request_with_id(BINDING, id, MessageWriteVec::new());
+    request.add_attribute(&AlgorithmList::new(&listed)).unwrap();
+    let bytes = request.finish();
+    let message = Message::from_bytes(&bytes).unwrap();
+    let raw = message
+        .raw_attribute(AttributeType::PASSWORD_ALGORITHMS)
+        .unwrap();
+    assert_eq!(raw.value(), VALUE);
+    let mut padded = VALUE;
+    padded[15] = 0xFF; // padding is ignored
+    for value in [VALUE, padded] {
+        let raw = RawAttribute::new(AlgorithmList::TYPE, &value);
+        let read = AlgorithmList::from_raw(raw).unwrap();
+        assert!(!read.is_empty());
+        let read = read
+            .iter()
+            .map(|entry| (entry.number(), entry.parameters()));
+        assert_eq!(read.collect::<Vec<_>>(), entries);
+    }
+    let empty = RawAttribute::new(AlgorithmList::TYPE, &[]);
+    assert!(AlgorithmList::from_raw(empty).unwrap().is_empty());
+    refuses::<AlgorithmList>(&[&[0], &VALUE[..6], &VALUE[..12], &VALUE[..15]]);
+    let long = vec![0; 65536];
+    assert!(AlgorithmEntry::new(9, &long[..65535]).is_ok());
+    let error = AlgorithmEntry::new(9, &long).err();
+    assert_eq!(error, Some(StunWriteError::TooLarge));
+}
+
 #[test]
 fn reads_what_discovery_writes() {
     for (ip, port, flags) in [

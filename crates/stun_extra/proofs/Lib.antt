@@ -1,4 +1,5 @@
 -- Lemmas of the crate.
+pub mod AlgorithmListLemmas
 mod AnswerLemmas
 mod BeginLemmas
 mod ChangedLemmas

@@ -8,6 +8,10 @@ pub mod Fingerprint
 -- types that must be understood and are not known, and UNKNOWN-ATTRIBUTES (sections 6.3.1 and
 -- 14.13)
 pub mod Unknown
+-- PASSWORD-ALGORITHMS with every algorithm and its parameters (section 14.11)
+pub mod AlgorithmList
+-- law: a list that is written is read again
+pub mod AlgorithmListLaws
 -- messages in a stream of bytes, and in packets among those of other protocols (sections 6.2.2 and
 -- 7)
 pub mod Framing

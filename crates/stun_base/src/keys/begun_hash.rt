@@ -5,10 +5,8 @@ ghost use Rattle.sha1.specs.Sha1.{Holds as HoldsSha1};
 ghost use Rattle.sha2.specs.Hashers.{Holds256};
 
 use crate::keys::hash::HashFunction;
-use sha1::Sha1;
-use sha1::Sha1 as BegunSha1;
-use sha2::Sha256;
-use sha2::Sha256 as BegunSha256;
+use sha1::{Sha1, Sha1 as BegunSha1};
+use sha2::{Sha256, Sha256 as BegunSha256};
 
 /// A hash function that has been fed one block. Hashers of messages that begin with the block
 /// start from it. Where a hash function has a type of its own for this, that type has no buffer for

@@ -78,7 +78,7 @@ use core::net::SocketAddr;
 use core::time::Duration;
 
 pub use crate::exported::stun_auth::auth::{
-    Accepted, Feature, LONG_TERM_RFC8489_NONCE_COOKIE, LongTermClientAuthError,
+    Accepted, Feature, LONG_TERM_RFC8489_NONCE_COOKIE, LongTermAuthError, LongTermClientAuthError,
     LongTermClientAuthErrorReason, LongTermClientValidation, LongTermServerAuthError,
     LongTermServerAuthErrorReason, LongTermServerValidation, NamedUser, StoredKeys, VerdictRefusal,
 };

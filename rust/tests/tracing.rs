@@ -78,7 +78,7 @@ fn a_request_and_its_verdict_are_recorded() {
         "message=sent a request to=192.0.2.2:2 bytes=20".to_string(),
         format!(
             "message=judged {id} class=Request \
-             verdict=Err(LongTermServerAuthError {{ reason: Unauthorized }})"
+             verdict=Err(LongTermAuthError {{ reason: Unauthorized }})"
         ),
         format!("message=got a message {id} from=192.0.2.1:1 is_accepted=false"),
         "message=sent a request again to=192.0.2.2:2 bytes=20".to_string(),

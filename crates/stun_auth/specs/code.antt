@@ -4,6 +4,7 @@ pub mod AddedAttribute
 pub mod Additions
 pub mod AddressCode
 pub mod Algorithms
+pub mod Claims
 pub mod Client
 pub mod ClientKept
 pub mod ClientStep

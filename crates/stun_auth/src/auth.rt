@@ -1,4 +1,5 @@
 //! The authenticators, and the types of their arguments and results.
+pub use crate::auth_error::LongTermAuthError;
 pub use crate::client::LongTermClientAuth;
 pub use crate::client::answer::{
     LongTermClientAuthError, LongTermClientAuthErrorReason, LongTermClientValidation,

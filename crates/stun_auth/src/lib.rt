@@ -3,6 +3,7 @@
 
 mod algorithm_set;
 pub mod auth;
+mod auth_error;
 mod client;
 pub mod derives;
 mod feature;

@@ -48,6 +48,7 @@ use stun_base::credentials::LongTermCredentials;
 use stun_base::instant::Instant;
 
 pub(crate) mod accepted;
+mod claim;
 mod handed;
 mod judged;
 pub(crate) mod name_index;

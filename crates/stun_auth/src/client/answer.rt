@@ -1,7 +1,5 @@
 //! What a long-term client returns for a message, and why it refuses one.
-ghost use Rattle.std.specs.Prelude.{◌≡◌, None};
-
-use std::marker::Model;
+use crate::auth_error::LongTermAuthError;
 use stun_base::algorithm::IntegrityAlgorithm;
 use stun_base::error::ValidateError;
 use thiserror::Error;
@@ -54,42 +52,4 @@ impl From<ValidateError> for LongTermClientAuthErrorReason {
 /// The error of a client that refuses a message.
 ///
 /// Contracts: they see its reason.
-#[derive(Clone, Copy, Debug, PartialEq, Eq, Error)]
-#[error("{reason}")]
-pub struct LongTermClientAuthError {
-    reason: LongTermClientAuthErrorReason,
-}
-
-impl Model for LongTermClientAuthError {
-    ghost use Rattle.stun_auth.specs.declared.client.answer.LongTermClientAuthErrorReason.{LongTermClientAuthErrorReason};
-
-    ghost Value = { LongTermClientAuthErrorReason };
-
-    ghost view = { λ error. error.reason };
-
-    ghost inverse = { λ reason. record { reason = reason } };
-}
-
-impl LongTermClientAuthError {
-    /// The refusal of this reason.
-    pub(crate) fn new(reason: LongTermClientAuthErrorReason) -> Self
-        ensures { result ≡ reason }
-    {
-        LongTermClientAuthError { reason }
-    }
-
-    /// Returns why the message was refused.
-    pub fn reason(&self) -> LongTermClientAuthErrorReason
-        ensures { result ≡ self.now }
-    {
-        self.reason
-    }
-
-    /// Returns `None` always, because nothing is known of the signature of a message that is
-    /// refused.
-    pub fn integrity(&self) -> Option<IntegrityAlgorithm>
-        ensures { result ≡ None }
-    {
-        None
-    }
-}
+pub type LongTermClientAuthError = LongTermAuthError<LongTermClientAuthErrorReason>;

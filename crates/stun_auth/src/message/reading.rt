@@ -15,7 +15,6 @@ ghost use Rattle.stun_types.specs.Userhash.{hash_of};
 ghost use Rattle.stun_types.specs.Visible.{visible};
 ghost use Rattle.stun_base.specs.MessageType.{is_response, is_success};
 ghost use Rattle.stun_auth.specs.Reading.{reading_of, verified_under};
-ghost use Rattle.stun_auth.specs.Validation.{is_complete, is_malformed};
 ghost use Rattle.stun_auth.specs.code.LastAttributes.{last_error_code, last_attributes};
 ghost use Rattle.stun_auth.specs.code.LastAttributes.{with_member};
 
@@ -277,22 +276,6 @@ impl<'a, 'm> MessageReading<'a, 'm> {
         ensures { result ≡ is_success (reading_seen self.now).class }
     {
         matches!(self.class, MessageClass::Success)
-    }
-
-    /// Whether REALM, NONCE and a name are there.
-    pub(crate) fn is_complete(&self) -> bool
-        ensures { result ≡ is_complete (reading_seen self.now) }
-    {
-        self.realm.is_some()
-            && self.nonce.is_some()
-            && (self.userhash.is_some() || self.username.is_some())
-    }
-
-    /// Whether the message has integrity, but lacks REALM, NONCE or a name.
-    pub(crate) fn is_malformed(&self) -> bool
-        ensures { result ≡ is_malformed (reading_seen self.now) }
-    {
-        self.has_integrity && !self.is_complete()
     }
 
     /// The algorithm whose digest verifies under a key.

@@ -25,7 +25,9 @@ use crate::message::nonce::{asks_for_algorithms, nonce_of_words};
 use crate::message::reading::MessageReading;
 use crate::server::LongTermServerAuth;
 use crate::server::accepted::Accepted;
+use crate::server::claim::JudgeableMessage;
 use crate::server::reason::VerdictRefusal;
+use crate::server::registry::Registry;
 use crate::server::user::LongTermServerUser;
 use crate::server::verdict::verdict;
 use std::alloc::{AllocError, Allocator};
@@ -85,9 +87,7 @@ impl<A: Allocator + Copy> LongTermServerAuth<A> {
         ensures key { IfOk result
             (HasVerifyingKey self.now.registered (reading_of message.now)) }
     {
-        let reading = MessageReading::of(message);
-        let offered = Some(self.registry.supported());
-        verdict(&self.registry, self.feature, &reading, nonce, offered)
+        self.judge_by(message, nonce, &self.registry)
     }
 
     /// Like `judge`, on a server whose only user is `user`. The server's own users are ignored. The
@@ -110,9 +110,27 @@ impl<A: Allocator + Copy> LongTermServerAuth<A> {
             self.now.registered.algorithms (reading_of message.now) result }
         ensures key { IfOk result (HasVerifyingKey user.now (reading_of message.now)) }
     {
+        self.judge_by(message, nonce, &user.registry)
+    }
+
+    /// Judges a message with these users, where all algorithms that the server supports were
+    /// offered.
+    fn judge_by<'a>(
+        &self,
+        message: &Message<'a>,
+        nonce: &str,
+        users: &'a Registry<A>,
+    ) -> Result<Accepted<'a, A>, VerdictRefusal>
+        ensures verdict { client_judged result ≡ verdict users.now self.now.feature nonce.now
+            (Some self.now.registered.algorithms) (reading_of message.now) }
+        ensures key { IfOk result (HasVerifyingKey users.now (reading_of message.now)) }
+    {
         let reading = MessageReading::of(message);
+        let Some(message) = JudgeableMessage::of(&reading) else {
+            return Err(VerdictRefusal::BadRequest);
+        };
         let offered = Some(self.registry.supported());
-        verdict(&user.registry, self.feature, &reading, nonce, offered)
+        verdict(users, self.feature, &message, nonce, offered)
     }
 
     /// Adds to a response what a client needs to sign its next request under a nonce: NONCE, REALM

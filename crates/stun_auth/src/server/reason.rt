@@ -1,9 +1,9 @@
 //! What a server returns for a message, and why it refuses one.
 
-ghost use Rattle.std.specs.Prelude.{◌≡◌, None, Result};
+ghost use Rattle.std.specs.Prelude.{◌≡◌, Result};
 ghost use Rattle.stun_auth.specs.Reasons.{server_reason};
 
-use std::marker::Model;
+use crate::auth_error::LongTermAuthError;
 use stun_base::algorithm::IntegrityAlgorithm;
 use stun_base::error::ValidateError;
 use thiserror::Error;
@@ -65,45 +65,7 @@ impl From<ValidateError> for LongTermServerAuthErrorReason {
 /// The error of a server that refuses a message.
 ///
 /// Contracts: they see its reason.
-#[derive(Clone, Copy, Debug, PartialEq, Eq, Error)]
-#[error("{reason}")]
-pub struct LongTermServerAuthError {
-    reason: LongTermServerAuthErrorReason,
-}
-
-impl Model for LongTermServerAuthError {
-    ghost use Rattle.stun_auth.specs.declared.server.reason.LongTermServerAuthErrorReason.{LongTermServerAuthErrorReason};
-
-    ghost Value = { LongTermServerAuthErrorReason };
-
-    ghost view = { λ error. error.reason };
-
-    ghost inverse = { λ reason. record { reason = reason } };
-}
-
-impl LongTermServerAuthError {
-    /// The refusal of this reason.
-    pub(crate) fn new(reason: LongTermServerAuthErrorReason) -> LongTermServerAuthError
-        ensures { result ≡ reason }
-    {
-        LongTermServerAuthError { reason }
-    }
-
-    /// Returns why the message was refused.
-    pub fn reason(&self) -> LongTermServerAuthErrorReason
-        ensures { result ≡ self.now }
-    {
-        self.reason
-    }
-
-    /// Returns `None` always, because nothing is known of the signature of a message that is
-    /// refused.
-    pub fn integrity(&self) -> Option<IntegrityAlgorithm>
-        ensures { result ≡ None }
-    {
-        None
-    }
-}
+pub type LongTermServerAuthError = LongTermAuthError<LongTermServerAuthErrorReason>;
 
 /// Why a server refuses a message under a given nonce (RFC 8489, section 9.2.4). No allocation can
 /// fail there.

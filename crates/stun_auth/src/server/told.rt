@@ -8,6 +8,7 @@ ghost use Rattle.stun_auth.specs.Server.{their_nonce};
 ghost use Rattle.stun_auth.specs.code.ReadingSeen.{reading_seen};
 
 use crate::message::reading::MessageReading;
+use crate::server::claim::JudgeableMessage;
 use crate::server::reason::VerdictRefusal;
 use crate::server::verdict::is_same_nonce;
 use stun_types::message::Message;
@@ -34,7 +35,7 @@ fn told_bad_request(reading: &MessageReading<'_, '_>, nonce: &str) -> VerdictRef
     ensures { result
         ≡ told_refusal nonce.now (reading_seen reading.now) VerdictRefusal.BadRequest }
 {
-    if reading.is_malformed() || reads_nonce(reading, nonce) {
+    if JudgeableMessage::of(reading).is_none() || reads_nonce(reading, nonce) {
         VerdictRefusal::BadRequest
     } else {
         VerdictRefusal::StaleNonce

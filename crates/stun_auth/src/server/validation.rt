@@ -25,6 +25,7 @@ use crate::message::nonce::make_nonce;
 use crate::message::reading::MessageReading;
 use crate::server::LongTermServerAuth;
 use crate::server::accepted::Accepted;
+use crate::server::claim::JudgeableMessage;
 use crate::server::places::{Place, ValidatedUser};
 use crate::server::reason::{
     LongTermServerAuthError, LongTermServerAuthErrorReason, LongTermServerValidation,
@@ -252,14 +253,14 @@ impl<A: Allocator + Copy> LongTermServerAuth<A> {
         if reading.is_response() {
             return self.check_response(&reading, from);
         }
-        if reading.is_malformed() {
+        let Some(message) = JudgeableMessage::of(&reading) else {
             return Err(LongTermServerAuthErrorReason::BadRequest);
-        }
+        };
         let place = self.places.get(from);
         let Ok(renewal) = self.renewal(place, now, rng) else {
             return Err(LongTermServerAuthErrorReason::OutOfMemory);
         };
-        let Ok(judged) = self.judge_at(&reading, place, &renewal) else {
+        let Ok(judged) = self.judge_at(&message, place, &renewal) else {
             return Err(LongTermServerAuthErrorReason::OutOfMemory);
         };
         self.commit(from, renewal, judged)
@@ -322,22 +323,22 @@ impl<A: Allocator + Copy> LongTermServerAuth<A> {
     /// allocates only for another client's name.
     fn judge_at(
         &self,
-        reading: &MessageReading<'_, '_>,
+        message: &JudgeableMessage<'_, '_, '_>,
         place: Option<&Place<A>>,
         renewal: &Option<Renewal<A>>,
     ) -> Result<Judgement<A>, AllocError>
         ensures judged { IfOk result (IsJudged self.now.registered self.now.feature
-            (reading_seen reading.now)
+            (reading_seen message.now.reading.now)
             (place_with (option_map place_seen (option_copied place.entry))
             (option_map renewal_seen renewal.now))) }
         ensures needless { ChangesNoPlace self.now.registered self.now.feature
-            (reading_seen reading.now)
+            (reading_seen message.now.reading.now)
             (place_with (option_map place_seen (option_copied place.entry))
             (option_map renewal_seen renewal.now)) → IsOk result }
     {
         let nonce = nonce_at(place, renewal);
         let offered = offered_at(place);
-        match verdict(&self.registry, self.feature, reading, nonce, offered) {
+        match verdict(&self.registry, self.feature, message, nonce, offered) {
             Err(refusal) => Ok(Judgement::Refused(refusal)),
             Ok(accepted) => {
                 if is_known(place, &accepted) {

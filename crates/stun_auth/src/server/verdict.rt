@@ -7,7 +7,7 @@ ghost use Rattle.stun_auth.specs.Algorithms.{has as is_among, offered_list, same
 ghost use Rattle.stun_auth.specs.Judged.{HasVerifyingKey, client_judged};
 ghost use Rattle.stun_auth.specs.Nonces.{security_bits};
 ghost use Rattle.stun_auth.specs.Server.{agreement, bits_differ, nonce_refusal, verdict};
-ghost use Rattle.stun_auth.specs.code.Judging.{name_in};
+ghost use Rattle.stun_auth.specs.code.Claims.{name_of};
 ghost use Rattle.stun_auth.specs.code.ReadingSeen.{reading_seen};
 ghost use Rattle.stun_types.specs.PasswordAlgorithms.{integrity_of};
 
@@ -16,6 +16,8 @@ use crate::feature::Feature;
 use crate::message::nonce::{NonceSecurityBits, asks_for_algorithms};
 use crate::message::reading::MessageReading;
 use crate::server::accepted::Accepted;
+use crate::server::claim::JudgeableMessage;
+use crate::server::named_user::NamedUser;
 use crate::server::reason::VerdictRefusal;
 use crate::server::registry::Registry;
 use std::alloc::Allocator;
@@ -103,23 +105,23 @@ fn nonce_refusal(ours: &str, theirs: &str) -> VerdictRefusal
     }
 }
 
-/// The name of the user whom a message names, by a hash or by name.
-fn name_in<'a, A: Allocator + Copy>(
+/// The name of the user who is named, by a hash or by name.
+fn name_of<'a, A: Allocator + Copy>(
     registry: &'a Registry<A>,
     feature: Feature,
-    reading: &MessageReading<'a, '_>,
+    user: NamedUser<'a>,
 ) -> Option<&'a str>
-    ensures { option_copied result ≡ name_in registry.now feature (reading_seen reading.now) }
+    ensures { option_copied result ≡ name_of registry.now feature user.entry }
 {
-    match &reading.userhash {
-        Some(hash) => {
+    match user {
+        NamedUser::ByHash(hash) => {
             if feature.is_possible() {
-                registry.name_with_hash(hash)
+                registry.name_with_hash(&hash)
             } else {
                 None
             }
         }
-        None => reading.username,
+        NamedUser::ByName(name) => Some(name),
     }
 }
 
@@ -136,36 +138,31 @@ pub(crate) fn is_same_nonce(theirs: &str, ours: &str) -> bool
 pub(crate) fn verdict<'a, A: Allocator + Copy>(
     registry: &'a Registry<A>,
     feature: Feature,
-    reading: &MessageReading<'a, '_>,
+    message: &JudgeableMessage<'a, '_, '_>,
     nonce: &str,
     offered: Option<AlgorithmSet>,
 ) -> Result<Accepted<'a, A>, VerdictRefusal>
     ensures verdict { client_judged result ≡ verdict registry.now feature nonce.now offered
-        (reading_seen reading.now) }
-    ensures key { IfOk result (HasVerifyingKey registry.now (reading_seen reading.now)) }
+        (reading_seen message.now.reading.now) }
+    ensures key { IfOk result
+        (HasVerifyingKey registry.now (reading_seen message.now.reading.now)) }
 {
-    if !reading.has_integrity {
+    let Some(claim) = &message.claim else {
         return Err(VerdictRefusal::Unauthorized);
-    }
-    if !reading.is_complete() {
-        return Err(VerdictRefusal::BadRequest);
-    }
-    let Some(theirs) = reading.nonce else {
+    };
+    let Some(algorithm) = agreed(message.reading, claim.nonce, offered) else {
         return Err(VerdictRefusal::BadRequest);
     };
-    let Some(algorithm) = agreed(reading, theirs, offered) else {
-        return Err(VerdictRefusal::BadRequest);
-    };
-    if !is_same_nonce(theirs, nonce) {
-        return Err(nonce_refusal(nonce, theirs));
+    if !is_same_nonce(claim.nonce, nonce) {
+        return Err(nonce_refusal(nonce, claim.nonce));
     }
-    let Some(name) = name_in(registry, feature, reading) else {
+    let Some(name) = name_of(registry, feature, claim.user) else {
         return Err(VerdictRefusal::Unauthorized);
     };
     let Some(key) = registry.key(name, algorithm) else {
         return Err(VerdictRefusal::Unauthorized);
     };
-    match reading.verified_under(key) {
+    match message.reading.verified_under(key) {
         Some(_) => Ok(Accepted::new(name, algorithm, key)),
         None => Err(VerdictRefusal::Unauthorized),
     }

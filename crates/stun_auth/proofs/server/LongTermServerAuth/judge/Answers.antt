@@ -9,8 +9,8 @@ use Rattle.stun_auth.proofs.server.LongTermServerAuth.judge.Goals as goal
 pub returns-clause-accepted : goal.returns-clause-accepted
 returns-clause-accepted g c =
     let s = c.args.self.now in
-    let same : client_judged c.verdict.result
+    let same : client_judged c.judge_by.result
     ≡ verdict c.args.self.now.registered s.feature c.args.nonce.now (Some s.registered.algorithms)
     (reading_of c.args.message.now) = search rules in
     judged-accepted c.args.self.now.registered s.feature c.args.nonce.now s.registered.algorithms
-    (reading_of c.args.message.now) c.verdict.result same
+    (reading_of c.args.message.now) c.judge_by.result same

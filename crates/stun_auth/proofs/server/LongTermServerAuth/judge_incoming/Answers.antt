@@ -1,5 +1,5 @@
 -- A response and a malformed message need no nonce, and leave the server as it was.
-use Rattle.std.proofs.Common.{◌≡◌, refl, sym, ◌∙◌, ap, false}
+use Rattle.std.proofs.Common.{◌≡◌, refl, rules, sym, ◌∙◌, ap, true, false}
 use Rattle.std.specs.Prelude.{not, ◌||◌}
 use Rattle.stun_base.specs.Words.{next_words}
 use Rattle.stun_base.specs.MessageType.{is_response}
@@ -19,13 +19,12 @@ returns-then-is_response-clause-state g c =
     (after_needless c.args.self.now c.args.from c.args.now
     (next_words 16 (g.R.Rng.stream c.args.rng.now)) r needless) refl
 
-pub returns-then-is_malformed-clause-state : goal.returns-then-is_malformed-clause-state
-returns-then-is_malformed-clause-state g c =
+pub returns-in_default-clause-state : goal.returns-in_default-clause-state
+returns-in_default-clause-state g c =
     let r = reading_of c.args.message.now in
     let request = ap (λ (x : Reading). is_response x.class) (sym c.of-reading.ensures)
     ∙ sym c.is_response.ensures ∙ c.if-is_response.false in
-    let malformed = ap is_malformed (sym c.of-reading.ensures) ∙ sym c.is_malformed.ensures
-    ∙ c.if-is_malformed.true in
+    let malformed : is_malformed r ≡ true = search rules in
     let needless : needs_nonce r ≡ false = ap (λ b. not (b || is_malformed r)) request
     ∙ ap not malformed in
     after_needless c.args.self.now c.args.from c.args.now

@@ -17,8 +17,8 @@ pub struct NumberedId {
     pub id: TransactionId,
 }
 
-/// Returns the first number from `next` on whose ID is that of no transaction of the agent, together
-/// with that ID. The last number, `u64::MAX`, is not used. It does not allocate.
+/// Returns the first number from `next` on whose ID is that of no transaction of the agent, with that
+/// ID. The last number, `u64::MAX`, is not used. It does not allocate.
 pub fn free_number<A: Allocator + Copy>(
     seed: &PreparedKey<A>,
     agent: &StunAgent<A>,

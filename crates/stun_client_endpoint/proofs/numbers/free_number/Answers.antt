@@ -10,8 +10,13 @@ pub returns-then-is_none-clause-free : goal.returns-then-is_none-clause-free
 returns-then-is_none-clause-free g c =
     let before : c.loop-number.number < LAST_NUMBER = omega arith in
     let free : is_taken c.args.seed.now c.args.agent.now c.loop-number.number ≡ false =
-    grind (arith, c.id_of-id.ensures, c.request_transaction.ensures, c.is_none.ensures,
-    c.if-is_none.true) in
+    grind (
+      arith,
+      c.id_of-id.ensures,
+      c.request_transaction.ensures,
+      c.is_none.ensures,
+      c.if-is_none.true,
+    ) in
     sym (sym c.loop-number.invariant
     ∙ free_at c.args.seed.now c.args.agent.now c.loop-number.number before
     ∙ ap (λ b. cond b (free_number c.args.seed.now c.args.agent.now (c.loop-number.number + 1))
@@ -21,8 +26,13 @@ pub loop-number-preserved : goal.loop-number-preserved
 loop-number-preserved g c =
     let before : c.loop-number.number < LAST_NUMBER = omega arith in
     let taken : is_taken c.args.seed.now c.args.agent.now c.loop-number.number ≡ true =
-    grind (arith, c.id_of-id.ensures, c.request_transaction.ensures, c.is_none.ensures,
-    c.if-is_none.false) in
+    grind (
+      arith,
+      c.id_of-id.ensures,
+      c.request_transaction.ensures,
+      c.is_none.ensures,
+      c.if-is_none.false,
+    ) in
     sym (ap (λ b. cond b (free_number c.args.seed.now c.args.agent.now (c.loop-number.number + 1))
     (Some c.loop-number.number)) taken)
     ∙ sym (free_at c.args.seed.now c.args.agent.now c.loop-number.number before)

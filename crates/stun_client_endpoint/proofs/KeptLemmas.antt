@@ -7,16 +7,17 @@ use Rattle.std.specs.Option.{is_some, option_map, option_map_or}
 use Rattle.std.specs.Ordering.{nat_cmp}
 use Rattle.stun_base.specs.Header.{transaction_id_field, type_field}
 use Rattle.stun_base.specs.MessageType.{method_of}
-use Rattle.stun_agent.proofs.Ascending.{IsAscending-insert, lookup-insert_same}
+use Rattle.stun_agent.proofs.Ascending.{IsAscending-insert, lookup-insert_other, lookup-insert_same}
+use Rattle.stun_agent.proofs.Ascending.{lookup-remove_other}
 use Rattle.stun_client.specs.Challenges.{Answered}
 use Rattle.stun_client.specs.Requests.{AskedSeen, RequestsSeen, after_replacing, asked_first, at, renewed}
 use Rattle.stun_client_loop.specs.Loops.{LoopSeen, after_again, after_request}
 use Rattle.stun_client_loop.specs.Timed.{IsLoop}
 use Rattle.stun_client_loop.proofs.CallLemmas.{loop_again, loop_request}
 use Rattle.stun_client_loop.proofs.NumberLemmas.{not_same}
-use Rattle.stun_client_loop.proofs.TimedLemmas.{left, put}
+use Rattle.stun_client_loop.proofs.TimedLemmas.{KeysAscend, left, put}
 use Rattle.stun_client_endpoint.specs.Bodies.{Body}
-use Rattle.stun_client_endpoint.specs.Laws.{AreKept, IsAwaited}
+use Rattle.stun_client_endpoint.specs.Laws.{AreKept, HasTimer, IsAwaited}
 use Rattle.stun_client_endpoint.specs.Pendings.{Pending, Pendings, changed_at, first_ended, new_pending}
 use Rattle.stun_client_endpoint.specs.Pendings.{request_at, sending, with_request, without_first}
 use Rattle.stun_client_endpoint.specs.Pendings.{without_request}
@@ -75,33 +76,65 @@ kept_changed f m l all quiet is = record {
         ap (λ (x : Pending). x.end) was.3 ∙ quiet.end_stays was.1 ∙ is.unsent n was.1 was.2 before
     | inr was ↦ is.unsent n p was.1 sent
   ];
+  timed = λ n p here on. elim (changed_from f n m all p here) [
+    | inl was ↦
+        let before : was.1.end ≡ None =
+        sym (quiet.end_stays was.1) ∙ ap (λ (x : Pending). x.end) (sym was.3) ∙ on in
+        let its : p.id ≡ was.1.id = ap (λ (x : Pending). x.id) was.3 ∙ quiet.id_stays was.1 in
+        subst (λ k. HasTimer k n l.client.requests) (sym its) (is.timed n was.1 was.2 before)
+    | inr was ↦ is.timed n p was.1 on
+  ];
 }
 
--- each request that has a timer had it before
-pub record HasFewer (l after : LoopSeen) : Type 0 where
+-- the same requests have a timer
+pub record HasSame (l after : LoopSeen) : Type 0 where
   pub loop : IsLoop after
   pub next : after.client.requests.next ≡ l.client.requests.next
-  pub was : (id : ℕ) (a : AskedSeen) → at id after.client.requests.asked ≡ Some a
-      → at id l.client.requests.asked ≡ Some a
+  pub same : (id : ℕ) → at id after.client.requests.asked ≡ at id l.client.requests.asked
 
-pub kept_fewer : (l after : LoopSeen) (all : Pendings) → HasFewer l after → AreKept l all
+pub kept_same : (l after : LoopSeen) (all : Pendings) → HasSame l after → AreKept l all
     → AreKept after all
-kept_fewer l after all fewer is = record {
-  loop = fewer.loop;
+kept_same l after all has is = record {
+  loop = has.loop;
   ascending = is.ascending;
-  fresh = λ n low. is.fresh n (subst (λ k. k ≤ n) fewer.next low);
-  awaited = λ id a here. is.awaited id a (fewer.was id a here);
+  fresh = λ n low. is.fresh n (subst (λ k. k ≤ n) has.next low);
+  awaited = λ id a here. is.awaited id a (sym (has.same id) ∙ here);
   unsent = is.unsent;
+  timed = λ n p here on.
+      let timer = is.timed n p here on in
+      record {
+        asked = timer.asked;
+        there = has.same p.id ∙ timer.there;
+        numbered = timer.numbered;
+      };
 }
+
+-- if no request has an ID, the same ones have a timer once it is taken out
+pub same_without : (id : ℕ) (s : RequestsSeen) → KeysAscend s.asked → at id s.asked ≡ None
+    → (other : ℕ) → at other (remove_entry (is_at (nat_cmp id)) s.asked) ≡ at other s.asked
+same_without id s sorted none other = elim (same_or_apart other id) [
+  | inl same ↦
+      subst (λ k. at k (remove_entry (is_at (nat_cmp id)) s.asked) ≡ at k s.asked) same
+      (by (at id (remove_entry (is_at (nat_cmp id)) s.asked)) refl ∙ sym none)
+  | inr off ↦ lookup-remove_other other id s.asked off
+]
+  where
+    by : (o : Option AskedSeen) → at id (remove_entry (is_at (nat_cmp id)) s.asked) ≡ o
+        → at id (remove_entry (is_at (nat_cmp id)) s.asked) ≡ None
+    by None is = is
+    by (Some a) is = absurd (not_same id id (left id s.asked sorted id a is).0 refl)
 
 -- ---- ends
 
--- each request that has a timer had it before, and has another number
+-- each request that has a timer had it before, and has another number. All with other numbers still
+-- have theirs
 pub record Loses (m : ℕ) (l after : LoopSeen) : Type 0 where
   pub loop : IsLoop after
   pub next : after.client.requests.next ≡ l.client.requests.next
   pub was : (id : ℕ) (a : AskedSeen) → at id after.client.requests.asked ≡ Some a
       → (at id l.client.requests.asked ≡ Some a) × (a.number ≡ m → ⊥)
+  pub still : (id : ℕ) (a : AskedSeen) → at id l.client.requests.asked ≡ Some a
+      → (a.number ≡ m → ⊥) → at id after.client.requests.asked ≡ Some a
 
 -- the request with an ID has its timer no more
 pub loses_asked : (m id : ℕ) (a : AskedSeen) (l after : LoopSeen) → IsLoop l → IsLoop after
@@ -113,8 +146,20 @@ loses_asked m id a l after before loop next asked here named = record {
   next = next;
   was = λ other b there. by other b (left id l.client.requests.asked before.timed.asked_ascend other b
       (ap (at other) (sym asked) ∙ there));
+  still = λ other b there differs.
+      ap (at other) asked
+      ∙ lookup-remove_other other id l.client.requests.asked
+      (apart other id (λ same. differs (its_number other b there same))) ∙ there;
 }
   where
+    its_number : (other : ℕ) (b : AskedSeen) → at other l.client.requests.asked ≡ Some b
+        → id ≡ other → b.number ≡ m
+    its_number other b there same =
+        let found : at other l.client.requests.asked ≡ Some a =
+        subst (λ k. at k l.client.requests.asked ≡ Some a) same here in
+        let equal : b ≡ a = cc in
+        ap (λ (x : AskedSeen). x.number) equal ∙ named
+
     by : (other : ℕ) (b : AskedSeen)
         → (is_at (nat_cmp other) id ≡ false) × (at other l.client.requests.asked ≡ Some b)
         → (at other l.client.requests.asked ≡ Some b) × (b.number ≡ m → ⊥)
@@ -133,11 +178,19 @@ kept_end_of m l after all now loses is same id a here =
     awaited_as id a.number all now (same a.number (apart a.number m (λ equal. was.1 (sym equal))))
     (is.awaited id a was.0)
 
+still_timed : (m n id : ℕ) (l after : LoopSeen) → Loses m l after → (m ≡ n → ⊥)
+    → HasTimer id n l.client.requests → HasTimer id n after.client.requests
+still_timed m n id l after loses differs is = record {
+  asked = is.asked;
+  there = loses.still id is.asked is.there (λ same. differs (sym same ∙ is.numbered));
+  numbered = is.numbered;
+}
+
 -- a request ends
 pub kept_ended : (f : Pending → Pending) (m : ℕ) (l after : LoopSeen) (all : Pendings)
-    → Loses m l after → ((p : Pending) → (f p).is_unsent ≡ false) → AreKept l all
-    → AreKept after (changed_at f m all)
-kept_ended f m l after all loses silent is = record {
+    → Loses m l after → ((p : Pending) → (f p).is_unsent ≡ false)
+    → ((p : Pending) → (f p).end ≡ None → ⊥) → AreKept l all → AreKept after (changed_at f m all)
+kept_ended f m l after all loses silent over is = record {
   loop = loses.loop;
   ascending = changed_ascends f m all is.ascending;
   fresh = λ n low. none_changed f m n all (is.fresh n (subst (λ k. k ≤ n) loses.next low));
@@ -148,6 +201,10 @@ kept_ended f m l after all loses silent is = record {
         let no : p.is_unsent ≡ false = ap (λ (x : Pending). x.is_unsent) was.3 ∙ silent was.1 in
         cc
     | inr was ↦ is.unsent n p was.1 sent
+  ];
+  timed = λ n p here on. elim (changed_from f n m all p here) [
+    | inl was ↦ absurd (over was.1 (ap (λ (x : Pending). x.end) (sym was.3) ∙ on))
+    | inr was ↦ still_timed m n p.id l after loses was.0 (is.timed n p was.1 on)
   ];
 }
 
@@ -161,6 +218,9 @@ kept_without m l after all loses is = record {
   awaited = kept_end_of m l after all (without_request m all) loses is
       (λ n off. removed_other n m all off);
   unsent = λ n p here sent. is.unsent n p (left m all is.ascending n p here).1 sent;
+  timed = λ n p here on.
+      let was = left m all is.ascending n p here in
+      still_timed m n p.id l after loses (not_same n m was.0) (is.timed n p was.1 on);
 }
 
 -- the first request that has ended is stored no more
@@ -176,6 +236,7 @@ kept_first l all is = by (first_ended all) refl
           loop = is.loop;
           next = refl;
           was = λ id a here. (here, λ same. clash ended.0 ended.1 ended.2 id a same (is.awaited id a here));
+          still = λ id a here differs. here;
         }) is
       where
         clash : (p : Pending) → request_at m all ≡ Some p → is_some p.end ≡ true → (id : ℕ)
@@ -192,27 +253,10 @@ kept_first l all is = by (first_ended all) refl
 pub loses_cancelled : (m : ℕ) (p : Pending) (l after : LoopSeen) (all : Pendings) → AreKept l all
     → IsLoop after → after.client.requests.next ≡ l.client.requests.next
     → after.client.requests.asked ≡ remove_entry (is_at (nat_cmp p.id)) l.client.requests.asked
-    → request_at m all ≡ Some p → Loses m l after
-loses_cancelled m p l after all is loop next asked here = record {
-  loop = loop;
-  next = next;
-  was = λ other b there. by other b
-      (left p.id l.client.requests.asked is.loop.timed.asked_ascend other b
-      (ap (at other) (sym asked) ∙ there));
-}
-  where
-    by : (other : ℕ) (b : AskedSeen)
-        → (is_at (nat_cmp other) p.id ≡ false) × (at other l.client.requests.asked ≡ Some b)
-        → (at other l.client.requests.asked ≡ Some b) × (b.number ≡ m → ⊥)
-    by other b found = (found.1, λ same. not_same other p.id found.0 (its same))
-      where
-        its : b.number ≡ m → p.id ≡ other
-        its same =
-            let waits = is.awaited other b found.1 in
-            let there : request_at m all ≡ Some waits.pending =
-            subst (λ k. request_at k all ≡ Some waits.pending) same waits.there in
-            let equal : p ≡ waits.pending = cc in
-            ap (λ (x : Pending). x.id) equal ∙ waits.named
+    → request_at m all ≡ Some p → p.end ≡ None → Loses m l after
+loses_cancelled m p l after all is loop next asked here on =
+    let timer = is.timed m p here on in
+    loses_asked m p.id timer.asked l after is.loop loop next asked timer.there timer.numbered
 
 -- ---- a new request
 
@@ -223,12 +267,20 @@ number_of id other v b s is here =
     subst (λ k. at k (insert_entry nat_cmp s.asked id v) ≡ Some v) is (lookup-insert_same id v s.asked) in
     cc
 
+-- an ID that no request has is not that of a request
+not_free : (id other : ℕ) (a : AskedSeen) (s : RequestsSeen) → id ≡ other → at id s.asked ≡ None
+    → at other s.asked ≡ Some a → ⊥
+not_free id other a s same none there =
+    let free : at other s.asked ≡ None = subst (λ k. at k s.asked ≡ None) same none in
+    cc
+
 pub kept_started : (l : LoopSeen) (all : Pendings) (body : Body) (id now : ℕ) (bytes : List ℕ)
-    → transaction_id_field bytes ≡ id → AreKept l all
+    → transaction_id_field bytes ≡ id
+    → at (transaction_id_field bytes) l.client.requests.asked ≡ None → AreKept l all
     → AreKept (after_request bytes now l)
     (changed_at (sending id bytes) l.client.requests.next
     (with_request l.client.requests.next (new_pending body) all))
-kept_started l all body id now bytes has is = record {
+kept_started l all body id now bytes has free is = record {
   loop = loop_request bytes now l is.loop;
   ascending = changed_ascends send next stored (put_ascends next fresh_one all is.ascending);
   fresh = λ n low. none_changed send next n stored (put_other n next fresh_one all (after n low)
@@ -240,6 +292,12 @@ kept_started l all body id now bytes has is = record {
   unsent = λ n p here sent. elim (changed_from send n next stored p here) [
     | inl was ↦ new_end n p was.0 was.1 was.2 was.3
     | inr was ↦ is.unsent n p (sym (put_other n next fresh_one all (apart n next was.0)) ∙ was.1) sent
+  ];
+  timed = λ n p here on. elim (changed_from send n next stored p here) [
+    | inl was ↦ new_timer n p was.1 was.0 was.3
+    | inr was ↦
+        old_timer p.id n (is.timed n p
+        (sym (put_other n next fresh_one all (apart n next was.0)) ∙ was.1) on)
   ];
 }
   where
@@ -304,15 +362,38 @@ kept_started l all body id now bytes has is = record {
         let equal : q ≡ new_pending body = cc in
         ap (λ (x : Pending). x.end) is ∙ ap (λ (x : Pending). x.end) equal
 
+    new_timer : (n : ℕ) (p q : Pending) → l.client.requests.next ≡ n → p ≡ sending id bytes q
+        → HasTimer p.id n (after_request bytes now l).client.requests
+    new_timer n p q same is =
+        subst (λ k. HasTimer k n (after_request bytes now l).client.requests)
+        (has ∙ ap (λ (x : Pending). x.id) (sym is))
+        (record {
+          asked = first;
+          there = lookup-insert_same (transaction_id_field bytes) first l.client.requests.asked;
+          numbered = same;
+        })
+
+    old_timer : (k n : ℕ) → HasTimer k n l.client.requests
+        → HasTimer k n (after_request bytes now l).client.requests
+    old_timer k n timer = record {
+      asked = timer.asked;
+      there = lookup-insert_other k (transaction_id_field bytes) first l.client.requests.asked
+          (apart k (transaction_id_field bytes)
+          (λ same. not_free (transaction_id_field bytes) k timer.asked l.client.requests same free
+          timer.there)) ∙ timer.there;
+      numbered = timer.numbered;
+    }
+
 -- ---- a request that is sent again
 
 pub kept_resent : (is_heard : Bool) (m id now : ℕ) (response bytes : List ℕ)
     (challenge : Option Answered) (l : LoopSeen) (all : Pendings) (a : AskedSeen)
     → at (transaction_id_field response) l.client.requests.asked ≡ Some a → a.number ≡ m
-    → transaction_id_field bytes ≡ id → AreKept l all
+    → transaction_id_field bytes ≡ id
+    → at (transaction_id_field bytes) l.client.requests.asked ≡ None → AreKept l all
     → AreKept (after_again is_heard response bytes challenge now l)
     (changed_at (sending id bytes) m all)
-kept_resent is_heard m id now response bytes challenge l all a here named has is = record {
+kept_resent is_heard m id now response bytes challenge l all a here named has free is = record {
   loop = loop_again is_heard response bytes challenge now l is.loop;
   ascending = changed_ascends (sending id bytes) m all is.ascending;
   fresh = λ n low. none_changed (sending id bytes) m n all
@@ -322,6 +403,10 @@ kept_resent is_heard m id now response bytes challenge l all a here named has is
   unsent = λ n p there sent. elim (changed_from (sending id bytes) n m all p there) [
     | inl was ↦ resent_end n p was.0 was.1 was.2 was.3
     | inr was ↦ is.unsent n p was.1 sent
+  ];
+  timed = λ n p there on. elim (changed_from (sending id bytes) n m all p there) [
+    | inl was ↦ new_timer n p was.1 was.0 was.3
+    | inr was ↦ old_timer p.id n was.0 (is.timed n p was.1 on)
   ];
 }
   where
@@ -388,3 +473,52 @@ kept_resent is_heard m id now response bytes challenge l all a here named has is
         let found : request_at m all ≡ Some waits.pending = stored_at in
         let equal : q ≡ waits.pending = cc in
         ap (λ (x : Pending). x.end) sent ∙ ap (λ (x : Pending). x.end) equal ∙ waits.goes_on
+
+    new_timer : (n : ℕ) (p q : Pending) → m ≡ n → p ≡ sending id bytes q
+        → HasTimer p.id n (after_again is_heard response bytes challenge now l).client.requests
+    new_timer n p q same sent =
+        let response_id = transaction_id_field response in
+        let new_id = transaction_id_field bytes in
+        let off : is_at (nat_cmp new_id) response_id ≡ false =
+        apart new_id response_id
+        (λ equal. not_free new_id response_id a l.client.requests (sym equal) free here) in
+        subst
+        (λ k. HasTimer k n (after_again is_heard response bytes challenge now l).client.requests)
+        (has ∙ ap (λ (x : Pending). x.id) (sym sent))
+        (record {
+          asked = renewed a challenge;
+          there = ap (λ (r : RequestsSeen). at new_id r.asked) moved
+              ∙ lookup-remove_other new_id response_id
+              (insert_entry nat_cmp l.client.requests.asked new_id (renewed a challenge)) off
+              ∙ lookup-insert_same new_id (renewed a challenge) l.client.requests.asked;
+          numbered = named ∙ same;
+        })
+
+    its_number : (k n : ℕ) → HasTimer k n l.client.requests → transaction_id_field response ≡ k
+        → m ≡ n
+    its_number k n timer same =
+        let found : at k l.client.requests.asked ≡ Some a =
+        subst (λ j. at j l.client.requests.asked ≡ Some a) same here in
+        let there : at k l.client.requests.asked ≡ Some timer.asked = timer.there in
+        let equal : a ≡ timer.asked = cc in
+        sym named ∙ ap (λ (x : AskedSeen). x.number) equal ∙ timer.numbered
+
+    old_timer : (k n : ℕ) → (m ≡ n → ⊥) → HasTimer k n l.client.requests
+        → HasTimer k n (after_again is_heard response bytes challenge now l).client.requests
+    old_timer k n differs timer =
+        let response_id = transaction_id_field response in
+        let new_id = transaction_id_field bytes in
+        let off : is_at (nat_cmp k) response_id ≡ false =
+        apart k response_id (λ same. differs (its_number k n timer same)) in
+        let off_new : is_at (nat_cmp k) new_id ≡ false =
+        apart k new_id
+        (λ same. not_free new_id k timer.asked l.client.requests same free timer.there) in
+        record {
+          asked = timer.asked;
+          there = ap (λ (r : RequestsSeen). at k r.asked) moved
+              ∙ lookup-remove_other k response_id
+              (insert_entry nat_cmp l.client.requests.asked new_id (renewed a challenge)) off
+              ∙ lookup-insert_other k new_id (renewed a challenge) l.client.requests.asked off_new
+              ∙ timer.there;
+          numbered = timer.numbered;
+        }

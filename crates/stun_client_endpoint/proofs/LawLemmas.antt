@@ -5,6 +5,7 @@ use Rattle.std.specs.BTreeMap.{is_at}
 use Rattle.std.specs.Bool.{⊤}
 use Rattle.std.specs.Map.{remove_entry}
 use Rattle.std.specs.Option.{IsSome, is_none, is_some, option_and_then, option_map, option_map_or}
+use Rattle.std.specs.Option.{option_or}
 use Rattle.std.specs.Ordering.{nat_cmp}
 use Rattle.std.specs.Prelude.{◌==◌, nat_le, nat_lt}
 use Rattle.std.specs.declared.net.socket_addr.SocketAddr.{SocketAddr}
@@ -15,7 +16,7 @@ use Rattle.stun_base.specs.declared.wire.message_type.MessageClass.{MessageClass
 use Rattle.stun_base.specs.declared.wire.message_type.MessageClass.TheVariants.{Request, Indication}
 use Rattle.stun_base.specs.declared.wire.message_type.MessageClass.TheVariants.{Success, Error}
 use Rattle.stun_types.specs.Message.{refusal}
-use Rattle.stun_agent.specs.Agent.{poll_answer}
+use Rattle.stun_agent.specs.Agent.{poll_answer, request_refusal}
 use Rattle.stun_agent.specs.declared.agent.StunAgentPollRet.{StunAgentPollRet}
 use Rattle.stun_agent.specs.declared.agent.StunAgentPollRet.TheVariants.{TransactionTimedOut}
 use Rattle.stun_agent.specs.declared.agent.StunAgentPollRet.TheVariants.{TransactionCancelled}
@@ -27,15 +28,19 @@ use Rattle.stun_client.specs.Clients.{EndpointClient, Given, by_asked, by_class,
 use Rattle.stun_client.specs.Clients.{responded}
 use Rattle.stun_client.specs.Ids.{id_of}
 use Rattle.stun_client.specs.Judging.{Verdict, anew, believed, dropped}
-use Rattle.stun_client.specs.Requests.{AskedSeen, answered, at, if_answered, is_answer}
+use Rattle.stun_client.specs.Requests.{AskedSeen, LAST_NUMBER, answered, at, if_answered, is_answer}
+use Rattle.stun_client.specs.Requests.{renewal_refusal, renewal_refusal_of, start_refusal}
+use Rattle.stun_client.specs.declared.requests.RequestRefusal.{RequestRefusal}
+use Rattle.stun_client.specs.declared.requests.RequestRefusal.TheVariants as Refusals
 use Rattle.stun_client_loop.specs.Calls.{answer, cancel, poll_timers, poll_transmit}
 use Rattle.stun_client_loop.specs.Loops.{after_answer, after_cancel, after_hearing}
 use Rattle.stun_client_loop.specs.Loops.{after_timers, after_transmit, again_refused}
+use Rattle.stun_client_loop.specs.Loops.{LoopSeen, of_client, request_refused}
 use Rattle.stun_client_loop.specs.Loops.{timed_of, timed_out_of}
+use Rattle.stun_client_loop.specs.declared.refusal.LoopRefusal.TheVariants.{NotSent}
 use Rattle.stun_client_loop.specs.Timed.{IsLoop}
 use Rattle.stun_client_loop.proofs.CallLemmas.{loop_call}
 use Rattle.stun_client_loop.proofs.NumberLemmas.{not_same}
-use Rattle.stun_client_loop.proofs.TimedLemmas.{left}
 use Rattle.stun_client_endpoint.specs.Bodies.{Body}
 use Rattle.stun_client_endpoint.specs.Endpoints.{Answer, Endpoint, IsOver, Polls, Step, Told, UnlessMemory}
 use Rattle.stun_client_endpoint.specs.Endpoints.{after_start, by_given, by_verdict, cancelled}
@@ -65,9 +70,11 @@ use Rattle.stun_client_endpoint.specs.declared.ended.DropReason.{DropReason}
 use Rattle.stun_client_endpoint.specs.declared.ended.DropReason.TheVariants.{OutOfMemory}
 use Rattle.stun_client_endpoint.specs.declared.ended.RequestEnd.{RequestEnd}
 use Rattle.stun_client_endpoint.specs.declared.ended.RequestEnd.TheVariants as how
-use Rattle.stun_client_endpoint.proofs.KeptLemmas.{HasFewer, IsQuiet, kept_changed, kept_ended}
-use Rattle.stun_client_endpoint.proofs.KeptLemmas.{kept_fewer, kept_first, kept_resent, kept_started}
+use Rattle.stun_client_endpoint.specs.declared.told.RequestError.TheVariants as Errors
+use Rattle.stun_client_endpoint.proofs.KeptLemmas.{HasSame, IsQuiet, kept_changed, kept_ended}
+use Rattle.stun_client_endpoint.proofs.KeptLemmas.{kept_first, kept_resent, kept_same, kept_started}
 use Rattle.stun_client_endpoint.proofs.KeptLemmas.{kept_without, loses_asked, loses_cancelled}
+use Rattle.stun_client_endpoint.proofs.KeptLemmas.{same_without}
 use Rattle.stun_client_endpoint.proofs.PendingLemmas.{none_without}
 use Rattle.stun_client_endpoint.proofs.PollLemmas.{again_next, timers_next}
 use Rattle.stun_client_endpoint.proofs.StoredLemmas.{IsAt, IsSame, apart, changed_other, changed_same}
@@ -195,8 +202,8 @@ module _ (now : ℕ) (e : Endpoint) (is : IsEndpoint e) where
   loops : IsLoop (after_timers now e.state)
   loops = loop_call (poll_timers now) e.state is.loop
 
-  kept_mid : HasFewer e.state (after_timers now e.state) → IsEndpoint mid
-  kept_mid fewer = kept_fewer e.state (after_timers now e.state) e.requests fewer is
+  kept_mid : HasSame e.state (after_timers now e.state) → IsEndpoint mid
+  kept_mid has = kept_same e.state (after_timers now e.state) e.requests has is
 
   timers_by : (said : StunAgentPollRet) → poll_answer now e.state.agent ≡ said
       → IsGood e (timed mid (timed_of e.state.client said))
@@ -212,8 +219,8 @@ module _ (now : ℕ) (e : Endpoint) (is : IsEndpoint e) where
           silent_step e mid (kept_mid (record {
             loop = loops;
             next = timers_next now e.state;
-            was = λ other a here. (left id e.state.client.requests.asked is.loop.timed.asked_ascend
-                other a (ap (at other) (sym asked) ∙ here)).1;
+            same = λ other. ap (at other) asked
+                ∙ same_without id e.state.client.requests is.loop.timed.asked_ascend found other;
           })) (timers_next now e.state) (same_itself e.requests)
       by (Some a) found =
           let waiting = is.awaited id a found in
@@ -230,15 +237,15 @@ module _ (now : ℕ) (e : Endpoint) (is : IsEndpoint e) where
       silent_step e mid (kept_mid (record {
         loop = loops;
         next = timers_next now e.state;
-        was = λ other a here. ap (λ (r : StunAgentPollRet).
-            at other (after_hearing e.state.client r).requests.asked) (sym said) ∙ here;
+        same = λ other. ap (λ (r : StunAgentPollRet).
+            at other (after_hearing e.state.client r).requests.asked) said;
       })) (timers_next now e.state) (same_itself e.requests)
   timers_by (AgentWaits until) said =
       waiting_step e mid (until_of until e.requests) (kept_mid (record {
         loop = loops;
         next = timers_next now e.state;
-        was = λ other a here. ap (λ (r : StunAgentPollRet).
-            at other (after_hearing e.state.client r).requests.asked) (sym said) ∙ here;
+        same = λ other. ap (λ (r : StunAgentPollRet).
+            at other (after_hearing e.state.client r).requests.asked) said;
       })) (timers_next now e.state) (same_itself e.requests)
 
   timers_is : IsGood e (timers_step now e)
@@ -307,6 +314,7 @@ repeats_is now e is = by (repeated now e.state) refl
       fresh = is.fresh;
       awaited = is.awaited;
       unsent = is.unsent;
+      timed = is.timed;
     }
 
     by : (o : Option ℕ) → repeated now e.state ≡ o
@@ -350,6 +358,51 @@ polls_is now e after told is (goes_on _ next _ _ said rest) =
     let first : IsStep e silent next = subst (IsGood e) said (step_is now e is) in
     after_silence e next after (polled told) first (polls_is now next after told first.kept rest)
 
+-- ---- IDs that no request has
+
+second_none : {X : Type 0} (a b : Option X) → is_some (option_or a b) ≡ false → b ≡ None
+second_none (Some x) b is = cc
+second_none None (Some x) is = cc
+second_none None None is = refl
+
+client_none : (o : Option RequestRefusal) → option_map of_client o ≡ None → o ≡ None
+client_none None is = refl
+client_none (Some why) is = cc
+
+-- the ID of a request that is not refused is that of no other one
+free_to_start : (l : LoopSeen) (bytes : List ℕ) → is_some (request_refused l bytes) ≡ false
+    → at (transaction_id_field bytes) l.client.requests.asked ≡ None
+free_to_start l bytes is =
+    by (at (transaction_id_field bytes) l.client.requests.asked)
+    (l.client.requests.next == LAST_NUMBER)
+    (client_none (start_refusal l.client.requests (transaction_id_field bytes))
+    (second_none (option_map NotSent (request_refusal l.agent bytes l.server)) _ is))
+  where
+    by : (o : Option AskedSeen) (b : Bool)
+        → cond (is_some o) (Some Refusals.IdTaken) (cond b (Some Refusals.NoNumber) None) ≡ None
+        → o ≡ None
+    by None b none = refl
+    by (Some a) b none = cc
+
+free_again : (l : LoopSeen) (response bytes : List ℕ) (a : AskedSeen)
+    → at (transaction_id_field response) l.client.requests.asked ≡ Some a
+    → is_some (again_refused l response bytes) ≡ false
+    → at (transaction_id_field bytes) l.client.requests.asked ≡ None
+free_again l response bytes a here is =
+    by (nat_le l.client.requests.most a.challenges)
+    (at (transaction_id_field bytes) l.client.requests.asked)
+    (ap (renewal_refusal_of l.client.requests (transaction_id_field bytes)) (sym here)
+    ∙ client_none (renewal_refusal l.client.requests (transaction_id_field response)
+    (transaction_id_field bytes))
+    (second_none (option_map NotSent (request_refusal l.agent bytes l.server)) _ is))
+  where
+    by : (b : Bool) (o : Option AskedSeen)
+        → cond b (Some Refusals.TooOften) (cond (is_some o) (Some Refusals.IdTaken) None) ≡ None
+        → o ≡ None
+    by true o none = cc
+    by false None none = refl
+    by false (Some x) none = cc
+
 -- ---- responses
 
 quiet_noting : (why : DropReason) (code : Option ℕ) → IsQuiet (noting why code)
@@ -389,7 +442,8 @@ module _ (number now : ℕ) (bytes : List ℕ) (e : Endpoint) (a : AskedSeen) (i
       silent_step e (ended_by number end stored bytes now e).1
       (kept_ended (ending end stored) number e.state (after_answer bytes now e.state) e.requests
       (loses_asked number (transaction_id_field bytes) a e.state (after_answer bytes now e.state)
-      is.loop (loop_call (answer bytes now) e.state is.loop) refl refl here named) (λ p. refl) is)
+      is.loop (loop_call (answer bytes now) e.state is.loop) refl refl here named) (λ p. refl)
+      (λ p on. let no : Some end ≡ None = on in cc) is)
       refl (same_changed (ending end stored) number e.requests)
 
   resent_is : (is_heard : Bool) (challenge : Option Answered) (method : ℕ) (body : Body)
@@ -397,15 +451,16 @@ module _ (number now : ℕ) (bytes : List ℕ) (e : Endpoint) (a : AskedSeen) (i
   resent_is is_heard challenge method body = by (chosen e)
     where
       sent : (id_number : ℕ) (new : List ℕ) → message_of e challenge method id_number body ≡ Ok new
-          → (b : Bool) → IsFine e (cond b (out_of_memory bytes e)
+          → (b : Bool) → is_some (again_refused e.state bytes new) ≡ b
+          → IsFine e (cond b (out_of_memory bytes e)
           (resent is_heard number challenge bytes now id_number new e))
-      sent id_number new written true = memory_is bytes e is
-      sent id_number new written false =
+      sent id_number new written true passed = memory_is bytes e is
+      sent id_number new written false passed =
           silent_step e (resent is_heard number challenge bytes now id_number new e).1
           (kept_resent is_heard number (id_of e.seed id_number) now bytes new challenge e.state
           e.requests a here named
           (request_id e.form e.state.client.identity challenge method id_number e.seed body new written)
-          is)
+          (free_again e.state bytes new a here passed) is)
           (again_next is_heard bytes new challenge now e.state)
           (same_changed (sending (id_of e.seed id_number) new) number e.requests)
 
@@ -414,7 +469,7 @@ module _ (number now : ℕ) (bytes : List ℕ) (e : Endpoint) (a : AskedSeen) (i
           → IsFine e (resent_by is_heard number challenge bytes now e id_number page)
       page_is id_number (Err why) written = dropping_is number _ bytes e is
       page_is id_number (Ok new) written =
-          sent id_number new written (is_some (again_refused e.state bytes new))
+          sent id_number new written (is_some (again_refused e.state bytes new)) refl
 
       by : (o : Option ℕ)
           → IsFine e (resent_at is_heard number challenge bytes now e method body o)
@@ -518,10 +573,12 @@ module _ (e : Endpoint) (is : IsEndpoint e) where
 
   begun : (number : ℕ) (body : Body) (bytes : List ℕ) (now : ℕ)
       → transaction_id_field bytes ≡ id_of e.seed number
+      → at (transaction_id_field bytes) e.state.client.requests.asked ≡ None
       → IsBegun (after_start number body bytes now e)
-  begun number body bytes now has = (
+  begun number body bytes now has free = (
     record {
-      kept = kept_started e.state e.requests body (id_of e.seed number) now bytes has is;
+      kept = kept_started e.state e.requests body (id_of e.seed number) now bytes has free
+          is;
       grows = omega arith;
       going = λ n there. inl (
         (there.0, beside n (λ same. taken n there.0 there.1 same) ∙ there.1),
@@ -559,12 +616,17 @@ module _ (e : Endpoint) (is : IsEndpoint e) where
       → IsBegun (started method body now e)
   started_is method body now none = by (chosen e) none
     where
+      unrefused : (b : Bool) → cond b (Some Errors.NoId) None ≡ None → b ≡ false
+      unrefused true is = cc
+      unrefused false is = refl
+
       page_is : (number : ℕ) (page : Page?) → first_message e method number body ≡ page
           → refusal_of_bytes e page ≡ None → IsBegun (started_by e body now number page)
       page_is number (Err why) written none = cc
       page_is number (Ok bytes) written none =
           begun number body bytes now (request_id e.form e.state.client.identity
           e.state.client.standing.current method number e.seed body bytes written)
+          (free_to_start e.state bytes (unrefused (is_some (request_refused e.state bytes)) none))
 
       by : (o : Option ℕ) → refusal_of_number e method body o ≡ None
           → IsBegun (started_at e method body now o)
@@ -582,6 +644,17 @@ outstanding_is (Some q) p is = by (is_none q.end) is
     by true is = is
     by false is = cc
 
+is_going : (o : Option Pending) (p : Pending) → if_outstanding o ≡ Some p → p.end ≡ None
+is_going None p is = cc
+is_going (Some q) p is = by q.end refl is
+  where
+    by : (end : Option RequestEnd) → q.end ≡ end → cond (is_none end) (Some q) None ≡ Some p
+        → p.end ≡ None
+    by None ended is =
+        let same : p ≡ q = cc in
+        ap (λ (x : Pending). x.end) same ∙ ended
+    by (Some x) ended is = cc
+
 cancels_is : (number : ℕ) (p : Pending) (e : Endpoint) → IsEndpoint e
     → outstanding_at number e.requests ≡ Some p
     → IsStep e (cancels number) (cancelled number e)
@@ -590,7 +663,9 @@ cancels_is number p e is out =
     (same_step e (cancelled_with number e (Some p)) (cancels number)
     (kept_ended (ending how.Cancelled []) number e.state (after_cancel p.id e.state) e.requests
     (loses_cancelled number p e.state (after_cancel p.id e.state) e.requests is
-    (loop_call (cancel p.id) e.state is.loop) refl refl here) (λ q. refl) is)
+    (loop_call (cancel p.id) e.state is.loop) refl refl here
+    (is_going (request_at number e.requests) p out)) (λ q. refl)
+    (λ q on. let no : Some how.Cancelled ≡ None = on in cc) is)
     refl (same_changed (ending how.Cancelled []) number e.requests) (λ n. refl)
     (λ n none. names_apart n number e.requests p here none) (λ n is. cc))
   where

@@ -9,7 +9,7 @@ use Rattle.stun_base.specs.declared.wire.attribute_type.AttributeType.{Attribute
 use Rattle.stun_agent.specs.Agent.{Agent}
 use Rattle.stun_agent.specs.Transactions.{IsAscending}
 use Rattle.stun_client.specs.Judging.{Identity}
-use Rattle.stun_client.specs.Requests.{AskedSeen, at}
+use Rattle.stun_client.specs.Requests.{AskedSeen, RequestsSeen, at}
 use Rattle.stun_client_loop.specs.Loops.{LoopSeen}
 use Rattle.stun_client_loop.specs.Timed.{IsLoop}
 use Rattle.stun_client_endpoint.specs.Endpoints.{Endpoint, IsOver, Polls, new_endpoint}
@@ -25,9 +25,16 @@ pub record IsAwaited (id number : ℕ) (all : Pendings) : Type 0 where
   pub named : pending.id ≡ id
   pub goes_on : pending.end ≡ None
 
+-- the request with this number has a timer under this transaction ID
+pub record HasTimer (id number : ℕ) (s : RequestsSeen) : Type 0 where
+  pub asked : AskedSeen
+  pub there : at id s.asked ≡ Some asked
+  pub numbered : asked.number ≡ number
+
 -- what holds of every client: its requests are stored in the order of their numbers, which are below
--- the next one; each request that has a timer is stored and has not ended; and bytes that are not
--- handed out yet are those of a request that has not ended
+-- the next one; each request that has a timer is stored and has not ended; bytes that are not
+-- handed out yet are those of a request that has not ended; and each stored request that has not
+-- ended has a timer
 pub record AreKept (l : LoopSeen) (all : Pendings) : Type 0 where
   pub loop : IsLoop l
   pub ascending : IsStrictlySortedBy nat_cmp (keys_of all)
@@ -36,6 +43,8 @@ pub record AreKept (l : LoopSeen) (all : Pendings) : Type 0 where
       → IsAwaited id a.number all
   pub unsent : (number : ℕ) (p : Pending) → request_at number all ≡ Some p → p.is_unsent ≡ true
       → p.end ≡ None
+  pub timed : (number : ℕ) (p : Pending) → request_at number all ≡ Some p → p.end ≡ None
+      → HasTimer p.id number l.client.requests
 
 abbrev pub IsEndpoint : Endpoint → Type 0
 IsEndpoint e = AreKept e.state e.requests

@@ -2,8 +2,8 @@
 ghost use Rattle.stun_client_endpoint.specs.Laws.{BeginsAsEndpoint, EndsOnce, StartsOne};
 ghost use Rattle.stun_client_endpoint.specs.Laws.{StaysAnEndpoint, StaysOver, TransmitsWhatIsThere};
 
-/// Each request that has a timer is stored and has not ended, from the creation of a client on and
-/// over any calls.
+/// Each request that has a timer is stored and has not ended, and each stored request that has not
+/// ended has a timer, from the creation of a client on and over any calls.
 pub fn each_outstanding_request_is_stored()
     ensures begins { BeginsAsEndpoint }
     ensures stays { StaysAnEndpoint }

@@ -24,7 +24,6 @@ use std::net::SocketAddr;
 use stun_base::instant::Instant;
 use stun_client::challenge::Challenge;
 use stun_client::client::Heard;
-use stun_client::ids::id_of;
 use stun_client::judged::{Judged, Outcome};
 use stun_types::message::{IntegrityAlgorithm, Message, Method, TransactionId};
 
@@ -194,12 +193,12 @@ impl<A: Allocator + Copy> ClientEndpoint<A> {
             (request_at number self.old.requests))
             message.now self.old (result, self.new) }
     {
-        let Some(id_number) = self.chosen() else {
+        let Some(free) = self.chosen() else {
             return self.forgo(message);
         };
-        let id = id_of(&self.seed, id_number);
+        let id = free.id;
         match self.bytes_for(number, method, challenge.as_ref(), id) {
-            Ok(bytes) => self.send_again(number, id_number, id, bytes, challenge, message, now),
+            Ok(bytes) => self.send_again(number, free.number, id, bytes, challenge, message, now),
             Err(RequestError::TooLarge) => {
                 self.drop_for(number, DropReason::UnanswerableChallenge, message)
             }

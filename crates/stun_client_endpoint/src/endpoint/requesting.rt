@@ -1,5 +1,5 @@
 //! Starting requests.
-ghost use Rattle.std.specs.Option.{IfSome, IsSome, option_copied};
+ghost use Rattle.std.specs.Option.{IfSome, IsSome, option_copied, option_map};
 ghost use Rattle.std.specs.Prelude.{◌≡◌, ◌<◌, ◌⊎◌, ℕ, Err, IfErr, IfOk, IsErr, IsOkUnless};
 ghost use Rattle.std.specs.Prelude.{MatchOption, None, Ok, OnErr, OnOk, true};
 ghost use Rattle.stun_client.specs.Ids.{id_of};
@@ -14,14 +14,13 @@ ghost use Rattle.stun_client_endpoint.specs.Written.{is_text_too_long, request_b
 use crate::body::Body;
 use crate::endpoint::ClientEndpoint;
 use crate::form::Form;
-use crate::numbers::free_number;
+use crate::numbers::{NumberedId, free_number};
 use crate::pending::{Pending, Pendings, put, send, take};
 use crate::told::RequestError;
 use std::alloc::Allocator;
 use stun_base::instant::Instant;
 use stun_client::challenge::Challenge;
 use stun_client::client::Client;
-use stun_client::ids::id_of;
 use stun_client_loop::client_loop::ClientLoop;
 use stun_client_loop::refusal::LoopRefusal;
 use stun_types::message::{Method, StunWriteError, TransactionId};
@@ -53,22 +52,23 @@ impl<A: Allocator + Copy> ClientEndpoint<A> {
         ensures after { OnOk result (self.new ≡ started method body now self.old) }
         ensures same { OnErr result (self.new ≡ self.old) }
     {
-        let Some(number) = self.chosen() else {
+        let Some(free) = self.chosen() else {
             return Err(RequestError::NoId);
         };
-        let id = id_of(&self.seed, number);
+        let id = free.id;
         let client = self.state.client();
         let signed_for = client.challenge().as_ref();
         let bytes = message(
             self.alloc, &self.form, client, signed_for, method, id, &body,
         )?;
-        self.start(number, id, body, bytes, now)
+        self.start(free.number, id, body, bytes, now)
     }
 
-    /// Returns the number of the transaction ID of the next message.
-    pub(crate) fn chosen(&self) -> Option<u64>
-        ensures chosen { result ≡ chosen self.now }
-        ensures low { IfSome result (λ number. number < LAST_NUMBER) }
+    /// Returns the transaction ID of the next message and its number.
+    pub(crate) fn chosen(&self) -> Option<NumberedId>
+        ensures chosen { option_map (λ free. free.number) result ≡ chosen self.now }
+        ensures named { IfSome result (λ free. free.id ≡ id_of self.now.seed free.number) }
+        ensures low { IfSome result (λ free. free.number < LAST_NUMBER) }
     {
         free_number(&self.seed, self.state.agent(), self.next_id)
     }

@@ -21,6 +21,7 @@ returns-clause-begins c = λ agent server identity form understood challenges se
   fresh = λ number low. refl;
   awaited = λ id a here. cc;
   unsent = λ number p here sent. cc;
+  timed = λ number p here on. cc;
 }
 
 pub returns-clause-stays : goal.returns-clause-stays

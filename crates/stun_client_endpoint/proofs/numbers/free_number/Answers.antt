@@ -6,11 +6,17 @@ use Rattle.stun_client_endpoint.specs.Numbers.{free_number, is_taken}
 use Rattle.stun_client_endpoint.proofs.NumberLemmas.{free_at}
 use Rattle.stun_client_endpoint.proofs.numbers.free_number.Goals as goal
 
-pub returns-then-not-is_taken-clause-free : goal.returns-then-not-is_taken-clause-free
-returns-then-not-is_taken-clause-free g c =
+pub returns-then-is_none-clause-free : goal.returns-then-is_none-clause-free
+returns-then-is_none-clause-free g c =
     let before : c.loop-number.number < LAST_NUMBER = omega arith in
     let free : is_taken c.args.seed.now c.args.agent.now c.loop-number.number ≡ false =
-    grind (arith, c.is_taken.ensures, c.if-not-is_taken.true, c.if-not-is_taken.ensures) in
+    grind (
+      arith,
+      c.id_of-id.ensures,
+      c.request_transaction.ensures,
+      c.is_none.ensures,
+      c.if-is_none.true,
+    ) in
     sym (sym c.loop-number.invariant
     ∙ free_at c.args.seed.now c.args.agent.now c.loop-number.number before
     ∙ ap (λ b. cond b (free_number c.args.seed.now c.args.agent.now (c.loop-number.number + 1))
@@ -20,7 +26,13 @@ pub loop-number-preserved : goal.loop-number-preserved
 loop-number-preserved g c =
     let before : c.loop-number.number < LAST_NUMBER = omega arith in
     let taken : is_taken c.args.seed.now c.args.agent.now c.loop-number.number ≡ true =
-    grind (arith, c.is_taken.ensures, c.if-not-is_taken.false, c.if-not-is_taken.ensures) in
+    grind (
+      arith,
+      c.id_of-id.ensures,
+      c.request_transaction.ensures,
+      c.is_none.ensures,
+      c.if-is_none.false,
+    ) in
     sym (ap (λ b. cond b (free_number c.args.seed.now c.args.agent.now (c.loop-number.number + 1))
     (Some c.loop-number.number)) taken)
     ∙ sym (free_at c.args.seed.now c.args.agent.now c.loop-number.number before)

@@ -8,26 +8,26 @@ use Rattle.stun_client_endpoint.proofs.endpoint.ClientEndpoint.request.Goals as 
 
 pub returns-in_err-bytes-clause-refused : goal.returns-in_err-bytes-clause-refused
 returns-in_err-bytes-clause-refused g c =
-    let is : chosen c.args.self.now ≡ Some c.in-Some.number = search rules in
+    let is : chosen c.args.self.now ≡ Some c.in-Some.free.number = search rules in
     let written : request_bytes c.self.inside.form c.client-client.result.now.identity
-    (option_copied c.as_ref-signed_for.result) c.args.method c.id_of-id.result c.args.body
-    ≡ first_message c.args.self.now c.args.method c.in-Some.number c.args.body = search rules in
-    told_of_bytes ℕ c.args.self.now c.args.method c.in-Some.number c.args.body _
+    (option_copied c.as_ref-signed_for.result) c.args.method c.in-Some.free.id c.args.body
+    ≡ first_message c.args.self.now c.args.method c.in-Some.free.number c.args.body = search rules in
+    told_of_bytes ℕ c.args.self.now c.args.method c.in-Some.free.number c.args.body _
     c.from_residual.result c.in_err-bytes.field-0.0 is written (search rules)
     c.in_err-bytes.ensures.refused
 
 pub returns-clause-refused : goal.returns-clause-refused
 returns-clause-refused g c =
-    let is : chosen c.args.self.now ≡ Some c.in-Some.number = search rules in
-    let written : first_message c.args.self.now c.args.method c.in-Some.number c.args.body
+    let is : chosen c.args.self.now ≡ Some c.in-Some.free.number = search rules in
+    let written : first_message c.args.self.now c.args.method c.in-Some.free.number c.args.body
     ≡ Ok c.in_ok-bytes.bytes.items = search rules in
-    told_of_start ℕ c.args.self.now c.args.method c.in-Some.number c.args.body
+    told_of_start ℕ c.args.self.now c.args.method c.in-Some.free.number c.args.body
     c.in_ok-bytes.bytes.items c.start.result is written c.start.ensures.refused c.start.ensures.ok
 
 pub returns-clause-at_once : goal.returns-clause-at_once
 returns-clause-at_once g c =
-    let is : chosen c.args.self.now ≡ Some c.in-Some.number = search rules in
-    let written : first_message c.args.self.now c.args.method c.in-Some.number c.args.body
+    let is : chosen c.args.self.now ≡ Some c.in-Some.free.number = search rules in
+    let written : first_message c.args.self.now c.args.method c.in-Some.free.number c.args.body
     ≡ Ok c.in_ok-bytes.bytes.items = search rules in
-    told_at_once ℕ c.args.self.now c.args.method c.in-Some.number c.args.body
+    told_at_once ℕ c.args.self.now c.args.method c.in-Some.free.number c.args.body
     c.in_ok-bytes.bytes.items c.start.result is written

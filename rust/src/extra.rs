@@ -85,19 +85,8 @@ pub use crate::exported::stun_extra::unknown::{
 /// # Ok::<(), StunWriteError>(())
 /// ```
 pub mod attribute {
-    pub use crate::address::{
-        AlternateServer, MappedAddress, OtherAddress, ResponseOrigin, XorPeerAddress,
-        XorRelayedAddress,
-    };
-    pub use crate::bytes::{AccessToken, Data, MobilityTicket, Padding};
-    pub use crate::exported::stun_extra::attribute::{
-        AdditionalAddressFamily, AddressFamily, ChangeRequest, ChannelNumber, DOMAIN_LIMIT,
-        DontFragment, EvenPort, RequestedAddressFamily, RequestedTransport, ReservationToken,
-        ResponsePort, UseCandidate,
-    };
-    pub use crate::exported::stun_extra::unknown::UnknownAttributes;
-    pub use crate::number::{ConnectionId, IceControlled, IceControlling, Lifetime, Priority};
-    pub use crate::text::{AlternateDomain, Software, ThirdPartyAuthorization};
+    pub use crate::attributes::*;
+    pub use crate::exported::stun_extra::attribute::{AddressFamily, DOMAIN_LIMIT};
 }
 
 /// Checks the FINGERPRINT of a message (RFC 8489, section 14.7).

@@ -24,7 +24,9 @@ use core::net::SocketAddr;
 /// The type is that of the sources, and has a file there, or its module is named.
 macro_rules! own_attribute {
     (@test $($row:tt)*) => {};
-    ($name:ident) => { own_attribute!($name, attribute); };
+    ($name:ident) => {
+        own_attribute!($name, attribute);
+    };
     ($name:ident, $module:ident) => {
         pub use crate::exported::stun_extra::$module::$name;
     };
@@ -245,7 +247,7 @@ table! {
         number_attribute(Lifetime, number, seconds: u32, "the number of seconds");
 
     /// XOR-PEER-ADDRESS (RFC 8656, section 18.3): the address of a peer of a TURN client, XORed
-    /// like that of [`XorMappedAddress`].
+    /// like that of [`XorMappedAddress`](crate::types::attribute::XorMappedAddress).
     ///
     /// # Examples
     ///
@@ -294,7 +296,7 @@ table! {
         bytes_attribute(Data, data, "the bytes");
 
     /// XOR-RELAYED-ADDRESS (RFC 8656, section 18.5): the address that a TURN server relays from,
-    /// XORed like that of [`XorMappedAddress`].
+    /// XORed like that of [`XorMappedAddress`](crate::types::attribute::XorMappedAddress).
     ///
     /// # Examples
     ///

@@ -42,7 +42,7 @@ macro_rules! table {
         impl AttributeType {
             $(
                 #[doc = concat!($rfc, ".")]
-                pub const $number: AttributeType = $name::TYPE;
+                pub const $number: AttributeType = AttributeType($name::TYPE.0);
             )*
         }
 

@@ -431,6 +431,27 @@ table! {
     ACCESS_TOKEN, "ACCESS-TOKEN (RFC 7635, section 6.2)":
         bytes_attribute(AccessToken, token, "the token");
 
+    /// ECN-CHECK (RFC 6679, section 7.2.2): the ECN field that a request arrived with, which its
+    /// response echoes. The lowest bit is 1 if the two bits above it are that field. All other bits
+    /// are reserved: write zeros, and ignore them when you read.
+    ///
+    /// # Examples
+    ///
+    /// ```
+    /// use seatcrane_stun::extra::attribute::EcnCheck;
+    /// use seatcrane_stun::types::message::{Message, StunParseError};
+    ///
+    /// /// Returns the ECN field that the request had when it arrived, if the response says it.
+    /// fn echoed(success: &Message<'_>) -> Result<Option<u32>, StunParseError> {
+    ///     let bits = success.attribute::<EcnCheck>()?.bits();
+    ///     Ok((bits & 1 == 1).then_some(bits >> 1 & 3))
+    /// }
+    /// # let success = b"\x01\x01\0\x08\x21\x12\xa4\x42 any 12 byte\x80\x2d\0\x04\0\0\0\x05";
+    /// # assert_eq!(echoed(&Message::from_bytes(success).unwrap()), Ok(Some(2)));
+    /// ```
+    ECN_CHECK, "ECN-CHECK (RFC 6679, section 7.2.2)":
+        number_attribute(EcnCheck, number, bits: u32, "the 32 bits");
+
     // NAT behavior discovery (RFC 5780, section 7).
 
     CHANGE_REQUEST, "CHANGE-REQUEST (RFC 5780, section 7.2)":

@@ -291,6 +291,8 @@ typedef enum stunp_attribute_type {
     /* third-party authorization (RFC 7635, section 6) */
     STUNP_ACCESS_TOKEN = 0x001b,
     STUNP_THIRD_PARTY_AUTHORIZATION = 0x802e,
+    /* ECN (RFC 6679, section 7.2.2) */
+    STUNP_ECN_CHECK = 0x802d,
     /* NAT behavior discovery (RFC 5780, section 7) */
     STUNP_CHANGE_REQUEST = 0x0003,
     STUNP_PADDING = 0x0026,

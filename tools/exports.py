@@ -208,14 +208,14 @@ def compare_numbers(header):
     declared = {name: int(value, 0) for name, value
                 in re.findall(r"\bSTUNP_(\w+) = (0x\w+|\d+)", header)}
     # Attribute types by the definitions that the sources are proved to meet.
-    types = dict(re.findall(r"(?m)^([A-Z_0-9]+) = (0x[0-9A-F]{4})$",
-                            read("crates/stun_base/specs/Attributes.antt",
-                                 "crates/stun_extra/specs/AttributeTypes.antt")))
-    types = {name: number(value) for name, value in types.items()}
-    listed = {name: value for name, value in declared.items() if re.search(
-        rf"STUNP_{name} = 0x", header)}
-    compare("attribute type", listed, types)
-    compare("definition of an attribute type", types, listed)
+    core, further = ({name: number(value) for name, value in re.findall(
+        r"(?m)^([A-Z_0-9]+) = (0x[0-9A-F]{4})$", read(f"crates/{path}.antt"))}
+        for path in ("stun_base/specs/Attributes", "stun_extra/specs/AttributeTypes"))
+    listed = {name: value for name, value in declared.items() if f"STUNP_{name} = 0x" in header}
+    compare("attribute type", listed, core | further)
+    compare("definition of an attribute type", core | further, listed)
+    rows = dict.fromkeys(re.findall(r"(?m)^    (\w+), \"", read("rust/src/attributes.rs")), True)
+    compare("row of an attribute", dict.fromkeys(further, True), rows)
     methods = dict(re.findall(r"const (\w+): (?:u16|Method) = (?:Method\()?(0x\w+)",
                               read("crates/stun_base/src/wire/message_type.rt",
                                    "crates/stun_extra/src/turn.rt")))

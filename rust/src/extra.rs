@@ -58,8 +58,8 @@ pub use crate::exported::stun_extra::unknown::{
 };
 
 /// Further attributes: of STUN (RFC 8489, section 14), of ICE (RFC 8445, section 16.1), of TURN
-/// (RFC 8656, section 18; RFC 6062; RFC 8016), of third-party authorization (RFC 7635), and of NAT
-/// behavior discovery (RFC 5780, section 7).
+/// (RFC 8656, section 18; RFC 6062; RFC 8016), of third-party authorization (RFC 7635), of NAT
+/// behavior discovery (RFC 5780, section 7), and of other RFCs, which their pages name.
 ///
 /// Add them with [`add_attribute`](crate::types::prelude::MessageWriteExt::add_attribute), and
 /// parse them with [`Message::attribute`].
@@ -85,19 +85,10 @@ pub use crate::exported::stun_extra::unknown::{
 /// # Ok::<(), StunWriteError>(())
 /// ```
 pub mod attribute {
-    pub use crate::address::{
-        AlternateServer, MappedAddress, OtherAddress, ResponseOrigin, XorPeerAddress,
-        XorRelayedAddress,
-    };
-    pub use crate::bytes::{AccessToken, Data, MobilityTicket, Padding};
+    pub use crate::attributes::*;
     pub use crate::exported::stun_extra::attribute::{
-        AdditionalAddressFamily, AddressFamily, AlgorithmEntries, AlgorithmEntry, AlgorithmList,
-        ChangeRequest, ChannelNumber, DOMAIN_LIMIT, DontFragment, EvenPort, RequestedAddressFamily,
-        RequestedTransport, ReservationToken, ResponsePort, UseCandidate,
+        AddressFamily, AlgorithmEntries, AlgorithmEntry, AlgorithmList, DOMAIN_LIMIT,
     };
-    pub use crate::exported::stun_extra::unknown::UnknownAttributes;
-    pub use crate::number::{ConnectionId, IceControlled, IceControlling, Lifetime, Priority};
-    pub use crate::text::{AlternateDomain, Software, ThirdPartyAuthorization};
 }
 
 /// Checks the FINGERPRINT of a message (RFC 8489, section 14.7).

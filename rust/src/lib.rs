@@ -31,6 +31,7 @@ extern crate std;
 
 pub mod agent;
 mod address;
+mod attributes;
 pub mod auth;
 mod bytes;
 mod copies;

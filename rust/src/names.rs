@@ -10,63 +10,7 @@ use crate::exported::stun_types::message::{
 use alloc::vec::Vec;
 use core::fmt;
 
-/// Further registered types. Their attributes are in [`extra::attribute`](crate::extra::attribute).
 impl AttributeType {
-    /// MAPPED-ADDRESS (RFC 8489, section 14.1).
-    pub const MAPPED_ADDRESS: AttributeType = AttributeType(0x0001);
-    /// CHANGE-REQUEST (RFC 5780, section 7.2).
-    pub const CHANGE_REQUEST: AttributeType = AttributeType(0x0003);
-    /// UNKNOWN-ATTRIBUTES (section 14.13).
-    pub const UNKNOWN_ATTRIBUTES: AttributeType = AttributeType(0x000A);
-    /// CHANNEL-NUMBER (RFC 8656, section 18.1).
-    pub const CHANNEL_NUMBER: AttributeType = AttributeType(0x000C);
-    /// LIFETIME (RFC 8656, section 18.2).
-    pub const LIFETIME: AttributeType = AttributeType(0x000D);
-    /// XOR-PEER-ADDRESS (RFC 8656, section 18.3).
-    pub const XOR_PEER_ADDRESS: AttributeType = AttributeType(0x0012);
-    /// DATA (RFC 8656, section 18.4).
-    pub const DATA: AttributeType = AttributeType(0x0013);
-    /// XOR-RELAYED-ADDRESS (RFC 8656, section 18.5).
-    pub const XOR_RELAYED_ADDRESS: AttributeType = AttributeType(0x0016);
-    /// REQUESTED-ADDRESS-FAMILY (RFC 8656, section 18.6).
-    pub const REQUESTED_ADDRESS_FAMILY: AttributeType = AttributeType(0x0017);
-    /// EVEN-PORT (RFC 8656, section 18.7).
-    pub const EVEN_PORT: AttributeType = AttributeType(0x0018);
-    /// REQUESTED-TRANSPORT (RFC 8656, section 18.8).
-    pub const REQUESTED_TRANSPORT: AttributeType = AttributeType(0x0019);
-    /// DONT-FRAGMENT (RFC 8656, section 18.9).
-    pub const DONT_FRAGMENT: AttributeType = AttributeType(0x001A);
-    /// ACCESS-TOKEN (RFC 7635, section 6.2).
-    pub const ACCESS_TOKEN: AttributeType = AttributeType(0x001B);
-    /// RESERVATION-TOKEN (RFC 8656, section 18.10).
-    pub const RESERVATION_TOKEN: AttributeType = AttributeType(0x0022);
-    /// PRIORITY (RFC 8445, section 16.1).
-    pub const PRIORITY: AttributeType = AttributeType(0x0024);
-    /// USE-CANDIDATE (RFC 8445, section 16.1).
-    pub const USE_CANDIDATE: AttributeType = AttributeType(0x0025);
-    /// PADDING (RFC 5780, section 7.6).
-    pub const PADDING: AttributeType = AttributeType(0x0026);
-    /// RESPONSE-PORT (RFC 5780, section 7.5).
-    pub const RESPONSE_PORT: AttributeType = AttributeType(0x0027);
-    /// CONNECTION-ID (RFC 6062, section 6.2.1).
-    pub const CONNECTION_ID: AttributeType = AttributeType(0x002A);
-    /// SOFTWARE (RFC 8489, section 14.14).
-    pub const SOFTWARE: AttributeType = AttributeType(0x8022);
-    /// ALTERNATE-SERVER (section 14.15).
-    pub const ALTERNATE_SERVER: AttributeType = AttributeType(0x8023);
-    /// ICE-CONTROLLED (RFC 8445, section 16.1).
-    pub const ICE_CONTROLLED: AttributeType = AttributeType(0x8029);
-    /// ICE-CONTROLLING (RFC 8445, section 16.1).
-    pub const ICE_CONTROLLING: AttributeType = AttributeType(0x802A);
-    /// RESPONSE-ORIGIN (RFC 5780, section 7.3).
-    pub const RESPONSE_ORIGIN: AttributeType = AttributeType(0x802B);
-    /// OTHER-ADDRESS (RFC 5780, section 7.4).
-    pub const OTHER_ADDRESS: AttributeType = AttributeType(0x802C);
-    /// THIRD-PARTY-AUTHORIZATION (RFC 7635, section 6.1).
-    pub const THIRD_PARTY_AUTHORIZATION: AttributeType = AttributeType(0x802E);
-    /// MOBILITY-TICKET (RFC 8016, section 3.3).
-    pub const MOBILITY_TICKET: AttributeType = AttributeType(0x8030);
-
     /// Returns `true` if a receiver that does not know this type must reject the message (RFC 8489,
     /// section 14). [`has_unknown`](crate::extra::has_unknown) tests a whole message.
     ///

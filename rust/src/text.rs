@@ -1,7 +1,6 @@
 //! Attributes whose value is a text, each as a type of its own.
 
 use crate::copies::copy;
-use crate::exported::stun_extra::attribute as further;
 use crate::exported::stun_types::attribute::{
     self as proved, Attribute, AttributeFromRaw, AttributeStaticType, AttributeType, RawAttribute,
 };
@@ -11,11 +10,19 @@ use crate::newtype::forward_attribute;
 use core::fmt;
 
 macro_rules! text_attribute {
-    ($(#[doc = $doc:literal])* $name:ident, $proved:ident::$core:ident, $text:ident,
-        $limit:literal) => {
+    (@test $name:ident, $proved:ident, $text:ident, $limit:literal) => {
+        let attribute = $name::new("a text").unwrap();
+        assert_eq!(attribute.$text(), "a text");
+        stands(&attribute, b"a text", &[&[0xFF]]);
+        let limit: usize = $limit.parse().unwrap();
+        let text = alloc::string::String::from_utf8(alloc::vec![b'x'; limit + 1]).unwrap();
+        assert!($name::new(&text[1..]).is_ok());
+        assert_eq!($name::new(&text), Err(StunWriteError::TooLarge));
+    };
+    ($(#[doc = $doc:literal])* $name:ident, $proved:ident, $text:ident, $limit:literal) => {
         $(#[doc = $doc])*
         #[derive(PartialEq, Eq)]
-        pub struct $name<'a>($proved::$core<'a>);
+        pub struct $name<'a>($proved::$name<'a>);
 
         impl<'a> $name<'a> {
             /// Creates the attribute from a text, which is used as it is.
@@ -24,7 +31,7 @@ macro_rules! text_attribute {
             ///
             #[doc = concat!("- `TooLarge`: the text has more than ", $limit, " bytes.")]
             pub fn new(text: &'a str) -> Result<$name<'a>, StunWriteError> {
-                $proved::$core::new(text).map($name)
+                $proved::$name::new(text).map($name)
             }
 
             /// Returns the text.
@@ -68,9 +75,10 @@ macro_rules! text_attribute {
             }
         }
 
-        forward_attribute!($name, $proved::$core<'a>, $name<'a>, 'a);
+        forward_attribute!($name, $proved::$name<'a>, $name<'a>, 'a);
     };
 }
+pub(crate) use text_attribute;
 
 text_attribute!(
     /// USERNAME (RFC 8489, section 14.3): the name of a user, UTF-8 of at most 513 bytes.
@@ -91,7 +99,7 @@ text_attribute!(
     /// # Ok::<(), StunWriteError>(())
     /// ```
     Username,
-    proved::Username,
+    proved,
     username,
     "513"
 );
@@ -109,7 +117,7 @@ text_attribute!(
     /// assert_eq!(realm.to_string(), "example.org");
     /// ```
     Realm,
-    proved::Realm,
+    proved,
     realm,
     "763"
 );
@@ -130,80 +138,7 @@ text_attribute!(
     /// assert!(NonceSecurityBits::from_nonce(nonce.nonce()).is_some());
     /// ```
     Nonce,
-    proved::Nonce,
+    proved,
     nonce,
     "763"
-);
-
-text_attribute!(
-    /// SOFTWARE (RFC 8489, section 14.14): a description of the software that the sender uses,
-    /// UTF-8 of at most 763 bytes.
-    ///
-    /// # Examples
-    ///
-    /// ```
-    /// use seatcrane_stun::extra::attribute::Software;
-    /// use seatcrane_stun::types::message::*;
-    /// use seatcrane_stun::types::prelude::*;
-    ///
-    /// # let id = TransactionId::from(*b"any 12 bytes");
-    /// let mut message = Message::builder_request_with_id(BINDING, id, MessageWriteVec::new());
-    /// message.add_attribute(&Software::new("example 1.0")?)?;
-    /// let bytes = message.finish();
-    ///
-    /// let message = Message::from_bytes(&bytes).unwrap();
-    /// assert_eq!(message.attribute::<Software>().unwrap().software(), "example 1.0");
-    /// # Ok::<(), StunWriteError>(())
-    /// ```
-    Software,
-    further::Software,
-    software,
-    "763"
-);
-
-text_attribute!(
-    /// ALTERNATE-DOMAIN (RFC 8489, section 14.16): the domain name of the server in
-    /// ALTERNATE-SERVER, which its TLS certificate must contain. It has at most 255 bytes. It is
-    /// not checked to be a domain name.
-    ///
-    /// # Examples
-    ///
-    /// ```
-    /// use seatcrane_stun::extra::attribute::AlternateDomain;
-    ///
-    /// let domain = AlternateDomain::new("stun.example.org").unwrap();
-    /// assert_eq!(domain.domain(), "stun.example.org");
-    /// assert!(AlternateDomain::new(&"x".repeat(256)).is_err());
-    /// ```
-    AlternateDomain,
-    further::AlternateDomain,
-    domain,
-    "255"
-);
-
-text_attribute!(
-    /// THIRD-PARTY-AUTHORIZATION (RFC 7635, section 6.1): the name of the server, with which a
-    /// client asks an authorization server for a token.
-    ///
-    /// # Examples
-    ///
-    /// ```
-    /// use seatcrane_stun::extra::attribute::ThirdPartyAuthorization;
-    /// use seatcrane_stun::types::message::*;
-    /// use seatcrane_stun::types::prelude::*;
-    ///
-    /// # let id = TransactionId::from(*b"any 12 bytes");
-    /// let mut message = Message::builder_request_with_id(BINDING, id, MessageWriteVec::new());
-    /// message.add_attribute(&ThirdPartyAuthorization::new("turn.example.org")?)?;
-    /// let bytes = message.finish();
-    ///
-    /// let message = Message::from_bytes(&bytes).unwrap();
-    /// let third = message.attribute::<ThirdPartyAuthorization>().unwrap();
-    /// assert_eq!(third.server_name(), "turn.example.org");
-    /// # Ok::<(), StunWriteError>(())
-    /// ```
-    ThirdPartyAuthorization,
-    further::ThirdPartyAuthorization,
-    server_name,
-    "65535"
 );

@@ -12,6 +12,7 @@ pub use crate::ported::{ICE, STUN, TURN};
 /// Attributes: their types, their values and their raw form.
 pub mod attribute {
     pub use crate::address::XorMappedAddress;
+    pub use crate::attributes::Software;
     pub use crate::exported::stun_types::attribute::{
         ATTRIBUTE_HEADER_LENGTH, Attribute, AttributeFromRaw, AttributeStaticType, AttributeType,
         ErrorCode, ErrorCodeBuilder, MessageIntegrity, MessageIntegritySha256, PasswordAlgorithm,
@@ -22,7 +23,7 @@ pub mod attribute {
     pub use crate::extra::attribute::*;
     pub use crate::names::AttributeExt;
     pub use crate::ported::DynAttribute;
-    pub use crate::text::{Nonce, Realm, Software, Username};
+    pub use crate::text::{Nonce, Realm, Username};
 }
 
 /// Messages: parsing, verifying, building and signing them, and the credentials for this.

@@ -1,6 +1,6 @@
 -- The types of attributes: of STUN (RFC 8489, section 18.3), of ICE (RFC 8445, section 16.1), of
--- TURN (RFC 8656, section 18; RFC 6062; RFC 8016), of third-party authorization (RFC 7635), and of
--- NAT behavior discovery (RFC 5780, section 7).
+-- TURN (RFC 8656, section 18; RFC 6062; RFC 8016), of third-party authorization (RFC 7635), of ECN
+-- (RFC 6679), and of NAT behavior discovery (RFC 5780, section 7).
 use Rattle.std.specs.Prelude.{ℕ}
 
 -- MAPPED-ADDRESS (RFC 8489, section 14.1)
@@ -98,6 +98,10 @@ ACCESS_TOKEN = 0x001B
 -- THIRD-PARTY-AUTHORIZATION (RFC 7635, section 6.1)
 abbrev pub THIRD_PARTY_AUTHORIZATION : ℕ
 THIRD_PARTY_AUTHORIZATION = 0x802E
+
+-- ECN-CHECK (RFC 6679, section 7.2.2)
+abbrev pub ECN_CHECK : ℕ
+ECN_CHECK = 0x802D
 
 -- CHANGE-REQUEST (RFC 5780, section 7.2)
 abbrev pub CHANGE_REQUEST : ℕ

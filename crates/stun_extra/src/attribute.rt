@@ -1,13 +1,13 @@
 //! Further attributes: of STUN (RFC 8489, section 14), of ICE (RFC 8445, section 16.1), of TURN
-//! (RFC 8656, section 18; RFC 6062; RFC 8016), of third-party authorization (RFC 7635), and of NAT
-//! behavior discovery (RFC 5780, section 7).
+//! (RFC 8656, section 18; RFC 6062; RFC 8016), of third-party authorization (RFC 7635), of ECN (RFC
+//! 6679), and of NAT behavior discovery (RFC 5780, section 7).
 //!
 //! Attributes whose values have the same form share a type, such as [`Number`], and are its aliases
 //! below. The others have a file each.
 ghost use Rattle.std.specs.Prelude.{◌≡◌, ◌≤◌, length};
 ghost use Rattle.std.specs.Net.Socket.{IsPlainSocket, socket_ip, socket_port};
 ghost use Rattle.stun_extra.specs.AttributeTypes.{ACCESS_TOKEN, ALTERNATE_DOMAIN};
-ghost use Rattle.stun_extra.specs.AttributeTypes.{ALTERNATE_SERVER, CONNECTION_ID, DATA};
+ghost use Rattle.stun_extra.specs.AttributeTypes.{ALTERNATE_SERVER, CONNECTION_ID, DATA, ECN_CHECK};
 ghost use Rattle.stun_extra.specs.AttributeTypes.{ICE_CONTROLLED, ICE_CONTROLLING, LIFETIME};
 ghost use Rattle.stun_extra.specs.AttributeTypes.{MAPPED_ADDRESS, MOBILITY_TICKET, OTHER_ADDRESS};
 ghost use Rattle.stun_extra.specs.AttributeTypes.{PADDING, PRIORITY, RESPONSE_ORIGIN, SOFTWARE};
@@ -366,6 +366,22 @@ impl<'a> AttributeStaticType for AccessToken<'a> {
 
     fn static_type() -> AttributeType
         ensures { result.0 ≡ ACCESS_TOKEN }
+    {
+        Self::TYPE
+    }
+}
+
+/// ECN-CHECK (RFC 6679, section 7.2.2): the ECN field that a request arrived with, which its
+/// response echoes in two bits. The lowest bit is 1 if they are valid, and all others are reserved.
+pub type EcnCheck = Number<0x802D>;
+
+impl AttributeStaticType for EcnCheck {
+    const TYPE: AttributeType = AttributeType(0x802D);
+
+    ghost static_kind = { ECN_CHECK };
+
+    fn static_type() -> AttributeType
+        ensures { result.0 ≡ ECN_CHECK }
     {
         Self::TYPE
     }

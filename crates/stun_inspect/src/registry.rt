@@ -157,7 +157,7 @@ fn optional(number: u16) -> Option<Registered>
         0x802A => entry("ICE-CONTROLLING", Form::TieBreaker),
         0x802B => entry("RESPONSE-ORIGIN", Form::Address),
         0x802C => entry("OTHER-ADDRESS", Form::Address),
-        0x802D => entry("ECN-CHECK STUN", Form::Bytes),
+        0x802D => entry("ECN-CHECK STUN", Form::Number),
         0x802E => entry("THIRD-PARTY-AUTHORIZATION", Form::Text),
         0x8030 => entry("MOBILITY-TICKET", Form::Bytes),
         0xC000 => entry("CISCO-STUN-FLOWDATA", Form::Bytes),

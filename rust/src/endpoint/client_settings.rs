@@ -1,6 +1,7 @@
 //! The settings of a client.
 
 use super::client::Client;
+use crate::attributes::TYPES;
 use crate::copies::{granted, text};
 use crate::credentials::{LongTermCredentials, ShortTermCredentials};
 use crate::exported::stun_agent::agent::StunAgent;
@@ -14,6 +15,7 @@ use crate::exported::stun_types::attribute::{AttributeType, Username};
 use crate::exported::stun_types::message::{IntegrityAlgorithm, IntegrityKey, PreparedKey};
 use crate::kit::alloc::Global;
 use crate::kit::prelude::Vec as KitVec;
+use crate::ported::STUN;
 use crate::types::TransportType;
 use alloc::string::String;
 use alloc::vec::Vec;
@@ -188,7 +190,7 @@ impl ClientBuilder {
             plan: Retransmission::default(),
             challenges: 6,
             accepts_unsigned: false,
-            understood: UNDERSTOOD.to_vec(),
+            understood: understood(),
             software: None,
             has_fingerprint: false,
         }
@@ -337,33 +339,8 @@ impl ClientBuilder {
 }
 
 /// The types that must be understood (below 0x8000) and that this crate can read.
-const UNDERSTOOD: [AttributeType; 28] = [
-    AttributeType(0x0001),
-    AttributeType(0x0003),
-    AttributeType(0x0006),
-    AttributeType(0x0008),
-    AttributeType(0x0009),
-    AttributeType(0x000A),
-    AttributeType(0x000C),
-    AttributeType(0x000D),
-    AttributeType(0x0012),
-    AttributeType(0x0013),
-    AttributeType(0x0014),
-    AttributeType(0x0015),
-    AttributeType(0x0016),
-    AttributeType(0x0017),
-    AttributeType(0x0018),
-    AttributeType(0x0019),
-    AttributeType(0x001A),
-    AttributeType(0x001B),
-    AttributeType(0x001C),
-    AttributeType(0x001D),
-    AttributeType(0x001E),
-    AttributeType(0x0020),
-    AttributeType(0x0022),
-    AttributeType(0x0024),
-    AttributeType(0x0025),
-    AttributeType(0x0026),
-    AttributeType(0x0027),
-    AttributeType(0x002A),
-];
+fn understood() -> Vec<AttributeType> {
+    let further = TYPES.iter().filter(|kind| kind.comprehension_required());
+    let further = further.filter(|kind| !STUN.contains(kind));
+    STUN.iter().chain(further).copied().collect()
+}

@@ -1,0 +1,556 @@
+//! The table of the further attributes. Each row has the number's name and the RFC, the form, which
+//! is a macro, and what the form needs: the type, which gets its page from the comment above the
+//! row, and how its value is called. The numbers are those of the proved sources.
+//!
+//! From it are made the types of [`extra::attribute`](crate::extra::attribute), the constants of
+//! `AttributeType`, the list of those that a client understands, and a test of each row.
+
+use crate::address::{hidden_address, plain_address};
+use crate::bytes::bytes_attribute;
+use crate::copies::copy;
+use crate::exported::stun_extra::attribute as further;
+use crate::exported::stun_types::attribute::{
+    Attribute, AttributeFromRaw, AttributeStaticType, AttributeType, RawAttribute,
+};
+use crate::exported::stun_types::message::{StunParseError, StunWriteError};
+use crate::exported::stun_types::prelude::MessageWrite;
+use crate::newtype::forward_attribute;
+use crate::number::number_attribute;
+use crate::text::text_attribute;
+use crate::transaction::TransactionId;
+use core::fmt;
+use core::net::SocketAddr;
+
+/// The type is that of the sources, and has a file there, or its module is named.
+macro_rules! own_attribute {
+    (@test $($row:tt)*) => {};
+    ($name:ident) => {
+        own_attribute!($name, attribute);
+    };
+    ($name:ident, $module:ident) => {
+        pub use crate::exported::stun_extra::$module::$name;
+    };
+}
+
+macro_rules! table {
+    ($($(#[doc = $doc:literal])* $number:ident, $rfc:literal:
+        $form:ident($name:ident $($row:tt)*);)*) => {
+        $($form!($(#[doc = $doc])* $name $($row)*);)*
+
+        /// Further registered types. Their attributes are in
+        /// [`extra::attribute`](crate::extra::attribute).
+        impl AttributeType {
+            $(
+                #[doc = concat!($rfc, ".")]
+                pub const $number: AttributeType = AttributeType($name::TYPE.0);
+            )*
+        }
+
+        /// The types of all rows.
+        pub(crate) const TYPES: &[AttributeType] = &[$($name::TYPE),*];
+
+        #[cfg(test)]
+        #[test]
+        fn each_row_is_written_and_read() {
+            $($form!(@test $name $($row)*);)*
+        }
+    };
+}
+
+table! {
+    // STUN (RFC 8489, section 14).
+
+    /// MAPPED-ADDRESS (RFC 8489, section 14.1): the address from which a request came, not XORed.
+    ///
+    /// # Examples
+    ///
+    /// ```
+    /// use seatcrane_stun::extra::attribute::MappedAddress;
+    /// use seatcrane_stun::types::message::Message;
+    /// use std::net::SocketAddr;
+    ///
+    /// /// Returns the address that a server saw, also that of an old server.
+    /// fn mapped(success: &Message<'_>) -> Option<SocketAddr> {
+    ///     let old = || Some(success.attribute::<MappedAddress>().ok()?.addr());
+    ///     success.xor_mapped_address().ok().or_else(old)
+    /// }
+    /// # let success = b"\x01\x01\0\x0c\x21\x12\xa4\x42 any 12 byte\
+    /// #                 \0\x01\0\x08\0\x01\x0d\x96\xc0\0\x02\x01";
+    /// # let success = Message::from_bytes(success).unwrap();
+    /// # assert_eq!(mapped(&success), Some("192.0.2.1:3478".parse().unwrap()));
+    /// ```
+    MAPPED_ADDRESS, "MAPPED-ADDRESS (RFC 8489, section 14.1)":
+        plain_address(MappedAddress, addr);
+
+    UNKNOWN_ATTRIBUTES, "UNKNOWN-ATTRIBUTES (RFC 8489, section 14.13)":
+        own_attribute(UnknownAttributes, unknown);
+
+    /// SOFTWARE (RFC 8489, section 14.14): a description of the software that the sender uses,
+    /// UTF-8 of at most 763 bytes.
+    ///
+    /// # Examples
+    ///
+    /// ```
+    /// use seatcrane_stun::extra::attribute::Software;
+    /// use seatcrane_stun::types::message::*;
+    /// use seatcrane_stun::types::prelude::*;
+    ///
+    /// # let id = TransactionId::from(*b"any 12 bytes");
+    /// let mut message = Message::builder_request_with_id(BINDING, id, MessageWriteVec::new());
+    /// message.add_attribute(&Software::new("example 1.0")?)?;
+    /// let bytes = message.finish();
+    ///
+    /// let message = Message::from_bytes(&bytes).unwrap();
+    /// assert_eq!(message.attribute::<Software>().unwrap().software(), "example 1.0");
+    /// # Ok::<(), StunWriteError>(())
+    /// ```
+    SOFTWARE, "SOFTWARE (RFC 8489, section 14.14)":
+        text_attribute(Software, further, software, "763");
+
+    /// ALTERNATE-SERVER (RFC 8489, section 14.15): the server that a client should try instead.
+    ///
+    /// # Examples
+    ///
+    /// ```
+    /// use seatcrane_stun::extra::attribute::AlternateServer;
+    /// use seatcrane_stun::types::message::{Message, StunParseError};
+    /// use std::net::SocketAddr;
+    ///
+    /// /// Returns the server that a 300 names.
+    /// fn other_server(error: &Message<'_>) -> Result<SocketAddr, StunParseError> {
+    ///     Ok(error.attribute::<AlternateServer>()?.server())
+    /// }
+    /// # let error = b"\x01\x11\0\x0c\x21\x12\xa4\x42 any 12 byte\
+    /// #               \x80\x23\0\x08\0\x01\x0d\x96\xc0\0\x02\x01";
+    /// # let error = Message::from_bytes(error).unwrap();
+    /// # assert_eq!(other_server(&error), Ok("192.0.2.1:3478".parse().unwrap()));
+    /// ```
+    ALTERNATE_SERVER, "ALTERNATE-SERVER (RFC 8489, section 14.15)":
+        plain_address(AlternateServer, server);
+
+    /// ALTERNATE-DOMAIN (RFC 8489, section 14.16): the domain name of the server in
+    /// ALTERNATE-SERVER, which its TLS certificate must contain. It has at most 255 bytes. It is
+    /// not checked to be a domain name.
+    ///
+    /// # Examples
+    ///
+    /// ```
+    /// use seatcrane_stun::extra::attribute::AlternateDomain;
+    ///
+    /// let domain = AlternateDomain::new("stun.example.org").unwrap();
+    /// assert_eq!(domain.domain(), "stun.example.org");
+    /// assert!(AlternateDomain::new(&"x".repeat(256)).is_err());
+    /// ```
+    ALTERNATE_DOMAIN, "ALTERNATE-DOMAIN (RFC 8489, section 14.16)":
+        text_attribute(AlternateDomain, further, domain, "255");
+
+    // ICE (RFC 8445, section 16.1).
+
+    /// PRIORITY (RFC 8445, section 16.1): the priority of a peer-reflexive candidate that this
+    /// check may discover.
+    ///
+    /// # Examples
+    ///
+    /// ```
+    /// use seatcrane_stun::extra::attribute::Priority;
+    /// use seatcrane_stun::types::message::*;
+    /// use seatcrane_stun::types::prelude::*;
+    ///
+    /// # let id = TransactionId::from(*b"any 12 bytes");
+    /// let mut message = Message::builder_request_with_id(BINDING, id, MessageWriteVec::new());
+    /// message.add_attribute(&Priority::new(0x6e00_01ff))?;
+    /// let bytes = message.finish();
+    ///
+    /// let message = Message::from_bytes(&bytes).unwrap();
+    /// assert_eq!(message.attribute::<Priority>().unwrap().priority(), 0x6e00_01ff);
+    /// # Ok::<(), StunWriteError>(())
+    /// ```
+    PRIORITY, "PRIORITY (RFC 8445, section 16.1)":
+        number_attribute(Priority, number, priority: u32, "the priority");
+
+    USE_CANDIDATE, "USE-CANDIDATE (RFC 8445, section 16.1)":
+        own_attribute(UseCandidate);
+
+    /// ICE-CONTROLLED (RFC 8445, section 16.1): the sender is in the controlled role. The
+    /// tie-breaker, a random number of 64 bits, resolves a role conflict.
+    ///
+    /// # Examples
+    ///
+    /// ```
+    /// use seatcrane_stun::extra::attribute::IceControlled;
+    /// use seatcrane_stun::types::message::*;
+    /// use seatcrane_stun::types::prelude::*;
+    ///
+    /// # let id = TransactionId::from(*b"any 12 bytes");
+    /// let mut message = Message::builder_request_with_id(BINDING, id, MessageWriteVec::new());
+    /// message.add_attribute(&IceControlled::new(0x0123_4567_89ab_cdef))?;
+    /// let bytes = message.finish();
+    ///
+    /// let message = Message::from_bytes(&bytes).unwrap();
+    /// let role = message.attribute::<IceControlled>().unwrap();
+    /// assert_eq!(role.tie_breaker(), 0x0123_4567_89ab_cdef);
+    /// # Ok::<(), StunWriteError>(())
+    /// ```
+    ICE_CONTROLLED, "ICE-CONTROLLED (RFC 8445, section 16.1)":
+        number_attribute(IceControlled, tie_breaker, tie_breaker: u64, "the tie-breaker");
+
+    /// ICE-CONTROLLING (RFC 8445, section 16.1): the sender is in the controlling role. The
+    /// tie-breaker, a random number of 64 bits, resolves a role conflict.
+    ///
+    /// # Examples
+    ///
+    /// ```
+    /// use seatcrane_stun::extra::attribute::IceControlling;
+    /// use seatcrane_stun::types::message::*;
+    /// use seatcrane_stun::types::prelude::*;
+    ///
+    /// # let id = TransactionId::from(*b"any 12 bytes");
+    /// let mut message = Message::builder_request_with_id(BINDING, id, MessageWriteVec::new());
+    /// message.add_attribute(&IceControlling::new(0x0123_4567_89ab_cdef))?;
+    /// let bytes = message.finish();
+    ///
+    /// let message = Message::from_bytes(&bytes).unwrap();
+    /// let role = message.attribute::<IceControlling>().unwrap();
+    /// assert_eq!(role.tie_breaker(), 0x0123_4567_89ab_cdef);
+    /// # Ok::<(), StunWriteError>(())
+    /// ```
+    ICE_CONTROLLING, "ICE-CONTROLLING (RFC 8445, section 16.1)":
+        number_attribute(IceControlling, tie_breaker, tie_breaker: u64, "the tie-breaker");
+
+    // TURN (RFC 8656, section 18).
+
+    CHANNEL_NUMBER, "CHANNEL-NUMBER (RFC 8656, section 18.1)":
+        own_attribute(ChannelNumber);
+
+    /// LIFETIME (RFC 8656, section 18.2): the number of seconds after which an allocation expires
+    /// if it is not refreshed.
+    ///
+    /// # Examples
+    ///
+    /// ```
+    /// use seatcrane_stun::extra::attribute::Lifetime;
+    /// use seatcrane_stun::extra::turn::TurnMethod;
+    /// use seatcrane_stun::types::message::*;
+    /// use seatcrane_stun::types::prelude::*;
+    ///
+    /// # let id = TransactionId::from(*b"any 12 bytes");
+    /// let method = TurnMethod::Refresh.method();
+    /// let mut message = Message::builder_request_with_id(method, id, MessageWriteVec::new());
+    /// message.add_attribute(&Lifetime::new(0))?; // ends the allocation
+    /// let bytes = message.finish();
+    ///
+    /// let message = Message::from_bytes(&bytes).unwrap();
+    /// assert_eq!(message.attribute::<Lifetime>().unwrap().seconds(), 0);
+    /// # Ok::<(), StunWriteError>(())
+    /// ```
+    LIFETIME, "LIFETIME (RFC 8656, section 18.2)":
+        number_attribute(Lifetime, number, seconds: u32, "the number of seconds");
+
+    /// XOR-PEER-ADDRESS (RFC 8656, section 18.3): the address of a peer of a TURN client, XORed
+    /// like that of [`XorMappedAddress`](crate::types::attribute::XorMappedAddress).
+    ///
+    /// # Examples
+    ///
+    /// A TURN client asks for permission to exchange data with a peer:
+    ///
+    /// ```
+    /// use seatcrane_stun::extra::attribute::XorPeerAddress;
+    /// use seatcrane_stun::extra::turn::TurnMethod;
+    /// use seatcrane_stun::types::message::*;
+    /// use seatcrane_stun::types::prelude::*;
+    ///
+    /// # let id = TransactionId::from(*b"any 12 bytes");
+    /// # let peer = "192.0.2.15:9001".parse().unwrap();
+    /// let permission = TurnMethod::CreatePermission.method();
+    /// let mut request = Message::builder_request_with_id(permission, id, MessageWriteVec::new());
+    /// request.add_attribute(&XorPeerAddress::new(peer, id))?;
+    /// # Ok::<(), StunWriteError>(())
+    /// ```
+    XOR_PEER_ADDRESS, "XOR-PEER-ADDRESS (RFC 8656, section 18.3)":
+        hidden_address(XorPeerAddress, further);
+
+    /// DATA (RFC 8656, section 18.4): the data of a datagram to or from a peer, borrowed.
+    ///
+    /// # Examples
+    ///
+    /// ```
+    /// use seatcrane_stun::extra::attribute::{Data, XorPeerAddress};
+    /// use seatcrane_stun::extra::turn::TurnMethod;
+    /// use seatcrane_stun::types::message::*;
+    /// use seatcrane_stun::types::prelude::*;
+    ///
+    /// # let id = TransactionId::from(*b"any 12 bytes");
+    /// # let peer = "192.0.2.15:9001".parse().unwrap();
+    /// let send = TurnMethod::Send.method();
+    /// let send = MessageType::from_class_method(MessageClass::Indication, send);
+    /// let mut send = Message::builder(send, id, MessageWriteVec::new());
+    /// send.add_attribute(&XorPeerAddress::new(peer, id))?;
+    /// send.add_attribute(&Data::new(b"media"))?;
+    /// let send = send.finish();
+    ///
+    /// let send = Message::from_bytes(&send).unwrap();
+    /// assert_eq!(send.attribute::<Data>().unwrap().data(), b"media");
+    /// # Ok::<(), StunWriteError>(())
+    /// ```
+    DATA, "DATA (RFC 8656, section 18.4)":
+        bytes_attribute(Data, data, "the bytes");
+
+    /// XOR-RELAYED-ADDRESS (RFC 8656, section 18.5): the address that a TURN server relays from,
+    /// XORed like that of [`XorMappedAddress`](crate::types::attribute::XorMappedAddress).
+    ///
+    /// # Examples
+    ///
+    /// The relayed address in the success response to an Allocate request:
+    ///
+    /// ```
+    /// use seatcrane_stun::extra::attribute::XorRelayedAddress;
+    /// use seatcrane_stun::types::message::{Message, StunParseError};
+    /// use std::net::SocketAddr;
+    ///
+    /// fn relayed(success: &Message<'_>) -> Result<SocketAddr, StunParseError> {
+    ///     let relayed = success.attribute::<XorRelayedAddress>()?;
+    ///     Ok(relayed.addr(success.transaction_id()))
+    /// }
+    /// # let success = b"\x01\x03\0\x0c\x21\x12\xa4\x42 any 12 byte\
+    /// #                 \0\x16\0\x08\0\x01\xa1\x47\xe1\x12\xa6\x43";
+    /// # let success = Message::from_bytes(success).unwrap();
+    /// # assert_eq!(relayed(&success), Ok("192.0.2.1:32853".parse().unwrap()));
+    /// ```
+    XOR_RELAYED_ADDRESS, "XOR-RELAYED-ADDRESS (RFC 8656, section 18.5)":
+        hidden_address(XorRelayedAddress, further);
+
+    REQUESTED_ADDRESS_FAMILY, "REQUESTED-ADDRESS-FAMILY (RFC 8656, section 18.6)":
+        own_attribute(RequestedAddressFamily);
+
+    EVEN_PORT, "EVEN-PORT (RFC 8656, section 18.7)":
+        own_attribute(EvenPort);
+
+    REQUESTED_TRANSPORT, "REQUESTED-TRANSPORT (RFC 8656, section 18.8)":
+        own_attribute(RequestedTransport);
+
+    DONT_FRAGMENT, "DONT-FRAGMENT (RFC 8656, section 18.9)":
+        own_attribute(DontFragment);
+
+    RESERVATION_TOKEN, "RESERVATION-TOKEN (RFC 8656, section 18.10)":
+        own_attribute(ReservationToken);
+
+    ADDITIONAL_ADDRESS_FAMILY, "ADDITIONAL-ADDRESS-FAMILY (RFC 8656, section 18.11)":
+        own_attribute(AdditionalAddressFamily);
+
+    // TURN over TCP (RFC 6062) and with mobility (RFC 8016).
+
+    /// CONNECTION-ID (RFC 6062, section 6.2.1): the number of a TCP connection between a TURN
+    /// server and a peer of its client.
+    ///
+    /// # Examples
+    ///
+    /// ```
+    /// use seatcrane_stun::extra::attribute::ConnectionId;
+    /// use seatcrane_stun::types::message::*;
+    /// use seatcrane_stun::types::prelude::*;
+    ///
+    /// # let id = TransactionId::from(*b"any 12 bytes");
+    /// let mut message = Message::builder_request_with_id(BINDING, id, MessageWriteVec::new());
+    /// message.add_attribute(&ConnectionId::new(7))?;
+    /// let bytes = message.finish();
+    ///
+    /// let message = Message::from_bytes(&bytes).unwrap();
+    /// assert_eq!(message.attribute::<ConnectionId>().unwrap().connection(), 7);
+    /// # Ok::<(), StunWriteError>(())
+    /// ```
+    CONNECTION_ID, "CONNECTION-ID (RFC 6062, section 6.2.1)":
+        number_attribute(ConnectionId, number, connection: u32, "the number of the connection");
+
+    /// MOBILITY-TICKET (RFC 8016, section 3.3): the ticket by which a TURN server recognizes an
+    /// allocation when its client comes from another address. A client asks for a ticket with an
+    /// empty one.
+    ///
+    /// # Examples
+    ///
+    /// ```
+    /// use seatcrane_stun::extra::attribute::MobilityTicket;
+    /// use seatcrane_stun::types::message::*;
+    /// use seatcrane_stun::types::prelude::*;
+    ///
+    /// # let id = TransactionId::from(*b"any 12 bytes");
+    /// let mut message = Message::builder_request_with_id(BINDING, id, MessageWriteVec::new());
+    /// message.add_attribute(&MobilityTicket::new(b"opaque"))?;
+    /// let bytes = message.finish();
+    ///
+    /// let message = Message::from_bytes(&bytes).unwrap();
+    /// assert_eq!(message.attribute::<MobilityTicket>().unwrap().ticket(), b"opaque");
+    /// # Ok::<(), StunWriteError>(())
+    /// ```
+    MOBILITY_TICKET, "MOBILITY-TICKET (RFC 8016, section 3.3)":
+        bytes_attribute(MobilityTicket, ticket, "the ticket");
+
+    // Third-party authorization (RFC 7635, section 6).
+
+    /// THIRD-PARTY-AUTHORIZATION (RFC 7635, section 6.1): the name of the server, with which a
+    /// client asks an authorization server for a token.
+    ///
+    /// # Examples
+    ///
+    /// ```
+    /// use seatcrane_stun::extra::attribute::ThirdPartyAuthorization;
+    /// use seatcrane_stun::types::message::*;
+    /// use seatcrane_stun::types::prelude::*;
+    ///
+    /// # let id = TransactionId::from(*b"any 12 bytes");
+    /// let mut message = Message::builder_request_with_id(BINDING, id, MessageWriteVec::new());
+    /// message.add_attribute(&ThirdPartyAuthorization::new("turn.example.org")?)?;
+    /// let bytes = message.finish();
+    ///
+    /// let message = Message::from_bytes(&bytes).unwrap();
+    /// let third = message.attribute::<ThirdPartyAuthorization>().unwrap();
+    /// assert_eq!(third.server_name(), "turn.example.org");
+    /// # Ok::<(), StunWriteError>(())
+    /// ```
+    THIRD_PARTY_AUTHORIZATION, "THIRD-PARTY-AUTHORIZATION (RFC 7635, section 6.1)":
+        text_attribute(ThirdPartyAuthorization, further, server_name, "65535");
+
+    /// ACCESS-TOKEN (RFC 7635, section 6.2): the token that an authorization server has issued.
+    /// Only the STUN server can decrypt it.
+    ///
+    /// # Examples
+    ///
+    /// ```
+    /// use seatcrane_stun::extra::attribute::AccessToken;
+    /// use seatcrane_stun::types::message::*;
+    /// use seatcrane_stun::types::prelude::*;
+    ///
+    /// # let id = TransactionId::from(*b"any 12 bytes");
+    /// let mut message = Message::builder_request_with_id(BINDING, id, MessageWriteVec::new());
+    /// message.add_attribute(&AccessToken::new(b"opaque"))?;
+    /// let bytes = message.finish();
+    ///
+    /// let message = Message::from_bytes(&bytes).unwrap();
+    /// assert_eq!(message.attribute::<AccessToken>().unwrap().token(), b"opaque");
+    /// # Ok::<(), StunWriteError>(())
+    /// ```
+    ACCESS_TOKEN, "ACCESS-TOKEN (RFC 7635, section 6.2)":
+        bytes_attribute(AccessToken, token, "the token");
+
+    /// ECN-CHECK (RFC 6679, section 7.2.2): the ECN field that a request arrived with, which its
+    /// response echoes. The lowest bit is 1 if the two bits above it are that field. All other bits
+    /// are reserved: write zeros, and ignore them when you read.
+    ///
+    /// # Examples
+    ///
+    /// ```
+    /// use seatcrane_stun::extra::attribute::EcnCheck;
+    /// use seatcrane_stun::types::message::{Message, StunParseError};
+    ///
+    /// /// Returns the ECN field that the request had when it arrived, if the response says it.
+    /// fn echoed(success: &Message<'_>) -> Result<Option<u32>, StunParseError> {
+    ///     let bits = success.attribute::<EcnCheck>()?.bits();
+    ///     Ok((bits & 1 == 1).then_some(bits >> 1 & 3))
+    /// }
+    /// # let success = b"\x01\x01\0\x08\x21\x12\xa4\x42 any 12 byte\x80\x2d\0\x04\0\0\0\x05";
+    /// # assert_eq!(echoed(&Message::from_bytes(success).unwrap()), Ok(Some(2)));
+    /// ```
+    ECN_CHECK, "ECN-CHECK (RFC 6679, section 7.2.2)":
+        number_attribute(EcnCheck, number, bits: u32, "the 32 bits");
+
+    // NAT behavior discovery (RFC 5780, section 7).
+
+    CHANGE_REQUEST, "CHANGE-REQUEST (RFC 5780, section 7.2)":
+        own_attribute(ChangeRequest);
+
+    /// RESPONSE-ORIGIN (RFC 5780, section 7.3): the address that a response was sent from. If it is
+    /// not the address that the response came from, there is a NAT in front of the server.
+    ///
+    /// # Examples
+    ///
+    /// ```
+    /// use seatcrane_stun::extra::attribute::ResponseOrigin;
+    /// use seatcrane_stun::types::message::*;
+    /// use seatcrane_stun::types::prelude::*;
+    ///
+    /// # let id = TransactionId::from(*b"any 12 bytes");
+    /// let mut message = Message::builder_request_with_id(BINDING, id, MessageWriteVec::new());
+    /// message.add_attribute(&ResponseOrigin::new("192.0.2.1:3478".parse().unwrap()))?;
+    /// let bytes = message.finish();
+    ///
+    /// let message = Message::from_bytes(&bytes).unwrap();
+    /// let origin = message.attribute::<ResponseOrigin>().unwrap();
+    /// assert_eq!(origin.addr(), "192.0.2.1:3478".parse().unwrap());
+    /// # Ok::<(), StunWriteError>(())
+    /// ```
+    RESPONSE_ORIGIN, "RESPONSE-ORIGIN (RFC 5780, section 7.3)":
+        plain_address(ResponseOrigin, addr);
+
+    /// OTHER-ADDRESS (RFC 5780, section 7.4): the address and the port that a server answers from
+    /// if a client asks, in CHANGE-REQUEST, for another address and another port.
+    ///
+    /// # Examples
+    ///
+    /// ```
+    /// use seatcrane_stun::extra::attribute::OtherAddress;
+    /// use seatcrane_stun::types::message::*;
+    /// use seatcrane_stun::types::prelude::*;
+    ///
+    /// # let id = TransactionId::from(*b"any 12 bytes");
+    /// let mut message = Message::builder_request_with_id(BINDING, id, MessageWriteVec::new());
+    /// message.add_attribute(&OtherAddress::new("192.0.2.2:3479".parse().unwrap()))?;
+    /// let bytes = message.finish();
+    ///
+    /// let message = Message::from_bytes(&bytes).unwrap();
+    /// let other = message.attribute::<OtherAddress>().unwrap();
+    /// assert_eq!(other.addr(), "192.0.2.2:3479".parse().unwrap());
+    /// # Ok::<(), StunWriteError>(())
+    /// ```
+    OTHER_ADDRESS, "OTHER-ADDRESS (RFC 5780, section 7.4)":
+        plain_address(OtherAddress, addr);
+
+    RESPONSE_PORT, "RESPONSE-PORT (RFC 5780, section 7.5)":
+        own_attribute(ResponsePort);
+
+    /// PADDING (RFC 5780, section 7.6): bytes without a meaning, which make a message long enough
+    /// to be sent in fragments.
+    ///
+    /// # Examples
+    ///
+    /// ```
+    /// use seatcrane_stun::extra::attribute::Padding;
+    /// use seatcrane_stun::types::message::*;
+    /// use seatcrane_stun::types::prelude::*;
+    ///
+    /// # let id = TransactionId::from(*b"any 12 bytes");
+    /// let mut message = Message::builder_request_with_id(BINDING, id, MessageWriteVec::new());
+    /// message.add_attribute(&Padding::new(&[0; 1500]))?;
+    /// let bytes = message.finish();
+    ///
+    /// let message = Message::from_bytes(&bytes).unwrap();
+    /// assert_eq!(message.attribute::<Padding>().unwrap().padding().len(), 1500);
+    /// # Ok::<(), StunWriteError>(())
+    /// ```
+    PADDING, "PADDING (RFC 5780, section 7.6)":
+        bytes_attribute(Padding, padding, "the padding");
+}
+
+/// The attribute is written as this value, which is read back. The others are refused.
+#[cfg(test)]
+#[track_caller]
+fn stands<'a, A>(attribute: &A, value: &'a [u8], others: &[&'a [u8]])
+where
+    A: AttributeFromRaw<'a> + AttributeStaticType + PartialEq + fmt::Debug,
+{
+    use crate::types::message::{BINDING, Message, MessageWriteVec};
+    use crate::types::prelude::*;
+
+    let id = TransactionId::from([0; 12]);
+    let mut request = Message::builder_request_with_id(BINDING, id, MessageWriteVec::new());
+    request.add_attribute(attribute).unwrap();
+    let bytes = request.finish();
+    let message = Message::from_bytes(&bytes).unwrap();
+    assert_eq!(message.raw_attribute(A::TYPE).unwrap().value(), value);
+    let read = A::from_raw(RawAttribute::new(A::TYPE, value));
+    assert_eq!(read.as_ref(), Ok(attribute));
+    let other = AttributeType(A::TYPE.0 ^ 1);
+    assert!(A::from_raw(RawAttribute::new(other, value)).is_err());
+    for other in others {
+        let read = A::from_raw(RawAttribute::new(A::TYPE, other));
+        assert_eq!(read, Err(StunParseError::InvalidAttributeData));
+    }
+}

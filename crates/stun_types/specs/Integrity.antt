@@ -1,6 +1,7 @@
 -- Whether the keyed digest of a message verifies (RFC 8489, sections 14.5, 14.6 and 9.2.4).
-use Rattle.std.specs.Prelude.{ℕ, ◌+◌, ◌-◌, ◌%◌, Bool, List, length, take, find, nat_eq}
+use Rattle.std.specs.Prelude.{◌≡◌, ℕ, ◌+◌, ◌-◌, ◌%◌, Bool, List, length, take, find, nat_eq}
 use Rattle.std.specs.Prelude.{nat_le, ◌==◌, ◌&&◌, ◌||◌, Option, Some, None, if◌then◌else◌}
+use Rattle.std.specs.Prelude.{Result, IfOk, IfErr}
 use Rattle.std.specs.Option.{option_and_then, option_map, option_or}
 use Rattle.std.specs.Cmp.Lexicographic.{pointwise}
 use Rattle.stun_base.specs.declared.wire.error.StunParseError.TheVariants.{MissingAttribute}
@@ -92,3 +93,10 @@ deciding_refusal (Some m) =
 -- why no digest of a message verifies
 abbrev pub integrity_refusal : List ℕ → ValidateError
 integrity_refusal bytes = deciding_refusal (deciding bytes)
+
+-- a call that verifies a message, where this is the algorithm whose digest verifies, if one does
+pub record Verifies (message : List ℕ) (verified : Option IntegrityAlgorithm)
+    (result : Result IntegrityAlgorithm ValidateError) : Type 0 where
+  pub ok : IfOk result (λ algorithm. verified ≡ Some algorithm)
+  pub refused : IfErr result (λ error.
+      (verified ≡ None) × (error ≡ integrity_refusal message))

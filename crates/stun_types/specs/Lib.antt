@@ -32,6 +32,8 @@ pub mod PasswordAlgorithms
 pub mod IntegrityAttributes
 -- a message with one attribute or digest more, and why it is refused
 pub mod Writing
+-- what the calls of a writer do, where several share their clauses
+pub mod WriterCalls
 -- a writer that grows
 pub mod WriteVec
 -- a writer to a slice

@@ -12,8 +12,8 @@ ghost use Rattle.stun_types.specs.Visible.{visible};
 ghost use Rattle.stun_types.specs.code.Walk.{IsInside};
 ghost use Rattle.stun_types.specs.Integrity.{first_of as first_member_of, integrity_algorithm};
 ghost use Rattle.stun_types.specs.Integrity.{deciding, deciding_algorithm, is_digest};
-ghost use Rattle.stun_types.specs.Integrity.{is_integrity, is_well_formed};
-ghost use Rattle.stun_types.specs.Integrity.{verified_algorithm, verified_by, integrity_refusal};
+ghost use Rattle.stun_types.specs.Integrity.{integrity_refusal, is_integrity, is_well_formed};
+ghost use Rattle.stun_types.specs.Integrity.{Verifies, verified_algorithm, verified_by};
 
 pub(crate) mod digest_key;
 
@@ -241,11 +241,7 @@ impl<'a> Message<'a> {
         &self,
         credentials: &MessageIntegrityCredentials<A>,
     ) -> Result<IntegrityAlgorithm, ValidateError>
-        ensures ok { IfOk result (λ algorithm.
-            verified_by (keys_of credentials.now) self.now ≡ Some algorithm) }
-        ensures refused { IfErr result (λ error.
-            (verified_by (keys_of credentials.now) self.now ≡ None)
-            × (error ≡ integrity_refusal self.now)) }
+        ensures { Verifies self.now (verified_by (keys_of credentials.now) self.now) result }
     {
         let (place, attribute) = claimed_digest(self)?;
         let algorithm = integrity_algorithm(&attribute);
@@ -269,10 +265,7 @@ impl<'a> Message<'a> {
         &self,
         key: &IntegrityKey<A>,
     ) -> Result<IntegrityAlgorithm, ValidateError>
-        ensures ok { IfOk result (λ algorithm.
-            verified_algorithm self.now key.now ≡ Some algorithm) }
-        ensures refused { IfErr result (λ error.
-            (verified_algorithm self.now key.now ≡ None) × (error ≡ integrity_refusal self.now)) }
+        ensures { Verifies self.now (verified_algorithm self.now key.now) result }
     {
         self.validate_integrity_with_key_bytes(key.as_bytes())
     }
@@ -287,10 +280,7 @@ impl<'a> Message<'a> {
         &self,
         key: &[u8],
     ) -> Result<IntegrityAlgorithm, ValidateError>
-        ensures ok { IfOk result (λ algorithm.
-            verified_algorithm self.now key.now ≡ Some algorithm) }
-        ensures refused { IfErr result (λ error.
-            (verified_algorithm self.now key.now ≡ None) × (error ≡ integrity_refusal self.now)) }
+        ensures { Verifies self.now (verified_algorithm self.now key.now) result }
     {
         let (place, attribute) = claimed_digest(self)?;
         if !is_digest(self.as_bytes(), key, place, &attribute) {
@@ -309,10 +299,7 @@ impl<'a> Message<'a> {
         &self,
         key: &PreparedKey<A>,
     ) -> Result<IntegrityAlgorithm, ValidateError>
-        ensures ok { IfOk result (λ algorithm.
-            verified_algorithm self.now key.now ≡ Some algorithm) }
-        ensures refused { IfErr result (λ error.
-            (verified_algorithm self.now key.now ≡ None) × (error ≡ integrity_refusal self.now)) }
+        ensures { Verifies self.now (verified_algorithm self.now key.now) result }
     {
         let (place, attribute) = claimed_digest(self)?;
         if !is_prepared_digest(self.as_bytes(), key, place, &attribute) {
@@ -337,10 +324,7 @@ impl<'a> Message<'a> {
         key: &IntegrityKey<A>,
     ) -> Result<IntegrityAlgorithm, ValidateError>
         requires { deciding self.now ≡ Some (place, attribute.now) }
-        ensures ok { IfOk result (λ algorithm.
-            verified_algorithm self.now key.now ≡ Some algorithm) }
-        ensures refused { IfErr result (λ error.
-            (verified_algorithm self.now key.now ≡ None) × (error ≡ integrity_refusal self.now)) }
+        ensures { Verifies self.now (verified_algorithm self.now key.now) result }
     {
         check_whole(attribute)?;
         if !is_digest(self.as_bytes(), key.as_bytes(), place, attribute) {
@@ -364,10 +348,7 @@ impl<'a> Message<'a> {
         key: &PreparedKey<A>,
     ) -> Result<IntegrityAlgorithm, ValidateError>
         requires { deciding self.now ≡ Some (place, attribute.now) }
-        ensures ok { IfOk result (λ algorithm.
-            verified_algorithm self.now key.now ≡ Some algorithm) }
-        ensures refused { IfErr result (λ error.
-            (verified_algorithm self.now key.now ≡ None) × (error ≡ integrity_refusal self.now)) }
+        ensures { Verifies self.now (verified_algorithm self.now key.now) result }
     {
         check_whole(attribute)?;
         if !is_prepared_digest(self.as_bytes(), key, place, attribute) {

@@ -1,10 +1,9 @@
 //! Messages: parsing and inspecting them, and starting new ones in a writer.
 
-ghost use Rattle.std.specs.Prelude.{◌≡◌, ◌+◌, ◌^◌, ◌<◌, ◌↔◌, ◌≤◌, length, [], IsTrue, IsOk, IfOk};
-ghost use Rattle.std.specs.Prelude.{OnOk, IfErr, IsErrOf, IsOkUnless, MatchOption, Some, None, ⊤};
+ghost use Rattle.std.specs.Prelude.{◌≡◌, ◌^◌, ◌<◌, ◌↔◌, ◌≤◌, length, [], IsTrue, IsOk, IfOk};
+ghost use Rattle.std.specs.Prelude.{OnOk, IfErr, MatchOption, Some, None, ⊤};
 ghost use Rattle.std.specs.Cmp.{partial_equiv_from_equiv};
 ghost use Rattle.stun_base.specs.Credentials.{same_text, same_text_equivalence};
-ghost use Rattle.stun_base.specs.Header.{HEADER_LENGTH as header_length};
 ghost use Rattle.stun_base.specs.Header.{type_field, transaction_id_field};
 ghost use Rattle.stun_base.specs.MessageType.{class_in, method_of, IsResponse};
 ghost use Rattle.stun_types.specs.Grammar.{spelled_message};
@@ -13,8 +12,8 @@ ghost use Rattle.stun_types.specs.Limits.{LENGTH_LIMIT};
 ghost use Rattle.stun_types.specs.Message.{IsMessage, refusal};
 ghost use Rattle.stun_types.specs.Reading.{attribute_answer};
 ghost use Rattle.stun_types.specs.Visible.{visible};
-ghost use Rattle.stun_types.specs.Walk.{walk};
-ghost use Rattle.stun_types.specs.Writing.{IsOpen, empty_message, empty_answer};
+ghost use Rattle.stun_types.specs.WriterCalls.{Begins};
+ghost use Rattle.stun_types.specs.Writing.{empty_message, empty_answer};
 
 pub(crate) mod attributes_iter;
 pub(crate) mod visibility;
@@ -146,15 +145,8 @@ impl<'a> Message<'a> {
         mut writer: W,
     ) -> Result<W, StunWriteError>
         requires { W.bytes writer ≡ [] }
-        ensures bytes { IfOk result (λ built. W.bytes built ≡ spelled_message message_type id []) }
-        ensures open { IfOk result (λ built. IsOpen (W.bytes built)) }
-        ensures empty { IfOk result (λ built. walk (W.bytes built) ≡ []) }
-        ensures room { IfOk result (λ built. W.room built + header_length ≡ W.room writer) }
-        ensures too_small { IsErrOf result StunWriteError.TooSmall
-            ↔ (W.room writer < header_length) }
-        ensures otherwise_memory { header_length ≤ W.room writer
-            → IsOkUnless result StunWriteError.OutOfMemory }
-        ensures succeeds { header_length ≤ W.reserved writer → IsOk result }
+        ensures { Begins W.bytes W.room W.reserved writer
+            (spelled_message message_type id []) result }
     {
         writer.reserve(HEADER_LENGTH)?;
         writer.append(&message_type.value().to_be_bytes());
@@ -175,16 +167,8 @@ impl<'a> Message<'a> {
         writer: W,
     ) -> Result<W, StunWriteError>
         requires { W.bytes writer ≡ [] }
-        ensures bytes { IfOk result (λ built. W.bytes built
-            ≡ empty_message MessageClass.Request method id) }
-        ensures open { IfOk result (λ built. IsOpen (W.bytes built)) }
-        ensures empty { IfOk result (λ built. walk (W.bytes built) ≡ []) }
-        ensures room { IfOk result (λ built. W.room built + header_length ≡ W.room writer) }
-        ensures too_small { IsErrOf result StunWriteError.TooSmall
-            ↔ (W.room writer < header_length) }
-        ensures otherwise_memory { header_length ≤ W.room writer
-            → IsOkUnless result StunWriteError.OutOfMemory }
-        ensures succeeds { header_length ≤ W.reserved writer → IsOk result }
+        ensures { Begins W.bytes W.room W.reserved writer
+            (empty_message MessageClass.Request method id) result }
     {
         Message::builder(
             MessageType::from_class_method(MessageClass::Request, method),
@@ -204,16 +188,8 @@ impl<'a> Message<'a> {
         writer: W,
     ) -> Result<W, StunWriteError>
         requires { W.bytes writer ≡ [] }
-        ensures bytes { IfOk result (λ built. W.bytes built
-            ≡ empty_message MessageClass.Indication method id) }
-        ensures open { IfOk result (λ built. IsOpen (W.bytes built)) }
-        ensures empty { IfOk result (λ built. walk (W.bytes built) ≡ []) }
-        ensures room { IfOk result (λ built. W.room built + header_length ≡ W.room writer) }
-        ensures too_small { IsErrOf result StunWriteError.TooSmall
-            ↔ (W.room writer < header_length) }
-        ensures otherwise_memory { header_length ≤ W.room writer
-            → IsOkUnless result StunWriteError.OutOfMemory }
-        ensures succeeds { header_length ≤ W.reserved writer → IsOk result }
+        ensures { Begins W.bytes W.room W.reserved writer
+            (empty_message MessageClass.Indication method id) result }
     {
         Message::builder(
             MessageType::from_class_method(MessageClass::Indication, method),
@@ -233,16 +209,8 @@ impl<'a> Message<'a> {
         writer: W,
     ) -> Result<W, StunWriteError>
         requires { W.bytes writer ≡ [] }
-        ensures bytes { IfOk result (λ built. W.bytes built
-            ≡ empty_answer MessageClass.Success message.now) }
-        ensures open { IfOk result (λ built. IsOpen (W.bytes built)) }
-        ensures empty { IfOk result (λ built. walk (W.bytes built) ≡ []) }
-        ensures room { IfOk result (λ built. W.room built + header_length ≡ W.room writer) }
-        ensures too_small { IsErrOf result StunWriteError.TooSmall
-            ↔ (W.room writer < header_length) }
-        ensures otherwise_memory { header_length ≤ W.room writer
-            → IsOkUnless result StunWriteError.OutOfMemory }
-        ensures succeeds { header_length ≤ W.reserved writer → IsOk result }
+        ensures { Begins W.bytes W.room W.reserved writer
+            (empty_answer MessageClass.Success message.now) result }
     {
         Message::builder(
             MessageType::from_class_method(MessageClass::Success, message.method()),
@@ -262,16 +230,8 @@ impl<'a> Message<'a> {
         writer: W,
     ) -> Result<W, StunWriteError>
         requires { W.bytes writer ≡ [] }
-        ensures bytes { IfOk result (λ built. W.bytes built
-            ≡ empty_answer MessageClass.Error message.now) }
-        ensures open { IfOk result (λ built. IsOpen (W.bytes built)) }
-        ensures empty { IfOk result (λ built. walk (W.bytes built) ≡ []) }
-        ensures room { IfOk result (λ built. W.room built + header_length ≡ W.room writer) }
-        ensures too_small { IsErrOf result StunWriteError.TooSmall
-            ↔ (W.room writer < header_length) }
-        ensures otherwise_memory { header_length ≤ W.room writer
-            → IsOkUnless result StunWriteError.OutOfMemory }
-        ensures succeeds { header_length ≤ W.reserved writer → IsOk result }
+        ensures { Begins W.bytes W.room W.reserved writer
+            (empty_answer MessageClass.Error message.now) result }
     {
         Message::builder(
             MessageType::from_class_method(MessageClass::Error, message.method()),

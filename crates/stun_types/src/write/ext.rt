@@ -1,7 +1,7 @@
 //! The calls that every writer has.
 
 ghost use Rattle.std.specs.Prelude.{◌≡◌, ◌≤◌, ◌<◌, ◌+◌, ◌-◌, ◌^◌, ◌↔◌, ◌++◌, false};
-ghost use Rattle.std.specs.Prelude.{min, length, None, IsTrue, IsOk, OnErr, OnOk};
+ghost use Rattle.std.specs.Prelude.{min, length, IsTrue};
 ghost use Rattle.stun_base.specs.Algorithm.{digest, digest_length};
 ghost use Rattle.stun_base.specs.Header.{BeginsWithHeader, HEADER_LENGTH as header_length};
 ghost use Rattle.stun_base.specs.Header.{header_of, transaction_id_field};
@@ -12,12 +12,10 @@ ghost use Rattle.stun_types.specs.Grammar.{spelled_attribute};
 ghost use Rattle.stun_types.specs.Limits.{max_length};
 ghost use Rattle.stun_types.specs.Visible.{has_kind};
 ghost use Rattle.stun_types.specs.Walk.{walk};
-ghost use Rattle.stun_types.specs.Writing.{GainsIntegrity, GainsOne, IsOpen, RefusedBy};
-ghost use Rattle.stun_types.specs.Writing.{SpellsOneMore, VerifiesAfter, another_refusal};
-ghost use Rattle.stun_types.specs.Writing.{attribute_refusal, has_integrity, integrity_kind};
-ghost use Rattle.stun_types.specs.Writing.{is_set_apart, length_with, signing_refusal};
-ghost use Rattle.stun_types.specs.Writing.{size_refusal, with_attribute};
-ghost use Rattle.stun_types.specs.Writing.{with_integrity};
+ghost use Rattle.stun_types.specs.WriterCalls.{AddsAttribute, Signs, SignsUnchecked};
+ghost use Rattle.stun_types.specs.Writing.{another_refusal, attribute_refusal, has_integrity};
+ghost use Rattle.stun_types.specs.Writing.{integrity_kind, is_set_apart, length_with};
+ghost use Rattle.stun_types.specs.Writing.{size_refusal};
 
 use crate::attribute::{Attribute, AttributeType, attribute_length};
 use crate::integrity::digest_key::DigestKey;
@@ -109,32 +107,10 @@ pub trait MessageWriteExt: MessageWrite {
     where
         Self: Sized,
         requires { header_length ≤ length (Self.bytes self.old) }
-
-        // It fails with the first reason that holds. Without a reason only an allocation can fail.
-        ensures refused { RefusedBy (attribute_refusal (Self.bytes self.old) (Self.room self.old)
-            (A.kind attribute.now) (length (A.value attribute.now))) result }
-        ensures bytes { OnOk result (Self.bytes self.new ≡ with_attribute (Self.bytes self.old)
-            (record { kind = A.kind attribute.now; value = A.value attribute.now })) }
-
-        // It succeeds if the bytes are reserved already and there is no reason.
-        ensures succeeds { attribute_refusal (Self.bytes self.old) (Self.room self.old)
-            (A.kind attribute.now) (length (A.value attribute.now)) ≡ None
-            → attribute_length (length (A.value attribute.now)) ≤ Self.reserved self.old
-            → IsOk result }
-
-        // A reader finds the attributes from before, and this one after them.
-        ensures added { OnOk result (GainsOne (Self.bytes self.old) (Self.bytes self.new)
-            (record { kind = A.kind attribute.now; value = A.value attribute.now })) }
-        ensures open { OnOk result (IsOpen (Self.bytes self.old) → IsOpen (Self.bytes self.new)) }
-        ensures spelled { OnOk result (SpellsOneMore (Self.bytes self.old) (Self.bytes self.new)
-            (record { kind = A.kind attribute.now; value = A.value attribute.now })) }
-        ensures room { OnOk result (Self.room self.new
-            + attribute_length (length (A.value attribute.now)) ≡ Self.room self.old) }
-        ensures reserved { OnOk result (Self.reserved self.old
-            ≤ Self.reserved self.new + attribute_length (length (A.value attribute.now))) }
-        ensures err { OnErr result ((Self.bytes self.new ≡ Self.bytes self.old)
-            × (Self.room self.new ≡ Self.room self.old)) }
-        ensures kept { OnErr result (Self.reserved self.old ≤ Self.reserved self.new) }
+        ensures { AddsAttribute Self.bytes Self.room Self.reserved self.old self.new
+            (attribute_refusal (Self.bytes self.old) (Self.room self.old)
+            (A.kind attribute.now) (length (A.value attribute.now)))
+            (record { kind = A.kind attribute.now; value = A.value attribute.now }) result }
     {
         let kind = attribute.get_type();
         if is_set_apart(kind) {
@@ -173,32 +149,10 @@ pub trait MessageWriteExt: MessageWrite {
     where
         Self: Sized,
         requires { header_length ≤ length (Self.bytes self.old) }
-
-        // It fails with the first reason that holds. Without a reason only an allocation can fail.
-        ensures refused { RefusedBy (another_refusal (Self.bytes self.old) (Self.room self.old)
-            (A.kind attribute.now) (length (A.value attribute.now))) result }
-        ensures bytes { OnOk result (Self.bytes self.new ≡ with_attribute (Self.bytes self.old)
-            (record { kind = A.kind attribute.now; value = A.value attribute.now })) }
-
-        // It succeeds if the bytes are reserved already and there is no reason.
-        ensures succeeds { another_refusal (Self.bytes self.old) (Self.room self.old)
-            (A.kind attribute.now) (length (A.value attribute.now)) ≡ None
-            → attribute_length (length (A.value attribute.now)) ≤ Self.reserved self.old
-            → IsOk result }
-
-        // A reader finds the attributes from before, and this one after them.
-        ensures added { OnOk result (GainsOne (Self.bytes self.old) (Self.bytes self.new)
-            (record { kind = A.kind attribute.now; value = A.value attribute.now })) }
-        ensures open { OnOk result (IsOpen (Self.bytes self.old) → IsOpen (Self.bytes self.new)) }
-        ensures spelled { OnOk result (SpellsOneMore (Self.bytes self.old) (Self.bytes self.new)
-            (record { kind = A.kind attribute.now; value = A.value attribute.now })) }
-        ensures room { OnOk result (Self.room self.new
-            + attribute_length (length (A.value attribute.now)) ≡ Self.room self.old) }
-        ensures reserved { OnOk result (Self.reserved self.old
-            ≤ Self.reserved self.new + attribute_length (length (A.value attribute.now))) }
-        ensures err { OnErr result ((Self.bytes self.new ≡ Self.bytes self.old)
-            × (Self.room self.new ≡ Self.room self.old)) }
-        ensures kept { OnErr result (Self.reserved self.old ≤ Self.reserved self.new) }
+        ensures { AddsAttribute Self.bytes Self.room Self.reserved self.old self.new
+            (another_refusal (Self.bytes self.old) (Self.room self.old)
+            (A.kind attribute.now) (length (A.value attribute.now)))
+            (record { kind = A.kind attribute.now; value = A.value attribute.now }) result }
     {
         if is_set_apart(attribute.get_type()) {
             return Err(StunWriteError::NotAllowed);
@@ -232,22 +186,8 @@ pub trait MessageWriteExt: MessageWrite {
     where
         Self: Sized,
         requires { header_length ≤ length (Self.bytes self.old) }
-        ensures refused { RefusedBy (signing_refusal (Self.bytes self.old)
-            (Self.room self.old) algorithm) result }
-        ensures succeeds { signing_refusal (Self.bytes self.old) (Self.room self.old) algorithm
-            ≡ None
-            → attribute_length (digest_length algorithm) ≤ Self.reserved self.old → IsOk result }
-        ensures bytes { OnOk result (Self.bytes self.new
-            ≡ with_integrity (Self.bytes self.old) algorithm (keys_of credentials.now algorithm)) }
-        ensures added { OnOk result (GainsIntegrity (Self.bytes self.old) (Self.bytes self.new)
-            algorithm (keys_of credentials.now algorithm)) }
-        ensures stands { OnOk result (VerifiesAfter (Self.bytes self.old) (Self.bytes self.new)
-            algorithm (keys_of credentials.now algorithm)) }
-        ensures room { OnOk result (Self.room self.new
-            + attribute_length (digest_length algorithm) ≡ Self.room self.old) }
-        ensures err { OnErr result ((Self.bytes self.new ≡ Self.bytes self.old)
-            × (Self.room self.new ≡ Self.room self.old)) }
-        ensures kept { OnErr result (Self.reserved self.old ≤ Self.reserved self.new) }
+        ensures { Signs Self.bytes Self.room Self.reserved self.old self.new
+            algorithm (keys_of credentials.now algorithm) result }
     {
         let key = credentials.key(algorithm);
         add_integrity(self, &key.as_bytes(), algorithm)
@@ -266,22 +206,8 @@ pub trait MessageWriteExt: MessageWrite {
     where
         Self: Sized,
         requires { header_length ≤ length (Self.bytes self.old) }
-        ensures refused { RefusedBy (signing_refusal (Self.bytes self.old)
-            (Self.room self.old) algorithm) result }
-        ensures succeeds { signing_refusal (Self.bytes self.old) (Self.room self.old) algorithm
-            ≡ None
-            → attribute_length (digest_length algorithm) ≤ Self.reserved self.old → IsOk result }
-        ensures bytes { OnOk result (Self.bytes self.new
-            ≡ with_integrity (Self.bytes self.old) algorithm key.now) }
-        ensures added { OnOk result (GainsIntegrity (Self.bytes self.old) (Self.bytes self.new)
-            algorithm key.now) }
-        ensures stands { OnOk result (VerifiesAfter (Self.bytes self.old) (Self.bytes self.new)
-            algorithm key.now) }
-        ensures room { OnOk result (Self.room self.new
-            + attribute_length (digest_length algorithm) ≡ Self.room self.old) }
-        ensures err { OnErr result ((Self.bytes self.new ≡ Self.bytes self.old)
-            × (Self.room self.new ≡ Self.room self.old)) }
-        ensures kept { OnErr result (Self.reserved self.old ≤ Self.reserved self.new) }
+        ensures { Signs Self.bytes Self.room Self.reserved self.old self.new
+            algorithm key.now result }
     {
         add_integrity(self, &key.as_bytes(), algorithm)
     }
@@ -299,22 +225,8 @@ pub trait MessageWriteExt: MessageWrite {
     where
         Self: Sized,
         requires { header_length ≤ length (Self.bytes self.old) }
-        ensures refused { RefusedBy (signing_refusal (Self.bytes self.old)
-            (Self.room self.old) algorithm) result }
-        ensures succeeds { signing_refusal (Self.bytes self.old) (Self.room self.old) algorithm
-            ≡ None
-            → attribute_length (digest_length algorithm) ≤ Self.reserved self.old → IsOk result }
-        ensures bytes { OnOk result (Self.bytes self.new
-            ≡ with_integrity (Self.bytes self.old) algorithm key.now) }
-        ensures added { OnOk result (GainsIntegrity (Self.bytes self.old) (Self.bytes self.new)
-            algorithm key.now) }
-        ensures stands { OnOk result (VerifiesAfter (Self.bytes self.old) (Self.bytes self.new)
-            algorithm key.now) }
-        ensures room { OnOk result (Self.room self.new
-            + attribute_length (digest_length algorithm) ≡ Self.room self.old) }
-        ensures err { OnErr result ((Self.bytes self.new ≡ Self.bytes self.old)
-            × (Self.room self.new ≡ Self.room self.old)) }
-        ensures kept { OnErr result (Self.reserved self.old ≤ Self.reserved self.new) }
+        ensures { Signs Self.bytes Self.room Self.reserved self.old self.new
+            algorithm key.now result }
     {
         add_integrity(self, &key, algorithm)
     }
@@ -333,22 +245,8 @@ pub trait MessageWriteExt: MessageWrite {
     where
         Self: Sized,
         requires { header_length ≤ length (Self.bytes self.old) }
-        ensures refused { RefusedBy (signing_refusal (Self.bytes self.old)
-            (Self.room self.old) algorithm) result }
-        ensures succeeds { signing_refusal (Self.bytes self.old) (Self.room self.old) algorithm
-            ≡ None
-            → attribute_length (digest_length algorithm) ≤ Self.reserved self.old → IsOk result }
-        ensures bytes { OnOk result (Self.bytes self.new
-            ≡ with_integrity (Self.bytes self.old) algorithm key.now) }
-        ensures added { OnOk result (GainsIntegrity (Self.bytes self.old) (Self.bytes self.new)
-            algorithm key.now) }
-        ensures stands { OnOk result (VerifiesAfter (Self.bytes self.old) (Self.bytes self.new)
-            algorithm key.now) }
-        ensures room { OnOk result (Self.room self.new
-            + attribute_length (digest_length algorithm) ≡ Self.room self.old) }
-        ensures err { OnErr result ((Self.bytes self.new ≡ Self.bytes self.old)
-            × (Self.room self.new ≡ Self.room self.old)) }
-        ensures kept { OnErr result (Self.reserved self.old ≤ Self.reserved self.new) }
+        ensures { Signs Self.bytes Self.room Self.reserved self.old self.new
+            algorithm key.now result }
     {
         add_integrity(self, key, algorithm)
     }
@@ -374,19 +272,8 @@ pub trait MessageWriteExt: MessageWrite {
         requires unsigned { has_integrity (Self.bytes self.old) ≡ false }
         requires short { length_with (Self.bytes self.old) (digest_length algorithm) ≤ max_length }
         requires room { attribute_length (digest_length algorithm) ≤ Self.room self.old }
-        ensures succeeds { attribute_length (digest_length algorithm) ≤ Self.reserved self.old
-            → IsOk result }
-        ensures bytes { OnOk result (Self.bytes self.new
-            ≡ with_integrity (Self.bytes self.old) algorithm key.now) }
-        ensures added { OnOk result (GainsIntegrity (Self.bytes self.old) (Self.bytes self.new)
-            algorithm key.now) }
-        ensures stands { OnOk result (VerifiesAfter (Self.bytes self.old) (Self.bytes self.new)
-            algorithm key.now) }
-        ensures room { OnOk result (Self.room self.new
-            + attribute_length (digest_length algorithm) ≡ Self.room self.old) }
-        ensures err { OnErr result ((Self.bytes self.new ≡ Self.bytes self.old)
-            × (Self.room self.new ≡ Self.room self.old)) }
-        ensures kept { OnErr result (Self.reserved self.old ≤ Self.reserved self.new) }
+        ensures { SignsUnchecked Self.bytes Self.room Self.reserved self.old self.new
+            algorithm key.now result }
     {
         sign(self, &key.as_bytes(), algorithm)
     }
@@ -408,19 +295,8 @@ pub trait MessageWriteExt: MessageWrite {
         requires unsigned { has_integrity (Self.bytes self.old) ≡ false }
         requires short { length_with (Self.bytes self.old) (digest_length algorithm) ≤ max_length }
         requires room { attribute_length (digest_length algorithm) ≤ Self.room self.old }
-        ensures succeeds { attribute_length (digest_length algorithm) ≤ Self.reserved self.old
-            → IsOk result }
-        ensures bytes { OnOk result (Self.bytes self.new
-            ≡ with_integrity (Self.bytes self.old) algorithm key.now) }
-        ensures added { OnOk result (GainsIntegrity (Self.bytes self.old) (Self.bytes self.new)
-            algorithm key.now) }
-        ensures stands { OnOk result (VerifiesAfter (Self.bytes self.old) (Self.bytes self.new)
-            algorithm key.now) }
-        ensures room { OnOk result (Self.room self.new
-            + attribute_length (digest_length algorithm) ≡ Self.room self.old) }
-        ensures err { OnErr result ((Self.bytes self.new ≡ Self.bytes self.old)
-            × (Self.room self.new ≡ Self.room self.old)) }
-        ensures kept { OnErr result (Self.reserved self.old ≤ Self.reserved self.new) }
+        ensures { SignsUnchecked Self.bytes Self.room Self.reserved self.old self.new
+            algorithm key.now result }
     {
         sign(self, key, algorithm)
     }
@@ -461,26 +337,9 @@ fn add_whole<W: MessageWrite, A: Attribute>(
     requires header { header_length ≤ length (W.bytes writer.old) }
     requires kind { A.kind attribute.now < 2 ^ 16 }
     requires other { is_set_apart (A.kind attribute.now) ≡ false }
-    ensures refused { RefusedBy (size_refusal (W.bytes writer.old) (W.room writer.old)
-        (length (A.value attribute.now))) result }
-    ensures bytes { OnOk result (W.bytes writer.new ≡ with_attribute (W.bytes writer.old)
-        (record { kind = A.kind attribute.now; value = A.value attribute.now })) }
-    ensures succeeds { size_refusal (W.bytes writer.old) (W.room writer.old)
-        (length (A.value attribute.now)) ≡ None
-        → attribute_length (length (A.value attribute.now)) ≤ W.reserved writer.old
-        → IsOk result }
-    ensures added { OnOk result (GainsOne (W.bytes writer.old) (W.bytes writer.new)
-        (record { kind = A.kind attribute.now; value = A.value attribute.now })) }
-    ensures open { OnOk result (IsOpen (W.bytes writer.old) → IsOpen (W.bytes writer.new)) }
-    ensures spelled { OnOk result (SpellsOneMore (W.bytes writer.old) (W.bytes writer.new)
-        (record { kind = A.kind attribute.now; value = A.value attribute.now })) }
-    ensures room { OnOk result (W.room writer.new
-        + attribute_length (length (A.value attribute.now)) ≡ W.room writer.old) }
-    ensures reserved { OnOk result (W.reserved writer.old
-        ≤ W.reserved writer.new + attribute_length (length (A.value attribute.now))) }
-    ensures err { OnErr result ((W.bytes writer.new ≡ W.bytes writer.old)
-        × (W.room writer.new ≡ W.room writer.old)) }
-    ensures kept { OnErr result (W.reserved writer.old ≤ W.reserved writer.new) }
+    ensures { AddsAttribute W.bytes W.room W.reserved writer.old writer.new
+        (size_refusal (W.bytes writer.old) (W.room writer.old) (length (A.value attribute.now)))
+        (record { kind = A.kind attribute.now; value = A.value attribute.now }) result }
 {
     let message_length = length_with(writer.data(), attribute.padded_len());
     if message_length > MAX_LENGTH {
@@ -506,21 +365,8 @@ fn add_integrity<W: MessageWrite, K: DigestKey>(
     algorithm: IntegrityAlgorithm,
 ) -> Result<(), StunWriteError>
     requires { header_length ≤ length (W.bytes writer.old) }
-    ensures refused { RefusedBy (signing_refusal (W.bytes writer.old)
-        (W.room writer.old) algorithm) result }
-    ensures succeeds { signing_refusal (W.bytes writer.old) (W.room writer.old) algorithm ≡ None
-        → attribute_length (digest_length algorithm) ≤ W.reserved writer.old → IsOk result }
-    ensures bytes { OnOk result (W.bytes writer.new
-        ≡ with_integrity (W.bytes writer.old) algorithm (K.key_bytes key.now)) }
-    ensures added { OnOk result (GainsIntegrity (W.bytes writer.old) (W.bytes writer.new)
-        algorithm (K.key_bytes key.now)) }
-    ensures stands { OnOk result (VerifiesAfter (W.bytes writer.old) (W.bytes writer.new)
-        algorithm (K.key_bytes key.now)) }
-    ensures room { OnOk result (W.room writer.new
-        + attribute_length (digest_length algorithm) ≡ W.room writer.old) }
-    ensures err { OnErr result ((W.bytes writer.new ≡ W.bytes writer.old)
-        × (W.room writer.new ≡ W.room writer.old)) }
-    ensures kept { OnErr result (W.reserved writer.old ≤ W.reserved writer.new) }
+    ensures { Signs W.bytes W.room W.reserved writer.old writer.new
+        algorithm (K.key_bytes key.now) result }
 {
     if has_integrity(writer.data()) {
         return Err(StunWriteError::MessageIntegrityExists);
@@ -545,19 +391,8 @@ fn sign<W: MessageWrite, K: DigestKey>(
     requires header { header_length ≤ length (W.bytes writer.old) }
     requires short { length_with (W.bytes writer.old) (digest_length algorithm) ≤ max_length }
     requires room { attribute_length (digest_length algorithm) ≤ W.room writer.old }
-    ensures succeeds { attribute_length (digest_length algorithm) ≤ W.reserved writer.old
-        → IsOk result }
-    ensures bytes { OnOk result (W.bytes writer.new
-        ≡ with_integrity (W.bytes writer.old) algorithm (K.key_bytes key.now)) }
-    ensures added { OnOk result (GainsIntegrity (W.bytes writer.old) (W.bytes writer.new)
-        algorithm (K.key_bytes key.now)) }
-    ensures stands { OnOk result (VerifiesAfter (W.bytes writer.old) (W.bytes writer.new)
-        algorithm (K.key_bytes key.now)) }
-    ensures room { OnOk result (W.room writer.new
-        + attribute_length (digest_length algorithm) ≡ W.room writer.old) }
-    ensures err { OnErr result ((W.bytes writer.new ≡ W.bytes writer.old)
-        × (W.room writer.new ≡ W.room writer.old)) }
-    ensures kept { OnErr result (W.reserved writer.old ≤ W.reserved writer.new) }
+    ensures { SignsUnchecked W.bytes W.room W.reserved writer.old writer.new
+        algorithm (K.key_bytes key.now) result }
 {
     let padded_length = integrity_length(algorithm);
     let message_length = length_with(writer.data(), padded_length);

@@ -7,8 +7,11 @@ use Rattle.stun_types.proofs.AddingLemmas.{IsOpen-spelled_message}
 use Rattle.stun_types.proofs.message.Message.builder.Given.{Over}
 use Rattle.stun_types.proofs.message.Message.builder.Goals as goal
 
-pub returns-clause-bytes : goal.returns-clause-bytes
-returns-clause-bytes g c = search rules
+-- what was written
+written : (g : Over) (c : goal.After-append-4 g)
+    → g.W.MessageWrite.bytes c.append-4.new.self
+    ≡ spelled_message c.args.message_type c.args.id []
+written g c = search rules
 
 -- the message that is spelled
 spelled_is_open : (g : Over) (c : goal.After-append-4 g)
@@ -19,8 +22,13 @@ spelled_is_open g c =
     omega (arith, c.value.ensures.value, c.value.ensures.fits) in
     IsOpen-spelled_message c.args.message_type c.args.id fits
 
-pub returns-clause-open : goal.returns-clause-open
-returns-clause-open g c = subst IsOpen (sym (returns-clause-bytes g c)) (spelled_is_open g c).0
-
-pub returns-clause-empty : goal.returns-clause-empty
-returns-clause-empty g c = ap walk (returns-clause-bytes g c) ∙ (spelled_is_open g c).1
+pub returns : goal.returns
+returns g c = record {
+  bytes = written g c;
+  «open» = subst IsOpen (sym (written g c)) (spelled_is_open g c).0;
+  empty = ap walk (written g c) ∙ (spelled_is_open g c).1;
+  room = search rules;
+  too_small = search rules;
+  otherwise_memory = search rules;
+  succeeds = search rules;
+}

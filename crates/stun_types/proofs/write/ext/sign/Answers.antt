@@ -1,15 +1,20 @@
 -- The length is set as if the digest were there, and then the digest of that is appended.
-use Rattle.std.proofs.Common.{subst, sym, ◌≡◌, ◌+◌, ◌-◌, ◌^◌, min, length, arith, ap, ◌∙◌}
+use Rattle.std.proofs.Common.{rules, subst, sym, ◌≡◌, ◌+◌, ◌-◌, ◌^◌, min, length, arith, ap, ◌∙◌}
 use Rattle.stun_base.specs.Algorithm.{digest_length}
 use Rattle.stun_types.specs.Message.{with_length}
 use Rattle.stun_types.specs.Integrity.{verified_by}
 use Rattle.stun_types.specs.Writing.{HasOneMore, integrity_attribute, length_with, with_integrity}
 use Rattle.stun_types.proofs.SigningLemmas.{HasOneMore-signed, verified_by-signed}
 use Rattle.stun_types.proofs.WritingLemmas.{with_integrity-signed}
+use Rattle.stun_types.proofs.write.ext.sign.Given.{Over}
 use Rattle.stun_types.proofs.write.ext.sign.Goals as goal
 
-pub returns-clause-bytes : goal.returns-clause-bytes
-returns-clause-bytes g c =
+-- what was written
+written : (g : Over) (c : goal.After-append_integrity g)
+    → g.W.MessageWrite.bytes c.append_integrity.new.writer
+    ≡ with_integrity (g.W.MessageWrite.bytes c.args.writer.now) c.args.algorithm
+    (g.K.DigestKey.key_bytes c.args.key.now)
+written g c =
     let message = g.W.MessageWrite.bytes c.args.writer.now in
     let sum : c.length_with-message_length.result
     ≡ min (length message - 20 + c.integrity_length-padded_length.result) (2 ^ 64 - 1) =
@@ -23,20 +28,23 @@ returns-clause-bytes g c =
     ∙ with_integrity-signed message c.args.algorithm (g.K.DigestKey.key_bytes c.args.key.now) _
     c.requires.header raised
 
-pub returns-clause-added : goal.returns-clause-added
-returns-clause-added g c is_open =
+pub returns : goal.returns
+returns g c =
     let message = g.W.MessageWrite.bytes c.args.writer.now in
-    subst (λ after.
-    HasOneMore message after
-    (integrity_attribute message c.args.algorithm (g.K.DigestKey.key_bytes c.args.key.now)))
-    (sym (returns-clause-bytes g c))
-    (HasOneMore-signed message c.args.algorithm (g.K.DigestKey.key_bytes c.args.key.now) is_open
-    c.requires.short)
-
-pub returns-clause-stands : goal.returns-clause-stands
-returns-clause-stands g c is_open keys is_key =
-    let message = g.W.MessageWrite.bytes c.args.writer.now in
-    let written = returns-clause-bytes g c
-    ∙ ap (with_integrity message c.args.algorithm) (sym is_key) in
-    ap (verified_by keys) written
-    ∙ verified_by-signed message c.args.algorithm keys is_open c.requires.short
+    let key = g.K.DigestKey.key_bytes c.args.key.now in
+    record {
+      succeeds = search rules;
+      bytes = written g c;
+      added = λ is_open.
+          subst (λ after.
+          HasOneMore message after (integrity_attribute message c.args.algorithm key))
+          (sym (written g c))
+          (HasOneMore-signed message c.args.algorithm key is_open c.requires.short);
+      stands = λ is_open keys is_key.
+          ap (verified_by keys)
+          (written g c ∙ ap (with_integrity message c.args.algorithm) (sym is_key))
+          ∙ verified_by-signed message c.args.algorithm keys is_open c.requires.short;
+      room = search rules;
+      err = search rules;
+      kept = search rules;
+    }

@@ -267,7 +267,7 @@ def main():
                   *(f"crates/stun_state/src/{name}.rt"
                     for name in ("calls/agent", "calls/server", "calls/handed", "calls/user",
                                  "calls/client",
-                                 "calls/release", "address", "agent")),
+                                 "calls/release", "agent")),
                   "crates/stun_handles/src/address.rt",
                   *(f"crates/stun_c_endpoint/src/{name}.rt"
                     for name in ("calls/server", "calls/users", "calls/ice", "calls/client", "release",

@@ -38,9 +38,6 @@ def border_of(text, module):
                 declared += [f"{label}: {pointer}", f"length_of_{label}: usize"]
                 handed.append(f"unsafe {{ {whole}({label}, length_of_{label}) }}")
             else:
-                # The crates of handles have an address each.
-                if module.startswith("stun_c_endpoint"):
-                    kind = kind.replace("Address", "EndpointAddress")
                 declared.append(f"{label}: {kind}")
                 handed.append(label)
         calls += (f"{words}///\n/// # Safety\n///\n/// What is passed is as the header says.\n"
@@ -62,8 +59,7 @@ def write(out, exported, places, root):
               "use super::stun_c_endpoint::client::settings::ClientOptions;\n"
               "use super::stun_c_endpoint::ice::told::{IceCheck, IceReceived};\n"
               "use super::stun_c_endpoint::received::Received;\n"
-              "use super::stun_handles::address::Address as EndpointAddress;\n"
-              "use super::stun_state::address::Address;\n"
+              "use super::stun_handles::address::Address;\n"
               "use super::stun_state::agent::{Statistics, Timeouts};\n"
               "use super::{stun_c, stun_c_endpoint, stun_state};\n"
               "use crate::handle::agent::AgentHandle;\nuse crate::handle::client::ClientHandle;\n"

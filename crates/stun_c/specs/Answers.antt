@@ -1,5 +1,5 @@
 -- What each call returns, and what it leaves in the caller's buffer.
-use Rattle.std.specs.Prelude.{ℕ, ℤ, pos, List, length, Option, Some, None, Result, Ok, Err}
+use Rattle.std.specs.Prelude.{◌≡◌, ℕ, ℤ, pos, List, length, Option, Some, None, Result, Ok, Err}
 use Rattle.stun_base.specs.declared.wire.error.StunParseError.{StunParseError}
 use Rattle.stun_base.specs.declared.wire.error.ValidateError.{ValidateError}
 use Rattle.stun_base.specs.declared.keys.algorithm.IntegrityAlgorithm.{IntegrityAlgorithm}
@@ -8,6 +8,7 @@ use Rattle.stun_types.specs.Integrity.{verified_algorithm, integrity_refusal}
 use Rattle.stun_numbers.specs.declared.refusal.Refusal.{Refusal}
 use Rattle.stun_numbers.specs.Refusals.{refusal_number, refusal_of_parse}
 use Rattle.stun_numbers.specs.Algorithms.{algorithm_number}
+use Rattle.stun_numbers.specs.Buffers.{buffer_after, within_room}
 use Rattle.stun_c.specs.Codes.{refusal_of_verdict}
 
 -- 0 where nothing refuses bytes as a message
@@ -39,3 +40,15 @@ verify_answer bytes key =
 abbrev pub written_number : Result (List ℕ) Refusal → ℤ
 written_number (Ok bytes) = pos (length bytes)
 written_number (Err refusal) = refusal_number refusal
+
+-- a call writes these bytes to the front of a buffer, and returns how many they are; or it is
+-- refused, returns the number of the refusal, and leaves the buffer
+pub record Writes (made : Result (List ℕ) Refusal) (before : List ℕ) (result : ℤ) (after : List ℕ)
+    : Type 0 where
+  pub answer : result ≡ written_number made
+  pub written : after ≡ buffer_after made before
+
+-- the same if the buffer has room for them, and else it is refused for that
+abbrev pub WritesWithin : Result (List ℕ) Refusal → List ℕ → ℤ → List ℕ → Type 0
+WritesWithin made before result after =
+    Writes (within_room made (length before)) before result after

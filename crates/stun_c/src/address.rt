@@ -3,9 +3,8 @@
 ghost use Rattle.std.specs.Prelude.{◌≡◌, ◌≤◌, ◌<◌, ◌+◌, length, take, true, IfOk, IfErr, Some};
 ghost use Rattle.stun_base.specs.Header.{transaction_id_field};
 ghost use Rattle.stun_types.specs.XorMappedAddress.{xor_bytes, xor_key};
-ghost use Rattle.stun_numbers.specs.Buffers.{buffer_after};
 ghost use Rattle.stun_numbers.specs.Messages.{base_refusal};
-ghost use Rattle.stun_c.specs.Answers.{written_number};
+ghost use Rattle.stun_c.specs.Answers.{Writes};
 ghost use Rattle.stun_c.specs.Writing.{added_attribute, added_address, added_plain_address};
 ghost use Rattle.stun_c.specs.Writing.{hidden_value, is_address, plain_value};
 
@@ -97,10 +96,8 @@ fn base_id(buffer: &[u8], count: usize) -> Result<TransactionId, Refusal>
 /// the buffer.
 fn add_hidden(buffer: &mut [u8], count: usize, kind: AttributeType, octets: &[u8], port: u16) -> i64
     requires { length octets.now ≤ 16 }
-    ensures answer { result ≡ written_number (added_attribute buffer.old count kind.0
-        (hidden_value octets.now port (transaction_id_field (take count buffer.old)))) }
-    ensures written { buffer.new ≡ buffer_after (added_attribute buffer.old count kind.0
-        (hidden_value octets.now port (transaction_id_field (take count buffer.old)))) buffer.old }
+    ensures { Writes (added_attribute buffer.old count kind.0 (hidden_value octets.now port
+        (transaction_id_field (take count buffer.old)))) buffer.old result buffer.new }
 {
     match base_id(buffer, count) {
         Ok(id) => {
@@ -122,10 +119,8 @@ pub fn add_address(
     octets: &[u8],
     port: u32,
 ) -> i64
-    ensures answer { result ≡ written_number
-        (added_address buffer.old count kind.0 octets.now port) }
-    ensures written { buffer.new ≡ buffer_after
-        (added_address buffer.old count kind.0 octets.now port) buffer.old }
+    ensures { Writes (added_address buffer.old count kind.0 octets.now port) buffer.old result
+        buffer.new }
 {
     if !is_address(octets, port) {
         return Refusal::BadArgument.code();
@@ -136,10 +131,8 @@ pub fn add_address(
 /// Adds an attribute of a type with an address, in the form of MAPPED-ADDRESS, to the message in
 /// the first `count` bytes of the buffer. Returns the new length, or the number of the error.
 pub fn add_plain(buffer: &mut [u8], count: usize, kind: u32, octets: &[u8], port: u32) -> i64
-    ensures answer { result ≡ written_number
-        (added_plain_address buffer.old count kind octets.now port) }
-    ensures written { buffer.new ≡ buffer_after
-        (added_plain_address buffer.old count kind octets.now port) buffer.old }
+    ensures { Writes (added_plain_address buffer.old count kind octets.now port) buffer.old result
+        buffer.new }
 {
     if !is_address(octets, port) {
         return Refusal::BadArgument.code();

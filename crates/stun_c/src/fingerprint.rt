@@ -1,13 +1,12 @@
 //! FINGERPRINT, checked and added (RFC 8489, section 14.7).
 
-ghost use Rattle.std.specs.Prelude.{◌≡◌, ◌≤◌, ◌+◌, ◌++◌, length, pos};
-ghost use Rattle.std.specs.Prelude.{take, drop, IfErr, OnOk, Some, None};
-ghost use Rattle.stun_numbers.specs.Buffers.{buffer_after};
-ghost use Rattle.stun_c.specs.Answers.{written_number};
+ghost use Rattle.std.specs.Prelude.{◌≡◌, ◌≤◌, ◌+◌, ◌++◌, length, pos, take, drop, IfErr, OnOk};
+ghost use Rattle.std.specs.Prelude.{Some, None};
+ghost use Rattle.stun_c.specs.Answers.{Writes};
 ghost use Rattle.stun_c.specs.code.Ended.{ended_message, fingerprint_after, fingerprint_value};
 ghost use Rattle.stun_c.specs.code.Room.{HasRoom};
-ghost use Rattle.stun_c.specs.Extra.{ending_refusal, fingerprint_answer};
-ghost use Rattle.stun_c.specs.Extra.{fingerprint_number, fingerprinted_message};
+ghost use Rattle.stun_c.specs.Extra.{ending_refusal, fingerprint_answer, fingerprint_number};
+ghost use Rattle.stun_c.specs.Extra.{fingerprinted_message};
 
 use crate::writing::{fits, set_length, shows_kind, spell};
 use stun_base::attribute_type::AttributeType;
@@ -96,9 +95,7 @@ fn append(buffer: &mut [u8], count: usize) -> i64
 /// Adds FINGERPRINT to the message in the first `count` bytes of the buffer. Returns the new
 /// length, or the number of the error.
 pub fn add(buffer: &mut [u8], count: usize) -> i64
-    ensures answer { result ≡ written_number (fingerprinted_message buffer.old count) }
-    ensures written { buffer.new
-        ≡ buffer_after (fingerprinted_message buffer.old count) buffer.old }
+    ensures { Writes (fingerprinted_message buffer.old count) buffer.old result buffer.new }
 {
     match endable(buffer, count) {
         Ok(()) => append(buffer, count),

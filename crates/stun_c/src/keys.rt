@@ -1,9 +1,8 @@
 //! Keys and hashes of texts.
 
-ghost use Rattle.std.specs.Prelude.{◌≡◌, length, IfOk, IfErr, Ok, Err};
-ghost use Rattle.stun_numbers.specs.Buffers.{within_room, buffer_after};
+ghost use Rattle.std.specs.Prelude.{◌≡◌, IfOk, IfErr, Ok, Err};
 ghost use Rattle.stun_numbers.specs.Algorithms.{algorithm_numbered};
-ghost use Rattle.stun_c.specs.Answers.{written_number};
+ghost use Rattle.stun_c.specs.Answers.{WritesWithin};
 ghost use Rattle.stun_c.specs.Requests.{key_of_texts, userhash_of_texts};
 
 use crate::buffer::write;
@@ -22,13 +21,8 @@ pub fn write_key(
     password: &[u8],
     buffer: &mut [u8],
 ) -> i64
-    ensures answer { result ≡ written_number (within_room
-        (key_of_texts (algorithm_numbered algorithm) username.now realm.now password.now)
-        (length buffer.old)) }
-    ensures written { buffer.new ≡ buffer_after
-        (within_room (key_of_texts (algorithm_numbered algorithm) username.now realm.now
-        password.now)
-        (length buffer.old)) buffer.old }
+    ensures { WritesWithin (key_of_texts (algorithm_numbered algorithm) username.now realm.now
+        password.now) buffer.old result buffer.new }
 {
     match algorithm_numbered(algorithm) {
         Ok(IntegrityAlgorithm::Sha1) => match md5_key_from_utf8(username, realm, password) {

@@ -1,8 +1,8 @@
 //! What `include/stunp.h` says of several calls: numbers of bytes, a whole walk, and what the calls
 //! over `stun_extra` refuse and write.
 
-ghost use Rattle.std.specs.Prelude.{◌≡◌, ◌≤◌, ◌+◌, ℕ, ℤ, suc, List, [], ◌∷◌, drop};
-ghost use Rattle.std.specs.Prelude.{take, length, slice_get, cond, IfOk, Some, true};
+ghost use Rattle.std.specs.Prelude.{◌≡◌, ◌≤◌, ◌+◌, ℕ, ℤ, suc, List, [], ◌∷◌, drop, take, length};
+ghost use Rattle.std.specs.Prelude.{slice_get, cond, IfOk, Some, true};
 ghost use Rattle.std.specs.Option.{option_map};
 ghost use Rattle.stun_base.specs.Algorithm.{digest_length};
 ghost use Rattle.stun_base.specs.Attributes.{FINGERPRINT};

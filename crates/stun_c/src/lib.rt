@@ -5,17 +5,17 @@
 //! header lists the errors of each call, in the order in which they are tested.
 #![tactic(auto)]
 
-ghost use Rattle.std.specs.Prelude.{◌≡◌, ◌↔◌, ◌⊎◌, drop, length, pos};
-ghost use Rattle.std.specs.Prelude.{slice_get, IfNone, IfSome, Ok, true};
+ghost use Rattle.std.specs.Prelude.{◌≡◌, ◌↔◌, ◌⊎◌, drop, length, pos, slice_get, IfNone, IfSome};
+ghost use Rattle.std.specs.Prelude.{Ok, true};
 ghost use Rattle.stun_base.specs.Attributes.{XOR_MAPPED_ADDRESS};
 ghost use Rattle.stun_base.specs.Header.{header_refusal};
 ghost use Rattle.stun_types.specs.Integrity.{first_of};
 ghost use Rattle.stun_types.specs.Message.{refusal};
 ghost use Rattle.stun_types.specs.Visible.{visible};
 ghost use Rattle.stun_extra.specs.Framing.{IsStunPacket, frame_of, packet_frame_of, turn_frame_of};
-ghost use Rattle.stun_numbers.specs.Buffers.{within_room, buffer_after};
+ghost use Rattle.stun_numbers.specs.Buffers.{within_room};
 ghost use Rattle.stun_numbers.specs.Algorithms.{algorithm_numbered};
-ghost use Rattle.stun_c.specs.Answers.{parse_answer, verify_answer};
+ghost use Rattle.stun_c.specs.Answers.{Writes, WritesWithin, parse_answer, verify_answer};
 ghost use Rattle.stun_c.specs.Answers.{written_number};
 ghost use Rattle.stun_c.specs.Codes.{error_text};
 ghost use Rattle.stun_c.specs.Extra.{fingerprint_answer, fingerprinted_message, known_refusal};
@@ -29,9 +29,9 @@ ghost use Rattle.stun_c.specs.Reading.{plain_port_after, port_after, sized_after
 ghost use Rattle.stun_c.specs.Reading.{find_answer, finding_refusal, header_answer, header_after};
 ghost use Rattle.stun_c.specs.Requests.{signed_request, key_of_texts, userhash_of_texts};
 ghost use Rattle.stun_c.specs.Walking.{ahead, cursor_refusal, walk_answer};
-ghost use Rattle.stun_c.specs.Writing.{begun_message, added_number, added_sized};
-ghost use Rattle.stun_c.specs.Writing.{added_address, added_numbered_address};
-ghost use Rattle.stun_c.specs.Writing.{added_plain_address, added_error, signed_message};
+ghost use Rattle.stun_c.specs.Writing.{begun_message, added_number, added_sized, added_address};
+ghost use Rattle.stun_c.specs.Writing.{added_numbered_address, added_plain_address, added_error};
+ghost use Rattle.stun_c.specs.Writing.{signed_message};
 
 mod address;
 mod buffer;
@@ -94,12 +94,8 @@ pub extern "C" fn stunp_build_signed(
     key: &[u8],
     out: &mut [u8],
 ) -> i64
-    ensures answer { result ≡ written_number (within_room
-        (signed_request (algorithm_numbered algorithm) id.now username.now key.now)
-        (length out.old)) }
-    ensures written { out.new ≡ buffer_after (within_room
-        (signed_request (algorithm_numbered algorithm) id.now username.now key.now)
-        (length out.old)) out.old }
+    ensures { WritesWithin (signed_request (algorithm_numbered algorithm) id.now username.now
+        key.now) out.old result out.new }
 {
     let mut longest = [0; LONGEST_REQUEST];
     match signed_request(algorithm, id, username, key, &mut longest) {
@@ -117,12 +113,8 @@ pub extern "C" fn stunp_long_term_key(
     password: &[u8],
     out: &mut [u8],
 ) -> i64
-    ensures answer { result ≡ written_number (within_room
-        (key_of_texts (algorithm_numbered algorithm) username.now realm.now password.now)
-        (length out.old)) }
-    ensures written { out.new ≡ buffer_after (within_room
-        (key_of_texts (algorithm_numbered algorithm) username.now realm.now password.now)
-        (length out.old)) out.old }
+    ensures { WritesWithin (key_of_texts (algorithm_numbered algorithm) username.now realm.now
+        password.now) out.old result out.new }
 {
     write_key(algorithm, username, realm, password, out)
 }
@@ -130,10 +122,7 @@ pub extern "C" fn stunp_long_term_key(
 /// Writes the USERHASH of a user in a realm, and returns its length, 32.
 #[unsafe(no_mangle)]
 pub extern "C" fn stunp_userhash(username: &[u8], realm: &[u8], out: &mut [u8]) -> i64
-    ensures answer { result ≡ written_number (within_room (userhash_of_texts username.now realm.now)
-        (length out.old)) }
-    ensures written { out.new ≡ buffer_after (within_room (userhash_of_texts username.now realm.now)
-        (length out.old)) out.old }
+    ensures { WritesWithin (userhash_of_texts username.now realm.now) out.old result out.new }
 {
     match userhash_of_texts(username, realm) {
         Ok(hash) => write(out, &hash),
@@ -174,10 +163,7 @@ pub extern "C" fn stunp_release_0_2() -> i64
 /// number of bytes written.
 #[unsafe(no_mangle)]
 pub extern "C" fn stunp_error_text(answer: i64, out: &mut [u8]) -> i64
-    ensures answer { result ≡ written_number
-        (within_room (Ok (error_text answer)) (length out.old)) }
-    ensures written { out.new ≡ buffer_after (within_room (Ok (error_text answer))
-        (length out.old)) out.old }
+    ensures { WritesWithin (Ok (error_text answer)) out.old result out.new }
 {
     write(out, error_text(answer))
 }
@@ -186,10 +172,7 @@ pub extern "C" fn stunp_error_text(answer: i64, out: &mut [u8]) -> i64
 /// 20.
 #[unsafe(no_mangle)]
 pub extern "C" fn stunp_begin(class: u32, method: u32, id: &[u8], out: &mut [u8]) -> i64
-    ensures answer { result ≡ written_number
-        (within_room (begun_message class method id.now) (length out.old)) }
-    ensures written { out.new ≡ buffer_after (within_room (begun_message class method id.now)
-        (length out.old)) out.old }
+    ensures { WritesWithin (begun_message class method id.now) out.old result out.new }
 {
     writing::begin(class, method, id, out)
 }
@@ -198,9 +181,7 @@ pub extern "C" fn stunp_begin(class: u32, method: u32, id: &[u8], out: &mut [u8]
 /// length.
 #[unsafe(no_mangle)]
 pub extern "C" fn stunp_add(buffer: &mut [u8], count: usize, kind: u32, value: &[u8]) -> i64
-    ensures answer { result ≡ written_number (added_number buffer.old count kind value.now) }
-    ensures written { buffer.new ≡ buffer_after
-        (added_number buffer.old count kind value.now) buffer.old }
+    ensures { Writes (added_number buffer.old count kind value.now) buffer.old result buffer.new }
 {
     writing::add_numbered(buffer, count, kind, value)
 }
@@ -215,9 +196,7 @@ pub extern "C" fn stunp_add_number(
     number: u64,
     size: usize,
 ) -> i64
-    ensures answer { result ≡ written_number (added_sized buffer.old count kind size number) }
-    ensures written { buffer.new ≡ buffer_after
-        (added_sized buffer.old count kind size number) buffer.old }
+    ensures { Writes (added_sized buffer.old count kind size number) buffer.old result buffer.new }
 {
     number::add_number(buffer, count, kind, number, size)
 }
@@ -232,10 +211,8 @@ pub extern "C" fn stunp_add_address(
     octets: &[u8],
     port: u32,
 ) -> i64
-    ensures answer { result ≡ written_number
-        (added_plain_address buffer.old count kind octets.now port) }
-    ensures written { buffer.new ≡ buffer_after
-        (added_plain_address buffer.old count kind octets.now port) buffer.old }
+    ensures { Writes (added_plain_address buffer.old count kind octets.now port) buffer.old result
+        buffer.new }
 {
     address::add_plain(buffer, count, kind, octets, port)
 }
@@ -249,10 +226,8 @@ pub extern "C" fn stunp_add_xor_mapped_address(
     octets: &[u8],
     port: u32,
 ) -> i64
-    ensures answer { result ≡ written_number
-        (added_address buffer.old count XOR_MAPPED_ADDRESS octets.now port) }
-    ensures written { buffer.new ≡ buffer_after
-        (added_address buffer.old count XOR_MAPPED_ADDRESS octets.now port) buffer.old }
+    ensures { Writes (added_address buffer.old count XOR_MAPPED_ADDRESS octets.now port) buffer.old
+        result buffer.new }
 {
     address::add_address(
         buffer,
@@ -273,10 +248,8 @@ pub extern "C" fn stunp_add_xor_address(
     octets: &[u8],
     port: u32,
 ) -> i64
-    ensures answer { result ≡ written_number
-        (added_numbered_address buffer.old count kind octets.now port) }
-    ensures written { buffer.new ≡ buffer_after
-        (added_numbered_address buffer.old count kind octets.now port) buffer.old }
+    ensures { Writes (added_numbered_address buffer.old count kind octets.now port) buffer.old
+        result buffer.new }
 {
     if kind >= 65536 {
         return Refusal::BadArgument.code();
@@ -288,9 +261,7 @@ pub extern "C" fn stunp_add_xor_address(
 /// length.
 #[unsafe(no_mangle)]
 pub extern "C" fn stunp_add_error(buffer: &mut [u8], count: usize, code: u32, reason: &[u8]) -> i64
-    ensures answer { result ≡ written_number (added_error buffer.old count code reason.now) }
-    ensures written { buffer.new ≡ buffer_after
-        (added_error buffer.old count code reason.now) buffer.old }
+    ensures { Writes (added_error buffer.old count code reason.now) buffer.old result buffer.new }
 {
     writing::add_error(buffer, count, code, reason)
 }
@@ -299,10 +270,8 @@ pub extern "C" fn stunp_add_error(buffer: &mut [u8], count: usize, code: u32, re
 /// algorithm, and returns the new length.
 #[unsafe(no_mangle)]
 pub extern "C" fn stunp_sign(buffer: &mut [u8], count: usize, algorithm: u32, key: &[u8]) -> i64
-    ensures answer { result ≡ written_number (signed_message buffer.old count
-        (algorithm_numbered algorithm) key.now) }
-    ensures written { buffer.new ≡ buffer_after
-        (signed_message buffer.old count (algorithm_numbered algorithm) key.now) buffer.old }
+    ensures { Writes (signed_message buffer.old count (algorithm_numbered algorithm) key.now)
+        buffer.old result buffer.new }
 {
     writing::sign(buffer, count, algorithm, key)
 }
@@ -335,10 +304,7 @@ pub extern "C" fn stunp_method(message: &[u8]) -> i64
 /// Writes the transaction ID of a message, and returns its length, 12.
 #[unsafe(no_mangle)]
 pub extern "C" fn stunp_id(message: &[u8], out: &mut [u8]) -> i64
-    ensures answer { result ≡ written_number
-        (within_room (id_of_message message.now) (length out.old)) }
-    ensures written { out.new ≡ buffer_after (within_room (id_of_message message.now)
-        (length out.old)) out.old }
+    ensures { WritesWithin (id_of_message message.now) out.old result out.new }
 {
     reading::id(message, out)
 }
@@ -413,10 +379,7 @@ pub extern "C" fn stunp_error_code(message: &[u8]) -> i64
 /// the length of the address, 4 or 16.
 #[unsafe(no_mangle)]
 pub extern "C" fn stunp_xor_mapped_address(message: &[u8], out: &mut [u8], port: &mut u16) -> i64
-    ensures answer { result ≡ written_number (within_room (octets_of_message message.now)
-        (length out.old)) }
-    ensures written { out.new ≡ buffer_after (within_room (octets_of_message message.now)
-        (length out.old)) out.old }
+    ensures written { WritesWithin (octets_of_message message.now) out.old result out.new }
     ensures port { port.new ≡ port_after (within_room (octets_of_message message.now)
         (length out.old))
         (address_in message.now) port.old }
@@ -433,10 +396,7 @@ pub extern "C" fn stunp_read_xor_address(
     out: &mut [u8],
     port: &mut u16,
 ) -> i64
-    ensures answer { result ≡ written_number (within_room (octets_at message.now place)
-        (length out.old)) }
-    ensures written { out.new ≡ buffer_after (within_room (octets_at message.now place)
-        (length out.old)) out.old }
+    ensures written { WritesWithin (octets_at message.now place) out.old result out.new }
     ensures port { port.new ≡ port_after (within_room (octets_at message.now place)
         (length out.old))
         (address_at message.now place) port.old }
@@ -453,12 +413,8 @@ pub extern "C" fn stunp_read_address(
     out: &mut [u8],
     port: &mut u16,
 ) -> i64
-    ensures answer { result ≡ written_number
-        (within_room (plain_octets (address_at message.now place))
-        (length out.old)) }
-    ensures written { out.new ≡ buffer_after
-        (within_room (plain_octets (address_at message.now place))
-        (length out.old)) out.old }
+    ensures written { WritesWithin (plain_octets (address_at message.now place)) out.old result
+        out.new }
     ensures port { port.new ≡ plain_port_after
         (within_room (plain_octets (address_at message.now place)) (length out.old))
         (address_at message.now place) port.old }
@@ -510,9 +466,7 @@ pub extern "C" fn stunp_check_fingerprint(message: &[u8]) -> i64
 /// length.
 #[unsafe(no_mangle)]
 pub extern "C" fn stunp_add_fingerprint(buffer: &mut [u8], count: usize) -> i64
-    ensures answer { result ≡ written_number (fingerprinted_message buffer.old count) }
-    ensures written { buffer.new
-        ≡ buffer_after (fingerprinted_message buffer.old count) buffer.old }
+    ensures { Writes (fingerprinted_message buffer.old count) buffer.old result buffer.new }
 {
     fingerprint::add(buffer, count)
 }
@@ -533,10 +487,7 @@ pub extern "C" fn stunp_unknown_types(message: &[u8], known: &[u16], types: &mut
 /// returns its length. Returns 0 if the request has none.
 #[unsafe(no_mangle)]
 pub extern "C" fn stunp_refuse_unknown(request: &[u8], known: &[u16], out: &mut [u8]) -> i64
-    ensures answer { result ≡ written_number (within_room (unknown_made request.now known.now)
-        (length out.old)) }
-    ensures written { out.new ≡ buffer_after (within_room (unknown_made request.now known.now)
-        (length out.old)) out.old }
+    ensures { WritesWithin (unknown_made request.now known.now) out.old result out.new }
 {
     unknown::refuse(request, known, out)
 }

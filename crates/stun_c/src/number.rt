@@ -2,8 +2,7 @@
 
 ghost use Rattle.std.specs.Prelude.{◌≡◌, ◌<◌, length, true, IfOk, IfErr, Ok, Err};
 ghost use Rattle.byteorder.specs.Endian.{big_bytes, big_number};
-ghost use Rattle.stun_numbers.specs.Buffers.{buffer_after};
-ghost use Rattle.stun_c.specs.Answers.{written_number};
+ghost use Rattle.stun_c.specs.Answers.{Writes, written_number};
 ghost use Rattle.stun_c.specs.Reading.{sized_at, sized_after};
 ghost use Rattle.stun_c.specs.Writing.{added_sized, has_size, is_size};
 
@@ -50,9 +49,7 @@ fn one_byte(number: u64) -> [u8; 1]
 /// Adds an attribute of a type with a number of `size` bytes to the message in the first `count`
 /// bytes of the buffer. Returns the new length, or the number of the error.
 pub fn add_number(buffer: &mut [u8], count: usize, kind: u32, number: u64, size: usize) -> i64
-    ensures answer { result ≡ written_number (added_sized buffer.old count kind size number) }
-    ensures written { buffer.new ≡ buffer_after
-        (added_sized buffer.old count kind size number) buffer.old }
+    ensures { Writes (added_sized buffer.old count kind size number) buffer.old result buffer.new }
 {
     if !has_size(size, number) {
         return Refusal::BadArgument.code();

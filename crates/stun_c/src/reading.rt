@@ -1,21 +1,21 @@
 //! Reads messages: their fields, their attributes by offset, and the error and the address that
 //! they report.
 
-ghost use Rattle.std.specs.Prelude.{◌≡◌, ◌≤◌, ℕ, length, IfOk, IfErr, IfSome, IfNone};
-ghost use Rattle.std.specs.Prelude.{IsOkAnd, OnOk, Some, None, Ok, Err, slice_index, true};
+ghost use Rattle.std.specs.Prelude.{◌≡◌, ◌≤◌, ℕ, length, IfOk, IfErr, IfSome, IfNone, IsOkAnd};
+ghost use Rattle.std.specs.Prelude.{OnOk, Some, None, Ok, Err, slice_index, true};
 ghost use Rattle.stun_base.specs.Header.{transaction_id_field};
 ghost use Rattle.stun_types.specs.Integrity.{first_of as first_member_of};
 ghost use Rattle.stun_types.specs.Message.{refusal};
 ghost use Rattle.stun_types.specs.Visible.{visible};
-ghost use Rattle.stun_types.specs.XorMappedAddress.{has_octets, xor_bytes};
-ghost use Rattle.stun_types.specs.XorMappedAddress.{xor_key, xor_port, xored_of};
-ghost use Rattle.stun_numbers.specs.Buffers.{within_room, buffer_after};
-ghost use Rattle.stun_c.specs.Answers.{written_number};
+ghost use Rattle.stun_types.specs.XorMappedAddress.{has_octets, xor_bytes, xor_key, xor_port};
+ghost use Rattle.stun_types.specs.XorMappedAddress.{xored_of};
+ghost use Rattle.stun_numbers.specs.Buffers.{within_room};
+ghost use Rattle.stun_c.specs.Answers.{WritesWithin};
 ghost use Rattle.stun_c.specs.Reading.{address_at, octets_at, class_answer, method_answer};
 ghost use Rattle.stun_c.specs.Reading.{id_of_message, next_member, next_answer, number_after};
 ghost use Rattle.stun_c.specs.Reading.{error_in, error_answer, address_in, octets_of_message};
-ghost use Rattle.stun_c.specs.Reading.{plain_octets, plain_port_after, port_after};
-ghost use Rattle.stun_c.specs.Reading.{shown_octets, find_answer, finding_refusal};
+ghost use Rattle.stun_c.specs.Reading.{plain_octets, plain_port_after, port_after, shown_octets};
+ghost use Rattle.stun_c.specs.Reading.{find_answer, finding_refusal};
 
 use crate::address::{IPV4, IPV6, PORT_KEY, xor_key, xor_with};
 use crate::buffer::write;
@@ -63,10 +63,7 @@ fn id_bytes(message: &[u8]) -> Result<&[u8], Refusal>
 /// Copies the transaction ID of a message to the front of the buffer. Returns its length, or the
 /// number of the error.
 pub fn id(message: &[u8], out: &mut [u8]) -> i64
-    ensures answer { result ≡ written_number
-        (within_room (id_of_message message.now) (length out.old)) }
-    ensures written { out.new ≡ buffer_after (within_room (id_of_message message.now)
-        (length out.old)) out.old }
+    ensures { WritesWithin (id_of_message message.now) out.old result out.new }
 {
     match id_bytes(message) {
         Ok(id) => write(out, id),
@@ -243,10 +240,7 @@ fn shown_address<'a>(message: &[u8], place: &'a mut [u8]) -> Result<(u16, &'a [u
 /// Copies the address that a message reports: its octets to the front of the buffer, and its port
 /// to the caller's. Returns how many octets there are, or the number of the error.
 pub fn mapped_address(message: &[u8], out: &mut [u8], port: &mut u16) -> i64
-    ensures answer { result ≡ written_number (within_room (octets_of_message message.now)
-        (length out.old)) }
-    ensures written { out.new ≡ buffer_after (within_room (octets_of_message message.now)
-        (length out.old)) out.old }
+    ensures written { WritesWithin (octets_of_message message.now) out.old result out.new }
     ensures port { port.new ≡ port_after (within_room (octets_of_message message.now)
         (length out.old))
         (address_in message.now) port.old }
@@ -334,10 +328,7 @@ fn shown_at<'a>(
 /// buffer, and its port to the caller's. Returns how many octets there are, or the number of the
 /// error.
 pub fn address_at(message: &[u8], place: usize, out: &mut [u8], port: &mut u16) -> i64
-    ensures answer { result ≡ written_number (within_room (octets_at message.now place)
-        (length out.old)) }
-    ensures written { out.new ≡ buffer_after (within_room (octets_at message.now place)
-        (length out.old)) out.old }
+    ensures written { WritesWithin (octets_at message.now place) out.old result out.new }
     ensures port { port.new ≡ port_after (within_room (octets_at message.now place)
         (length out.old))
         (address_at message.now place) port.old }
@@ -357,12 +348,8 @@ pub fn address_at(message: &[u8], place: usize, out: &mut [u8], port: &mut u16) 
 
 /// Like `address_at`, for an address that is not XORed.
 pub fn plain_at(message: &[u8], place: usize, out: &mut [u8], port: &mut u16) -> i64
-    ensures answer { result ≡ written_number
-        (within_room (plain_octets (address_at message.now place))
-        (length out.old)) }
-    ensures written { out.new ≡ buffer_after
-        (within_room (plain_octets (address_at message.now place))
-        (length out.old)) out.old }
+    ensures written { WritesWithin (plain_octets (address_at message.now place)) out.old result
+        out.new }
     ensures port { port.new ≡ plain_port_after
         (within_room (plain_octets (address_at message.now place)) (length out.old))
         (address_at message.now place) port.old }

@@ -1,8 +1,8 @@
 //! Types of attributes that must be understood and that a caller does not know (RFC 8489, sections
 //! 6.3.1 and 14.13).
 
-ghost use Rattle.std.specs.Prelude.{◌≡◌, ◌≤◌, ◌<◌, ◌+◌, ◌*◌, ◌++◌, ◌^◌, length, pos, take};
-ghost use Rattle.std.specs.Prelude.{drop, set, IfOk, IfErr, OnOk, Some, None, Ok, Err};
+ghost use Rattle.std.specs.Prelude.{◌≡◌, ◌≤◌, ◌<◌, ◌+◌, ◌*◌, ◌++◌, ◌^◌, length, pos, take, drop};
+ghost use Rattle.std.specs.Prelude.{set, IfOk, IfErr, OnOk, Some, None, Ok, Err};
 ghost use Rattle.byteorder.specs.Endian.{big_bytes};
 ghost use Rattle.stun_base.specs.declared.wire.message_type.MessageClass.{MessageClass};
 ghost use Rattle.stun_types.specs.Attribute.{attribute_length};
@@ -10,11 +10,10 @@ ghost use Rattle.stun_types.specs.Grammar.{spelled_attribute};
 ghost use Rattle.stun_types.specs.Writing.{empty_answer, with_attribute};
 ghost use Rattle.stun_extra.specs.Unknown.{spelled_types, types_of, unknown_attribute_error};
 ghost use Rattle.stun_extra.specs.Unknown.{unknown_types};
-ghost use Rattle.stun_numbers.specs.Buffers.{within_room, buffer_after};
-ghost use Rattle.stun_c.specs.Answers.{written_number};
-ghost use Rattle.stun_c.specs.Extra.{answer_made, known_refusal, numbers_after};
-ghost use Rattle.stun_c.specs.Extra.{refused_front, told_number, types_after, types_attribute};
-ghost use Rattle.stun_c.specs.Extra.{unknown_answer, unknown_made, unknown_of};
+ghost use Rattle.stun_c.specs.Answers.{WritesWithin};
+ghost use Rattle.stun_c.specs.Extra.{answer_made, known_refusal, numbers_after, refused_front};
+ghost use Rattle.stun_c.specs.Extra.{told_number, types_after, types_attribute, unknown_answer};
+ghost use Rattle.stun_c.specs.Extra.{unknown_made, unknown_of};
 
 use crate::header::class_number;
 use crate::writing::{append, set_length, write_error, write_header, write_zeros};
@@ -224,10 +223,8 @@ fn append_types(message: &Message<'_>, known: &[AttributeType], count: usize, ou
 fn write_answer(request: &Message<'_>, known: &[AttributeType], count: usize, out: &mut [u8]) -> i64
     requires count { count ≡ length (unknown_types known.now request.now) }
     requires few { count < 2 ^ 14 }
-    ensures answer { result ≡ written_number (within_room (Ok (unknown_answer request.now
-        (unknown_types known.now request.now))) (length out.old)) }
-    ensures written { out.new ≡ buffer_after (within_room (Ok (unknown_answer request.now
-        (unknown_types known.now request.now))) (length out.old)) out.old }
+    ensures { WritesWithin (Ok (unknown_answer request.now (unknown_types known.now request.now)))
+        out.old result out.new }
 {
     if out.len() < FRONT_LENGTH + attribute_length(2 * count) {
         return Refusal::BufferTooSmall.code();
@@ -247,10 +244,8 @@ fn count_types(message: &Message<'_>, known: &[AttributeType]) -> usize
 /// Writes the answer to a message, which must be a request, to the front of the buffer. Returns its
 /// length, or 0 where the message has no unknown type.
 fn answer(message: &Message<'_>, known: &[AttributeType], out: &mut [u8]) -> i64
-    ensures answer { result ≡ written_number (within_room (answer_made message.now
-        (unknown_types known.now message.now)) (length out.old)) }
-    ensures written { out.new ≡ buffer_after (within_room (answer_made message.now
-        (unknown_types known.now message.now)) (length out.old)) out.old }
+    ensures { WritesWithin (answer_made message.now (unknown_types known.now message.now)) out.old
+        result out.new }
 {
     if class_number(message.class()) != 0 {
         return Refusal::BadArgument.code();
@@ -265,10 +260,7 @@ fn answer(message: &Message<'_>, known: &[AttributeType], out: &mut [u8]) -> i64
 /// Writes the response to a request with unknown types to the front of the buffer. Returns its
 /// length, 0 if the request has none, or the number of the error.
 pub fn refuse(request: &[u8], known: &[u16], out: &mut [u8]) -> i64
-    ensures answer { result ≡ written_number (within_room (unknown_made request.now known.now)
-        (length out.old)) }
-    ensures written { out.new ≡ buffer_after (within_room (unknown_made request.now known.now)
-        (length out.old)) out.old }
+    ensures { WritesWithin (unknown_made request.now known.now) out.old result out.new }
 {
     let mut place = [AttributeType::new(0); MOST_KNOWN];
     match readable(request, known, &mut place) {

@@ -1,7 +1,7 @@
 //! A walk over the visible attributes of a message, which reads each of its attributes once.
 
-ghost use Rattle.std.specs.Prelude.{◌≡◌, ◌≤◌, length, drop, slice_get};
-ghost use Rattle.std.specs.Prelude.{IfOk, IfErr, OnOk, IfSome, IfNone, Some, None};
+ghost use Rattle.std.specs.Prelude.{◌≡◌, ◌≤◌, length, drop, slice_get, IfOk, IfErr, OnOk, IfSome};
+ghost use Rattle.std.specs.Prelude.{IfNone, Some, None};
 ghost use Rattle.stun_types.specs.Visible.{visible_after};
 ghost use Rattle.stun_types.specs.Walk.{walk_from};
 ghost use Rattle.stun_c.specs.Reading.{number_after};

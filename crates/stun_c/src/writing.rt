@@ -1,8 +1,8 @@
 //! Messages written in the caller's buffer, an attribute at a time.
 
-ghost use Rattle.std.specs.Prelude.{◌≡◌, ◌≤◌, ◌<◌, ℕ, List, pos, nat_lt, Ok, Err, ◌+◌};
-ghost use Rattle.std.specs.Prelude.{◌-◌, ◌++◌, length, take, drop, replicate};
-ghost use Rattle.std.specs.Prelude.{IfOk, IfErr, OnOk, Some, None, true, false};
+ghost use Rattle.std.specs.Prelude.{◌≡◌, ◌≤◌, ◌<◌, ℕ, List, pos, nat_lt, Ok, Err, ◌+◌, ◌-◌, ◌++◌};
+ghost use Rattle.std.specs.Prelude.{length, take, drop, replicate, IfOk, IfErr, OnOk, Some, None};
+ghost use Rattle.std.specs.Prelude.{true, false};
 ghost use Rattle.byteorder.specs.Endian.{big_bytes};
 ghost use Rattle.stun_base.specs.Algorithm.{digest, digest_length};
 ghost use Rattle.stun_base.specs.MessageType.{class_of_bits};
@@ -11,14 +11,13 @@ ghost use Rattle.stun_types.specs.Attribute.{attribute_length};
 ghost use Rattle.stun_types.specs.Grammar.{spelled_attribute};
 ghost use Rattle.stun_types.specs.Limits.{TEXT_LIMIT, max_length};
 ghost use Rattle.stun_types.specs.Message.{with_length};
-ghost use Rattle.stun_types.specs.Writing.{is_set_apart, integrity_kind};
-ghost use Rattle.stun_types.specs.Writing.{with_attribute, with_integrity};
-ghost use Rattle.stun_numbers.specs.Buffers.{within_room, buffer_after};
+ghost use Rattle.stun_types.specs.Writing.{is_set_apart, integrity_kind, with_attribute};
+ghost use Rattle.stun_types.specs.Writing.{with_integrity};
 ghost use Rattle.stun_numbers.specs.Algorithms.{algorithm_numbered};
-ghost use Rattle.stun_c.specs.Answers.{written_number};
+ghost use Rattle.stun_c.specs.Answers.{Writes, WritesWithin};
 ghost use Rattle.stun_c.specs.code.Room.{HasRoom};
-ghost use Rattle.stun_c.specs.Writing.{begun_message, fit_refusal, adding_refusal};
-ghost use Rattle.stun_c.specs.Writing.{digest_refusal, added_attribute, added_number, added_error};
+ghost use Rattle.stun_c.specs.Writing.{begun_message, fit_refusal, adding_refusal, digest_refusal};
+ghost use Rattle.stun_c.specs.Writing.{added_attribute, added_number, added_error};
 ghost use Rattle.stun_c.specs.Writing.{error_argument_refusal, signed_message, shows_kind};
 
 use crate::buffer::write;
@@ -153,9 +152,8 @@ pub(crate) fn append(buffer: &mut [u8], count: usize, kind: AttributeType, value
 /// Adds an attribute to the message in the first `count` bytes of the buffer. Returns the new
 /// length, or the number of the error.
 pub fn add(buffer: &mut [u8], count: usize, kind: AttributeType, value: &[u8]) -> i64
-    ensures answer { result ≡ written_number (added_attribute buffer.old count kind.0 value.now) }
-    ensures written { buffer.new ≡ buffer_after
-        (added_attribute buffer.old count kind.0 value.now) buffer.old }
+    ensures { Writes (added_attribute buffer.old count kind.0 value.now) buffer.old result
+        buffer.new }
 {
     match addable(buffer, count, kind, value.len()) {
         Ok(()) => append(buffer, count, kind, value),
@@ -165,9 +163,7 @@ pub fn add(buffer: &mut [u8], count: usize, kind: AttributeType, value: &[u8]) -
 
 /// Like `add`, for a type that must be a number of 16 bits.
 pub fn add_numbered(buffer: &mut [u8], count: usize, kind: u32, value: &[u8]) -> i64
-    ensures answer { result ≡ written_number (added_number buffer.old count kind value.now) }
-    ensures written { buffer.new ≡ buffer_after
-        (added_number buffer.old count kind value.now) buffer.old }
+    ensures { Writes (added_number buffer.old count kind value.now) buffer.old result buffer.new }
 {
     if kind >= 65536 {
         return Refusal::BadArgument.code();
@@ -248,10 +244,8 @@ fn signable(buffer: &[u8], count: usize, algorithm: u32) -> Result<IntegrityAlgo
 /// Adds the integrity attribute to the message in the first `count` bytes of the buffer. Returns
 /// the new length, or the number of the error.
 pub fn sign(buffer: &mut [u8], count: usize, algorithm: u32, key: &[u8]) -> i64
-    ensures answer { result ≡ written_number (signed_message buffer.old count
-        (algorithm_numbered algorithm) key.now) }
-    ensures written { buffer.new ≡ buffer_after
-        (signed_message buffer.old count (algorithm_numbered algorithm) key.now) buffer.old }
+    ensures { Writes (signed_message buffer.old count (algorithm_numbered algorithm) key.now)
+        buffer.old result buffer.new }
 {
     match signable(buffer, count, algorithm) {
         Ok(algorithm) => append_integrity(buffer, count, algorithm, key),
@@ -304,10 +298,7 @@ fn header<'a>(class: u32, method: u32, id: &[u8], buffer: &'a mut [u8]) -> Resul
 /// Writes a message without attributes to the front of the buffer. Returns its length, or the
 /// number of the error.
 pub fn begin(class: u32, method: u32, id: &[u8], out: &mut [u8]) -> i64
-    ensures answer { result ≡ written_number
-        (within_room (begun_message class method id.now) (length out.old)) }
-    ensures written { out.new ≡ buffer_after (within_room (begun_message class method id.now)
-        (length out.old)) out.old }
+    ensures { WritesWithin (begun_message class method id.now) out.old result out.new }
 {
     let mut place = [0; HEADER_LENGTH];
     match header(class, method, id, &mut place) {
@@ -347,9 +338,7 @@ fn error_arguments(code: u32, reason: &[u8]) -> Result<u16, Refusal>
 /// Adds an ERROR-CODE to the message in the first `count` bytes of the buffer. Returns the new
 /// length, or the number of the error.
 pub fn add_error(buffer: &mut [u8], count: usize, code: u32, reason: &[u8]) -> i64
-    ensures answer { result ≡ written_number (added_error buffer.old count code reason.now) }
-    ensures written { buffer.new ≡ buffer_after
-        (added_error buffer.old count code reason.now) buffer.old }
+    ensures { Writes (added_error buffer.old count code reason.now) buffer.old result buffer.new }
 {
     match error_arguments(code, reason) {
         Ok(code) => {

@@ -1,3 +1,4 @@
 -- Lemmas of this crate.
 mod Reading
+pub mod Unbroken
 mod Writing

@@ -4,6 +4,7 @@
 
 pub mod failure;
 pub mod input;
+pub mod line;
 pub mod output;
 pub mod status;
 pub mod verdict;

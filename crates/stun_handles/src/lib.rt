@@ -1,6 +1,5 @@
 //! The parts of an archive for programs in C other than its calls: handles of values on the heap,
-//! addresses, texts, stored keys, and the numbers that calls return. `stun_state` still has its
-//! own addresses, texts, keys and numbers.
+//! addresses, texts, stored keys, and the numbers that calls return.
 #![tactic(auto)]
 
 pub mod address;

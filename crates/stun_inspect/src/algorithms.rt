@@ -4,6 +4,7 @@
 use crate::value::push_digits;
 use captures::numbers::{Order, number_16};
 use std::alloc::{AllocError, Allocator};
+use stun_cli::line::Line;
 
 /// An algorithm with its parameters.
 #[derive(Clone, Copy)]
@@ -49,31 +50,31 @@ fn is_list(value: &[u8]) -> bool {
 
 /// Appends the name of an algorithm and its parameters. An unknown algorithm has its number in
 /// place of a name.
-fn push_entry<A: Allocator + Copy>(
-    text: &mut String<A>,
-    entry: Entry<'_>,
-) -> Result<(), AllocError> {
+fn push_entry<A: Allocator + Copy>(line: &mut Line<A>, entry: Entry<'_>) -> Result<(), AllocError> {
     let number = entry.number;
     match number {
-        1 => text.push_str("MD5")?,
-        2 => text.push_str("SHA-256")?,
-        _ => write!(text, "0x{number:04x}")?,
+        1 => line.push_str("MD5")?,
+        2 => line.push_str("SHA-256")?,
+        _ => {
+            line.push_str("0x")?;
+            push_digits(line, &number.to_be_bytes())?;
+        }
     }
     if !entry.parameters.is_empty() {
-        text.push_str(" with ")?;
-        push_digits(text, entry.parameters)?;
+        line.push_str(" with ")?;
+        push_digits(line, entry.parameters)?;
     }
     Ok(())
 }
 
 /// Appends the algorithm of PASSWORD-ALGORITHM.
 pub fn push_algorithm<A: Allocator + Copy>(
-    text: &mut String<A>,
+    line: &mut Line<A>,
     value: &[u8],
 ) -> Result<bool, AllocError> {
     match entry_of(value) {
         Some(entry) if entry.rest.is_empty() => {
-            push_entry(text, entry)?;
+            push_entry(line, entry)?;
             Ok(true)
         }
         _ => Ok(false),
@@ -82,14 +83,14 @@ pub fn push_algorithm<A: Allocator + Copy>(
 
 /// Appends the algorithms of PASSWORD-ALGORITHMS.
 pub fn push_algorithms<A: Allocator + Copy>(
-    text: &mut String<A>,
+    line: &mut Line<A>,
     value: &[u8],
 ) -> Result<bool, AllocError> {
     if !is_list(value) {
         return Ok(false);
     }
     if value.is_empty() {
-        text.push_str("none")?;
+        line.push_str("none")?;
     }
     let mut rest = value;
     for count in 0..value.len() {
@@ -97,9 +98,9 @@ pub fn push_algorithms<A: Allocator + Copy>(
             break;
         };
         if count > 0 {
-            text.push_str(", ")?;
+            line.push_str(", ")?;
         }
-        push_entry(text, entry)?;
+        push_entry(line, entry)?;
         rest = entry.rest;
     }
     Ok(true)

@@ -23,7 +23,8 @@ use crate::verdict::{line, verdict_on};
 use std::alloc::{AllocError, Allocator};
 use std::io::Write;
 use stun_cli::input::{CountedRead, read_to_end, read_up_to};
-use stun_cli::output::{line_of, write_text};
+use stun_cli::line::Line;
+use stun_cli::output::write_text;
 use stun_cli::status::Status;
 use stun_cli::verdict::refusal_line;
 use stun_types::attribute::Userhash;
@@ -365,7 +366,7 @@ fn print_nonce<W: Write, A: Allocator + Copy>(
 fn nonce_line<A: Allocator + Copy>(alloc: A, nonce: &str) -> Result<String<A>, AllocError>
     ensures { IfOk result (λ line. IsLine (string_bytes line)) }
 {
-    let mut text = String::new(alloc);
-    push_security_bits(&mut text, nonce)?;
-    line_of(alloc, text)
+    let mut line = Line::new(alloc);
+    push_security_bits(&mut line, nonce)?;
+    line.end()
 }

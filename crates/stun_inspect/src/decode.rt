@@ -9,7 +9,7 @@ use crate::registry::{Form, attribute, attribute_name, method_name};
 use crate::telling::{Told, tell};
 use crate::value::{push_digits, push_value};
 use std::alloc::{AllocError, Allocator};
-use stun_cli::output::{line_of, unbroken};
+use stun_cli::line::Line;
 use stun_types::message::{Message, MessageClass, TransactionId};
 
 /// Returns the text that is printed for a message: a line each for its class, its method and its
@@ -28,7 +28,9 @@ pub fn describe<A: Allocator + Copy>(
     Ok(text)
 }
 
-fn class_name(class: MessageClass) -> &'static str {
+fn class_name(class: MessageClass) -> &'static str
+    ensures { has_line_feed result.now ≡ false }
+{
     match class {
         MessageClass::Request => "request",
         MessageClass::Indication => "indication",
@@ -48,7 +50,7 @@ fn header_text<A: Allocator + Copy>(
     let first = header_line(alloc, "class", kind)?;
     let method = method_text(alloc, message.method().value())?;
     let second = header_line(alloc, "method", method.as_str())?;
-    let mut id = String::new(alloc);
+    let mut id = Line::new(alloc);
     let bytes = message.transaction_id().as_u128().to_be_bytes();
     push_digits(&mut id, &bytes[4..])?;
     let third = header_line(alloc, "id", id.as_str())?;
@@ -62,16 +64,25 @@ fn header_line<A: Allocator + Copy>(
     name: &str,
     value: &str,
 ) -> Result<String<A>, AllocError>
+    requires name { IsName name.now }
+    requires value { has_line_feed value.now ≡ false }
     ensures { IfOk result (λ line. IsLine (string_bytes line)) }
 {
-    let text = format!(in alloc; "{name:<28} {value}")?;
-    line_of(alloc, text)
+    let mut line = column_of(alloc, name)?;
+    line.push(' ')?;
+    line.push_str(value)?;
+    line.end()
 }
 
 /// Returns the name and the number of a method.
-fn method_text<A: Allocator + Copy>(alloc: A, method: u16) -> Result<String<A>, AllocError> {
-    let name = method_name(method);
-    format!(in alloc; "{name} 0x{method:03x}")
+fn method_text<A: Allocator + Copy>(alloc: A, method: u16) -> Result<Line<A>, AllocError> {
+    let [high, low] = method.to_be_bytes();
+    let mut line = Line::new(alloc);
+    line.push_str(method_name(method))?;
+    line.push_str(" 0x")?;
+    line.push_hexadecimal(u32::from(high))?;
+    line.push_byte(low)?;
+    Ok(line)
 }
 
 /// Returns a line for each attribute of a message.
@@ -105,8 +116,10 @@ fn line_on<A: Allocator + Copy>(
         Some(registered) => (registered.name, registered.form),
         None => ("unregistered", Form::Bytes),
     };
-    let name = column_of(alloc, name)?;
-    let rest = rest_of_line(alloc, told, form, id)?;
+    let column = column_of(alloc, name)?;
+    let name = column.as_str();
+    let end = rest_of_line(alloc, told, form, id)?;
+    let rest = end.as_str();
     let place = told.place;
     let ending = ending_of(message, told);
     let line = format!(in alloc; "{name} {kind} at {place} {rest}{ending}\n")?;
@@ -117,21 +130,23 @@ fn line_on<A: Allocator + Copy>(
 const NAME_LENGTH: usize = 28;
 
 /// Pads a name with blanks to the width of its column.
-fn column_of<A: Allocator + Copy>(alloc: A, name: &str) -> Result<String<A>, AllocError>
+fn column_of<A: Allocator + Copy>(alloc: A, name: &str) -> Result<Line<A>, AllocError>
     requires { IsName name.now }
-    ensures length { IfOk result (λ column. length (string_bytes column) ≡ NAME_LENGTH) }
-    ensures unbroken { IfOk result (λ column. has_line_feed (string_bytes column) ≡ false) }
+    ensures { IfOk result (λ column. length (string_bytes column.text) ≡ NAME_LENGTH) }
 {
-    let mut column = String::from_str(alloc, name)?;
+    let mut column = Line::new(alloc);
+    column.push_str(name)?;
     for _place in name.len()..NAME_LENGTH {
         column.push(' ')?;
     }
     Ok(column)
 }
 
-/// Returns the blanks after an offset that fill its column of five digits.
-fn blanks_after(place: usize) -> &'static str {
-    match place {
+/// Returns the blanks that fill the column of a number, which has five digits.
+fn blanks_beside(number: usize) -> &'static str
+    ensures { has_line_feed result.now ≡ false }
+{
+    match number {
         0..=9 => "    ",
         10..=99 => "   ",
         100..=999 => "  ",
@@ -147,16 +162,18 @@ fn rest_of_line<A: Allocator + Copy>(
     told: &Told<'_>,
     form: Form,
     id: TransactionId,
-) -> Result<String<A>, AllocError>
-    ensures { IfOk result (λ rest. has_line_feed (string_bytes rest) ≡ false) }
-{
+) -> Result<Line<A>, AllocError> {
     let length = told.attribute.length();
-    let blanks = blanks_after(told.place);
-    let mut rest = format!(in alloc; "{blanks}{length:>5} bytes  ")?;
+    let mut rest = Line::new(alloc);
+    rest.push_str(blanks_beside(told.place))?;
+    rest.push_str(blanks_beside(length))?;
+    rest.push_number(length as u64)?;
+    rest.push_str(" bytes  ")?;
     if let Some(hider) = told.hidden_by {
-        let hider = attribute_name(hider.value());
-        write!(rest, "hidden by {hider}: ")?;
+        rest.push_str("hidden by ")?;
+        rest.push_str(attribute_name(hider.value()))?;
+        rest.push_str(": ")?;
     }
     push_value(&mut rest, form, told.attribute.value(), id)?;
-    unbroken(alloc, rest)
+    Ok(rest)
 }

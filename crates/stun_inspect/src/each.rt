@@ -15,6 +15,7 @@ use captures::link::carried;
 use std::alloc::{AllocError, Allocator};
 use std::io::Write;
 use stun_cli::input::{CountedRead, read_up_to};
+use stun_cli::line::Line;
 use stun_cli::output::write_text;
 use stun_cli::status::Status;
 use stun_types::message::MessageIntegrityCredentials;
@@ -62,10 +63,11 @@ impl Teller for Decoding {
     ) -> Result<(), Failure> {
         let ChannelData { channel, bytes } = data;
         let length = bytes.len();
+        let mut digits = Line::new(alloc);
+        push_digits(&mut digits, bytes)?;
+        let digits = digits.as_str();
         let mut text = format!(in alloc; "{heading}{:<28} 0x{channel:04x}\n", "channel")?;
-        write!(text, "{:<28} {length} bytes  ", "data")?;
-        push_digits(&mut text, bytes)?;
-        text.push_str("\n\n")?;
+        write!(text, "{:<28} {length} bytes  {digits}\n\n", "data")?;
         Ok(write_text(writer, text.as_bytes())?)
     }
 }

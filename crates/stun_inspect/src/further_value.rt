@@ -5,6 +5,7 @@
 use crate::registry::attribute_name;
 use crate::value::{push_address, push_digits, push_quoted};
 use std::alloc::{AllocError, Allocator};
+use stun_cli::line::Line;
 use stun_extra::attribute::{
     AddressFamily, AlternateDomain, ChangeRequest, ChannelNumber, EvenPort, IceControlled,
     Lifetime, MappedAddress, Priority, RequestedAddressFamily, RequestedTransport,
@@ -17,53 +18,53 @@ use stun_types::prelude::*;
 
 /// Appends an address that is not XORed, such as that of MAPPED-ADDRESS.
 pub fn push_plain_address<A: Allocator + Copy>(
-    text: &mut String<A>,
+    line: &mut Line<A>,
     value: &[u8],
 ) -> Result<bool, AllocError> {
     match MappedAddress::from_raw(RawAttribute::new(MappedAddress::TYPE, value)) {
-        Ok(address) => push_address(text, address.addr()),
+        Ok(address) => push_address(line, address.addr()),
         Err(_) => Ok(false),
     }
 }
 
 /// Appends an address that is XORed with the magic cookie and the transaction ID.
 pub fn push_xored_address<A: Allocator + Copy>(
-    text: &mut String<A>,
+    line: &mut Line<A>,
     value: &[u8],
     id: TransactionId,
 ) -> Result<bool, AllocError> {
     match XorPeerAddress::from_raw(RawAttribute::new(XorPeerAddress::TYPE, value)) {
-        Ok(address) => push_address(text, address.addr(id)),
+        Ok(address) => push_address(line, address.addr(id)),
         Err(_) => Ok(false),
     }
 }
 
 pub fn push_software<A: Allocator + Copy>(
-    text: &mut String<A>,
+    line: &mut Line<A>,
     value: &[u8],
 ) -> Result<bool, AllocError> {
     let Ok(software) = Software::from_raw(RawAttribute::new(Software::TYPE, value)) else {
         return Ok(false);
     };
-    push_quoted(text, software.software())?;
+    push_quoted(line, software.software())?;
     Ok(true)
 }
 
 pub fn push_domain<A: Allocator + Copy>(
-    text: &mut String<A>,
+    line: &mut Line<A>,
     value: &[u8],
 ) -> Result<bool, AllocError> {
     let raw = RawAttribute::new(AlternateDomain::TYPE, value);
     let Ok(alternate) = AlternateDomain::from_raw(raw) else {
         return Ok(false);
     };
-    push_quoted(text, alternate.domain())?;
+    push_quoted(line, alternate.domain())?;
     Ok(true)
 }
 
 /// Appends the name and the number of each attribute type of a list.
 pub fn push_types<A: Allocator + Copy>(
-    text: &mut String<A>,
+    line: &mut Line<A>,
     value: &[u8],
 ) -> Result<bool, AllocError> {
     let raw = RawAttribute::new(UnknownAttributes::TYPE, value);
@@ -71,15 +72,16 @@ pub fn push_types<A: Allocator + Copy>(
         return Ok(false);
     };
     if types.is_empty() {
-        text.push_str("none")?;
+        line.push_str("none")?;
     }
     for i in 0..types.len() {
         if let Some(kind) = types.get(i) {
-            let name = attribute_name(kind.value());
             if i > 0 {
-                text.push_str(", ")?;
+                line.push_str(", ")?;
             }
-            write!(text, "{name} {kind}")?;
+            line.push_str(attribute_name(kind.value()))?;
+            line.push_str(" 0x")?;
+            push_digits(line, &kind.value().to_be_bytes())?;
         }
     }
     Ok(true)
@@ -87,99 +89,97 @@ pub fn push_types<A: Allocator + Copy>(
 
 /// Appends a number of 32 bits, such as that of PRIORITY.
 pub fn push_number<A: Allocator + Copy>(
-    text: &mut String<A>,
+    line: &mut Line<A>,
     value: &[u8],
 ) -> Result<bool, AllocError> {
     let Ok(priority) = Priority::from_raw(RawAttribute::new(Priority::TYPE, value)) else {
         return Ok(false);
     };
-    let number = priority.number();
-    write!(text, "{number}")?;
+    line.push_number(u64::from(priority.number()))?;
     Ok(true)
 }
 
 /// Appends a tie-breaker as hexadecimal digits.
 pub fn push_tie_breaker<A: Allocator + Copy>(
-    text: &mut String<A>,
+    line: &mut Line<A>,
     value: &[u8],
 ) -> Result<bool, AllocError> {
     let raw = RawAttribute::new(IceControlled::TYPE, value);
     let Ok(role) = IceControlled::from_raw(raw) else {
         return Ok(false);
     };
-    push_digits(text, &role.tie_breaker().to_be_bytes())
+    push_digits(line, &role.tie_breaker().to_be_bytes())
 }
 
 pub fn push_flag<A: Allocator + Copy>(
-    text: &mut String<A>,
+    line: &mut Line<A>,
     value: &[u8],
 ) -> Result<bool, AllocError> {
     if UseCandidate::from_raw(RawAttribute::new(UseCandidate::TYPE, value)).is_err() {
         return Ok(false);
     }
-    text.push_str("set")?;
+    line.push_str("set")?;
     Ok(true)
 }
 
 /// Appends a channel number in hexadecimal.
 pub fn push_channel<A: Allocator + Copy>(
-    text: &mut String<A>,
+    line: &mut Line<A>,
     value: &[u8],
 ) -> Result<bool, AllocError> {
     let raw = RawAttribute::new(ChannelNumber::TYPE, value);
     let Ok(number) = ChannelNumber::from_raw(raw) else {
         return Ok(false);
     };
-    let channel = number.channel();
-    write!(text, "channel 0x{channel:04x}")?;
-    Ok(true)
+    line.push_str("channel 0x")?;
+    push_digits(line, &number.channel().to_be_bytes())
 }
 
 pub fn push_lifetime<A: Allocator + Copy>(
-    text: &mut String<A>,
+    line: &mut Line<A>,
     value: &[u8],
 ) -> Result<bool, AllocError> {
     let Ok(lifetime) = Lifetime::from_raw(RawAttribute::new(Lifetime::TYPE, value)) else {
         return Ok(false);
     };
-    let seconds = lifetime.seconds();
-    write!(text, "{seconds} seconds")?;
+    line.push_number(u64::from(lifetime.seconds()))?;
+    line.push_str(" seconds")?;
     Ok(true)
 }
 
 pub fn push_family<A: Allocator + Copy>(
-    text: &mut String<A>,
+    line: &mut Line<A>,
     value: &[u8],
 ) -> Result<bool, AllocError> {
     let raw = RawAttribute::new(RequestedAddressFamily::TYPE, value);
     let Ok(requested) = RequestedAddressFamily::from_raw(raw) else {
         return Ok(false);
     };
-    text.push_str(match requested.family() {
-        AddressFamily::Ipv4 => "IPv4",
-        AddressFamily::Ipv6 => "IPv6",
-    })?;
+    match requested.family() {
+        AddressFamily::Ipv4 => line.push_str("IPv4")?,
+        AddressFamily::Ipv6 => line.push_str("IPv6")?,
+    }
     Ok(true)
 }
 
 pub fn push_even_port<A: Allocator + Copy>(
-    text: &mut String<A>,
+    line: &mut Line<A>,
     value: &[u8],
 ) -> Result<bool, AllocError> {
     let Ok(even) = EvenPort::from_raw(RawAttribute::new(EvenPort::TYPE, value)) else {
         return Ok(false);
     };
     if even.requested() {
-        text.push_str("even, and the next reserved")?;
+        line.push_str("even, and the next reserved")?;
     } else {
-        text.push_str("even")?;
+        line.push_str("even")?;
     }
     Ok(true)
 }
 
 /// Appends the number of a protocol, and its name if it is UDP or TCP.
 pub fn push_transport<A: Allocator + Copy>(
-    text: &mut String<A>,
+    line: &mut Line<A>,
     value: &[u8],
 ) -> Result<bool, AllocError> {
     let raw = RawAttribute::new(RequestedTransport::TYPE, value);
@@ -187,52 +187,52 @@ pub fn push_transport<A: Allocator + Copy>(
         return Ok(false);
     };
     let protocol = requested.protocol();
-    let name = match protocol {
-        RequestedTransport::UDP => "UDP",
-        RequestedTransport::TCP => "TCP",
-        _ => "protocol",
-    };
-    write!(text, "{name} {protocol}")?;
+    match protocol {
+        RequestedTransport::UDP => line.push_str("UDP ")?,
+        RequestedTransport::TCP => line.push_str("TCP ")?,
+        _ => line.push_str("protocol ")?,
+    }
+    line.push_number(u64::from(protocol))?;
     Ok(true)
 }
 
 pub fn push_token<A: Allocator + Copy>(
-    text: &mut String<A>,
+    line: &mut Line<A>,
     value: &[u8],
 ) -> Result<bool, AllocError> {
     let raw = RawAttribute::new(ReservationToken::TYPE, value);
     let Ok(reservation) = ReservationToken::from_raw(raw) else {
         return Ok(false);
     };
-    push_digits(text, reservation.token())
+    push_digits(line, reservation.token())
 }
 
 pub fn push_change_request<A: Allocator + Copy>(
-    text: &mut String<A>,
+    line: &mut Line<A>,
     value: &[u8],
 ) -> Result<bool, AllocError> {
     let raw = RawAttribute::new(ChangeRequest::TYPE, value);
     let Ok(request) = ChangeRequest::from_raw(raw) else {
         return Ok(false);
     };
-    text.push_str(match (request.change_ip(), request.change_port()) {
-        (true, true) => "another address and another port",
-        (true, false) => "another address",
-        (false, true) => "another port",
-        (false, false) => "no change",
-    })?;
+    match (request.change_ip(), request.change_port()) {
+        (true, true) => line.push_str("another address and another port")?,
+        (true, false) => line.push_str("another address")?,
+        (false, true) => line.push_str("another port")?,
+        (false, false) => line.push_str("no change")?,
+    }
     Ok(true)
 }
 
 pub fn push_response_port<A: Allocator + Copy>(
-    text: &mut String<A>,
+    line: &mut Line<A>,
     value: &[u8],
 ) -> Result<bool, AllocError> {
     let raw = RawAttribute::new(ResponsePort::TYPE, value);
     let Ok(response) = ResponsePort::from_raw(raw) else {
         return Ok(false);
     };
-    let port = response.port();
-    write!(text, "port {port}")?;
+    line.push_str("port ")?;
+    line.push_number(u64::from(response.port()))?;
     Ok(true)
 }

@@ -1,5 +1,6 @@
 //! The names in IANA's registry of STUN parameters, and how the value of each attribute is printed.
-ghost use Rattle.std.specs.Prelude.{IfSome};
+ghost use Rattle.std.specs.Prelude.{◌≡◌, false, IfSome};
+ghost use Rattle.stun_cli.specs.Line.{has_line_feed};
 ghost use Rattle.stun_inspect.specs.Names.{IsName};
 
 /// How the value of an attribute is printed.
@@ -172,7 +173,9 @@ fn optional(number: u16) -> Option<Registered>
 }
 
 /// Returns the name of the attribute with this type, or `unregistered`.
-pub fn attribute_name(number: u16) -> &'static str {
+pub fn attribute_name(number: u16) -> &'static str
+    ensures { has_line_feed result.now ≡ false }
+{
     match attribute(number) {
         Some(registered) => registered.name,
         None => "unregistered",
@@ -180,7 +183,9 @@ pub fn attribute_name(number: u16) -> &'static str {
 }
 
 /// Returns the name of a method, or `unregistered`.
-pub fn method_name(number: u16) -> &'static str {
+pub fn method_name(number: u16) -> &'static str
+    ensures { has_line_feed result.now ≡ false }
+{
     match number {
         0x001 => "Binding",
         0x003 => "Allocate",
@@ -198,7 +203,9 @@ pub fn method_name(number: u16) -> &'static str {
 }
 
 /// Returns the name of an error code, or `unregistered`.
-pub fn error_name(code: u16) -> &'static str {
+pub fn error_name(code: u16) -> &'static str
+    ensures { has_line_feed result.now ≡ false }
+{
     match code {
         300 => "Try Alternate",
         400 => "Bad Request",

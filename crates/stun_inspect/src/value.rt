@@ -10,6 +10,7 @@ use crate::registry::{Form, error_name};
 use std::alloc::{AllocError, Allocator};
 use std::net::SocketAddr;
 use stun_auth::auth::NonceSecurityBits;
+use stun_cli::line::Line;
 use stun_types::attribute::{AttributeType, ErrorCode, RawAttribute};
 use stun_types::message::TransactionId;
 use stun_types::prelude::AttributeFromRaw;
@@ -17,56 +18,55 @@ use stun_types::prelude::AttributeFromRaw;
 /// Appends a value in the form of its type. If the value is malformed, it is appended as
 /// hexadecimal digits. Fails if an allocation fails.
 pub fn push_value<A: Allocator + Copy>(
-    text: &mut String<A>,
+    line: &mut Line<A>,
     form: Form,
     value: &[u8],
     id: TransactionId,
 ) -> Result<(), AllocError> {
     let is_read = match form {
-        Form::Address => push_plain_address(text, value)?,
-        Form::XorAddress => push_xored_address(text, value, id)?,
-        Form::Text => push_text(text, value)?,
-        Form::Software => push_software(text, value)?,
-        Form::Domain => push_domain(text, value)?,
-        Form::Nonce => push_nonce(text, value)?,
-        Form::Error => push_error(text, value)?,
-        Form::Types => push_types(text, value)?,
-        Form::Algorithm => push_algorithm(text, value)?,
-        Form::Algorithms => push_algorithms(text, value)?,
+        Form::Address => push_plain_address(line, value)?,
+        Form::XorAddress => push_xored_address(line, value, id)?,
+        Form::Text => push_text(line, value)?,
+        Form::Software => push_software(line, value)?,
+        Form::Domain => push_domain(line, value)?,
+        Form::Nonce => push_nonce(line, value)?,
+        Form::Error => push_error(line, value)?,
+        Form::Types => push_types(line, value)?,
+        Form::Algorithm => push_algorithm(line, value)?,
+        Form::Algorithms => push_algorithms(line, value)?,
         Form::Sha1 | Form::Sha256 | Form::Userhash => {
-            has_length_of(form, value.len()) && push_digits(text, value)?
+            has_length_of(form, value.len()) && push_digits(line, value)?
         }
-        Form::Number => push_number(text, value)?,
-        Form::TieBreaker => push_tie_breaker(text, value)?,
-        Form::Flag => push_flag(text, value)?,
-        Form::Channel => push_channel(text, value)?,
-        Form::Lifetime => push_lifetime(text, value)?,
-        Form::Family => push_family(text, value)?,
-        Form::EvenPort => push_even_port(text, value)?,
-        Form::Transport => push_transport(text, value)?,
-        Form::Token => push_token(text, value)?,
-        Form::ChangeRequest => push_change_request(text, value)?,
-        Form::ResponsePort => push_response_port(text, value)?,
-        Form::Bytes => push_digits(text, value)?,
+        Form::Number => push_number(line, value)?,
+        Form::TieBreaker => push_tie_breaker(line, value)?,
+        Form::Flag => push_flag(line, value)?,
+        Form::Channel => push_channel(line, value)?,
+        Form::Lifetime => push_lifetime(line, value)?,
+        Form::Family => push_family(line, value)?,
+        Form::EvenPort => push_even_port(line, value)?,
+        Form::Transport => push_transport(line, value)?,
+        Form::Token => push_token(line, value)?,
+        Form::ChangeRequest => push_change_request(line, value)?,
+        Form::ResponsePort => push_response_port(line, value)?,
+        Form::Bytes => push_digits(line, value)?,
     };
     if !is_read {
-        text.push_str("malformed ")?;
-        push_digits(text, value)?;
+        line.push_str("malformed ")?;
+        push_digits(line, value)?;
     }
     Ok(())
 }
 
 /// Appends bytes as hexadecimal digits, or `empty` if there are none.
 pub fn push_digits<A: Allocator + Copy>(
-    text: &mut String<A>,
+    line: &mut Line<A>,
     bytes: &[u8],
 ) -> Result<bool, AllocError> {
     if bytes.is_empty() {
-        text.push_str("empty")?;
+        line.push_str("empty")?;
     }
     for byte in bytes {
-        let byte = *byte;
-        write!(text, "{byte:02x}")?;
+        line.push_byte(*byte)?;
     }
     Ok(true)
 }
@@ -74,24 +74,25 @@ pub fn push_digits<A: Allocator + Copy>(
 /// Appends a text in quotes. Every character that is not printable ASCII becomes `\u{..}`, so that
 /// no text can control a terminal.
 pub fn push_quoted<A: Allocator + Copy>(
-    text: &mut String<A>,
+    line: &mut Line<A>,
     quoted: &str,
 ) -> Result<(), AllocError> {
-    text.push('"')?;
+    line.push('"')?;
     for character in quoted.chars() {
         match character {
             '"' | '\\' => {
-                text.push('\\')?;
-                text.push(character)?;
+                line.push('\\')?;
+                line.push(character)?;
             }
-            ' '..='~' => text.push(character)?,
+            ' '..='~' => line.push(character)?,
             other => {
-                let number = u32::from(other);
-                write!(text, "\\u{{{number:x}}}")?;
+                line.push_str("\\u{")?;
+                line.push_hexadecimal(u32::from(other))?;
+                line.push('}')?;
             }
         }
     }
-    text.push('"')
+    line.push('"')
 }
 
 /// Returns `true` if a signature or a hash of this form may have this length.
@@ -103,58 +104,60 @@ fn has_length_of(form: Form, length: usize) -> bool {
     }
 }
 
-fn push_text<A: Allocator + Copy>(text: &mut String<A>, value: &[u8]) -> Result<bool, AllocError> {
+fn push_text<A: Allocator + Copy>(line: &mut Line<A>, value: &[u8]) -> Result<bool, AllocError> {
     let Ok(quoted) = str::from_utf8(value) else {
         return Ok(false);
     };
-    push_quoted(text, quoted)?;
+    push_quoted(line, quoted)?;
     Ok(true)
 }
 
-fn push_nonce<A: Allocator + Copy>(text: &mut String<A>, value: &[u8]) -> Result<bool, AllocError> {
+fn push_nonce<A: Allocator + Copy>(line: &mut Line<A>, value: &[u8]) -> Result<bool, AllocError> {
     let Ok(nonce) = str::from_utf8(value) else {
         return Ok(false);
     };
-    push_quoted(text, nonce)?;
-    text.push_str(", ")?;
-    push_security_bits(text, nonce)?;
+    push_quoted(line, nonce)?;
+    line.push_str(", ")?;
+    push_security_bits(line, nonce)?;
     Ok(true)
 }
 
 /// Appends a description of a nonce's security bits (RFC 8489, sections 9.2 and 18.1).
 pub fn push_security_bits<A: Allocator + Copy>(
-    text: &mut String<A>,
+    line: &mut Line<A>,
     nonce: &str,
 ) -> Result<(), AllocError> {
     let Some(bits) = NonceSecurityBits::from_nonce(nonce) else {
-        return text.push_str("no security bits");
+        return line.push_str("no security bits");
     };
-    text.push_str("security bits ")?;
-    push_digits(text, &bits.bytes())?;
+    line.push_str("security bits ")?;
+    push_digits(line, &bits.bytes())?;
     match (bits.password_algorithms(), bits.username_anonymity()) {
-        (true, true) => text.push_str(": password algorithms, username anonymity"),
-        (true, false) => text.push_str(": password algorithms"),
-        (false, true) => text.push_str(": username anonymity"),
-        (false, false) => text.push_str(": none that is known"),
+        (true, true) => line.push_str(": password algorithms, username anonymity"),
+        (true, false) => line.push_str(": password algorithms"),
+        (false, true) => line.push_str(": username anonymity"),
+        (false, false) => line.push_str(": none that is known"),
     }
 }
 
 /// Appends an address and a port.
 pub fn push_address<A: Allocator + Copy>(
-    text: &mut String<A>,
+    line: &mut Line<A>,
     address: SocketAddr,
 ) -> Result<bool, AllocError> {
-    write!(text, "{address}")?;
+    line.push_address(address)?;
     Ok(true)
 }
 
-fn push_error<A: Allocator + Copy>(text: &mut String<A>, value: &[u8]) -> Result<bool, AllocError> {
+fn push_error<A: Allocator + Copy>(line: &mut Line<A>, value: &[u8]) -> Result<bool, AllocError> {
     let Ok(error) = ErrorCode::from_raw(RawAttribute::new(AttributeType::ERROR_CODE, value)) else {
         return Ok(false);
     };
     let code = error.code();
-    let name = error_name(code);
-    write!(text, "{code} {name}, ")?;
-    push_quoted(text, error.reason())?;
+    line.push_number(u64::from(code))?;
+    line.push(' ')?;
+    line.push_str(error_name(code))?;
+    line.push_str(", ")?;
+    push_quoted(line, error.reason())?;
     Ok(true)
 }

@@ -1,7 +1,7 @@
 -- What the agent's error says of its refusal.
-use Rattle.std.proofs.Common.{◌≡◌, ◌∙◌, Bool, true, false, if◌then◌else◌}
-use Rattle.std.proofs.Common.{is_some, ℕ, List, Option, Some, None, IfSome}
-use Rattle.std.proofs.Common.{MatchOption, Result, Ok, Err, refl, sym, subst, ap}
+use Rattle.std.proofs.Common.{◌≡◌, ◌∙◌, Bool, true, false, if◌then◌else◌, is_some, ℕ, List, Option}
+use Rattle.std.proofs.Common.{Some, None, IfSome, MatchOption, Result, Ok, Err, refl, sym, subst}
+use Rattle.std.proofs.Common.{ap}
 use Rattle.std.specs.Option.{option_map_or}
 use Rattle.std.specs.declared.net.socket_addr.SocketAddr.{SocketAddr}
 use Rattle.stun_agent.specs.Agent.{Agent, is_elsewhere, request_refusal}
@@ -14,8 +14,9 @@ use Rattle.stun_base.specs.declared.wire.error.StunParseError.{StunParseError}
 use Rattle.stun_base.specs.declared.wire.error.StunParseError.TheVariants as Parse
 use Rattle.stun_numbers.specs.Refusals.{message_refusal, refusal_or, refusal_of_parse}
 use Rattle.stun_numbers.specs.declared.refusal.Refusal.{Refusal}
+use Rattle.stun_handles.specs.Answers.{at_address}
 use Rattle.stun_state.specs.Agent.{done_unless, refusal_of_agent}
-use Rattle.stun_state.specs.Answers.{ForRefusal, at_address}
+use Rattle.stun_state.specs.Answers.{ForRefusal}
 
 -- what is answered about a message of STUN and an address
 pub at_given : (given : Option SocketAddr) (to : SocketAddr) (why : Option StunParseError)

@@ -1,12 +1,10 @@
 -- From what a call answers and leaves to the number that its export answers and what is kept.
-use Rattle.std.proofs.Common.{◌≡◌, ◌∙◌, ℕ, ℤ, List, pos, min, false, true, int_lt}
-use Rattle.std.proofs.Common.{if◌then◌else◌, Option, Some, IfSome, Result, Ok}
-use Rattle.std.proofs.Common.{Err, OnOk, OnErr, refl, sym, subst, ap, inl, inr}
+use Rattle.std.proofs.Common.{◌≡◌, ◌∙◌, ℕ, ℤ, List, pos, min, false, true, int_lt, if◌then◌else◌}
+use Rattle.std.proofs.Common.{Option, Some, IfSome, Result, Ok, Err, OnOk, OnErr, refl, sym, subst}
+use Rattle.std.proofs.Common.{ap, inl, inr}
 use Rattle.std.specs.Prelude.{⊤}
 use lib.Dec.{leb-suc-zero}
-use Rattle.stun_state.specs.Answers.{ForRefusal, CallUnlessMemory}
 use Rattle.stun_numbers.specs.Refusals.{refusal_number}
-use Rattle.stun_state.specs.Numbers.{OrOutOfMemory, left_by, length_answer}
 use Rattle.stun_numbers.specs.Buffers.{buffer_after, length_of}
 use Rattle.stun_numbers.specs.declared.refusal.Refusal.{Refusal}
 use Rattle.stun_numbers.specs.declared.refusal.Refusal.TheVariants.{Truncated, NotStun, TooLarge}
@@ -23,7 +21,11 @@ use Rattle.stun_numbers.specs.declared.refusal.Refusal.TheVariants.{AlreadyInPro
 use Rattle.stun_numbers.specs.declared.refusal.Refusal.TheVariants.{ProtocolViolation, Unauthorized}
 use Rattle.stun_numbers.specs.declared.refusal.Refusal.TheVariants.{BadRequest, StaleNonce}
 use Rattle.stun_numbers.specs.declared.refusal.Refusal.TheVariants.{UnsupportedFeature, NoWait}
-use Rattle.stun_numbers.specs.declared.refusal.Refusal.TheVariants.{TooManyAddresses, CannotSign, WrongHandle}
+use Rattle.stun_numbers.specs.declared.refusal.Refusal.TheVariants.{TooManyAddresses, CannotSign}
+use Rattle.stun_numbers.specs.declared.refusal.Refusal.TheVariants.{WrongHandle}
+use Rattle.stun_handles.specs.Numbers.{OrOutOfMemory, length_answer}
+use Rattle.stun_state.specs.Answers.{ForRefusal, CallUnlessMemory}
+use Rattle.stun_state.specs.Numbers.{left_by}
 
 -- what is so of the value that is there
 pub some_is : {T : Type 0} (o : Option T) (x : T) (F : T → Type 0) → o ≡ Some x → F x → IfSome o F

@@ -1,7 +1,7 @@
 -- What the calls on an agent return and leave, by the definitions of its library (RFC 8489, section
 -- 6.2).
-use Rattle.std.specs.Prelude.{ℕ, Bool, List, ◌++◌, length, drop, min, nat_lt, ◌==◌, ◌&&◌}
-use Rattle.std.specs.Prelude.{◌||◌, if◌then◌else◌, Option, Some, None, Result, Ok, Err}
+use Rattle.std.specs.Prelude.{ℕ, Bool, List, ◌++◌, length, drop, min, nat_lt, ◌==◌, ◌&&◌, ◌||◌}
+use Rattle.std.specs.Prelude.{if◌then◌else◌, Option, Some, None, Result, Ok, Err}
 use Rattle.std.specs.Option.{option_map_or}
 use Rattle.std.specs.declared.net.socket_addr.SocketAddr.{SocketAddr}
 use Rattle.byteorder.specs.Endian.{big_bytes, big_number}
@@ -25,9 +25,9 @@ use Rattle.stun_numbers.specs.declared.refusal.Refusal.{Refusal}
 use Rattle.stun_numbers.specs.declared.refusal.Refusal.TheVariants.{AlreadyInProgress, BadArgument}
 use Rattle.stun_numbers.specs.declared.refusal.Refusal.TheVariants.{BufferTooSmall, NoWait}
 use Rattle.stun_numbers.specs.declared.refusal.Refusal.TheVariants.{ProtocolViolation, OutOfMemory}
-use Rattle.stun_state.specs.Addresses.{caller_address, socket_address}
+use Rattle.stun_handles.specs.Addresses.{caller_address, socket_address}
+use Rattle.stun_handles.specs.declared.address.Address.{Address}
 use Rattle.stun_state.specs.Answers.{after_address, kept_if_refused}
-use Rattle.stun_state.specs.declared.address.Address.{Address}
 use Rattle.stun_state.specs.declared.agent.Statistics.{Statistics}
 use Rattle.stun_state.specs.declared.agent.Timeouts.{Timeouts}
 

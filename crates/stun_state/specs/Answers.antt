@@ -1,7 +1,6 @@
--- What the calls on authenticators share: where an allocation may fail, an address that may be
--- none, and texts.
-use Rattle.std.specs.Prelude.{ℕ, List, ◌&&◌, if◌then◌else◌, Option, Some, None, Result, Ok, Err}
-use Rattle.std.specs.Str.{is_utf8}
+-- What the calls on authenticators share: where an allocation may fail, and what is left of an
+-- address that may be none.
+use Rattle.std.specs.Prelude.{Option, Some, None, Result, Ok, Err}
 use Rattle.std.specs.declared.net.socket_addr.SocketAddr.{SocketAddr}
 use Rattle.stun_numbers.specs.declared.refusal.Refusal.{Refusal}
 use Rattle.stun_numbers.specs.declared.refusal.Refusal.TheVariants.{Truncated, NotStun, TooLarge}
@@ -18,7 +17,8 @@ use Rattle.stun_numbers.specs.declared.refusal.Refusal.TheVariants.{AlreadyInPro
 use Rattle.stun_numbers.specs.declared.refusal.Refusal.TheVariants.{ProtocolViolation, Unauthorized}
 use Rattle.stun_numbers.specs.declared.refusal.Refusal.TheVariants.{BadRequest, StaleNonce}
 use Rattle.stun_numbers.specs.declared.refusal.Refusal.TheVariants.{UnsupportedFeature, NoWait}
-use Rattle.stun_numbers.specs.declared.refusal.Refusal.TheVariants.{TooManyAddresses, CannotSign, WrongHandle}
+use Rattle.stun_numbers.specs.declared.refusal.Refusal.TheVariants.{TooManyAddresses, CannotSign}
+use Rattle.stun_numbers.specs.declared.refusal.Refusal.TheVariants.{WrongHandle}
 
 -- the first fact holds, or the second where the refusal is that an allocation failed
 abbrev pub ForRefusal : Refusal → Type 0 → Type 0 → Type 0
@@ -62,12 +62,6 @@ abbrev pub kept_if_refused : {V : Type 0} → Option Refusal → V → V → V
 kept_if_refused None before after = after
 kept_if_refused (Some refusal) before after = before
 
--- an answer about an address, unless what was given is none
-abbrev pub at_address : {V : Type 0} → Option SocketAddr → (SocketAddr → Result V Refusal)
-    → Result V Refusal
-at_address None answer = Err BadArgument
-at_address (Some address) answer = answer address
-
 -- what is left at an address; where none was given, what was there before
 abbrev pub after_address : {V : Type 0} → Option SocketAddr → V → (SocketAddr → V) → V
 after_address None before after = before
@@ -87,10 +81,3 @@ after_start (Some start) before after = after start
 abbrev pub done_if_given : {V : Type 0} → Option V → Result (Unit {0}) Refusal
 done_if_given None = Err BadArgument
 done_if_given (Some value) = Ok tt
-
--- why a text is refused, and why two are
-abbrev pub text_refusal : List ℕ → Option Refusal
-text_refusal text = if is_utf8 text then None else Some NotText
-
-abbrev pub texts_refusal : List ℕ → List ℕ → Option Refusal
-texts_refusal name password = if is_utf8 name && is_utf8 password then None else Some NotText

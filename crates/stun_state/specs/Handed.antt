@@ -1,7 +1,6 @@
 -- A verdict in two steps: whom a message names, and what the server returns that has just the user
 -- whom its caller hands in (RFC 8489, section 9.2.4).
-use Rattle.std.specs.Prelude.{◌≡◌, ℕ, ℤ, ◌==◌, if◌then◌else◌, List, length}
-use Rattle.std.specs.Prelude.{Option, Some, None, Result, Ok, Err}
+use Rattle.std.specs.Prelude.{◌≡◌, ℕ, ℤ, List, length, Option, Some, None, Result, Ok, Err}
 use Rattle.std.specs.declared.net.socket_addr.SocketAddr.{SocketAddr}
 use Rattle.stun_base.specs.declared.keys.algorithm.IntegrityAlgorithm.{IntegrityAlgorithm}
 use Rattle.stun_types.specs.Message.{refusal}
@@ -13,14 +12,14 @@ use Rattle.stun_auth.specs.Validation.{ServerSeen, after_validation, answer, sig
 use Rattle.stun_numbers.specs.Refusals.{message_refusal, refusal_or}
 use Rattle.stun_numbers.specs.Buffers.{buffer_after, within_room}
 use Rattle.stun_numbers.specs.declared.refusal.Refusal.{Refusal}
-use Rattle.stun_numbers.specs.declared.refusal.Refusal.TheVariants.{BadArgument}
-use Rattle.stun_state.specs.Addresses.{socket_address}
-use Rattle.stun_state.specs.Answers.{after_address, at_address, kept_if_refused}
-use Rattle.stun_state.specs.Answers.{text_refusal, texts_refusal}
+use Rattle.stun_handles.specs.Addresses.{socket_address}
+use Rattle.stun_handles.specs.Answers.{at_address, text_refusal, texts_refusal}
+use Rattle.stun_handles.specs.Keys.{key_given, keys_given}
+use Rattle.stun_handles.specs.declared.address.Address.{Address}
+use Rattle.stun_state.specs.Answers.{after_address, kept_if_refused}
 use Rattle.stun_state.specs.Numbers.{algorithm_answer}
 use Rattle.stun_state.specs.Server.{kept_after_validating, room_refusal, server_validation_answer}
 use Rattle.stun_state.specs.Signing.{kept_after_signing, signed_for}
-use Rattle.stun_state.specs.declared.address.Address.{Address}
 use Rattle.stun_state.specs.declared.handle.server.Server.{Server as Kept}
 
 -- ---- who asks
@@ -76,20 +75,6 @@ abbrev pub user_of_password : List ℕ → List ℕ → Result RegisteredUser Re
 user_of_password name password =
     refusal_or (texts_refusal name password)
     (Ok (user_by_password (record { username = name; password = password })))
-
--- a stored key of so many bytes as a caller gives it: none where it has no bytes, and refused where
--- it has another length
-abbrev pub key_given : ℕ → List ℕ → Result (Option (List ℕ)) Refusal
-key_given size key =
-    if length key == 0 then Ok None
-    else if length key == size then Ok (Some key) else Err BadArgument
-
--- both, or the first refusal
-abbrev pub keys_given : Result (Option (List ℕ)) Refusal → Result (Option (List ℕ)) Refusal
-    → Result StoredKeys Refusal
-keys_given (Err refusal) sha256 = Err refusal
-keys_given (Ok sha1) (Err refusal) = Err refusal
-keys_given (Ok sha1) (Ok sha256) = Ok (record { sha1 = sha1; sha256 = sha256 })
 
 -- the user of a name who is known by stored keys
 abbrev pub user_known : List ℕ → Result StoredKeys Refusal → Result RegisteredUser Refusal

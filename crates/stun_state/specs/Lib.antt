@@ -2,8 +2,6 @@
 
 -- the refusals for the reasons of authenticators, and the numbers that callers give
 pub mod Codes
--- the addresses that callers give and get
-pub mod Addresses
 -- the numbers that calls return
 pub mod Numbers
 -- what the calls on an agent return and leave

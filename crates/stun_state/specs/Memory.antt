@@ -1,7 +1,7 @@
 -- Which calls keep nothing more, so that no failed allocation is returned; and which may keep
 -- something, so that one may be.
-use Rattle.std.specs.Prelude.{◌≡◌, ⊤, ◌||◌, not, is_some, Bool, true, ℕ}
-use Rattle.std.specs.Prelude.{List, Option, Some, None, MatchOption, Ok}
+use Rattle.std.specs.Prelude.{◌≡◌, ⊤, ◌||◌, not, is_some, Bool, true, ℕ, List, Option, Some, None}
+use Rattle.std.specs.Prelude.{MatchOption, Ok}
 use Rattle.std.specs.declared.net.socket_addr.SocketAddr.{SocketAddr}
 use Rattle.stun_agent.specs.Agent.{Agent, takes_message}
 use Rattle.stun_agent.specs.Peers.{is_peer}
@@ -10,8 +10,8 @@ use Rattle.stun_auth.specs.Client.{ClientSide}
 use Rattle.stun_auth.specs.ClientStep.{IsResend}
 use Rattle.stun_auth.specs.Reading.{reading_of}
 use Rattle.stun_auth.specs.Validation.{ChangesNothing, sight}
+use Rattle.stun_handles.specs.Answers.{at_address}
 use Rattle.stun_state.specs.Agent.{request_answer}
-use Rattle.stun_state.specs.Answers.{at_address}
 use Rattle.stun_state.specs.Client.{step}
 use Rattle.stun_state.specs.Server.{room_refusal}
 use Rattle.stun_state.specs.declared.handle.server.Server.{Server as Kept}

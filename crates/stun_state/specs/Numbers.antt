@@ -1,6 +1,6 @@
--- The numbers that calls return.
-use Rattle.std.specs.Prelude.{◌≡◌, ◌⊎◌, ◌+◌, ◌&&◌, not, Bool, ℕ, ℤ, pos, int_lt, min}
-use Rattle.std.specs.Prelude.{if◌then◌else◌, Option, Some, None, Result, Ok, Err}
+-- The numbers that the calls on authenticators return, and what a call leaves by its number.
+use Rattle.std.specs.Prelude.{◌≡◌, ◌⊎◌, ◌+◌, ◌&&◌, not, Bool, ℕ, ℤ, pos, int_lt, if◌then◌else◌}
+use Rattle.std.specs.Prelude.{Option, Some, None, Result, Ok, Err}
 use Rattle.stun_auth.specs.declared.client.answer.LongTermClientValidation.{
   LongTermClientValidation,
 }
@@ -11,21 +11,6 @@ use Rattle.stun_numbers.specs.Refusals.{refusal_number}
 use Rattle.stun_numbers.specs.Algorithms.{algorithm_number}
 use Rattle.stun_numbers.specs.declared.refusal.Refusal.{Refusal}
 use Rattle.stun_numbers.specs.declared.refusal.Refusal.TheVariants.{OutOfMemory}
-
--- 0, or the refusal's number
-abbrev pub done_answer : Result (Unit {0}) Refusal → ℤ
-done_answer (Ok done) = pos 0
-done_answer (Err refusal) = refusal_number refusal
-
--- the number, or the refusal's
-abbrev pub number_answer : Result ℕ Refusal → ℤ
-number_answer (Ok number) = pos number
-number_answer (Err refusal) = refusal_number refusal
-
--- how many bytes there are, which is below 2^63 of any buffer, or the refusal's number
-abbrev pub length_answer : Result ℕ Refusal → ℤ
-length_answer (Ok length) = pos (min length 9223372036854775807)
-length_answer (Err refusal) = refusal_number refusal
 
 -- the algorithm's number, or the refusal's
 abbrev pub algorithm_answer : Result IntegrityAlgorithm Refusal → ℤ
@@ -55,12 +40,6 @@ abbrev pub is_resend_answer : ℤ → Bool
 is_resend_answer answer =
     not (int_lt answer (pos (resend_number None)))
     && not (int_lt (pos (resend_number (Some Sha256))) answer)
-
--- a call returns this number and leaves this in its handle; or an allocation failed: it returns the
--- number of that, and the handle is as before
-abbrev pub OrOutOfMemory : {S : Type 0} → ℤ → S → S → ℤ → S → Type 0
-OrOutOfMemory result before now number after =
-    ((result ≡ number) × (now ≡ after)) ⊎ ((result ≡ refusal_number OutOfMemory) × (now ≡ before))
 
 -- a call returns this number, or that of an allocation that failed
 abbrev pub IsOrOutOfMemory : ℤ → ℤ → Type 0

@@ -22,11 +22,12 @@ use Rattle.stun_numbers.specs.Refusals.{message_refusal, refusal_or}
 use Rattle.stun_numbers.specs.declared.refusal.Refusal.{Refusal}
 use Rattle.stun_numbers.specs.declared.refusal.Refusal.TheVariants.{BufferTooSmall}
 use Rattle.stun_numbers.specs.declared.refusal.Refusal.TheVariants.{TooManyAddresses}
-use Rattle.stun_state.specs.Addresses.{socket_address}
-use Rattle.stun_state.specs.Answers.{after_address, at_address, kept_if_refused}
+use Rattle.stun_handles.specs.Addresses.{socket_address}
+use Rattle.stun_handles.specs.Answers.{at_address}
+use Rattle.stun_handles.specs.declared.address.Address.{Address}
+use Rattle.stun_state.specs.Answers.{after_address, kept_if_refused}
 use Rattle.stun_state.specs.Codes.{refusal_of_server}
 use Rattle.stun_state.specs.Numbers.{algorithm_answer}
-use Rattle.stun_state.specs.declared.address.Address.{Address}
 use Rattle.stun_state.specs.declared.handle.server.Server.{Server as Kept}
 
 -- ---- settings

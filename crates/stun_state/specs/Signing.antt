@@ -1,6 +1,6 @@
 -- What signing makes of a message in a caller's buffer: bytes, or the first refusal.
-use Rattle.std.specs.Prelude.{ℕ, ◌+◌, ◌-◌, Bool, true, List, length, take}
-use Rattle.std.specs.Prelude.{nat_lt, if◌then◌else◌, Result, Ok, Err}
+use Rattle.std.specs.Prelude.{ℕ, ◌+◌, ◌-◌, Bool, true, List, length, take, nat_lt, if◌then◌else◌}
+use Rattle.std.specs.Prelude.{Result, Ok, Err}
 use Rattle.std.specs.declared.net.socket_addr.SocketAddr.{SocketAddr}
 use Rattle.stun_base.specs.Header.{HEADER_LENGTH}
 use Rattle.stun_base.specs.declared.wire.error.StunWriteError.{StunWriteError}
@@ -16,9 +16,10 @@ use Rattle.stun_numbers.specs.declared.refusal.Refusal.{Refusal}
 use Rattle.stun_numbers.specs.declared.refusal.Refusal.TheVariants.{BufferTooSmall}
 use Rattle.stun_numbers.specs.Buffers.{within_room}
 use Rattle.stun_numbers.specs.Messages.{base_refusal}
-use Rattle.stun_state.specs.Addresses.{socket_address}
-use Rattle.stun_state.specs.Answers.{after_address, at_address}
-use Rattle.stun_state.specs.declared.address.Address.{Address}
+use Rattle.stun_handles.specs.Addresses.{socket_address}
+use Rattle.stun_handles.specs.Answers.{at_address}
+use Rattle.stun_handles.specs.declared.address.Address.{Address}
+use Rattle.stun_state.specs.Answers.{after_address}
 
 -- whether a message that grows by so many bytes is longer than the length field can tell
 abbrev pub is_too_long : List ℕ → ℕ → Bool

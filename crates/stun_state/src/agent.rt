@@ -1,29 +1,27 @@
 //! The calls on an agent, without handles (RFC 8489, section 6.2).
 
-ghost use Rattle.std.specs.Prelude.{◌≡◌, ◌≤◌, ◌++◌, ⊤, IsTrue, length, drop, true};
-ghost use Rattle.std.specs.Prelude.{Some, None, IfOk, IfErr, IfSome, OnErr, OnOk};
+ghost use Rattle.std.specs.Prelude.{◌≡◌, ◌≤◌, ◌++◌, ⊤, IsTrue, length, drop, true, Some, None};
+ghost use Rattle.std.specs.Prelude.{IfOk, IfErr, IfSome, OnErr, OnOk};
 ghost use Rattle.std.specs.Duration.{as_nanos};
 ghost use Rattle.std.specs.Option.{option_map};
 ghost use Rattle.byteorder.specs.Endian.{big_bytes};
 ghost use Rattle.stun_agent.specs.Agent.{after_message, after_poll, after_poll_transmit};
 ghost use Rattle.stun_agent.specs.Agent.{after_send, after_send_request, poll_answer, sent_by_poll};
 ghost use Rattle.stun_agent.specs.Transactions.{with_cancellation, without_retransmissions};
-ghost use Rattle.stun_state.specs.Addresses.{socket_address};
+ghost use Rattle.stun_handles.specs.Addresses.{socket_address};
+ghost use Rattle.stun_handles.specs.Answers.{at_address};
 ghost use Rattle.stun_state.specs.Agent.{bytes_told, outstanding_answer, receiving_answer, id_in};
-ghost use Rattle.stun_state.specs.Agent.{id_told};
-ghost use Rattle.stun_state.specs.Agent.{kept_after_configuring, kept_after_forgetting};
+ghost use Rattle.stun_state.specs.Agent.{id_told, kept_after_configuring, kept_after_forgetting};
 ghost use Rattle.stun_state.specs.Agent.{kept_after_naming, peer_answer, agent_at};
-ghost use Rattle.stun_state.specs.Agent.{agent_with_timeouts, moment_told};
-ghost use Rattle.stun_state.specs.Agent.{nanoseconds, peer_found, polling_answer, refusal_of_agent};
-ghost use Rattle.stun_state.specs.Agent.{remote_given, request_answer, sending_answer, sent_again};
-ghost use Rattle.stun_state.specs.Agent.{sent_to};
+ghost use Rattle.stun_state.specs.Agent.{agent_with_timeouts, moment_told, nanoseconds, peer_found};
+ghost use Rattle.stun_state.specs.Agent.{polling_answer, refusal_of_agent, remote_given};
+ghost use Rattle.stun_state.specs.Agent.{request_answer, sending_answer, sent_again, sent_to};
 ghost use Rattle.stun_state.specs.Agent.{statistics_answer, timeouts_refusal, caller_statistics};
-ghost use Rattle.stun_state.specs.Agent.{caller_statistics_after};
-ghost use Rattle.stun_state.specs.Agent.{transport_numbered, unless_untimed, with_changed};
-ghost use Rattle.stun_state.specs.Answers.{CallUnlessMemory, at_address, done_if_given};
+ghost use Rattle.stun_state.specs.Agent.{caller_statistics_after, transport_numbered};
+ghost use Rattle.stun_state.specs.Agent.{unless_untimed, with_changed};
+ghost use Rattle.stun_state.specs.Answers.{CallUnlessMemory, done_if_given};
 ghost use Rattle.stun_state.specs.Memory.{IsRequestTaken, message_adds_none, naming_adds_none};
 
-use crate::address::Address;
 use byteorder::{BigEndian, ByteOrder};
 use std::alloc::Global;
 use std::mem::size_of;
@@ -34,6 +32,7 @@ use stun_agent::stats::StunAgentStats;
 use stun_base::instant::Instant;
 use stun_base::transaction_id::TransactionId;
 use stun_base::transport::TransportType;
+use stun_handles::address::Address;
 use stun_numbers::buffer::put;
 use stun_numbers::id::{ID_LENGTH, transaction_id};
 use stun_numbers::refusal::Refusal;

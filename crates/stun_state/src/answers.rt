@@ -1,12 +1,12 @@
-//! The numbers that calls return.
+//! The numbers that calls return, those of verdicts among them.
 
 ghost use Rattle.std.specs.Prelude.{◌≡◌, pos};
-ghost use Rattle.stun_state.specs.Numbers.{algorithm_answer, done_answer, found_answer};
-ghost use Rattle.stun_state.specs.Numbers.{is_resend_answer, length_answer};
-ghost use Rattle.stun_state.specs.Numbers.{number_answer, reading_answer, resend_number};
+ghost use Rattle.stun_state.specs.Numbers.{algorithm_answer, found_answer, is_resend_answer};
+ghost use Rattle.stun_state.specs.Numbers.{reading_answer, resend_number};
 
 use stun_auth::auth::LongTermClientValidation;
 use stun_base::algorithm::IntegrityAlgorithm;
+pub use stun_handles::answers::{done, length, number};
 use stun_numbers::algorithm::algorithm_number;
 use stun_numbers::refusal::Refusal;
 
@@ -16,29 +16,6 @@ const RESEND: i64 = 3;
 /// Returned for such a response with a valid HMAC-SHA256 signature, which is the greatest of the
 /// three numbers.
 const RESEND_SHA256: i64 = 5;
-
-/// The greatest number that a call returns.
-const MOST: usize = 9_223_372_036_854_775_807;
-
-/// Returns 0, or the number of the error.
-pub fn done(answer: Result<(), Refusal>) -> i64
-    ensures { result ≡ done_answer answer }
-{
-    match answer {
-        Ok(()) => 0,
-        Err(refusal) => refusal.code(),
-    }
-}
-
-/// Returns a small number, or the number of the error.
-pub fn number(answer: Result<u32, Refusal>) -> i64
-    ensures { result ≡ number_answer answer }
-{
-    match answer {
-        Ok(number) => i64::from(number),
-        Err(refusal) => refusal.code(),
-    }
-}
 
 /// Returns the number of an algorithm, or the number of the error.
 pub fn algorithm(answer: Result<IntegrityAlgorithm, Refusal>) -> i64
@@ -77,16 +54,6 @@ pub fn reading(answer: Result<LongTermClientValidation, Refusal>) -> i64
             algorithm,
         )),
         Ok(LongTermClientValidation::ResendRequest(signed_by)) => resend(signed_by),
-        Err(refusal) => refusal.code(),
-    }
-}
-
-/// Returns how many bytes were written, or the number of the error.
-pub fn length(answer: Result<usize, Refusal>) -> i64
-    ensures { result ≡ length_answer answer }
-{
-    match answer {
-        Ok(length) => length.min(MOST) as i64,
         Err(refusal) => refusal.code(),
     }
 }

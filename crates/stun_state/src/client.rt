@@ -1,8 +1,8 @@
 //! The calls on the authenticator of a client, without handles (RFC 8489, sections 9.2.3 and
 //! 9.2.5).
 
-ghost use Rattle.std.specs.Prelude.{◌≡◌, ◌≤◌, ◌+◌, ◌-◌, true, length, take, None};
-ghost use Rattle.std.specs.Prelude.{Some, Ok, Err, IfErr, IfOk, OnErr, OnOk};
+ghost use Rattle.std.specs.Prelude.{◌≡◌, ◌≤◌, ◌+◌, ◌-◌, true, length, take, None, Some, Ok, Err};
+ghost use Rattle.std.specs.Prelude.{IfErr, IfOk, OnErr, OnOk};
 ghost use Rattle.stun_auth.specs.Additions.{WantsMemory, added_all, growth, page_of};
 ghost use Rattle.stun_auth.specs.Client.{new_client};
 ghost use Rattle.stun_auth.specs.ClientSigning.{client_additions, signing_algorithm};
@@ -12,23 +12,22 @@ ghost use Rattle.stun_base.specs.MessageType.{class_in, is_request};
 ghost use Rattle.stun_types.specs.Limits.{LENGTH_LIMIT as length_limit};
 ghost use Rattle.stun_types.specs.Message.{IsMessage};
 ghost use Rattle.stun_numbers.specs.Buffers.{buffer_after, within_room, length_of};
-ghost use Rattle.stun_state.specs.Answers.{CallUnlessMemory, done_if_given, texts_refusal};
+ghost use Rattle.stun_handles.specs.Answers.{texts_refusal};
+ghost use Rattle.stun_state.specs.Answers.{CallUnlessMemory, done_if_given};
 ghost use Rattle.stun_state.specs.Client.{client_after_validation, step, client_validation};
-ghost use Rattle.stun_state.specs.Client.{client_validation_answer};
-ghost use Rattle.stun_state.specs.Client.{client_with_algorithms, with_credentials};
-ghost use Rattle.stun_state.specs.Client.{client_with_feature};
+ghost use Rattle.stun_state.specs.Client.{client_validation_answer, client_with_algorithms};
+ghost use Rattle.stun_state.specs.Client.{with_credentials, client_with_feature};
 ghost use Rattle.stun_state.specs.Codes.{algorithm_or_none, algorithms_numbered, feature_numbered};
 ghost use Rattle.stun_state.specs.Memory.{AsksAgain};
-ghost use Rattle.stun_state.specs.Signing.{client_signs, is_too_long};
-ghost use Rattle.stun_state.specs.Signing.{message_of, signed_by_client};
+ghost use Rattle.stun_state.specs.Signing.{client_signs, is_too_long, message_of, signed_by_client};
 
 use crate::codes::{algorithms_numbered, client_refusal, feature_numbered};
 use crate::signing::{SHORT, is_too_long, writer_of};
-use crate::text::copied;
 use std::alloc::Global;
 use stun_auth::auth::{LongTermClientAuth, LongTermClientValidation};
 use stun_base::algorithm::IntegrityAlgorithm;
 use stun_base::credentials::LongTermCredentials;
+use stun_handles::text::copied;
 use stun_numbers::algorithm::algorithm_number;
 use stun_numbers::buffer::fill;
 use stun_numbers::message::base_message;

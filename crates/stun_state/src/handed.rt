@@ -1,32 +1,34 @@
 //! The calls on the authenticator of a server with a user whom the caller passes, without handles
 //! (RFC 8489, section 9.2.4).
 
-ghost use Rattle.std.specs.Prelude.{◌≡◌, ⊤, length, take};
-ghost use Rattle.std.specs.Prelude.{Some, None, Ok, Err, IfOk, IfErr, IsOk, OnErr, OnOk};
+ghost use Rattle.std.specs.Prelude.{◌≡◌, ⊤, length, take, Some, None, Ok, Err, IfOk, IfErr, IsOk};
+ghost use Rattle.std.specs.Prelude.{OnErr, OnOk};
 ghost use Rattle.stun_auth.specs.Handed.{with_users};
 ghost use Rattle.stun_auth.specs.ServerSigning.{after_signing};
 ghost use Rattle.stun_base.specs.MessageType.{class_in, is_response};
 ghost use Rattle.stun_numbers.specs.Buffers.{buffer_after, length_of};
-ghost use Rattle.stun_state.specs.Addresses.{socket_address};
-ghost use Rattle.stun_state.specs.Answers.{CallUnlessMemory, after_address, at_address};
-ghost use Rattle.stun_state.specs.Handed.{just_given, key_given, kept_after_handed_signing};
-ghost use Rattle.stun_state.specs.Handed.{kept_after_handed_validation, keys_given};
-ghost use Rattle.stun_state.specs.Handed.{named_in_bytes, naming_answer, naming_length};
-ghost use Rattle.stun_state.specs.Handed.{naming_written, handed_signing, handed_validation};
+ghost use Rattle.stun_handles.specs.Addresses.{socket_address};
+ghost use Rattle.stun_handles.specs.Answers.{at_address};
+ghost use Rattle.stun_state.specs.Answers.{CallUnlessMemory, after_address};
+ghost use Rattle.stun_state.specs.Handed.{just_given, kept_after_handed_signing};
+ghost use Rattle.stun_state.specs.Handed.{kept_after_handed_validation, named_in_bytes};
+ghost use Rattle.stun_state.specs.Handed.{naming_answer, naming_length, naming_written};
+ghost use Rattle.stun_state.specs.Handed.{handed_signing, handed_validation};
 ghost use Rattle.stun_state.specs.code.Given.{user_given};
 ghost use Rattle.stun_state.specs.Signing.{signed_by_server};
 
-use crate::address::Address;
 use crate::handle::server::Server;
 use crate::server::{check_room, measure};
 use crate::signing::SHORT;
-use crate::text::copied;
 use crate::users::{sign_long, sign_short, validate_message};
 use std::alloc::Global;
-use stun_auth::auth::{LongTermServerAuth, LongTermServerUser, NamedUser, StoredKeys};
+use stun_auth::auth::{LongTermServerAuth, LongTermServerUser, NamedUser};
 use stun_base::algorithm::IntegrityAlgorithm;
 use stun_base::credentials::LongTermCredentials;
 use stun_base::instant::Instant;
+use stun_handles::address::Address;
+use stun_handles::keys::keys_of;
+use stun_handles::text::copied;
 use stun_numbers::buffer::fill;
 use stun_numbers::message::base_message;
 use stun_numbers::refusal::Refusal;
@@ -75,31 +77,6 @@ pub fn named_user(
         }
         None => Ok(0),
     }
-}
-
-/// Converts a key of a caller, which is missing if it has no bytes. Fails with `BadArgument` if it
-/// has another length than a key.
-fn key_of<const N: usize>(bytes: &[u8]) -> Result<Option<[u8; N]>, Refusal>
-    ensures { result ≡ key_given N bytes.now }
-{
-    if bytes.is_empty() {
-        return Ok(None);
-    }
-    if bytes.len() != N {
-        return Err(Refusal::BadArgument);
-    }
-    let mut key = [0; N];
-    key.copy_from_slice(bytes);
-    Ok(Some(key))
-}
-
-/// Converts the stored keys of a caller.
-fn keys_of(sha1: &[u8], sha256: &[u8]) -> Result<StoredKeys, Refusal>
-    ensures { result ≡ keys_given (key_given 16 sha1.now) (key_given 32 sha256.now) }
-{
-    let sha1 = key_of(sha1)?;
-    let sha256 = key_of(sha256)?;
-    Ok(StoredKeys { sha1, sha256 })
 }
 
 /// Creates the user with this name and secret, with keys for the server.

@@ -5,7 +5,6 @@
 //! the value in the handle before the call, and `handle.new` has the value after it.
 #![tactic(auto)]
 
-mod address;
 mod agent;
 mod answers;
 mod calls;
@@ -17,5 +16,4 @@ mod handle;
 mod prepared;
 mod server;
 mod signing;
-mod text;
 mod users;

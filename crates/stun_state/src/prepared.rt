@@ -1,17 +1,15 @@
 //! What the exports do with a user who is prepared once, and passed along with many messages (RFC
 //! 8489, section 9.2.4).
 
-ghost use Rattle.std.specs.Prelude.{◌≡◌, ◌↔◌, ⊤, IsTrue, IsOk, IfOk, IfErr, Ok, Err};
-ghost use Rattle.stun_auth.specs.Handed.{with_users};
-ghost use Rattle.stun_state.specs.Addresses.{socket_address};
-ghost use Rattle.stun_state.specs.Answers.{CallUnlessMemory, at_address};
-ghost use Rattle.stun_state.specs.Handed.{just_given, kept_after_prepared_validation};
-ghost use Rattle.stun_state.specs.Handed.{IsUserOf, with_only};
+ghost use Rattle.std.specs.Prelude.{◌≡◌, ⊤, IsOk, IfOk, IfErr, Ok, Err};
+ghost use Rattle.stun_handles.specs.Addresses.{socket_address};
+ghost use Rattle.stun_handles.specs.Answers.{at_address};
+ghost use Rattle.stun_state.specs.Answers.{CallUnlessMemory};
+ghost use Rattle.stun_state.specs.Handed.{just_given, kept_after_prepared_validation, with_only};
 ghost use Rattle.stun_state.specs.Memory.{LeavesServer};
 ghost use Rattle.stun_state.specs.Server.{server_validation};
 ghost use Rattle.stun_state.specs.code.Given.{user_given};
 
-use crate::address::Address;
 use crate::handed::{Given, prepared};
 use crate::handle::server::Server;
 use crate::handle::user::User;
@@ -21,6 +19,7 @@ use std::alloc::Global;
 use stun_auth::auth::{LongTermServerAuth, LongTermServerUser};
 use stun_base::algorithm::IntegrityAlgorithm;
 use stun_base::instant::Instant;
+use stun_handles::address::Address;
 use stun_numbers::refusal::Refusal;
 use stun_types::message::Message;
 

@@ -6,34 +6,34 @@
 //! `TooLarge`. An address whose length is neither 4 nor 16, and an ID that does not have 12 bytes,
 //! fail with `BadArgument`. Times are in nanoseconds.
 
-ghost use Rattle.std.specs.Prelude.{◌≡◌, ◌≢◌, ◌⊎◌, length, pos, MatchResult};
-ghost use Rattle.std.specs.Prelude.{Some, None, Ok, IfNone, IfSome, IsTrue};
-ghost use Rattle.stun_agent.specs.Agent.{after_poll, after_poll_transmit};
-ghost use Rattle.stun_agent.specs.Agent.{after_send, poll_answer, sent_by_poll};
+ghost use Rattle.std.specs.Prelude.{◌≡◌, ◌≢◌, ◌⊎◌, length, pos, MatchResult, Some, None, Ok};
+ghost use Rattle.std.specs.Prelude.{IfNone, IfSome, IsTrue};
+ghost use Rattle.stun_agent.specs.Agent.{after_poll, after_poll_transmit, after_send, poll_answer};
+ghost use Rattle.stun_agent.specs.Agent.{sent_by_poll};
 ghost use Rattle.stun_agent.specs.Transactions.{with_cancellation, without_retransmissions};
-ghost use Rattle.stun_handles.specs.Kinds.{EMPTY as empty_kind, missing};
 ghost use Rattle.stun_numbers.specs.Refusals.{refusal_number};
-ghost use Rattle.stun_state.specs.Addresses.{socket_address};
+ghost use Rattle.stun_handles.specs.Kinds.{EMPTY as empty_kind, missing};
+ghost use Rattle.stun_handles.specs.Addresses.{socket_address};
+ghost use Rattle.stun_handles.specs.Answers.{at_address};
+ghost use Rattle.stun_handles.specs.Numbers.{OrOutOfMemory, done_answer, length_answer};
+ghost use Rattle.stun_handles.specs.Numbers.{number_answer};
 ghost use Rattle.stun_state.specs.Agent.{bytes_told, outstanding_answer, receiving_answer, id_in};
-ghost use Rattle.stun_state.specs.Agent.{id_told};
-ghost use Rattle.stun_state.specs.Agent.{kept_after_configuring, kept_after_forgetting};
+ghost use Rattle.stun_state.specs.Agent.{id_told, kept_after_configuring, kept_after_forgetting};
 ghost use Rattle.stun_state.specs.Agent.{kept_after_message, kept_after_naming, kept_after_request};
 ghost use Rattle.stun_state.specs.Agent.{peer_answer, agent_at, agent_with_timeouts, moment_told};
-ghost use Rattle.stun_state.specs.Agent.{peer_found, polling_answer};
-ghost use Rattle.stun_state.specs.Agent.{request_answer, sending_answer, sent_again, sent_to};
-ghost use Rattle.stun_state.specs.Agent.{statistics_answer};
+ghost use Rattle.stun_state.specs.Agent.{peer_found, polling_answer, request_answer};
+ghost use Rattle.stun_state.specs.Agent.{sending_answer, sent_again, sent_to, statistics_answer};
 ghost use Rattle.stun_state.specs.Agent.{caller_statistics_after, transport_numbered};
 ghost use Rattle.stun_state.specs.Agent.{unless_untimed, with_changed};
-ghost use Rattle.stun_state.specs.Answers.{at_address, done_if_given};
+ghost use Rattle.stun_state.specs.Answers.{done_if_given};
 ghost use Rattle.stun_state.specs.Memory.{IsRequestTaken, message_adds_none, naming_adds_none};
-ghost use Rattle.stun_state.specs.Numbers.{IsOrOutOfMemory, OrOutOfMemory, done_answer};
-ghost use Rattle.stun_state.specs.Numbers.{left_by, length_answer, number_answer};
+ghost use Rattle.stun_state.specs.Numbers.{IsOrOutOfMemory, left_by};
 
-use crate::address::Address;
 use crate::agent::{Statistics, Timeouts};
 use crate::handle::agent::{Agent, AgentHandle};
 use crate::{agent, answers};
 use std::alloc::Global;
+use stun_handles::address::Address;
 use stun_handles::kind::{EMPTY, missing};
 use stun_numbers::refusal::Refusal;
 

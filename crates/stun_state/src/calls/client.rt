@@ -4,22 +4,22 @@
 //! object of another type; `stunp_client_new` fails with `FullHandle` if the handle is not empty.
 //! Bytes that are not a message fail with `Truncated`, `NotStun` or `TooLarge`.
 
-ghost use Rattle.std.specs.Prelude.{◌≡◌, ◌≢◌, ◌⊎◌, length, pos, MatchOption};
-ghost use Rattle.std.specs.Prelude.{Some, None, Ok, IfNone, IfSome};
+ghost use Rattle.std.specs.Prelude.{◌≡◌, ◌≢◌, ◌⊎◌, length, pos, MatchOption, Some, None, Ok};
+ghost use Rattle.std.specs.Prelude.{IfNone, IfSome};
 ghost use Rattle.stun_auth.specs.ClientSigning.{signing_algorithm};
 ghost use Rattle.stun_auth.specs.Client.{new_client};
-ghost use Rattle.stun_handles.specs.Kinds.{EMPTY as empty_kind, missing};
 ghost use Rattle.stun_numbers.specs.Refusals.{refusal_number};
 ghost use Rattle.stun_numbers.specs.Buffers.{buffer_after, length_of};
-ghost use Rattle.stun_state.specs.Answers.{done_if_given, texts_refusal};
+ghost use Rattle.stun_handles.specs.Kinds.{EMPTY as empty_kind, missing};
+ghost use Rattle.stun_handles.specs.Answers.{texts_refusal};
+ghost use Rattle.stun_handles.specs.Numbers.{OrOutOfMemory, done_answer, length_answer};
+ghost use Rattle.stun_state.specs.Answers.{done_if_given};
 ghost use Rattle.stun_state.specs.Client as on_client;
 ghost use Rattle.stun_state.specs.Client.{client_after_validation, client_validation};
 ghost use Rattle.stun_state.specs.Client.{with_credentials};
-ghost use Rattle.stun_state.specs.Codes.{algorithm_or_none, algorithms_numbered};
-ghost use Rattle.stun_state.specs.Codes.{feature_numbered};
+ghost use Rattle.stun_state.specs.Codes.{algorithm_or_none, algorithms_numbered, feature_numbered};
 ghost use Rattle.stun_state.specs.Memory.{AsksAgain};
-ghost use Rattle.stun_state.specs.Numbers.{OrOutOfMemory, done_answer};
-ghost use Rattle.stun_state.specs.Numbers.{length_answer, reading_answer};
+ghost use Rattle.stun_state.specs.Numbers.{reading_answer};
 ghost use Rattle.stun_state.specs.Signing.{signed_by_client};
 
 use crate::handle::client::{Client, ClientHandle};

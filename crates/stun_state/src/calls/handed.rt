@@ -6,24 +6,24 @@
 //! HMAC-SHA1 has 16 bytes, and one for HMAC-SHA256 has 32. A key that is not stored has no bytes;
 //! any other length fails with `BadArgument`.
 
-ghost use Rattle.std.specs.Prelude.{◌≡◌, length, Some, None, IfNone, IfSome};
-ghost use Rattle.stun_handles.specs.Kinds.{missing};
-ghost use Rattle.stun_numbers.specs.Refusals.{refusal_number};
+ghost use Rattle.std.specs.Prelude.{◌≡◌, length, Some, IfNone, IfSome};
 ghost use Rattle.stun_numbers.specs.Buffers.{buffer_after, length_of};
-ghost use Rattle.stun_state.specs.Addresses.{socket_address};
-ghost use Rattle.stun_state.specs.Answers.{after_address, at_address};
+ghost use Rattle.stun_handles.specs.Kinds.{missing};
+ghost use Rattle.stun_handles.specs.Addresses.{socket_address};
+ghost use Rattle.stun_handles.specs.Answers.{at_address};
+ghost use Rattle.stun_handles.specs.Numbers.{OrOutOfMemory, length_answer, number_answer};
+ghost use Rattle.stun_state.specs.Answers.{after_address};
 ghost use Rattle.stun_state.specs.Handed.{kept_after_handed_signing, kept_after_handed_validation};
 ghost use Rattle.stun_state.specs.Handed.{named_in_bytes, naming_answer, naming_length};
 ghost use Rattle.stun_state.specs.Handed.{naming_written, handed_signing, user_of_keys};
 ghost use Rattle.stun_state.specs.Handed.{user_of_password, handed_validation_number};
-ghost use Rattle.stun_state.specs.Numbers.{IsOrOutOfMemory, OrOutOfMemory};
-ghost use Rattle.stun_state.specs.Numbers.{left_by, length_answer, number_answer};
+ghost use Rattle.stun_state.specs.Numbers.{IsOrOutOfMemory, left_by};
 
-use crate::address::Address;
 use crate::handed::Given;
 use crate::handle::server::ServerHandle;
 use crate::{answers, handed};
 use std::alloc::Global;
+use stun_handles::address::Address;
 use stun_handles::kind::missing;
 
 /// Determines with which user's key a message that arrived from an address will be verified.

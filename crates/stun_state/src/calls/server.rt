@@ -6,35 +6,34 @@
 //! length is neither 4 nor 16 with `BadArgument`.
 
 ghost use Rattle.std.specs.FinMap as map;
-ghost use Rattle.std.specs.Prelude.{◌≡◌, ◌≢◌, ◌-◌, length, pos};
-ghost use Rattle.std.specs.Prelude.{MatchOption, Some, None, Ok, IfNone, IfSome};
+ghost use Rattle.std.specs.Prelude.{◌≡◌, ◌≢◌, ◌-◌, length, pos, MatchOption, Some, None, Ok};
+ghost use Rattle.std.specs.Prelude.{IfNone, IfSome};
 ghost use Rattle.stun_auth.specs.Forgetting.{after_forgetting, without_place};
 ghost use Rattle.stun_auth.specs.ForgettingSteps.{after_step, next_address};
 ghost use Rattle.stun_auth.specs.Registered.{with_user};
 ghost use Rattle.stun_auth.specs.Validation.{client_at, new_server};
-ghost use Rattle.stun_handles.specs.Kinds.{EMPTY as empty_kind, missing};
 ghost use Rattle.stun_numbers.specs.Refusals.{refusal_or, refusal_number};
 ghost use Rattle.stun_numbers.specs.Buffers.{buffer_after, length_of};
-ghost use Rattle.stun_state.specs.Addresses.{socket_address, start_for, start_told};
-ghost use Rattle.stun_state.specs.Answers.{after_address, after_start};
-ghost use Rattle.stun_state.specs.Answers.{at_start, done_if_given, text_refusal};
-ghost use Rattle.stun_state.specs.Answers.{texts_refusal};
+ghost use Rattle.stun_handles.specs.Kinds.{EMPTY as empty_kind, missing};
+ghost use Rattle.stun_handles.specs.Addresses.{socket_address, start_for, start_told};
+ghost use Rattle.stun_handles.specs.Answers.{text_refusal, texts_refusal};
+ghost use Rattle.stun_handles.specs.Numbers.{OrOutOfMemory, done_answer, length_answer};
+ghost use Rattle.stun_handles.specs.Numbers.{number_answer};
+ghost use Rattle.stun_state.specs.Answers.{after_address, after_start, at_start, done_if_given};
 ghost use Rattle.stun_state.specs.Codes.{algorithms_numbered, feature_numbered};
 ghost use Rattle.stun_state.specs.Memory.{LeavesServer};
-ghost use Rattle.stun_state.specs.Numbers.{OrOutOfMemory, done_answer};
-ghost use Rattle.stun_state.specs.Numbers.{found_answer, left_by, length_answer, number_answer};
+ghost use Rattle.stun_state.specs.Numbers.{found_answer, left_by};
 ghost use Rattle.stun_state.specs.Server as on_server;
-ghost use Rattle.stun_state.specs.Server.{UNBOUNDED, client_found};
-ghost use Rattle.stun_state.specs.Server.{kept_after_validating, name_length_of};
-ghost use Rattle.stun_state.specs.Server.{name_written, nonce_at, nonce_found};
+ghost use Rattle.stun_state.specs.Server.{UNBOUNDED, client_found, kept_after_validating};
+ghost use Rattle.stun_state.specs.Server.{name_length_of, name_written, nonce_at, nonce_found};
 ghost use Rattle.stun_state.specs.Server.{nonce_written, step_answer, validation_number};
 ghost use Rattle.stun_state.specs.Server.{with_expiry, without_client, without_named};
 ghost use Rattle.stun_state.specs.Signing.{kept_after_signing, signed_for};
 
-use crate::address::Address;
 use crate::handle::server::{Server, ServerHandle};
 use crate::{answers, server};
 use std::alloc::Global;
+use stun_handles::address::Address;
 use stun_handles::kind::{EMPTY, missing};
 use stun_numbers::refusal::Refusal;
 

@@ -7,23 +7,24 @@
 ghost use Rattle.std.specs.Prelude.{◌≡◌, ◌≢◌, pos, Some, None, IfNone, IfSome, MatchResult};
 ghost use Rattle.stun_auth.specs.Handed.{with_users};
 ghost use Rattle.stun_numbers.specs.Buffers.{buffer_after, length_of};
-ghost use Rattle.stun_handles.specs.Kinds.{EMPTY as empty_kind, missing};
 ghost use Rattle.stun_numbers.specs.Refusals.{refusal_number};
-ghost use Rattle.stun_state.specs.Addresses.{socket_address};
+ghost use Rattle.stun_handles.specs.Kinds.{EMPTY as empty_kind, missing};
+ghost use Rattle.stun_handles.specs.Addresses.{socket_address};
+ghost use Rattle.stun_handles.specs.Numbers.{OrOutOfMemory, length_answer};
 ghost use Rattle.stun_state.specs.Handed.{IsUserOf, just_given, kept_after_prepared_signing};
 ghost use Rattle.stun_state.specs.Handed.{kept_after_prepared_validation, user_of_keys};
 ghost use Rattle.stun_state.specs.Handed.{user_of_password, with_only};
 ghost use Rattle.stun_state.specs.Memory.{LeavesServer};
-ghost use Rattle.stun_state.specs.Numbers.{OrOutOfMemory, left_by, length_answer};
+ghost use Rattle.stun_state.specs.Numbers.{left_by};
 ghost use Rattle.stun_state.specs.Server.{validation_number};
 ghost use Rattle.stun_state.specs.Signing.{signed_for};
 
-use crate::address::Address;
 use crate::handed::{Given, sign_with};
 use crate::handle::server::ServerHandle;
 use crate::handle::user::UserHandle;
 use crate::{answers, prepared};
 use std::alloc::Global;
+use stun_handles::address::Address;
 use stun_handles::kind::{EMPTY, missing};
 use stun_numbers::refusal::Refusal;
 

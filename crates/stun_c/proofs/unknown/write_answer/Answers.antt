@@ -9,8 +9,8 @@ use Rattle.stun_c.specs.Extra.{unknown_answer}
 use Rattle.stun_c.proofs.Refused.{answer_number, answer_written}
 use Rattle.stun_c.proofs.unknown.write_answer.Goals as goal
 
-pub returns-clause-answer : goal.returns-clause-answer
-returns-clause-answer c =
+pub returns : goal.returns
+returns c =
     let types = unknown_types c.args.known.now c.args.request.now in
     let room : 48 + attribute_length (2 * c.args.count) ≤ length c.args.out.now = omega arith in
     let number : written_number
@@ -18,12 +18,10 @@ returns-clause-answer c =
     ≡ pos (48 + attribute_length (2 * c.args.count)) =
     answer_number c.args.request.now types c.args.count (length c.args.out.now) c.requires.count
     room in
-    search rules
-
-pub returns-clause-written : goal.returns-clause-written
-returns-clause-written c =
-    let types = unknown_types c.args.known.now c.args.request.now in
-    let room : 48 + attribute_length (2 * c.args.count) ≤ length c.args.out.now = omega arith in
-    answer_written c.args.request.now c.args.out.now c.write_front.new.out c.append_types.new.out
-    types c.args.count c.requires.count
-    c.write_front.ensures c.append_types.ensures.written room
+    record {
+      answer = search rules;
+      written =
+          answer_written c.args.request.now c.args.out.now c.write_front.new.out
+          c.append_types.new.out types c.args.count c.requires.count
+          c.write_front.ensures c.append_types.ensures.written room;
+    }

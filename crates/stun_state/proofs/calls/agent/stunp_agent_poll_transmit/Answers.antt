@@ -1,7 +1,7 @@
 -- A refusal leaves the agent, and a length tells that the library's call was made.
 use Rattle.std.proofs.Common.{rules, ◌≡◌, Option, Some, to_z, of_z, w64}
 use Rattle.stun_agent.specs.Agent.{Agent, after_poll_transmit}
-use Rattle.stun_state.specs.Numbers.{length_answer}
+use Rattle.stun_handles.specs.Numbers.{length_answer}
 use Rattle.stun_state.specs.declared.handle.agent.Agent.{Agent as Kept}
 use Rattle.stun_state.proofs.Exports.{left_length, some_is}
 use Rattle.stun_state.proofs.calls.agent.stunp_agent_poll_transmit.Goals as goal

@@ -1,7 +1,7 @@
 -- A refusal leaves the buffer, and a length tells that the message was signed.
 use Rattle.std.proofs.Common.{rules, ◌≡◌, Some, to_z, of_z, w64}
+use Rattle.stun_handles.specs.Numbers.{length_answer}
 use Rattle.stun_state.specs.Handed.{handed_signing, user_of_keys}
-use Rattle.stun_state.specs.Numbers.{length_answer}
 use Rattle.stun_state.proofs.Exports.{left_buffer, some_is}
 use Rattle.stun_state.proofs.calls.handed.stunp_server_sign_of_keys.Goals as goal
 

@@ -166,9 +166,8 @@ def first_minute(clone):
 def block_named(name):
     page, words = SHOWN[name]
     end = r"\s+".join(map(re.escape, words.split()))
-    found = re.search(end + r"\n\n((?:(?:    .*)?\n)+)", text_of(page))
-    if found is None:
-        sys.exit("transcripts: %s shows no block after the words '%s'" % (page, words))
+    found = re.search(end + r"\n\n((?:(?:    .*)?\n)+)", text_of(page)) or sys.exit(
+        "transcripts: %s shows no block after the words '%s'" % (page, words))
     return re.sub(r"(?m)^    ", "", found.group(1)).strip() + "\n"
 
 

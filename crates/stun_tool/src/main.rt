@@ -10,7 +10,6 @@ ghost use Rattle.stun_tool.specs.code.Run.{words_of_schedule, words_of_serve, us
 
 mod check;
 mod digits;
-mod names;
 mod negotiate;
 mod schedule;
 mod script;

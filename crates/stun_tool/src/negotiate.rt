@@ -1,7 +1,6 @@
 //! The command `negotiate`.
 ghost use Rattle.std.specs.Prelude.{◌≡◌, ◌≢◌, length, IfOk, IfSome};
 
-use crate::names::{algorithm_name, client_reason_name, server_reason_name};
 use crate::words::{algorithm, feature};
 use std::alloc::{AllocError, Allocator};
 use std::io::Write;
@@ -168,17 +167,26 @@ fn print_outcome<W: Write, A: Allocator>(
 ) -> Result<Status, Failure>
     ensures { IfOk result (λ status. status ≢ Status.NotJudged) }
 {
-    let (text, name, status) = match outcome {
-        Outcome::Validated(algorithm) => { ("validated", algorithm_name(algorithm), Status::Good) }
-        Outcome::AlreadyValidated(algorithm) => (
-            "already validated",
-            algorithm_name(algorithm),
-            Status::Good,
-        ),
-        Outcome::ServerRefused(reason) => { ("refused", server_reason_name(reason), Status::Bad) }
-        Outcome::ClientRefused(reason) => { ("refused", client_reason_name(reason), Status::Bad) }
+    let (line, status) = match outcome {
+        Outcome::Validated(algorithm) => {
+            (
+                format!(in alloc; "validated {algorithm:?}\n")?,
+                Status::Good,
+            )
+        }
+        Outcome::AlreadyValidated(algorithm) => {
+            (
+                format!(in alloc; "already validated {algorithm:?}\n")?,
+                Status::Good,
+            )
+        }
+        Outcome::ServerRefused(reason) => {
+            (format!(in alloc; "refused {reason:?}\n")?, Status::Bad)
+        }
+        Outcome::ClientRefused(reason) => {
+            (format!(in alloc; "refused {reason:?}\n")?, Status::Bad)
+        }
     };
-    let line = format!(in alloc; "{text} {name}\n")?;
     write_text(writer, line.as_bytes())?;
     Ok(status)
 }

@@ -2,7 +2,6 @@
 ghost use Rattle.std.specs.Prelude.{◌≡◌, ◌≢◌, ◌≤◌, ◌+◌, ◌↔◌, length};
 ghost use Rattle.stun_cli.specs.Input.{most_tries};
 
-use crate::names::{algorithm_name, error_name, server_reason_name};
 use crate::script::read_line;
 use std::alloc::{AllocError, Allocator, Global};
 use std::io::{ErrorKind, Write};
@@ -14,6 +13,7 @@ use stun_cli::verdict::refusal_line;
 use stun_proto::auth::LongTermServerAuth;
 use stun_proto::replay;
 use stun_proto::replay::{ServerCall, ServerReply};
+use stun_types::message::StunWriteError;
 
 /// Makes the calls of a script at a new long-term server, whose realm is the only argument, and
 /// prints a line for each reply when the line of its call is complete (RFC 8489, section 9.2.4).
@@ -144,14 +144,8 @@ impl Dialogue {
 fn line_of<A: Allocator + Copy>(alloc: A, reply: &ServerReply<A>) -> Result<String<A>, AllocError> {
     match reply {
         ServerReply::NotAMessage(error) => { String::from_str(alloc, refusal_line(*error)) }
-        ServerReply::Validated(algorithm) => {
-            let name = algorithm_name(*algorithm);
-            format!(in alloc; "validated {name}\n")
-        }
-        ServerReply::Refused(reason) => {
-            let name = server_reason_name(*reason);
-            format!(in alloc; "refused {name}\n")
-        }
+        ServerReply::Validated(algorithm) => { format!(in alloc; "validated {algorithm:?}\n") }
+        ServerReply::Refused(reason) => { format!(in alloc; "refused {reason:?}\n") }
         ServerReply::Signed(bytes) => {
             let digits = hex::encode(alloc, bytes.as_slice())?;
             format!(in alloc; "signed {digits}\n")
@@ -162,5 +156,18 @@ fn line_of<A: Allocator + Copy>(alloc: A, reply: &ServerReply<A>) -> Result<Stri
         }
         ServerReply::Done => String::from_str(alloc, "ok\n"),
         ServerReply::TooShort => String::from_str(alloc, "too short\n"),
+    }
+}
+
+/// Returns the name of an error of writing, without the type of an attribute that exists.
+fn error_name(error: StunWriteError) -> &'static str {
+    match error {
+        StunWriteError::NotAllowed => "NotAllowed",
+        StunWriteError::MessageIntegrityExists => "MessageIntegrityExists",
+        StunWriteError::AttributeExists(_) => "AttributeExists",
+        StunWriteError::TooLarge => "TooLarge",
+        StunWriteError::TooSmall => "TooSmall",
+        StunWriteError::IntegrityFailed => "IntegrityFailed",
+        StunWriteError::OutOfMemory => "OutOfMemory",
     }
 }

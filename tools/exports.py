@@ -131,7 +131,7 @@ def with_constants(text, functions):
     found = re.findall(r'extern "C" fn (\w+)\(([^)]*)\)[^\n]*\n(.*?)\n\{\n', text, re.DOTALL)
     left = {}
     for name, listed, clauses in found:
-        for label in re.findall(r"ensures same \{ (\w+)\.new", clauses):
+        for label in re.findall(r"ensures same \{ (?:KeepsHandle )?(\w+)\.new", clauses):
             kind = re.search(rf"\b{label}: &mut (\w+)", listed)[1]
             left[name] = PASSED.get(kind, "") + " *"
     return {name: [f"const {kind}" if kind in HANDLES and kind == left.get(name) else kind

@@ -1,195 +1,292 @@
--- The least moment that is awaited is that of the first deadline of the index that is no
--- cancellation.
-use Rattle.std.proofs.Common.{ℕ, ◌≡◌, ◌≤◌, ◌⊎◌, inl, inr, arith, Bool, true, false}
-use Rattle.std.proofs.Common.{not, cond, List, [], ◌∷◌, map, subst, ap, sym, refl, ◌∙◌}
-use Rattle.std.specs.Prelude.{Option, Some, None, filter, fold}
-use Rattle.std.specs.Map.{keys_of}
-use Rattle.std.specs.Ordering.{nat_cmp}
-use Rattle.std.specs.BTreeMap.{is_at}
-use Rattle.std.proofs.lemmas.Map.Keys.{sorted_tail}
+-- What requests await tells which of them are due or over, and when.
+use Rattle.std.proofs.Common.{ℕ, ◌≡◌, ◌<◌, ◌≤◌, ◌+◌, arith, min}
+use Rattle.std.proofs.Common.{Bool, true, false, not, ◌&&◌, ◌||◌, cond, List, [], ◌∷◌, ◌++◌, map}
+use Rattle.std.proofs.Common.{ap, ap₂, sym, refl, ◌∙◌}
+use Rattle.std.specs.Prelude.{Option, Some, None, find, filter, fold, nat_le, nat_lt}
+use Rattle.std.specs.Option.{option_map_or, is_some}
+use Rattle.std.proofs.lemmas.Bool.{ltb-true}
+use Rattle.std.proofs.lemmas.List.Sums.{sum_by-cons}
 use Rattle.stun_base.specs.declared.wire.transport.TransportType.{TransportType}
-use Rattle.stun_agent.specs.declared.state.deadlines.Deadline.{Deadline}
-use Rattle.stun_agent.specs.declared.state.deadlines.DeadlineKind.TheVariants.{Cancelled, End, Slot}
-use Rattle.stun_agent.specs.Transactions.{Transaction, Transactions, IsAscending}
-use Rattle.stun_agent.specs.Transactions.{at, awaited_moment, awaited_moments, has_slots}
-use Rattle.stun_agent.specs.Transactions.{is_cancelled, next_awaited, sooner}
-use Rattle.stun_agent.specs.code.Deadlines.{deadline_of, is_cancelled_kind, first_awaited}
-use Rattle.stun_agent.specs.code.Deadlines.{IsDeadlineIndexOf}
-use Rattle.stun_agent.proofs.DeadlineLemmas.{entry_of, entry_at, least-le, least-some, least-one}
-use Rattle.stun_agent.proofs.PermutedLemmas.{IsIn}
-use Rattle.stun_agent.proofs.SlotLemmas.{head_at, tail_at}
-use Rattle.stun_agent.proofs.SoonerLemmas.{first_le, sooner_stays, one_of}
+use Rattle.stun_base.specs.declared.wire.transport.TransportType.TheVariants.{Udp, Tcp}
+use Rattle.stun_agent.specs.Deadlines.{is_early, early_requests}
+use Rattle.stun_agent.specs.Timing.{repetitions, slots}
+use Rattle.stun_agent.specs.Transactions.{Transaction, Transactions, sooner, has_slots}
+use Rattle.stun_agent.specs.Transactions.{is_cancelled, is_due, is_over, awaited_moment}
+use Rattle.stun_agent.specs.Transactions.{awaited_moments, next_awaited, first_over}
+use Rattle.stun_agent.specs.code.Awaited.{Awaited, nothing, slot_at, end_at, cancelled_one}
+use Rattle.stun_agent.specs.code.Awaited.{awaited_by, lesser, joined, awaited_of, has_come}
+use Rattle.stun_agent.specs.code.Awaited.{some_due, some_over, first_awaited}
 
--- ---- one deadline
-cancelled_alike : (transport : TransportType) (e : ℕ × Transaction)
-    → is_cancelled_kind (deadline_of transport e).kind ≡ is_cancelled e.1.sending
-cancelled_alike transport e = by (is_cancelled e.1.sending) (has_slots transport e.1)
+-- ---- the lesser of two moments
+lesser_none : (a : Option ℕ) → lesser None a ≡ a
+lesser_none None = refl
+lesser_none (Some m) = refl
+
+lesser_lesser : (a b c : Option ℕ) → lesser (lesser a b) c ≡ lesser a (lesser b c)
+lesser_lesser a b None = refl
+lesser_lesser a None (Some n) = refl
+lesser_lesser None (Some m) (Some n) = refl
+lesser_lesser (Some l) (Some m) (Some n) = ap Some (omega arith)
+
+lesser_turned : (a b : Option ℕ) → lesser a b ≡ lesser b a
+lesser_turned None None = refl
+lesser_turned None (Some m) = refl
+lesser_turned (Some l) None = refl
+lesser_turned (Some l) (Some m) = ap Some (omega arith)
+
+lesser_of_four : (a b c d : Option ℕ)
+    → lesser (lesser a b) (lesser c d) ≡ lesser (lesser a c) (lesser b d)
+lesser_of_four a b c d = lesser_lesser a b (lesser c d)
+    ∙ ap (lesser a)
+    (sym (lesser_lesser b c d) ∙ ap (λ x. lesser x d) (lesser_turned b c) ∙ lesser_lesser c b d)
+    ∙ sym (lesser_lesser a c (lesser b d))
+
+-- ---- these and those
+or_false : (b : Bool) → (b || false) ≡ b
+or_false true = refl
+or_false false = refl
+
+or_or : (a b c : Bool) → ((a || b) || c) ≡ (a || (b || c))
+or_or true b c = refl
+or_or false b c = refl
+
+pub nothing_joined : (a : Awaited) → joined nothing a ≡ a
+nothing_joined a =
+    λ i. record {
+      slot = lesser_none a.slot i;
+      end = lesser_none a.end i;
+      cancelled = a.cancelled;
+    }
+
+pub joined_nothing : (a : Awaited) → joined a nothing ≡ a
+joined_nothing a =
+    λ i. record { slot = a.slot; end = a.end; cancelled = or_false a.cancelled i }
+
+pub joined_joined : (a b c : Awaited) → joined (joined a b) c ≡ joined a (joined b c)
+joined_joined a b c =
+    λ i. record {
+      slot = lesser_lesser a.slot b.slot c.slot i;
+      end = lesser_lesser a.end b.end c.end i;
+      cancelled = or_or a.cancelled b.cancelled c.cancelled i;
+    }
+
+pub awaited_of-append : (transport : TransportType) (xs ys : Transactions)
+    → awaited_of transport (xs ++ ys)
+    ≡ joined (awaited_of transport xs) (awaited_of transport ys)
+awaited_of-append transport [] ys = sym (nothing_joined (awaited_of transport ys))
+awaited_of-append transport (e ∷ xs) ys =
+    ap (joined (awaited_by transport e.1)) (awaited_of-append transport xs ys)
+    ∙ sym (joined_joined (awaited_by transport e.1) (awaited_of transport xs)
+    (awaited_of transport ys))
+
+-- ---- what is due, and what is over
+come_lesser : (now : ℕ) (a b : Option ℕ)
+    → has_come now (lesser a b) ≡ (has_come now a || has_come now b)
+come_lesser now a None = sym (or_false (has_come now a))
+come_lesser now None (Some m) = refl
+come_lesser now (Some l) (Some m) = grind arith
+
+due_joined : (now : ℕ) (a b : Awaited)
+    → some_due now (joined a b) ≡ (some_due now a || some_due now b)
+due_joined now a b = come_lesser now a.slot b.slot
+
+over_joined : (now : ℕ) (a b : Awaited)
+    → some_over now (joined a b) ≡ (some_over now a || some_over now b)
+over_joined now a b =
+    ap (λ x. (a.cancelled || b.cancelled) || x) (come_lesser now a.end b.end)
+    ∙ by a.cancelled b.cancelled (has_come now a.end) (has_come now b.end)
   where
-    by : (c s : Bool) → is_cancelled_kind (cond c Cancelled (cond s Slot End)) ≡ c
-    by true s = refl
-    by false true = refl
-    by false false = refl
+    by : (c d x y : Bool) → ((c || d) || (x || y)) ≡ ((c || x) || (d || y))
+    by true d x y = refl
+    by false true true y = refl
+    by false true false y = refl
+    by false false x y = refl
 
-moment_awaited : (transport : TransportType) (e : ℕ × Transaction)
-    → is_cancelled e.1.sending ≡ false
-    → (deadline_of transport e).moment ≡ awaited_moment transport e.1
-moment_awaited transport e h = ap (λ b. cond b 0 (awaited_moment transport e.1)) h
-
--- ---- the map
-module _ (transport : TransportType) where
-  abbrev least : Option ℕ → Transactions → Option ℕ
-  least c es = fold sooner c (awaited_moments transport es)
-
-  -- nothing that is awaited is less
-  pub least_le : (es : Transactions) (c : Option ℕ) (n k : ℕ) (t : Transaction) → at k es ≡ Some t
-      → is_cancelled t.sending ≡ false → least c es ≡ Some n → n ≤ awaited_moment transport t
-  least_le [] c n k t h live f = cc
-  least_le (e ∷ es) c n k t h live f =
-      by (is_cancelled e.1.sending) (is_at (nat_cmp k) e.0) refl h f
-      (λ c h f. least_le es c n k t h live f)
-    where
-      by : (b own : Bool) → is_cancelled e.1.sending ≡ b → cond own (Some e.1) (at k es) ≡ Some t
-          → fold sooner c
-          (map (λ (x : ℕ × Transaction). awaited_moment transport x.1)
-          (cond (not b) (e ∷ filter (λ x. not (is_cancelled x.1.sending)) es)
-          (filter (λ x. not (is_cancelled x.1.sending)) es))) ≡ Some n
-          → ((c : Option ℕ) → at k es ≡ Some t → least c es ≡ Some n
-          → n ≤ awaited_moment transport t)
-          → n ≤ awaited_moment transport t
-      by true true is h f rest = let value : e.1 ≡ t = cc in let clash : true ≡ false = sym is
-          ∙ ap (λ (x : Transaction). is_cancelled x.sending) value ∙ live in cc
-      by true false is h f rest = rest c h f
-      by false true is h f rest = let value : e.1
-          ≡ t = cc in
-          subst (λ x. n ≤ awaited_moment transport x) value
-          (first_le (awaited_moments transport es) c (awaited_moment transport e.1) n f)
-      by false false is h f rest = rest (sooner c (awaited_moment transport e.1)) h f
-
-  -- where a moment is awaited, there is a least
-  pub least_some : (es : Transactions) (c : Option ℕ) (k : ℕ) (t : Transaction) → at k es ≡ Some t
-      → is_cancelled t.sending ≡ false → least c es ≡ None → ⊥
-  least_some [] c k t h live f = cc
-  least_some (e ∷ es) c k t h live f =
-      by (is_cancelled e.1.sending) (is_at (nat_cmp k) e.0) refl h f
-      (λ c h f. least_some es c k t h live f)
-    where
-      by : (b own : Bool) → is_cancelled e.1.sending ≡ b → cond own (Some e.1) (at k es) ≡ Some t
-          → fold sooner c
-          (map (λ (x : ℕ × Transaction). awaited_moment transport x.1)
-          (cond (not b) (e ∷ filter (λ x. not (is_cancelled x.1.sending)) es)
-          (filter (λ x. not (is_cancelled x.1.sending)) es))) ≡ None
-          → ((c : Option ℕ) → at k es ≡ Some t → least c es ≡ None → ⊥) → ⊥
-      by true true is h f rest = let value : e.1 ≡ t = cc in let clash : true ≡ false = sym is
-          ∙ ap (λ (x : Transaction). is_cancelled x.sending) value ∙ live in cc
-      by true false is h f rest = rest c h f
-      by false own is h f rest =
-          sooner_stays (awaited_moments transport es) c (awaited_moment transport e.1) f
-
-  -- a request that awaits a moment
-  abbrev pub Awaits : Transactions → ℕ → Type 0
-  Awaits es n = (k : ℕ) × (t : Transaction) × (at k es ≡ Some t) × (is_cancelled t.sending ≡ false)
-      × (awaited_moment transport t ≡ n)
-
-  pub awaits_tail : (e : ℕ × Transaction) (es : Transactions) (n : ℕ) → IsAscending (e ∷ es)
-      → Awaits es n → Awaits (e ∷ es) n
-  awaits_tail e es n s (k, t, h, live, is) = (k, t, tail_at k e es t s h, live, is)
-
-  -- the least is awaited, or is the one at first
-  pub least_in : (es : Transactions) (c : Option ℕ) (n : ℕ) → IsAscending es → least c es ≡ Some n
-      → (c ≡ Some n) ⊎ Awaits es n
-  least_in [] c n s f = inl f
-  least_in (e ∷ es) c n s f =
-      by (is_cancelled e.1.sending) refl f
-      (λ c f. least_in es c n (sorted_tail nat_cmp e.0 (keys_of es) s) f)
-    where
-      later : {d : Option ℕ} → (d ≡ Some n) ⊎ Awaits es n → (d ≡ Some n) ⊎ Awaits (e ∷ es) n
-      later (inl same) = inl same
-      later (inr found) = inr (awaits_tail e es n s found)
-
-      first : is_cancelled e.1.sending ≡ false → (c ≡ Some n) ⊎ (awaited_moment transport e.1 ≡ n)
-          → (c ≡ Some n) ⊎ Awaits (e ∷ es) n
-      first live (inl same) = inl same
-      first live (inr is) = inr (e.0, e.1, head_at e es, live, is)
-
-      with_first : is_cancelled e.1.sending ≡ false
-          → (sooner c (awaited_moment transport e.1) ≡ Some n)
-          ⊎ Awaits (e ∷ es) n → (c ≡ Some n) ⊎ Awaits (e ∷ es) n
-      with_first live (inl same) = first live (one_of c (awaited_moment transport e.1) n same)
-      with_first live (inr found) = inr found
-
-      by : (b : Bool) → is_cancelled e.1.sending ≡ b
-          → fold sooner c
-          (map (λ (x : ℕ × Transaction). awaited_moment transport x.1)
-          (cond (not b) (e ∷ filter (λ x. not (is_cancelled x.1.sending)) es)
-          (filter (λ x. not (is_cancelled x.1.sending)) es))) ≡ Some n
-          → ((c : Option ℕ) → least c es ≡ Some n → (c ≡ Some n) ⊎ Awaits es n)
-          → (c ≡ Some n) ⊎ Awaits (e ∷ es) n
-      by true is f rest = later (rest c f)
-      by false is f rest = with_first is (later (rest (sooner c (awaited_moment transport e.1)) f))
-
--- ---- the index
-abbrev waits : Deadline → Bool
-waits d = not (is_cancelled_kind d.kind)
-
-waits_alike : (b : Bool) → not b ≡ true → b ≡ false
-waits_alike true h = cc
-waits_alike false h = refl
-
-pub awaited_first : (transport : TransportType) (all : Transactions) (ds : List Deadline)
-    → IsAscending all → IsDeadlineIndexOf transport all ds
-    → next_awaited transport all ≡ first_awaited ds
-awaited_first transport all ds ascends index =
-    by (next_awaited transport all) refl (first_awaited ds) refl
+pub due_one : (transport : TransportType) (now : ℕ) (t : Transaction)
+    → some_due now (awaited_by transport t) ≡ is_due transport now t
+due_one transport now t =
+    by (is_cancelled t.sending) (has_slots transport t) (awaited_moment transport t)
   where
-    -- the entry of a request that awaits a moment
-    waiting : (n k : ℕ) (t : Transaction) → at k all ≡ Some t → is_cancelled t.sending ≡ false
-        → awaited_moment transport t ≡ n
-        → (d : Deadline) × IsIn d ds × (waits d ≡ true) × (d.moment ≡ n)
-    waiting n k t here live is =
-        let d = deadline_of transport (k, t) in (
-          d,
-          entry_at transport 0 all ds index k t here,
-          ap not (cancelled_alike transport (k, t) ∙ live),
-          moment_awaited transport (k, t) live ∙ is,
-        )
+    by : (c s : Bool) (m : ℕ)
+        → some_due now (cond c cancelled_one (cond s (slot_at m) (end_at m)))
+        ≡ (not c && (s && nat_le m now))
+    by true s m = refl
+    by false true m = refl
+    by false false m = refl
 
-    some : (n : ℕ) → (None ≡ Some n) ⊎ Awaits transport all n
-        → (d : Deadline) × IsIn d ds × (waits d ≡ true) × (d.moment ≡ n)
-    some n (inl absent) = cc
-    some n (inr (k, t, here, live, moment)) = waiting n k t here live moment
+pub over_one : (transport : TransportType) (now : ℕ) (t : Transaction)
+    → some_over now (awaited_by transport t) ≡ is_over transport now t
+over_one transport now t =
+    by (is_cancelled t.sending) (has_slots transport t) (awaited_moment transport t)
+  where
+    by : (c s : Bool) (m : ℕ)
+        → some_over now (cond c cancelled_one (cond s (slot_at m) (end_at m)))
+        ≡ (c || (not s && nat_le m now))
+    by true s m = refl
+    by false true m = refl
+    by false false m = refl
 
-    own : (m : ℕ) → first_awaited ds ≡ Some m → (k : ℕ) × (t : Transaction) × (at k all ≡ Some t)
-        × (is_cancelled t.sending ≡ false) × (awaited_moment transport t ≡ m)
-    own m is =
-        let found = least-one (λ d. d.moment) waits ds m is in
-        let d = found.0 in
-        let e = entry_of transport 0 all ds index d d.id found.1 refl in
-        let live : is_cancelled e.0.sending ≡ false = sym (cancelled_alike transport (d.id, e.0))
-        ∙ ap (λ (x : Deadline). is_cancelled_kind x.kind) e.2
-        ∙ waits_alike (is_cancelled_kind d.kind) found.2 in (
-          d.id,
-          e.0,
-          e.1,
-          live,
-          sym (moment_awaited transport (d.id, e.0) live) ∙ ap (λ (x : Deadline). x.moment) e.2
-              ∙ found.3,
-        )
+found_first : {X : Type 0} (p : X → Bool) (x : X) (xs : List X)
+    → is_some (find p (x ∷ xs)) ≡ (p x || is_some (find p xs))
+found_first {X} p x xs = by (p x)
+  where
+    by : (b : Bool) → is_some (cond b (Some x) (find p xs)) ≡ (b || is_some (find p xs))
+    by true = refl
+    by false = refl
 
-    by : (a : Option ℕ) → next_awaited transport all ≡ a → (o : Option ℕ) → first_awaited ds ≡ o
-        → a ≡ o
-    by None is None found = refl
-    by None is (Some m) found = let mine = own m found in
-        absurd (least_some transport all None mine.0 mine.1 mine.2 mine.3 is)
-    by (Some n) is None found =
-        let there = some n (least_in transport all None n ascends is) in
-        absurd (least-some (λ d. d.moment) waits ds None there.0 there.1 there.2 found)
-    by (Some n) is (Some m) found =
-        let there = some n (least_in transport all None n ascends is) in
-        let down : m ≤ there.0.moment =
-        least-le (λ d. d.moment) waits ds None there.0 m there.1 there.2 found in
-        let moment = there.3 in
-        let mine = own m found in
-        let up : n ≤ awaited_moment transport mine.1 =
-        least_le transport all None n mine.0 mine.1 mine.2 mine.3 is in
-        let own_moment = mine.4 in
-        ap Some (omega (arith, up, down, moment, own_moment))
+pub due_is : (transport : TransportType) (now : ℕ) (es : Transactions)
+    → some_due now (awaited_of transport es) ≡ is_some (find (λ e. is_due transport now e.1) es)
+due_is transport now [] = refl
+due_is transport now (e ∷ es) =
+    due_joined now (awaited_by transport e.1) (awaited_of transport es)
+    ∙ ap₂ (λ a b. a || b) (due_one transport now e.1) (due_is transport now es)
+    ∙ sym (found_first (λ (x : ℕ × Transaction). is_due transport now x.1) e es)
+
+pub over_is : (transport : TransportType) (now : ℕ) (es : Transactions)
+    → some_over now (awaited_of transport es) ≡ is_some (first_over transport now es)
+over_is transport now [] = refl
+over_is transport now (e ∷ es) =
+    over_joined now (awaited_by transport e.1) (awaited_of transport es)
+    ∙ ap₂ (λ a b. a || b) (over_one transport now e.1) (over_is transport now es)
+    ∙ sym (found_first (λ (x : ℕ × Transaction). is_over transport now x.1) e es)
+
+pub none_first : {X : Type 0} (p : X → Bool) (x : X) (xs : List X)
+    → is_some (find p (x ∷ xs)) ≡ false → (p x ≡ false) × (is_some (find p xs) ≡ false)
+none_first {X} p x xs h = by (p x) refl h
+  where
+    by : (b : Bool) → p x ≡ b → is_some (cond b (Some x) (find p xs)) ≡ false
+        → (p x ≡ false) × (is_some (find p xs) ≡ false)
+    by true is h = cc
+    by false is h = (is, h)
+
+-- ---- the first moment
+first_joined : (a b : Awaited)
+    → first_awaited (joined a b) ≡ lesser (first_awaited a) (first_awaited b)
+first_joined a b = lesser_of_four a.slot b.slot a.end b.end
+
+-- that of one, unless it is cancelled
+first_one : (transport : TransportType) (t : Transaction)
+    → first_awaited (awaited_by transport t)
+    ≡ cond (is_cancelled t.sending) None (Some (awaited_moment transport t))
+first_one transport t =
+    by (is_cancelled t.sending) (has_slots transport t) (awaited_moment transport t)
+  where
+    by : (c s : Bool) (m : ℕ)
+        → first_awaited (cond c cancelled_one (cond s (slot_at m) (end_at m)))
+        ≡ cond c None (Some m)
+    by true s m = refl
+    by false true m = refl
+    by false false m = refl
+
+first_with : (transport : TransportType) (e : ℕ × Transaction) (es : Transactions)
+    → first_awaited (awaited_of transport (e ∷ es))
+    ≡ lesser (cond (is_cancelled e.1.sending) None (Some (awaited_moment transport e.1)))
+    (first_awaited (awaited_of transport es))
+first_with transport e es =
+    first_joined (awaited_by transport e.1) (awaited_of transport es)
+    ∙ ap (λ o. lesser o (first_awaited (awaited_of transport es))) (first_one transport e.1)
+
+first_from : (transport : TransportType) (es : Transactions) (c : Option ℕ)
+    → fold sooner c (awaited_moments transport es)
+    ≡ lesser c (first_awaited (awaited_of transport es))
+first_from transport [] c = refl
+first_from transport (e ∷ es) c =
+    by (is_cancelled e.1.sending) (first_from transport es)
+    ∙ ap (lesser c) (sym (first_with transport e es))
+  where
+    by : (b : Bool)
+        → ((c : Option ℕ) → fold sooner c (awaited_moments transport es)
+        ≡ lesser c (first_awaited (awaited_of transport es)))
+        → fold sooner c
+        (map (λ (x : ℕ × Transaction). awaited_moment transport x.1)
+        (cond (not b) (e ∷ filter (λ x. not (is_cancelled x.1.sending)) es)
+        (filter (λ x. not (is_cancelled x.1.sending)) es)))
+        ≡ lesser c
+        (lesser (cond b None (Some (awaited_moment transport e.1)))
+        (first_awaited (awaited_of transport es)))
+    by true rest =
+        rest c ∙ ap (lesser c) (sym (lesser_none (first_awaited (awaited_of transport es))))
+    by false rest =
+        rest (sooner c (awaited_moment transport e.1))
+        ∙ lesser_lesser c (Some (awaited_moment transport e.1))
+        (first_awaited (awaited_of transport es))
+
+pub next_awaited_is : (transport : TransportType) (all : Transactions)
+    → next_awaited transport all ≡ first_awaited (awaited_of transport all)
+next_awaited_is transport all =
+    first_from transport all None ∙ lesser_none (first_awaited (awaited_of transport all))
+
+least_with : (m hour : ℕ) (o : Option ℕ)
+    → option_map_or (λ x. min x (min hour m)) o (min hour m)
+    ≡ option_map_or (λ x. min x hour) (lesser (Some m) o) hour
+least_with m hour None = omega arith
+least_with m hour (Some x) = omega arith
+
+pub wake_up_is : (transport : TransportType) (now hour : ℕ) (all : Transactions)
+    → first_over transport now all ≡ None
+    → fold min hour (map (λ e. awaited_moment transport e.1) all)
+    ≡ option_map_or (λ m. min m hour) (first_awaited (awaited_of transport all)) hour
+wake_up_is transport now hour [] h = refl
+wake_up_is transport now hour (e ∷ es) h =
+    let m = awaited_moment transport e.1 in
+    let first = first_awaited (awaited_of transport es) in
+    let parts = none_first (λ (x : ℕ × Transaction). is_over transport now x.1) e es (ap is_some h) in
+    let live = not_cancelled (is_cancelled e.1.sending)
+    (not (has_slots transport e.1) && nat_le m now) parts.0 in
+    wake_up_is transport now (min hour m) es (none_found (first_over transport now es) parts.1)
+    ∙ least_with m hour first
+    ∙ ap (λ o. option_map_or (λ x. min x hour) o hour)
+    (ap (λ c. lesser (cond c None (Some m)) first) (sym live) ∙ sym (first_with transport e es))
+  where
+    not_cancelled : (c b : Bool) → (c || b) ≡ false → c ≡ false
+    not_cancelled true b h = h
+    not_cancelled false b h = refl
+
+    none_found : (o : Option (ℕ × Transaction)) → is_some o ≡ false → o ≡ None
+    none_found None h = refl
+    none_found (Some x) h = cc
+
+-- ---- one of them
+pub over_early : (transport : TransportType) (now : ℕ) (all : Transactions)
+    (e : ℕ × Transaction) → first_over transport now all ≡ Some e
+    → 1 ≤ early_requests transport now all
+over_early transport now [] e h = cc
+over_early transport now (x ∷ xs) e h =
+    by (is_over transport now x.1) refl h (over_early transport now xs e)
+    (sum_by-cons (λ (y : ℕ × Transaction). cond (is_early transport now y.1) 1 0) x xs)
+  where
+    early : (c s b : Bool) → (c || (not s && b)) ≡ true → (c || b) ≡ true
+    early true s b h = refl
+    early false true b h = cc
+    early false false b h = h
+
+    by : (b : Bool) → is_over transport now x.1 ≡ b
+        → cond b (Some x) (first_over transport now xs) ≡ Some e
+        → (first_over transport now xs ≡ Some e → 1 ≤ early_requests transport now xs)
+        → early_requests transport now (x ∷ xs)
+        ≡ cond (is_early transport now x.1) 1 0 + early_requests transport now xs
+        → 1 ≤ early_requests transport now (x ∷ xs)
+    by true is h rest count =
+        let one : ◌≡◌ {A = ℕ} (cond (is_early transport now x.1) 1 0) 1 =
+        ap (λ b. cond b 1 0)
+        (early (is_cancelled x.1.sending) (has_slots transport x.1)
+        (nat_le (awaited_moment transport x.1) now) is) in
+        omega (arith, count, one)
+    by false is h rest count = let more = rest h in omega (arith, count, more)
+
+pub due_has_slot : (transport : TransportType) (now : ℕ) (t : Transaction)
+    → is_due transport now t ≡ true → t.slot < repetitions t.settings
+due_has_slot transport now t h =
+    within transport
+    (slots_left (is_cancelled t.sending) (has_slots transport t)
+    (nat_le (awaited_moment transport t) now) h)
+  where
+    slots_left : (c s b : Bool) → (not c && (s && b)) ≡ true → s ≡ true
+    slots_left true s b h = cc
+    slots_left false true b h = refl
+    slots_left false false b h = h
+
+    within : (transport : TransportType) → nat_lt t.slot (slots transport t.settings) ≡ true
+        → t.slot < repetitions t.settings
+    within Udp h = ltb-true t.slot (repetitions t.settings) h
+    within Tcp h = let none : t.slot < 0 = ltb-true t.slot 0 h in omega (arith, none)

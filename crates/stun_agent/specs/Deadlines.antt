@@ -1,5 +1,5 @@
--- The work of a poll: which deadlines it reads, and how they are counted.
-use Rattle.std.specs.Prelude.{ℕ, ◌≡◌, ◌<◌, ◌+◌, ◌*◌, Bool, ◌||◌, nat_le, count_by}
+-- The work of a poll: how many requests it reads, and how they are counted.
+use Rattle.std.specs.Prelude.{ℕ, ◌≡◌, ◌<◌, Bool, ◌||◌, nat_le, count_by}
 use Rattle.stun_base.specs.declared.wire.transport.TransportType.{TransportType}
 use Rattle.stun_agent.specs.Transactions.{Transaction, Transactions, awaited_moment, is_cancelled}
 
@@ -11,11 +11,9 @@ is_early transport now t = is_cancelled t.sending || nat_le (awaited_moment tran
 abbrev pub early_requests : TransportType → ℕ → Transactions → ℕ
 early_requests transport now all = count_by (λ e. is_early transport now e.1) all
 
--- how many deadlines a poll reads at most, however many requests there are: those of a path in each
--- of two trees. Each node of a path halves the ids, so it has one for each of their 96 bits, and one
--- more
+-- how many requests a poll reads at most, however many there are: the one that it ends
 abbrev pub most_reads : ℕ
-most_reads = 2 * (96 + 1)
+most_reads = 1
 
 -- a blank of a ledger that nobody has used, and that has parts to count with
 pub record IsUnused (name parts ledger_name ledger_parts : ℕ) : Type 0 where

@@ -1,12 +1,10 @@
-//! What an agent keeps between calls: the outstanding requests and their deadlines.
+//! What an agent keeps between calls: the outstanding requests, each with its timeouts.
 
 pub(crate) mod address;
-pub(crate) mod deadline_search;
-pub(crate) mod deadline_set;
-pub(crate) mod deadline_tree;
-pub(crate) mod deadlines;
+pub(crate) mod awaited;
 pub(crate) mod outstanding;
 pub(crate) mod rto;
+pub(crate) mod search;
 pub(crate) mod timeouts;
 pub(crate) mod transaction;
-pub(crate) mod transactions;
+pub(crate) mod tree;

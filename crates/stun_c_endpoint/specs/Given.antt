@@ -1,6 +1,6 @@
 -- The settings of a server as a caller in C gives them, and the server of them.
 use Rattle.std.specs.Prelude.{◌≡◌, ℕ, ℤ, pos, MatchOption, List, ◌++◌, Bool, ◌&&◌, ◌||◌, ◌==◌, not, length, nat_lt}
-use Rattle.std.specs.Prelude.{if◌then◌else◌, Option, Some, None}
+use Rattle.std.specs.Prelude.{if◌then◌else◌, Option, Some, None, IfNone, IfSome}
 use Rattle.std.specs.Str.{is_utf8}
 use Rattle.stun_types.specs.Limits.{TEXT_LIMIT}
 use Rattle.stun_extra.specs.Unknown.{types_of}
@@ -11,8 +11,8 @@ use Rattle.stun_endpoint.specs.declared.server.settings.TheConstants.{STUN_ATTRI
 use Rattle.stun_handles.specs.Numbers.{OrOutOfMemory}
 use Rattle.stun_numbers.specs.Refusals.{refusal_number}
 use Rattle.stun_numbers.specs.declared.refusal.Refusal.{Refusal}
-use Rattle.stun_numbers.specs.declared.refusal.Refusal.TheVariants.{BadArgument, NotText}
-use Rattle.stun_numbers.specs.declared.refusal.Refusal.TheVariants.{TextTooLong}
+use Rattle.stun_numbers.specs.declared.refusal.Refusal.TheVariants.{BadArgument, FullHandle}
+use Rattle.stun_numbers.specs.declared.refusal.Refusal.TheVariants.{NotText, TextTooLong}
 use Rattle.stun_c_endpoint.specs.declared.handle.endpoint.Kept.{Kept}
 use Rattle.stun_c_endpoint.specs.declared.handle.endpoint.Kept.TheVariants.{Open, Server, ShortTerm}
 
@@ -92,6 +92,17 @@ responding_given g = record {
   software = if_any g.software;
   answers_binding = g.answers_binding;
 }
+
+-- a handle that has a value is refused, and left
+abbrev pub LeavesFull : Option Kept → Option Kept → ℤ → Type 0
+LeavesFull before now result =
+    IfSome before (λ kept. (result ≡ refusal_number FullHandle) × (now ≡ Some kept))
+
+-- a call that fills a handle which has no value. Of that, what it returns and leaves
+pub record Fills (before now : Option Kept) (result : ℤ) (Made : ℤ → Option Kept → Type 0)
+    : Type 0 where
+  pub full : LeavesFull before now result
+  pub made : IfNone before (Made result now)
 
 -- a call makes a server in an empty handle and returns 0, or returns the first refusal; or an
 -- allocation failed

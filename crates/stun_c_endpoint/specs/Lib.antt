@@ -26,5 +26,5 @@ pub mod Events
 pub mod Attributes
 -- what the calls on it return, write and leave
 pub mod Clients
--- what no clause of a public call cites: what representations alone use
+-- what no clause of a public call cites: what representations and private functions alone use
 pub mod code

@@ -1,4 +1,7 @@
--- Definitions that no clause of a public call cites: what representations alone cite.
+-- Definitions that no clause of a public call cites: what representations and private functions
+-- alone cite.
 
 -- the value that a handle has
 pub mod Handle
+-- what is built of the settings that a caller gives
+pub mod Building

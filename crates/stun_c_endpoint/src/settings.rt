@@ -1,7 +1,7 @@
 //! The settings of a server, as a caller passes them.
 
 ghost use Rattle.std.specs.Option.{option_map};
-ghost use Rattle.std.specs.Prelude.{◌≡◌, ◌==◌, IfOk, IsOkUnless, MatchOption, None, Some, Err};
+ghost use Rattle.std.specs.Prelude.{◌≡◌, ◌==◌, IfOk, None, Some};
 ghost use Rattle.std.specs.Prelude.{length, not, pos};
 ghost use Rattle.std.specs.String.{string_bytes};
 ghost use Rattle.stun_extra.specs.Unknown.{types_of};
@@ -10,6 +10,7 @@ ghost use Rattle.stun_c_endpoint.specs.Given.{MakesOpen, MakesServer, MakesShort
 ghost use Rattle.stun_c_endpoint.specs.Given.{alone_refusal, given_refusal, has_sha1, has_sha256};
 ghost use Rattle.stun_c_endpoint.specs.Given.{if_any, is_out_of_range, nonce_seconds};
 ghost use Rattle.stun_c_endpoint.specs.Given.{responding_given, server_given};
+ghost use Rattle.stun_c_endpoint.specs.code.Building.{Builds, RefusedFor};
 
 use crate::handle::endpoint::{EndpointHandle, Kept};
 use std::alloc::{AllocError, Global};
@@ -185,9 +186,7 @@ impl<'a> Given<'a> {
 
     /// Builds the server.
     fn server(&self, alloc: Global) -> Result<Server<Global>, Refusal>
-        ensures refused { MatchOption (given_refusal self.now)
-            (IsOkUnless result Refusal.OutOfMemory) (λ refusal. result ≡ Err refusal) }
-        ensures built { IfOk result (λ server. server ≡ server_given self.now) }
+        ensures { Builds (given_refusal self.now) (server_given self.now) result }
     {
         if self.is_out_of_range() {
             return Err(Refusal::BadArgument);
@@ -253,8 +252,7 @@ impl<'a> GivenAlone<'a> {
 
     /// Creates the settings.
     fn settings(&self, alloc: Global) -> Result<ResponseSettings<Global>, Refusal>
-        ensures refused { MatchOption (alone_refusal self.now)
-            (IsOkUnless result Refusal.OutOfMemory) (λ refusal. result ≡ Err refusal) }
+        ensures refused { RefusedFor (alone_refusal self.now) result }
         ensures software { IfOk result (λ made. option_map string_bytes made.software
             ≡ if_any self.now.software) }
         ensures understood { IfOk result (λ made. made.understood.items
@@ -275,9 +273,7 @@ impl<'a> GivenAlone<'a> {
 
     /// Builds a server with short-term credentials.
     fn short_term(&self, alloc: Global) -> Result<ShortTermServer<Global>, Refusal>
-        ensures refused { MatchOption (alone_refusal self.now)
-            (IsOkUnless result Refusal.OutOfMemory) (λ refusal. result ≡ Err refusal) }
-        ensures built { IfOk result (λ server. server ≡ responding_given self.now) }
+        ensures { Builds (alone_refusal self.now) (responding_given self.now) result }
     {
         match ShortTermServer::new(alloc, self.settings(alloc)?) {
             Ok(server) => Ok(server),
@@ -288,9 +284,7 @@ impl<'a> GivenAlone<'a> {
 
     /// Builds a server without credentials.
     fn without_credentials(&self, alloc: Global) -> Result<OpenServer<Global>, Refusal>
-        ensures refused { MatchOption (alone_refusal self.now)
-            (IsOkUnless result Refusal.OutOfMemory) (λ refusal. result ≡ Err refusal) }
-        ensures built { IfOk result (λ server. server ≡ responding_given self.now) }
+        ensures { Builds (alone_refusal self.now) (responding_given self.now) result }
     {
         match OpenServer::new(alloc, self.settings(alloc)?) {
             Ok(server) => Ok(server),

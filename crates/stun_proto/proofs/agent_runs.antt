@@ -5,6 +5,8 @@
 pub mod Sending
 -- how much is left to do: the slots that are left, and the ends
 pub mod Work
+-- the least moment that is awaited
+pub mod AwaitsLemmas
 -- the next awaited moment, and that a turn leaves none up to its own
 pub mod NextLemmas
 -- a turn, call by call

@@ -18,5 +18,7 @@ pub mod Handed
 pub mod Client
 -- which calls keep nothing more, and so return no failed allocation
 pub mod Memory
+-- the clauses that several calls share
+pub mod Calls
 -- what no clause of a public call cites: what private functions alone use
 pub mod code

@@ -1,6 +1,6 @@
 //! The calls on an agent, without handles (RFC 8489, section 6.2).
 
-ghost use Rattle.std.specs.Prelude.{◌≡◌, ◌≤◌, ◌++◌, ⊤, IsTrue, length, drop, true, Some, None};
+ghost use Rattle.std.specs.Prelude.{◌≡◌, ◌≤◌, ◌++◌, ⊤, IsTrue, length, drop, Some, None};
 ghost use Rattle.std.specs.Prelude.{IfOk, IfErr, IfSome, OnErr, OnOk};
 ghost use Rattle.std.specs.Duration.{as_nanos};
 ghost use Rattle.std.specs.Option.{option_map};
@@ -20,6 +20,7 @@ ghost use Rattle.stun_state.specs.Agent.{statistics_answer, timeouts_refusal, ca
 ghost use Rattle.stun_state.specs.Agent.{caller_statistics_after, transport_numbered};
 ghost use Rattle.stun_state.specs.Agent.{unless_untimed, with_changed};
 ghost use Rattle.stun_state.specs.Answers.{CallUnlessMemory, done_if_given};
+ghost use Rattle.stun_state.specs.Calls.{Checks};
 ghost use Rattle.stun_state.specs.Memory.{IsRequestTaken, message_adds_none, naming_adds_none};
 
 use byteorder::{BigEndian, ByteOrder};
@@ -126,8 +127,7 @@ pub fn new(alloc: Global, transport: u32, local: &Address) -> Result<StunAgent<G
 /// Fails with `BadArgument` if the timeouts have another size: then no other field is read. Fails
 /// with `NoWait` if several transmissions would be due at the same time.
 fn check_timeouts(timeouts: &Timeouts) -> Result<(), Refusal>
-    ensures ok { OnOk result (timeouts_refusal timeouts.now ≡ None) }
-    ensures err { IfErr result (λ refusal. timeouts_refusal timeouts.now ≡ Some refusal) }
+    ensures { Checks (timeouts_refusal timeouts.now) result }
 {
     if timeouts.size != TIMEOUTS_SIZE {
         return Err(Refusal::BadArgument);

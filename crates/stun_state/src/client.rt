@@ -1,19 +1,19 @@
 //! The calls on the authenticator of a client, without handles (RFC 8489, sections 9.2.3 and
 //! 9.2.5).
 
-ghost use Rattle.std.specs.Prelude.{◌≡◌, ◌≤◌, ◌+◌, ◌-◌, true, length, take, None, Some, Ok, Err};
+ghost use Rattle.std.specs.Prelude.{◌≡◌, ◌≤◌, ◌+◌, ◌-◌, true, length, take, Ok, Err};
 ghost use Rattle.std.specs.Prelude.{IfErr, IfOk, OnErr, OnOk};
 ghost use Rattle.stun_auth.specs.Additions.{WantsMemory, added_all, growth, page_of};
 ghost use Rattle.stun_auth.specs.Client.{new_client};
 ghost use Rattle.stun_auth.specs.ClientSigning.{client_additions, signing_algorithm};
 ghost use Rattle.stun_auth.specs.ClientStep.{IsResend};
-ghost use Rattle.stun_base.specs.Header.{BeginsWithHeader};
 ghost use Rattle.stun_base.specs.MessageType.{class_in, is_request};
 ghost use Rattle.stun_types.specs.Limits.{LENGTH_LIMIT as length_limit};
 ghost use Rattle.stun_types.specs.Message.{IsMessage};
-ghost use Rattle.stun_numbers.specs.Buffers.{buffer_after, within_room, length_of};
+ghost use Rattle.stun_numbers.specs.Buffers.{within_room};
 ghost use Rattle.stun_handles.specs.Answers.{texts_refusal};
-ghost use Rattle.stun_state.specs.Answers.{CallUnlessMemory, done_if_given};
+ghost use Rattle.stun_state.specs.Answers.{done_if_given};
+ghost use Rattle.stun_state.specs.Calls.{ChecksOr, FitsMemory, Returns, WritesBytes};
 ghost use Rattle.stun_state.specs.Client.{client_after_validation, step, client_validation};
 ghost use Rattle.stun_state.specs.Client.{client_validation_answer, client_with_algorithms};
 ghost use Rattle.stun_state.specs.Client.{with_credentials, client_with_feature};
@@ -52,10 +52,7 @@ pub fn set_credentials(
     password: &[u8],
 ) -> Result<(), Refusal>
     ensures ok { OnOk result (client.new ≡ with_credentials name.now password.now client.old) }
-    ensures accepted { OnOk result (texts_refusal name.now password.now ≡ None) }
-    ensures err { IfErr result (λ refusal. CallUnlessMemory result
-        (texts_refusal name.now password.now ≡ Some refusal)
-        (texts_refusal name.now password.now ≡ None)) }
+    ensures checked { ChecksOr (texts_refusal name.now password.now) result }
     ensures refused { OnErr result (client.new ≡ client.old) }
 {
     let name = text(name)?;
@@ -102,9 +99,8 @@ pub fn sign(
     buffer: &mut [u8],
     length: usize,
 ) -> Result<usize, Refusal>
-    ensures answer { result ≡ length_of (signed_by_client client.old.state buffer.old length) }
-    ensures written { buffer.new ≡ buffer_after
-        (signed_by_client client.old.state buffer.old length) buffer.old }
+    ensures signed { WritesBytes (signed_by_client client.old.state buffer.old length)
+        buffer.old buffer.new result }
     ensures state { client.new ≡ client.old }
 {
     let message = base_message(buffer, length)?;
@@ -132,10 +128,9 @@ fn sign_short(
         (growth (client_additions true client.old.state)) }
     requires short { length (take count buffer.old)
         + growth (client_additions true client.old.state) ≤ 2048 }
-    ensures answer { result ≡ length_of (within_room
-        (client_signs client.old.state (take count buffer.old)) (length buffer.old)) }
-    ensures written { buffer.new ≡ buffer_after (within_room
-        (client_signs client.old.state (take count buffer.old)) (length buffer.old)) buffer.old }
+    ensures signed { WritesBytes (within_room
+        (client_signs client.old.state (take count buffer.old)) (length buffer.old))
+        buffer.old buffer.new result }
     ensures state { client.new ≡ client.old }
 {
     let mut memory = [0; SHORT];
@@ -156,10 +151,9 @@ fn sign_long(
     requires limit { length (take count buffer.old) ≤ length_limit }
     requires long { is_long ≡ is_too_long (take count buffer.old)
         (growth (client_additions true client.old.state)) }
-    ensures answer { result ≡ length_of (within_room
-        (client_signs client.old.state (take count buffer.old)) (length buffer.old)) }
-    ensures written { buffer.new ≡ buffer_after (within_room
-        (client_signs client.old.state (take count buffer.old)) (length buffer.old)) buffer.old }
+    ensures signed { WritesBytes (within_room
+        (client_signs client.old.state (take count buffer.old)) (length buffer.old))
+        buffer.old buffer.new result }
     ensures state { client.new ≡ client.old }
 {
     let mut memory = [0; LENGTH_LIMIT];
@@ -174,9 +168,7 @@ fn sign_in<'m>(
     is_long: bool,
     memory: &'m mut [u8],
 ) -> Result<&'m [u8], Refusal>
-    requires header { BeginsWithHeader message.now }
-    requires room { length message.now ≤ length memory.old }
-    requires limit { length memory.old ≤ length_limit }
+    requires fits { FitsMemory message.now (length memory.old) }
     requires enough { ¬ (WantsMemory (client_additions
         (is_request (class_in message.now)) client.old.state) (page_of message.now)
         (length memory.old - length message.now)) }
@@ -209,11 +201,9 @@ pub fn validate(
     client: &mut LongTermClientAuth<Global>,
     message: &[u8],
 ) -> Result<LongTermClientValidation, Refusal>
-    ensures answer { CallUnlessMemory result (result ≡ client_validation client.old message.now)
-        (AsksAgain client.old message.now) }
-    ensures state { CallUnlessMemory result
-        (client.new ≡ client_after_validation client.old message.now)
-        (client.new ≡ client.old) }
+    ensures judged { Returns (client_validation client.old message.now) client.old client.new
+        (client_after_validation client.old message.now)
+        (AsksAgain client.old message.now) result }
     ensures refused { OnErr result (client.new ≡ client.old) }
 {
     let message = Message::from_bytes(message)?;
@@ -225,12 +215,10 @@ fn validate_message(
     client: &mut LongTermClientAuth<Global>,
     message: &Message<'_>,
 ) -> Result<LongTermClientValidation, Refusal>
-    ensures answer { CallUnlessMemory result (result ≡ client_validation_answer
-        (step client.old message.now).answer)
-        (IsResend (step client.old message.now).answer) }
-    ensures state { CallUnlessMemory result (client.new
-        ≡ record client.old { state = (step client.old message.now).state })
-        (client.new ≡ client.old) }
+    ensures judged { Returns (client_validation_answer (step client.old message.now).answer)
+        client.old client.new
+        (record client.old { state = (step client.old message.now).state })
+        (IsResend (step client.old message.now).answer) result }
     ensures refused { OnErr result (client.new ≡ client.old) }
 {
     match client.validate_incoming_message(message) {

@@ -1,7 +1,7 @@
 //! The calls on the authenticator of a server with a user whom the caller passes, without handles
 //! (RFC 8489, section 9.2.4).
 
-ghost use Rattle.std.specs.Prelude.{◌≡◌, ⊤, length, take, Some, None, Ok, Err, IfOk, IfErr, IsOk};
+ghost use Rattle.std.specs.Prelude.{◌≡◌, ⊤, length, take, Ok, Err, IfOk, IfErr, IsOk};
 ghost use Rattle.std.specs.Prelude.{OnErr, OnOk};
 ghost use Rattle.stun_auth.specs.Handed.{with_users};
 ghost use Rattle.stun_auth.specs.ServerSigning.{after_signing};
@@ -10,12 +10,13 @@ ghost use Rattle.stun_numbers.specs.Buffers.{buffer_after, length_of};
 ghost use Rattle.stun_handles.specs.Addresses.{socket_address};
 ghost use Rattle.stun_handles.specs.Answers.{at_address};
 ghost use Rattle.stun_state.specs.Answers.{CallUnlessMemory, after_address};
+ghost use Rattle.stun_state.specs.Calls.{Returns, SignsInBuffer};
 ghost use Rattle.stun_state.specs.Handed.{just_given, kept_after_handed_signing};
 ghost use Rattle.stun_state.specs.Handed.{kept_after_handed_validation, named_in_bytes};
 ghost use Rattle.stun_state.specs.Handed.{naming_answer, naming_length, naming_written};
 ghost use Rattle.stun_state.specs.Handed.{handed_signing, handed_validation};
 ghost use Rattle.stun_state.specs.code.Given.{user_given};
-ghost use Rattle.stun_state.specs.Signing.{signed_by_server};
+ghost use Rattle.stun_state.specs.Signing.{signed_for};
 
 use crate::handle::server::Server;
 use crate::server::{check_room, measure};
@@ -119,16 +120,12 @@ pub(crate) fn validate(
     name: &[u8],
     given: Given<'_>,
 ) -> Result<IntegrityAlgorithm, Refusal>
-    ensures answer { CallUnlessMemory result
-        (result ≡ at_address (socket_address from.now)
-        (handed_validation kept.old message.now now words.now
-        (user_given name.now given.entry))) ⊤ }
-    ensures state { CallUnlessMemory result
-        (kept.new ≡ record kept.old {
+    ensures { Returns (at_address (socket_address from.now)
+        (handed_validation kept.old message.now now words.now (user_given name.now given.entry)))
+        kept.old kept.new (record kept.old {
           server = kept_after_handed_validation kept.old message.now from.now now words.now
               (user_given name.now given.entry);
-        })
-        (kept.new ≡ kept.old) }
+        }) ⊤ result }
 {
     let from = from.socket()?;
     let message = Message::from_bytes(message)?;
@@ -173,14 +170,12 @@ pub(crate) fn sign_with(
 ) -> Result<usize, Refusal>
     requires realm { user.old.realm ≡ server.old.registered.realm }
     requires algorithms { user.old.algorithms ≡ server.old.registered.algorithms }
-    ensures answer { result ≡ length_of (at_address (socket_address to.now)
-        (signed_by_server (with_users server.old user.old) buffer.old length)) }
-    ensures written { buffer.new ≡ buffer_after (at_address (socket_address to.now)
-        (signed_by_server (with_users server.old user.old) buffer.old length)) buffer.old }
-    ensures state { OnOk result (server.new ≡ after_address (socket_address to.now) server.old
+    ensures signed { SignsInBuffer
+        (signed_for (with_users server.old user.old) buffer.old length to.now)
+        buffer.old buffer.new server.old server.new
+        (after_address (socket_address to.now) server.old
         (λ to. with_users (after_signing (with_users server.old user.old) to
-        (is_response (class_in (take length buffer.old)))) server.old.registered)) }
-    ensures refused { OnErr result (server.new ≡ server.old) }
+        (is_response (class_in (take length buffer.old)))) server.old.registered)) result }
     ensures user { user.new ≡ user.old }
 {
     let to = to.socket()?;

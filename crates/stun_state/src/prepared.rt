@@ -5,6 +5,7 @@ ghost use Rattle.std.specs.Prelude.{◌≡◌, ⊤, IsOk, IfOk, IfErr, Ok, Err};
 ghost use Rattle.stun_handles.specs.Addresses.{socket_address};
 ghost use Rattle.stun_handles.specs.Answers.{at_address};
 ghost use Rattle.stun_state.specs.Answers.{CallUnlessMemory};
+ghost use Rattle.stun_state.specs.Calls.{Returns};
 ghost use Rattle.stun_state.specs.Handed.{just_given, kept_after_prepared_validation, with_only};
 ghost use Rattle.stun_state.specs.Memory.{LeavesServer};
 ghost use Rattle.stun_state.specs.Server.{server_validation};
@@ -53,15 +54,12 @@ pub(crate) fn validate(
     words: &[u32; 16],
     user: &mut LongTermServerUser<Global>,
 ) -> Result<IntegrityAlgorithm, Refusal>
-    ensures answer { CallUnlessMemory result
-        (result ≡ at_address (socket_address from.now)
-        (server_validation (with_only kept.old user.old) message.now now words.now)) ⊤ }
-    ensures state { CallUnlessMemory result
-        (kept.new ≡ record kept.old {
+    ensures judged { Returns (at_address (socket_address from.now)
+        (server_validation (with_only kept.old user.old) message.now now words.now))
+        kept.old kept.new (record kept.old {
           server = kept_after_prepared_validation kept.old message.now from.now now words.now
               user.old;
-        })
-        (kept.new ≡ kept.old) }
+        }) ⊤ result }
 
     // If nothing of the server changes, no failed allocation is returned.
     ensures unchanged { LeavesServer (with_only kept.old user.old) message.now now words.now

@@ -1,22 +1,22 @@
 //! The calls on the authenticator of a server, without handles (RFC 8489, section 9.2.4).
 
 ghost use Rattle.std.specs.Prelude.{◌≡◌, ◌≤◌, ◌<◌, ◌+◌, ◌-◌, ◌^◌, ⊤, nat_lt, true, false, length};
-ghost use Rattle.std.specs.Prelude.{take, Some, None, Ok, Err, IfOk, IfErr, OnErr, OnOk};
+ghost use Rattle.std.specs.Prelude.{IfOk, IfErr, OnErr, OnOk};
 ghost use Rattle.stun_auth.specs.Forgetting.{after_forgetting, without_place};
 ghost use Rattle.stun_auth.specs.ForgettingSteps.{after_step, next_address};
 ghost use Rattle.stun_base.specs.MessageType.{class_in, is_response};
 ghost use Rattle.stun_auth.specs.Registered.{with_user};
-ghost use Rattle.stun_auth.specs.ServerSigning.{after_signing, server_growth};
+ghost use Rattle.stun_auth.specs.ServerSigning.{server_growth};
 ghost use Rattle.stun_types.specs.Limits.{LENGTH_LIMIT as length_limit};
 ghost use Rattle.stun_auth.specs.Validation.{client_at, new_server, sight};
-ghost use Rattle.stun_numbers.specs.Buffers.{buffer_after, length_of};
 ghost use Rattle.stun_handles.specs.Addresses.{socket_address, start_for, start_told};
 ghost use Rattle.stun_handles.specs.Answers.{at_address, text_refusal, texts_refusal};
-ghost use Rattle.stun_state.specs.Answers.{CallUnlessMemory, after_address, after_start, at_start};
+ghost use Rattle.stun_state.specs.Answers.{after_address, after_start, at_start};
 ghost use Rattle.stun_state.specs.Answers.{done_if_given};
+ghost use Rattle.stun_state.specs.Calls.{Checks, ChecksOr, Returns, SignsInBuffer};
 ghost use Rattle.stun_state.specs.Codes.{algorithms_numbered, feature_numbered};
 ghost use Rattle.stun_state.specs.Memory.{LeavesServer};
-ghost use Rattle.stun_state.specs.Signing.{is_too_long, signed_by_server};
+ghost use Rattle.stun_state.specs.Signing.{is_too_long, kept_after_signing, signed_for};
 ghost use Rattle.stun_state.specs.Server.{client_told, kept_after_validating, name_length_of};
 ghost use Rattle.stun_state.specs.Server.{name_written, nonce_at, nonce_told, nonce_written};
 ghost use Rattle.stun_state.specs.Server.{room_refusal, step_answer, server_validation};
@@ -47,10 +47,7 @@ const SHORTEST_EXPIRY: u64 = 30_000_000_000;
 /// Creates a server for a realm, without users.
 pub fn new(alloc: Global, realm: &[u8]) -> Result<LongTermServerAuth<Global>, Refusal>
     ensures ok { IfOk result (λ server. server ≡ new_server realm.now) }
-    ensures accepted { OnOk result (text_refusal realm.now ≡ None) }
-    ensures err { IfErr result
-        (λ refusal. CallUnlessMemory result (text_refusal realm.now ≡ Some refusal)
-        (text_refusal realm.now ≡ None)) }
+    ensures checked { ChecksOr (text_refusal realm.now) result }
 {
     let realm = copied(alloc, text(realm)?)?;
     Ok(LongTermServerAuth::new(alloc, realm))
@@ -107,10 +104,7 @@ pub fn add_user(
       registered = with_user server.old.registered
           (record { username = name.now; password = password.now });
     }) }
-    ensures accepted { OnOk result (texts_refusal name.now password.now ≡ None) }
-    ensures err { IfErr result (λ refusal. CallUnlessMemory result
-        (texts_refusal name.now password.now ≡ Some refusal)
-        (texts_refusal name.now password.now ≡ None)) }
+    ensures checked { ChecksOr (texts_refusal name.now password.now) result }
     ensures refused { OnErr result (server.new ≡ server.old) }
 {
     let name = text(name)?;
@@ -122,8 +116,7 @@ pub fn add_user(
 
 /// Removes a user.
 pub fn remove_user(server: &mut LongTermServerAuth<Global>, name: &[u8]) -> Result<(), Refusal>
-    ensures ok { OnOk result (text_refusal name.now ≡ None) }
-    ensures err { IfErr result (λ refusal. text_refusal name.now ≡ Some refusal) }
+    ensures checked { Checks (text_refusal name.now) result }
     ensures state { server.new ≡ without_named (text_refusal name.now) server.old name.now }
 {
     server.remove_user(text(name)?);
@@ -241,13 +234,8 @@ pub fn sign(
     length: usize,
     to: &Address,
 ) -> Result<usize, Refusal>
-    ensures answer { result ≡ length_of (at_address (socket_address to.now)
-        (signed_by_server server.old buffer.old length)) }
-    ensures written { buffer.new ≡ buffer_after (at_address (socket_address to.now)
-        (signed_by_server server.old buffer.old length)) buffer.old }
-    ensures state { OnOk result (server.new ≡ after_address (socket_address to.now) server.old
-        (λ to. after_signing server.old to (is_response (class_in (take length buffer.old))))) }
-    ensures refused { OnErr result (server.new ≡ server.old) }
+    ensures { SignsInBuffer (signed_for server.old buffer.old length to.now) buffer.old buffer.new
+        server.old server.new (kept_after_signing server.old buffer.old length to.now) result }
 {
     let to = to.socket()?;
     let message = base_message(buffer, length)?;
@@ -312,14 +300,11 @@ pub fn validate(
     now: u64,
     words: &[u32; 16],
 ) -> Result<IntegrityAlgorithm, Refusal>
-    ensures answer { CallUnlessMemory result
-        (result ≡ at_address (socket_address from.now)
-        (server_validation kept.old message.now now words.now)) ⊤ }
-    ensures state { CallUnlessMemory result
-        (kept.new ≡ record kept.old {
+    ensures judged { Returns (at_address (socket_address from.now)
+        (server_validation kept.old message.now now words.now))
+        kept.old kept.new (record kept.old {
           server = kept_after_validating kept.old message.now from.now now words.now;
-        })
-        (kept.new ≡ kept.old) }
+        }) ⊤ result }
 
     // If nothing of the server changes, no failed allocation is returned.
     ensures unchanged { LeavesServer kept.old message.now now words.now
@@ -347,8 +332,7 @@ pub fn check_room(
     most: usize,
     from: SocketAddr,
 ) -> Result<(), Refusal>
-    ensures ok { OnOk result (room_refusal server.now most from ≡ None) }
-    ensures err { IfErr result (λ refusal. room_refusal server.now most from ≡ Some refusal) }
+    ensures { Checks (room_refusal server.now most from) result }
 {
     if server.address_count() < most || server.nonce_for_client(from).is_some() {
         return Ok(());

@@ -1,9 +1,9 @@
 //! The message to sign in a caller's buffer.
 
-ghost use Rattle.std.specs.Prelude.{◌≡◌, ◌≤◌, ◌-◌, length};
+ghost use Rattle.std.specs.Prelude.{◌≡◌, ◌-◌, length};
 ghost use Rattle.stun_base.specs.Header.{BeginsWithHeader};
-ghost use Rattle.stun_types.specs.Limits.{LENGTH_LIMIT};
 ghost use Rattle.stun_base.specs.MessageType.{class_in, is_response};
+ghost use Rattle.stun_state.specs.Calls.{FitsMemory};
 ghost use Rattle.stun_state.specs.Signing.{is_too_long};
 
 use crate::desk::Desk;
@@ -32,9 +32,7 @@ pub fn is_too_long(message: &Message<'_>, more: usize) -> bool
 
 /// Returns a writer over memory that has a copy of the message, to which attributes can be added.
 pub fn writer_of<'m>(message: &[u8], memory: &'m mut [u8]) -> Desk<'m>
-    requires header { BeginsWithHeader message.now }
-    requires room { length message.now ≤ length memory.old }
-    requires limit { length memory.old ≤ LENGTH_LIMIT }
+    requires { FitsMemory message.now (length memory.old) }
     ensures message { result.bytes ≡ message.now }
     ensures header { BeginsWithHeader result.bytes }
     ensures reserved { result.reserved ≡ length memory.old - length message.now }

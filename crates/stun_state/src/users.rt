@@ -16,9 +16,7 @@ ghost use Rattle.stun_base.specs.Words.{next_words};
 ghost use Rattle.stun_base.specs.contracts.wire.words.WordSourceRng.TheImpl.{ghosts};
 ghost use Rattle.stun_base.specs.Header.{BeginsWithHeader};
 ghost use Rattle.stun_base.specs.MessageType.{class_in, is_response};
-ghost use Rattle.stun_types.specs.Limits.{LENGTH_LIMIT as length_limit};
-ghost use Rattle.stun_numbers.specs.Buffers.{buffer_after, length_of};
-ghost use Rattle.stun_state.specs.Answers.{CallUnlessMemory};
+ghost use Rattle.stun_state.specs.Calls.{FitsMemory, Returns, SignsInBuffer};
 ghost use Rattle.stun_state.specs.Server.{server_validation_answer};
 ghost use Rattle.stun_state.specs.Signing.{message_of, server_signs};
 ghost use Rattle.stun_state.specs.code.Measured.{IsMeasured};
@@ -162,13 +160,12 @@ pub(crate) fn validate_message<U: Users>(
     words: [u32; 16],
     users: &mut U,
 ) -> Result<IntegrityAlgorithm, Refusal>
-    ensures answer { CallUnlessMemory result
-        (result ≡ server_validation_answer (answer (sight (U.server_with users.old server.old) from)
-        now words (reading_of message.now))) ⊤ }
-    ensures state { CallUnlessMemory result
-        (server.new ≡ U.server_left (after_validation (U.server_with users.old server.old) from
-        now words (reading_of message.now)) server.old)
-        (server.new ≡ server.old) }
+    ensures judged { Returns (server_validation_answer
+        (answer (sight (U.server_with users.old server.old) from)
+        now words (reading_of message.now)))
+        server.old server.new (U.server_left (after_validation
+        (U.server_with users.old server.old) from now words (reading_of message.now)) server.old)
+        ⊤ result }
     ensures unchanged { ChangesNothing (sight (U.server_with users.old server.old) from) now words
         (reading_of message.now) →
         result ≡ server_validation_answer (answer (sight (U.server_with users.old server.old) from)
@@ -199,14 +196,10 @@ pub(crate) fn sign_short<U: Users>(
     requires short { let message = take count buffer.old in
         length message + server_growth (sight (U.server_with users.old server.old) to)
         (is_response (class_in message)) ≤ 2048 }
-    ensures answer { result ≡ length_of (server_signs (U.server_with users.old server.old)
-        (take count buffer.old) (length buffer.old) to) }
-    ensures written { buffer.new ≡ buffer_after (server_signs (U.server_with users.old server.old)
-        (take count buffer.old) (length buffer.old) to) buffer.old }
-    ensures state { OnOk result (server.new ≡ U.server_left (after_signing
-        (U.server_with users.old server.old) to (is_response (class_in (take count buffer.old))))
-        server.old) }
-    ensures refused { OnErr result (server.new ≡ server.old) }
+    ensures signed { SignsInBuffer (server_signs (U.server_with users.old server.old)
+        (take count buffer.old) (length buffer.old) to) buffer.old buffer.new
+        server.old server.new (U.server_left (after_signing (U.server_with users.old server.old) to
+        (is_response (class_in (take count buffer.old)))) server.old) result }
     ensures users { users.new ≡ users.old }
 {
     let mut memory = [0; SHORT];
@@ -229,14 +222,10 @@ pub(crate) fn sign_long<U: Users>(
         let response = is_response (class_in message) in
         let more = server_growth (sight (U.server_with users.old server.old) to) response in
         IsMeasured buffer.old count more is_long }
-    ensures answer { result ≡ length_of (server_signs (U.server_with users.old server.old)
-        (take count buffer.old) (length buffer.old) to) }
-    ensures written { buffer.new ≡ buffer_after (server_signs (U.server_with users.old server.old)
-        (take count buffer.old) (length buffer.old) to) buffer.old }
-    ensures state { OnOk result (server.new ≡ U.server_left (after_signing
-        (U.server_with users.old server.old) to (is_response (class_in (take count buffer.old))))
-        server.old) }
-    ensures refused { OnErr result (server.new ≡ server.old) }
+    ensures signed { SignsInBuffer (server_signs (U.server_with users.old server.old)
+        (take count buffer.old) (length buffer.old) to) buffer.old buffer.new
+        server.old server.new (U.server_left (after_signing (U.server_with users.old server.old) to
+        (is_response (class_in (take count buffer.old)))) server.old) result }
     ensures users { users.new ≡ users.old }
 {
     let mut memory = [0; LENGTH_LIMIT];
@@ -254,9 +243,7 @@ fn sign_in<'m, U: Users>(
     memory: &'m mut [u8],
     users: &mut U,
 ) -> Result<&'m [u8], Refusal>
-    requires header { BeginsWithHeader message.now }
-    requires room { length message.now ≤ length memory.old }
-    requires limit { length memory.old ≤ length_limit }
+    requires fits { FitsMemory message.now (length memory.old) }
     requires enough { ¬ (WantsMemory (server_additions
         (sight (U.server_with users.old server.old) to)
         (is_response (class_in message.now))) (page_of message.now)

@@ -14,7 +14,7 @@ use core::ops::{Bound, RangeBounds, RangeFrom};
 use core::sync::atomic::{AtomicUsize, Ordering};
 use core::{fmt, mem};
 use entries::Entries;
-use node::{MOST, Node, Way};
+use node::{MOST, Node, Spot, Way};
 
 /// A node, and the index of a key in it, or else the index where the key can be inserted.
 type Place<'a, K, V> = (&'a mut Node<K, V>, Result<usize, usize>);
@@ -56,8 +56,8 @@ impl<K: Ord, V, A: Allocator> BTreeMap<K, V, A> {
     where
         K: Borrow<Q>,
     {
-        if let Some((leaf, at)) = self.find_recent(key) {
-            return Some(leaf.value(at));
+        if let Some((node, at)) = self.find_recent(key) {
+            return Some(node.value(at));
         }
         let mut node = &self.root;
         loop {
@@ -68,13 +68,13 @@ impl<K: Ord, V, A: Allocator> BTreeMap<K, V, A> {
         }
     }
 
-    /// Returns the leaf and the index of a key if the entry of the last change has that key.
-    fn find_recent<Q: Ord + ?Sized>(&self, key: &Q) -> Option<(&Node<K, V>, usize)>
+    /// Returns the entry of a key if `recent` leads to it.
+    fn find_recent<Q: Ord + ?Sized>(&self, key: &Q) -> Option<Spot<'_, K, V>>
     where
         K: Borrow<Q>,
     {
-        let (leaf, at) = self.root.follow(self.recent.load(Ordering::Relaxed))?;
-        (leaf.keys.get(at)?.borrow() == key).then_some((leaf, at))
+        let ((node, at), _) = self.root.follow(self.recent.load(Ordering::Relaxed))?;
+        (node.keys.get(at)?.borrow() == key).then_some((node, at))
     }
 
     /// Returns a mutable reference to the value of a key.
@@ -82,17 +82,13 @@ impl<K: Ord, V, A: Allocator> BTreeMap<K, V, A> {
     where
         K: Borrow<Q>,
     {
-        let is_recent = self.find_recent(key).is_some();
-        let (mut known, mut way) = (*self.recent.get_mut(), Way::ROOT);
+        if self.find_recent(key).is_some() {
+            return self.root.follow_mut(*self.recent.get_mut());
+        }
+        let mut way = Way::ROOT;
         let mut node = &mut self.root;
         loop {
-            let place = if is_recent {
-                let (at, next) = Way::first(known);
-                known = next;
-                if node.is_leaf() { Ok(at) } else { Err(at) }
-            } else {
-                node.search(key)
-            };
+            let place = node.search(key);
             way.push(place.unwrap_or_else(|at| at));
             match place {
                 Ok(at) => {
@@ -212,30 +208,61 @@ impl<K: Ord, V, A: Allocator> BTreeMap<K, V, A> {
 
     /// Returns an iterator over the entries, in the order of their keys.
     pub fn iter(&self) -> impl Iterator<Item = (&K, &V)> {
-        let mut entries = Entries::new(&self.root);
-        entries.descend(&self.root);
-        entries
+        Entries::new(&self.root, self.root.seek(Bound::Unbounded).0)
     }
 
     /// Returns an iterator over the entries whose keys are in a range, in the order of their keys.
-    pub fn range(&self, range: impl RangeBounds<K>) -> impl Iterator<Item = (&K, &V)> {
-        let mut entries = Entries::new(&self.root);
-        let recent = self.recent.load(Ordering::Relaxed);
-        match range.start_bound() {
-            Bound::Included(key) => {
-                if entries.seek_recent(recent, key, false).is_none() {
-                    entries.seek(key, false);
-                }
-            }
-            Bound::Excluded(key) => {
-                // This is a walk by single keys, which goes on where it was.
-                let way = entries.seek_recent(recent, key, true);
-                let way = way.unwrap_or_else(|| entries.seek(key, true));
-                self.recent.store(way.indices, Ordering::Relaxed);
-            }
-            Bound::Unbounded => entries.descend(&self.root),
+    pub fn range<R: RangeBounds<K>>(&self, range: R) -> impl Iterator<Item = (&K, &V)> {
+        let has_end = !matches!(range.end_bound(), Bound::Unbounded);
+        let entries = Entries::new(&self.root, self.seek(range.start_bound()));
+        // No key is before the start. So a range without an end is not needed again, and copying it
+        // would take longer than a step of a walk.
+        let range = has_end.then_some(range);
+        entries.take_while(move |(key, _)| match range.as_ref().map(R::end_bound) {
+            Some(Bound::Included(end)) => *key <= end,
+            Some(Bound::Excluded(end)) => *key < end,
+            _ => true,
+        })
+    }
+
+    /// Returns the first entry whose key is not before `start`.
+    fn seek(&self, start: Bound<&K>) -> Option<Spot<'_, K, V>> {
+        self.seek_recent(start).or_else(|| self.seek_far(start))
+    }
+
+    /// Like [`Self::seek`], but looks only at the entry that `recent` leads to, and at the next one
+    /// in its leaf.
+    #[inline]
+    fn seek_recent(&self, start: Bound<&K>) -> Option<Spot<'_, K, V>> {
+        let (key, is_past) = match start {
+            Bound::Included(key) => (key, false),
+            Bound::Excluded(key) => (key, true),
+            Bound::Unbounded => return None,
+        };
+        let ((node, at), next) = self.root.follow(self.recent.load(Ordering::Relaxed))?;
+        if node.keys.get(at)? != key {
+            return None;
         }
-        entries.take_while(move |(key, _)| range.contains(key))
+        if !is_past {
+            return Some((node, at));
+        }
+        if !node.is_leaf() || at + 1 == node.len() {
+            return None;
+        }
+        // This is a walk by single keys, which goes on at this entry.
+        self.recent.store(next, Ordering::Relaxed);
+        Some((node, at + 1))
+    }
+
+    /// Like [`Self::seek`], but searches the tree from its root. It is not inlined, so that a step
+    /// of a walk is short.
+    #[inline(never)]
+    fn seek_far(&self, start: Bound<&K>) -> Option<Spot<'_, K, V>> {
+        let (spot, way) = self.root.seek(start);
+        if matches!(start, Bound::Excluded(_)) {
+            self.recent.store(way.indices, Ordering::Relaxed);
+        }
+        spot
     }
 }
 

@@ -2,14 +2,12 @@
 use Rattle.std.specs.Prelude.{ℕ, Bool, List, Option, Some, None, if◌then◌else◌, length}
 use Rattle.std.specs.declared.net.socket_addr.SocketAddr.{SocketAddr}
 use Rattle.stun_base.specs.declared.wire.transport.TransportType.{TransportType}
-use Rattle.stun_agent.specs.declared.state.deadlines.Deadline.{Deadline}
 use Rattle.stun_agent.specs.declared.state.transaction.Change.{Change}
 use Rattle.stun_agent.specs.declared.state.transaction.Change.TheVariants.{Silence, Cancel}
 use Rattle.stun_agent.specs.declared.state.transaction.Change.TheVariants.{Configure}
 use Rattle.stun_agent.specs.Timing.{settings_of}
 use Rattle.stun_agent.specs.Transactions.{Transaction, Transactions, repeats}
 use Rattle.stun_agent.specs.Transactions.{without_retransmissions, with_cancellation, with_settings}
-use Rattle.stun_agent.specs.code.Deadlines.{deadline_of}
 
 -- the outstanding requests, and the transport that carries them
 pub record Outstanding : Type 0 where
@@ -33,8 +31,3 @@ abbrev pub changed_transaction : Change → Transaction → Transaction
 changed_transaction Silence t = without_retransmissions t
 changed_transaction Cancel t = with_cancellation t
 changed_transaction (Configure settings) t = with_settings (settings_of settings) t
-
--- what a transaction awaits before a change and after it
-abbrev pub deadlines_around : TransportType → (Transaction → Transaction) → ℕ → Transaction
-    → Deadline × Deadline
-deadlines_around transport f id t = (deadline_of transport (id, t), deadline_of transport (id, f t))

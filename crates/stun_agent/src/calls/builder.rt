@@ -117,7 +117,7 @@ impl<A: Allocator + Copy> StunAgentBuilder<A> {
             local_addr: self.local_addr,
             remote_addr: self.remote_addr,
             settings: self.settings,
-            outstanding: Outstanding::new(self.alloc, self.transport),
+            outstanding: Outstanding::new(self.transport),
             peers: BTreeSet::new(self.alloc),
             stats: self.stats.then_some(StunAgentStats::default()),
         }

@@ -38,7 +38,8 @@ impl<A: Allocator + Copy> StunAgent<A> {
     /// the retransmission timers. Once a retransmission is due, `poll` does not wait: it returns
     /// `now`.
     ///
-    /// Does not allocate. `poll_counted` bounds the number of deadlines that this call reads.
+    /// Does not allocate. However many requests are outstanding, this call reads at most one of them,
+    /// the one that it ends (`poll_counted`).
     pub fn poll(&mut self, now: Instant) -> StunAgentPollRet
         ensures answer { result ≡ poll_answer now self.old }
         ensures after { self.new ≡ after_poll now self.old }
@@ -56,11 +57,11 @@ impl<A: Allocator + Copy> StunAgent<A> {
         answer
     }
 
-    /// Like `poll`, but also returns the number of deadlines that it read.
+    /// Like `poll`, but also returns the number of requests that it read.
     ///
     /// That number is at most the number of requests that are canceled or whose next deadline is
-    /// at or before `now`, and at most 194. A read gives the transaction ID of a deadline. The
-    /// times of deadlines can be looked at without a read.
+    /// at or before `now`, and at most one. A read gives the transaction ID of a request. Which part
+    /// of the requests has the earliest deadline can be looked at without a read.
     ///
     /// The count takes no memory, and no program can read it.
     ///

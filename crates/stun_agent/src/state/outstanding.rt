@@ -1,21 +1,22 @@
-//! The outstanding requests, with the index of their deadlines. Each call keeps both in step.
+//! The outstanding requests of an agent.
 ghost use Rattle.std.specs.Prelude.{◌≡◌, ◌+◌, ◌≤◌, ◌<◌, [], length, Some, None};
-ghost use Rattle.std.specs.Prelude.{IfSome, IsSomeAnd, IfOk, OnOk, OnErr};
+ghost use Rattle.std.specs.Prelude.{IfSome, IsSomeAnd, IfOk, OnOk, OnErr, MatchOption};
 ghost use Rattle.std.specs.Option.{option_map, option_copied};
 ghost use Rattle.stun_agent.specs.Deadlines.{early_requests, most_reads};
 ghost use Rattle.stun_agent.specs.Transactions.{AreKept, at, with, without, with_change_at};
 ghost use Rattle.stun_agent.specs.Transactions.{first_over, wake_up, next_awaited};
-ghost use Rattle.stun_agent.specs.Transactions.{next_sent, after_slots, IsNamed};
+ghost use Rattle.stun_agent.specs.Transactions.{next_sent, after_slots, repeats, IsNamed};
 ghost use Rattle.stun_agent.specs.code.Transactions.{contents, id_and_repeats, changed_transaction};
 
 use crate::calls::poll::reads::{Reads, Uncounted};
 use crate::error::NoRoom;
-use crate::state::deadline_tree::changes::Entry;
-use crate::state::deadlines::DeadlineIndex;
+use crate::state::search;
 use crate::state::transaction::{Change, Transaction};
-use crate::state::transactions::{self, Transactions};
+use crate::state::tree::change::{change, pass_slots};
+use crate::state::tree::insert::insert;
+use crate::state::tree::remove::remove;
+use crate::state::tree::{IDS, Leaf, Link, lookups};
 use std::alloc::{AllocError, Allocator, Global};
-use std::collections::BTreeMap;
 use std::marker::Model;
 use std::sync::ledger::Ledger;
 use std::time::Duration;
@@ -26,35 +27,33 @@ use stun_base::transport::TransportType;
 /// An agent is to be polled at least this often.
 const LONGEST_WAIT_SECONDS: u64 = 3600;
 
-/// The outstanding requests by their ids, the transport that carries them, and their deadlines by
-/// time. A contract sees the requests and the transport.
+/// The outstanding requests in a tree by their IDs, and the transport that carries them. A contract
+/// sees the requests by ascending IDs.
 #[derive(Drop)]
 #[derive_where(Debug)]
 pub(crate) struct Outstanding<A: Allocator = Global> {
     transport: TransportType,
-    requests: Transactions<A>,
-    deadlines: DeadlineIndex<A>,
+    root: Link<A>,
 }
 
 impl<A: Allocator> Model for Outstanding<A> {
-    ghost use Rattle.stun_agent.specs.code.Deadlines.{AreIndexed};
     ghost use Rattle.stun_agent.specs.code.Transactions.{Outstanding};
+    ghost use Rattle.stun_agent.specs.code.Tree.{items, IsTree};
 
     ghost Value = { Outstanding };
 
-    ghost view = { λ o. record { transport = o.transport; requests = o.requests.entries } };
+    ghost view = { λ o. record { transport = o.transport; requests = items o.root } };
 
-    ghost invariant = { λ o. AreIndexed o.transport o.requests.entries o.deadlines };
+    ghost invariant = { λ o. IsTree o.transport o.root };
 }
 
 impl<A: Allocator + Copy> Outstanding<A> {
-    pub(crate) fn new(alloc: A, transport: TransportType) -> Self
+    pub(crate) fn new(transport: TransportType) -> Self
         ensures { result ≡ record { transport = transport; requests = [] } }
     {
         Outstanding {
             transport,
-            requests: BTreeMap::new(alloc),
-            deadlines: DeadlineIndex::new(),
+            root: Link::Empty,
         }
     }
 
@@ -67,10 +66,10 @@ impl<A: Allocator + Copy> Outstanding<A> {
     pub(crate) fn get(&self, id: TransactionId) -> Option<&Transaction<A>>
         ensures { option_copied result ≡ at id self.now.requests }
     {
-        self.requests.get(&id)
+        lookups::get(&self.root, 0, IDS, id)
     }
 
-    /// Stores a request at an id that has none. If an allocation fails, nothing changes.
+    /// Stores a request at an ID that has none. If an allocation fails, nothing changes.
     pub(crate) fn insert(
         &mut self,
         alloc: A,
@@ -85,28 +84,21 @@ impl<A: Allocator + Copy> Outstanding<A> {
         ensures there { OnOk result (at id self.new.requests ≡ Some request) }
         ensures err { OnErr result (self.new ≡ self.old) }
     {
-        let entry = Entry::new(alloc, request.deadline(id, self.transport))?;
-        match self.requests.insert(id, request) {
-            Ok(_absent) => {
-                self.deadlines.put(entry);
-                Ok(())
-            }
-            Err(_refused) => Err(AllocError),
-        }
+        let awaited = request.awaited_by(self.transport);
+        let leaf = Box::new(alloc, Leaf::new(id, request))?;
+        insert(&mut self.root, 0, IDS, alloc, &awaited, leaf)
     }
 
-    /// Removes a request and its deadline.
+    /// Removes a request.
     pub(crate) fn remove(&mut self, id: TransactionId) -> Option<Transaction<A>>
         ensures answer { result ≡ at id self.old.requests }
         ensures after { self.new ≡ record self.old { requests = without id self.old.requests } }
     {
-        let request = self.requests.remove(&id)?;
-        let _deadline = self.deadlines.take(request.deadline(id, self.transport));
-        Some(request)
+        remove(&mut self.root, 0, IDS, id)
     }
 
-    /// Returns the id of the request that is to end, and whether it was still sent again; and when
-    /// to poll again, if none ends. Deadlines alone decide both. Counts those that it reads.
+    /// Returns the ID of the request that is to end, and whether it was still sent again; and when
+    /// to poll again, if none ends. Counts the entries that it reads.
     pub(crate) fn find_over<L: Ledger>(
         &self,
         now: Instant,
@@ -120,22 +112,47 @@ impl<A: Allocator + Copy> Outstanding<A> {
             + early_requests self.now.transport now self.now.requests }
         ensures path { reads.new ≤ reads.old + most_reads }
     {
-        let (ended, first) = self.deadlines.find_ended(now, reads);
-        let longest = now + Duration::from_secs(LONGEST_WAIT_SECONDS);
-        let until = now.max(transactions::sooner(first, longest));
-        (transactions::with_repeats(&self.requests, ended), until)
+        let ended = search::find_ended(&self.root, now, reads);
+        (self.with_repeats(ended), self.wake_up(now))
     }
 
-    /// The next time that a request awaits. Cancelled requests do not count.
+    /// Pairs an ID with whether its request is still sent again.
+    fn with_repeats(&self, told: Option<TransactionId>) -> Option<(TransactionId, bool)>
+        ensures { MatchOption told (result ≡ None) (λ id. result
+            ≡ option_map (λ t. (id, repeats t.sending)) (at id self.now.requests)) }
+    {
+        match told {
+            Some(id) => {
+                let request = self.get(id)?;
+                Some((id, request.sending().repeats()))
+            }
+            None => None,
+        }
+    }
+
+    /// When to poll again, if no request is over.
+    fn wake_up(&self, now: Instant) -> Instant
+        ensures { first_over self.now.transport now self.now.requests ≡ None
+            → result ≡ wake_up self.now.transport now self.now.requests }
+    {
+        let longest = now + Duration::from_secs(LONGEST_WAIT_SECONDS);
+        let first = match self.root.awaited().first() {
+            Some(first) => first.min(longest),
+            None => longest,
+        };
+        now.max(first)
+    }
+
+    /// The next time that a request awaits. Canceled requests do not count.
     pub(crate) fn next_awaited(&self) -> Option<Instant>
         ensures least { result ≡ next_awaited self.now.transport self.now.requests }
         ensures kept { AreKept self.now.requests }
     {
-        self.deadlines.first_awaited()
+        self.root.awaited().first()
     }
 
-    /// Passes the timeouts (slots) that are due, by ascending ids, up to that of a request to send
-    /// again. Returns its id and how many bytes it has. If these do not fit into the room, it
+    /// Passes the timeouts (slots) that are due, by ascending IDs, up to that of a request to send
+    /// again. Returns its ID and how many bytes it has. If these do not fit into the room, it
     /// fails, and nothing changes.
     pub(crate) fn pass_due_slots(
         &mut self,
@@ -164,17 +181,8 @@ impl<A: Allocator + Copy> Outstanding<A> {
             (λ e. r < length e.1.bytes))) }
         ensures same { OnErr result (self.new ≡ self.old) }
     {
-        if !self.deadlines.has_come(now) {
-            return Ok(None);
-        }
         self.check_room(now, room, leave)?;
-        Ok(transactions::pass_slots(
-            &mut self.requests,
-            &mut self.deadlines,
-            self.transport,
-            now,
-            leave,
-        ))
+        Ok(pass_slots(&mut self.root, self.transport, now, leave))
     }
 
     /// Fails if `pass_due_slots` would send more bytes than there is room for.
@@ -203,34 +211,15 @@ impl<A: Allocator + Copy> Outstanding<A> {
         ensures { option_copied result ≡ option_map (λ e. e.1)
             (next_sent self.now.transport now self.now.requests) }
     {
-        if !self.deadlines.has_come(now) {
-            return None;
-        }
-        let mut last = None;
-        while let Some(id) = self.deadlines.least_due(now, &last, leave) {
-            let request = self.requests.get(&id)?;
-            if request.sending().repeats() {
-                return Some(request);
-            }
-            last = Some(id);
-        }
-        None
+        lookups::next_sent(&self.root, now, leave)
     }
 
     /// Changes a request, if it is outstanding. Does not allocate.
-    pub(crate) fn change(&mut self, id: TransactionId, change: Change)
+    pub(crate) fn change(&mut self, id: TransactionId, to: Change)
         ensures { self.new ≡ record self.old {
-          requests = with_change_at (changed_transaction change) id self.old.requests;
+          requests = with_change_at (changed_transaction to) id self.old.requests;
         } }
     {
-        let Some((before, after)) = transactions::change(
-            &mut self.requests,
-            self.transport,
-            id,
-            change,
-        ) else {
-            return;
-        };
-        self.deadlines.replace(before, after);
+        change(&mut self.root, 0, IDS, self.transport, id, to);
     }
 }

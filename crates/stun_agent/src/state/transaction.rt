@@ -1,7 +1,7 @@
 //! One outstanding request: its bytes, its timeouts, and its deadline.
 ghost use Rattle.std.specs.Prelude.{◌≡◌, ◌<◌};
 ghost use Rattle.stun_base.specs.Address.{same_address};
-ghost use Rattle.stun_agent.specs.code.Deadlines.{deadline_of};
+ghost use Rattle.stun_agent.specs.code.Awaited.{awaited_by};
 ghost use Rattle.stun_agent.specs.code.Transactions.{length_sent, changed_transaction};
 ghost use Rattle.stun_agent.specs.Timing.{settings_of, repetitions};
 ghost use Rattle.stun_agent.specs.Transactions.{repeats, is_cancelled, after_silence};
@@ -9,7 +9,7 @@ ghost use Rattle.stun_agent.specs.Transactions.{new_transaction, has_slots, awai
 ghost use Rattle.stun_agent.specs.Transactions.{after_slot, round_trip};
 
 use crate::state::address::is_same;
-use crate::state::deadlines::{Deadline, DeadlineKind};
+use crate::state::awaited::Awaited;
 use crate::state::rto::RequestRto;
 use crate::state::timeouts::Timeouts;
 use std::alloc::{Allocator, Global};
@@ -198,26 +198,16 @@ impl<A: Allocator> Transaction<A> {
         self.last + wait
     }
 
-    /// What it awaits, with its id.
-    pub(crate) fn deadline(&self, id: TransactionId, transport: TransportType) -> Deadline
-        ensures { result ≡ deadline_of transport (id, self.now) }
+    /// What it awaits.
+    pub(crate) fn awaited_by(&self, transport: TransportType) -> Awaited
+        ensures { result ≡ awaited_by transport self.now }
     {
         if self.is_cancelled() {
-            return Deadline {
-                moment: Instant::ZERO,
-                id,
-                kind: DeadlineKind::Cancelled,
-            };
-        }
-        let kind = if self.has_slots(transport) {
-            DeadlineKind::Slot
+            Awaited::cancelled()
+        } else if self.has_slots(transport) {
+            Awaited::slot_at(self.awaited(transport))
         } else {
-            DeadlineKind::End
-        };
-        Deadline {
-            moment: self.awaited(transport),
-            id,
-            kind,
+            Awaited::end_at(self.awaited(transport))
         }
     }
 

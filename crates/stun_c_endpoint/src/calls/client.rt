@@ -3,11 +3,11 @@
 //! A call fails first with `EmptyHandle` if its handle is empty, and with `WrongHandle` if it has no
 //! client.
 
-ghost use Rattle.std.specs.Prelude.{◌≡◌, Some, None, IfNone, IfSome};
-ghost use Rattle.stun_numbers.specs.Refusals.{refusal_number};
+ghost use Rattle.std.specs.Prelude.{◌≡◌, None};
 ghost use Rattle.stun_c_endpoint.specs.Clients.{AsksAs, CancelsAs, HearsAs, PollsAs, TellsDropped};
 ghost use Rattle.stun_c_endpoint.specs.Clients.{client_in};
 ghost use Rattle.stun_c_endpoint.specs.ClientsGiven.{MakesClient};
+ghost use Rattle.stun_c_endpoint.specs.Given.{Fills};
 
 use crate::client::doing::{ask, cancel, hear, poll, tell_dropped};
 use crate::client::event::{Dropped, Event};
@@ -36,9 +36,7 @@ pub extern "C" fn stunp_endpoint_client_new_with(
     understood: &[u16],
     options: &ClientOptions,
 ) -> i64
-    ensures full { IfSome client.old.kept (λ kept. (result ≡ refusal_number Refusal.FullHandle)
-        × (client.new.kept ≡ Some kept)) }
-    ensures made { IfNone client.old.kept (MakesClient (record {
+    ensures { Fills client.old.kept client.new.kept result (MakesClient (record {
       server = server.now;
       seed = seed.now;
       name = name.now;
@@ -46,7 +44,7 @@ pub extern "C" fn stunp_endpoint_client_new_with(
       software = software.now;
       understood = understood.now;
       options = options.now;
-    }) result client.new.kept) }
+    })) }
 {
     if let Some(kept) = client.take(alloc) {
         client.put(alloc, kept);

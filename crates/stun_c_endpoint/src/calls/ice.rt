@@ -3,10 +3,10 @@
 //! A call fails first with `EmptyHandle` if its handle is empty, and with `WrongHandle` if it has no
 //! agent.
 
-ghost use Rattle.std.specs.Prelude.{◌≡◌, Some, None, IfNone, IfSome};
-ghost use Rattle.stun_numbers.specs.Refusals.{refusal_number};
+ghost use Rattle.std.specs.Prelude.{◌≡◌, None};
 ghost use Rattle.stun_c_endpoint.specs.Agents.{MakesAgent, SetsTieBreaker, controlling_answer};
 ghost use Rattle.stun_c_endpoint.specs.Checks.{WritesCheck, check_asked};
+ghost use Rattle.stun_c_endpoint.specs.Given.{Fills};
 ghost use Rattle.stun_c_endpoint.specs.Judged.{SeesAs, seen_at};
 ghost use Rattle.stun_c_endpoint.specs.Kept.{agent_in};
 
@@ -37,16 +37,14 @@ pub extern "C" fn stunp_ice_checker_new_with(
     tie_breaker: u64,
     is_controlling: bool,
 ) -> i64
-    ensures full { IfSome checker.old.kept (λ kept. (result ≡ refusal_number Refusal.FullHandle)
-        × (checker.new.kept ≡ Some kept)) }
-    ensures made { IfNone checker.old.kept (MakesAgent (record {
+    ensures { Fills checker.old.kept checker.new.kept result (MakesAgent (record {
       name = name.now;
       password = password.now;
       peer_name = peer_name.now;
       peer_password = peer_password.now;
       tie_breaker = tie_breaker;
       controls = is_controlling;
-    }) result checker.new.kept) }
+    })) }
 {
     if let Some(kept) = checker.take(alloc) {
         checker.put(alloc, kept);

@@ -1,9 +1,8 @@
 //! The calls on a server (RFC 8489, sections 6.3 and 9.2.4).
 
-ghost use Rattle.std.specs.Prelude.{◌≡◌, Some, None, IfNone, IfSome, if◌then◌else◌};
-ghost use Rattle.stun_numbers.specs.Refusals.{refusal_number};
+ghost use Rattle.std.specs.Prelude.{◌≡◌, Some, None, if◌then◌else◌};
 ghost use Rattle.stun_c_endpoint.specs.Causes.{CausedAs, caused_at, long_term_and_users};
-ghost use Rattle.stun_c_endpoint.specs.Given.{MakesOpen, MakesServer, MakesShortTerm};
+ghost use Rattle.stun_c_endpoint.specs.Given.{Fills, MakesOpen, MakesServer, MakesShortTerm};
 ghost use Rattle.stun_c_endpoint.specs.Kept.{judge_of};
 ghost use Rattle.stun_c_endpoint.specs.Lookups.{IdentifiesAs, identified_at, long_term_in};
 ghost use Rattle.stun_c_endpoint.specs.Told.{ReceivesAs, outcome_at};
@@ -38,9 +37,7 @@ pub extern "C" fn stunp_endpoint_server_new_with(
     anonymous_username: u32,
     answers_binding: bool,
 ) -> i64
-    ensures full { IfSome server.old.kept (λ kept. (result ≡ refusal_number Refusal.FullHandle)
-        × (server.new.kept ≡ Some kept)) }
-    ensures made { IfNone server.old.kept (MakesServer (record {
+    ensures { Fills server.old.kept server.new.kept result (MakesServer (record {
       realm = realm.now;
       software = software.now;
       secret = secret.now;
@@ -50,7 +47,7 @@ pub extern "C" fn stunp_endpoint_server_new_with(
       algorithms = algorithms;
       anonymous_username = anonymous_username;
       answers_binding = answers_binding;
-    }) result server.new.kept) }
+    })) }
 {
     if let Some(kept) = server.take(alloc) {
         server.put(alloc, kept);
@@ -93,13 +90,11 @@ pub extern "C" fn stunp_endpoint_server_new_short_term(
     understood: &[u16],
     answers_binding: bool,
 ) -> i64
-    ensures full { IfSome server.old.kept (λ kept. (result ≡ refusal_number Refusal.FullHandle)
-        × (server.new.kept ≡ Some kept)) }
-    ensures made { IfNone server.old.kept (MakesShortTerm (record {
+    ensures { Fills server.old.kept server.new.kept result (MakesShortTerm (record {
       software = software.now;
       understood = understood.now;
       answers_binding = answers_binding;
-    }) result server.new.kept) }
+    })) }
 {
     if let Some(kept) = server.take(alloc) {
         server.put(alloc, kept);
@@ -126,13 +121,11 @@ pub extern "C" fn stunp_endpoint_server_new_open(
     understood: &[u16],
     answers_binding: bool,
 ) -> i64
-    ensures full { IfSome server.old.kept (λ kept. (result ≡ refusal_number Refusal.FullHandle)
-        × (server.new.kept ≡ Some kept)) }
-    ensures made { IfNone server.old.kept (MakesOpen (record {
+    ensures { Fills server.old.kept server.new.kept result (MakesOpen (record {
       software = software.now;
       understood = understood.now;
       answers_binding = answers_binding;
-    }) result server.new.kept) }
+    })) }
 {
     if let Some(kept) = server.take(alloc) {
         server.put(alloc, kept);

@@ -3,9 +3,10 @@
 //! A call fails first with `EmptyHandle` if its handle is empty, and with `WrongHandle` if it has no
 //! table of users.
 
-ghost use Rattle.std.specs.Prelude.{◌≡◌, pos, Some, None, IfErr, IfNone, IfOk, IfSome};
+ghost use Rattle.std.specs.Prelude.{◌≡◌, pos, Some, None, IfErr, IfNone, IfOk};
 ghost use Rattle.stun_handles.specs.Numbers.{OrOutOfMemory};
 ghost use Rattle.stun_numbers.specs.Refusals.{refusal_number};
+ghost use Rattle.stun_c_endpoint.specs.Given.{LeavesFull};
 ghost use Rattle.stun_c_endpoint.specs.Kept.{at_handle};
 ghost use Rattle.stun_c_endpoint.specs.Users.{LeavesTable, LeavesTableOr, adding, adding_keys};
 ghost use Rattle.stun_c_endpoint.specs.Users.{removing, table_for};
@@ -26,8 +27,7 @@ pub extern "C" fn stunp_endpoint_users_new_own(
     users: &mut EndpointHandle,
     server: &mut EndpointHandle,
 ) -> i64
-    ensures full { IfSome users.old.kept (λ kept. (result ≡ refusal_number Refusal.FullHandle)
-        × (users.new.kept ≡ Some kept)) }
+    ensures full { LeavesFull users.old.kept users.new.kept result }
     ensures none { IfNone users.old.kept (IfErr (at_handle server.old.kept (λ s. table_for s))
         (λ refusal. (result ≡ refusal_number refusal) × (users.new.kept ≡ None))) }
     ensures made { IfNone users.old.kept (IfOk (at_handle server.old.kept (λ s. table_for s))

@@ -1,6 +1,6 @@
 //! Creating a client from what a caller passes.
 
-ghost use Rattle.std.specs.Prelude.{◌≡◌, ◌++◌, IfOk, IsOkUnless, MatchOption, None, Err};
+ghost use Rattle.std.specs.Prelude.{◌≡◌, ◌++◌, IfOk, None};
 ghost use Rattle.stun_extra.specs.Unknown.{types_of};
 ghost use Rattle.stun_client.specs.Judging.{identity_of};
 ghost use Rattle.stun_c_endpoint.specs.Given.{Makes};
@@ -9,6 +9,7 @@ ghost use Rattle.stun_c_endpoint.specs.ClientsGiven.{MakesClient, agent_given, a
 ghost use Rattle.stun_c_endpoint.specs.ClientsGiven.{client_given, client_refusal, feature_given};
 ghost use Rattle.stun_c_endpoint.specs.ClientsGiven.{identity_given, is_out_of_range, or_else};
 ghost use Rattle.stun_c_endpoint.specs.ClientsGiven.{preferences_given, transport_given};
+ghost use Rattle.stun_c_endpoint.specs.code.Building.{Builds};
 
 use crate::handle::endpoint::{EndpointHandle, Kept};
 use crate::settings::{placed, text_if_any, types};
@@ -304,9 +305,7 @@ impl<'a> ClientGiven<'a> {
     /// Creates the client of a server.
     #[tactic(auto, unfolding(crate::specs::ClientsGiven::client_refusal))]
     fn client(&self, alloc: Global, server: SocketAddr) -> Result<ClientEndpoint<Global>, Refusal>
-        ensures refused { MatchOption (client_refusal self.now)
-            (IsOkUnless result Refusal.OutOfMemory) (λ refusal. result ≡ Err refusal) }
-        ensures made { IfOk result (λ client. client ≡ client_given self.now server) }
+        ensures { Builds (client_refusal self.now) (client_given self.now server) result }
     {
         if self.options.is_out_of_range(!self.name.is_empty()) {
             return Err(Refusal::BadArgument);

@@ -1,10 +1,11 @@
 //! Creates and reads the agent of ICE that a caller holds.
 
-ghost use Rattle.std.specs.Prelude.{◌≡◌, IfOk, IsOkUnless, MatchOption, None, Some, Err};
+ghost use Rattle.std.specs.Prelude.{◌≡◌, IfOk, None, Some};
 ghost use Rattle.stun_c_endpoint.specs.Agents.{MakesAgent, agent_given, agent_refusal};
 ghost use Rattle.stun_c_endpoint.specs.Agents.{SetsTieBreaker, controlling_answer};
 ghost use Rattle.stun_c_endpoint.specs.Agents.{is_controlling, refusal_of_building, role_if};
 ghost use Rattle.stun_c_endpoint.specs.Kept.{agent_of};
+ghost use Rattle.stun_c_endpoint.specs.code.Building.{Builds};
 ghost use Rattle.stun_handles.specs.Numbers.{done_answer, number_answer};
 ghost use Rattle.stun_c_endpoint.specs.declared.handle.endpoint.Kept.TheVariants as kind;
 
@@ -108,9 +109,7 @@ impl<'a> Given<'a> {
     /// Creates the agent.
     #[tactic(auto, unfolding(crate::specs::Agents::agent_refusal))]
     fn checker(&self, alloc: Global) -> Result<Checker<Global>, Refusal>
-        ensures refused { MatchOption (agent_refusal self.now)
-            (IsOkUnless result Refusal.OutOfMemory) (λ refusal. result ≡ Err refusal) }
-        ensures built { IfOk result (λ checker. checker ≡ agent_given self.now) }
+        ensures { Builds (agent_refusal self.now) (agent_given self.now) result }
     {
         let local = Credentials {
             name: text(self.name)?,

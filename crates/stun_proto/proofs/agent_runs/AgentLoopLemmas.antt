@@ -20,7 +20,7 @@ use Rattle.stun_agent.specs.Agent.{tally_of_sent, with_transactions}
 use Rattle.stun_agent.specs.Transactions.{IsAscending, Transaction, Transactions}
 use Rattle.stun_agent.specs.Transactions.{after_slot, after_slots, an_hour, at, awaited_moment}
 use Rattle.stun_agent.specs.Transactions.{has_slots, is_cancelled, is_due, is_over, repeats}
-use Rattle.stun_agent.proofs.AwaitedLemmas.{Awaits, awaits_tail}
+use Rattle.stun_proto.proofs.agent_runs.AwaitsLemmas.{Awaits, awaits_tail}
 use Rattle.stun_agent.proofs.EntryLemmas.{own_key}
 use Rattle.stun_proto.specs.declared.replay.event.AgentEvent.{AgentEvent}
 use Rattle.stun_proto.specs.AgentLoop.{AreInTurn, Comings, Loop, LoopsAreDriven, LoopsExist}

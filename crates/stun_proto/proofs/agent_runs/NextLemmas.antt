@@ -6,7 +6,7 @@ use Rattle.stun_agent.specs.Agent.{Agent}
 use Rattle.stun_agent.specs.Transactions.{Transaction, IsAscending, an_hour, awaited_moment}
 use Rattle.stun_agent.specs.Transactions.{next_awaited, wake_up}
 use Rattle.stun_agent.proofs.Ascending.{fold-min-le}
-use Rattle.stun_agent.proofs.AwaitedLemmas.{Awaits, least_in, least_le, least_some}
+use Rattle.stun_proto.proofs.agent_runs.AwaitsLemmas.{Awaits, least_in, least_le, least_some}
 use Rattle.stun_proto.specs.Steps.{Step}
 use Rattle.stun_proto.specs.code.Calls.{HasPassed}
 use Rattle.stun_proto.specs.Run.{IsAwaited, IsNext, Phase, Turn, sends, rests, ends, again, stops}

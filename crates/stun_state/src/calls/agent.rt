@@ -6,16 +6,14 @@
 //! `TooLarge`. An address whose length is neither 4 nor 16, and an ID that does not have 12 bytes,
 //! fail with `BadArgument`. Times are in nanoseconds.
 
-ghost use Rattle.std.specs.Prelude.{◌≡◌, ◌≢◌, ◌⊎◌, length, pos, MatchResult, Some, None, Ok};
-ghost use Rattle.std.specs.Prelude.{IfNone, IfSome, IsTrue};
+ghost use Rattle.std.specs.Prelude.{◌≡◌, ◌⊎◌, length, Ok};
+ghost use Rattle.std.specs.Prelude.{IfSome, IsTrue};
 ghost use Rattle.stun_agent.specs.Agent.{after_poll, after_poll_transmit, after_send, poll_answer};
 ghost use Rattle.stun_agent.specs.Agent.{sent_by_poll};
 ghost use Rattle.stun_agent.specs.Transactions.{with_cancellation, without_retransmissions};
-ghost use Rattle.stun_numbers.specs.Refusals.{refusal_number};
-ghost use Rattle.stun_handles.specs.Kinds.{EMPTY as empty_kind, missing};
 ghost use Rattle.stun_handles.specs.Addresses.{socket_address};
 ghost use Rattle.stun_handles.specs.Answers.{at_address};
-ghost use Rattle.stun_handles.specs.Numbers.{OrOutOfMemory, done_answer, length_answer};
+ghost use Rattle.stun_handles.specs.Numbers.{done_answer, length_answer};
 ghost use Rattle.stun_handles.specs.Numbers.{number_answer};
 ghost use Rattle.stun_state.specs.Agent.{bytes_told, outstanding_answer, receiving_answer, id_in};
 ghost use Rattle.stun_state.specs.Agent.{id_told, kept_after_configuring, kept_after_forgetting};
@@ -26,8 +24,10 @@ ghost use Rattle.stun_state.specs.Agent.{sending_answer, sent_again, sent_to, st
 ghost use Rattle.stun_state.specs.Agent.{caller_statistics_after, transport_numbered};
 ghost use Rattle.stun_state.specs.Agent.{unless_untimed, with_changed};
 ghost use Rattle.stun_state.specs.Answers.{done_if_given};
+ghost use Rattle.stun_state.specs.Calls.{AgentBecomes, ChangesAgent, ChangesAgentOr, FreesHandle};
+ghost use Rattle.stun_state.specs.Calls.{FillsWithAgent, WithoutAgent};
 ghost use Rattle.stun_state.specs.Memory.{IsRequestTaken, message_adds_none, naming_adds_none};
-ghost use Rattle.stun_state.specs.Numbers.{IsOrOutOfMemory, left_by};
+ghost use Rattle.stun_state.specs.Numbers.{left_by};
 
 use crate::agent::{Statistics, Timeouts};
 use crate::handle::agent::{Agent, AgentHandle};
@@ -47,16 +47,8 @@ pub extern "C" fn stunp_agent_new(
     transport: u32,
     local: &Address,
 ) -> i64
-    ensures full { handle.old.kind ≢ empty_kind →
-        (result ≡ refusal_number Refusal.FullHandle) × (handle.new ≡ handle.old) }
-    ensures made { handle.old.kind ≡ empty_kind → MatchResult
-        (agent_at (transport_numbered transport) (socket_address local.now))
-        (λ agent. OrOutOfMemory result None handle.new.slot.agent (pos 0)
-        (Some (record { agent = agent })))
-        (λ refusal. (result ≡ refusal_number refusal) × (handle.new.slot.agent ≡ None)) }
-
-    // A handle that gets no value is left as it was.
-    ensures left { IfNone handle.new.slot.agent (handle.new ≡ handle.old) }
+    ensures { FillsWithAgent handle.old handle.new result
+        (agent_at (transport_numbered transport) (socket_address local.now)) }
 {
     if handle.kind != EMPTY {
         return Refusal::FullHandle.code();
@@ -88,17 +80,9 @@ pub extern "C" fn stunp_agent_new_with(
     remote: &Address,
     timeouts: &Timeouts,
 ) -> i64
-    ensures full { handle.old.kind ≢ empty_kind →
-        (result ≡ refusal_number Refusal.FullHandle) × (handle.new ≡ handle.old) }
-    ensures made { handle.old.kind ≡ empty_kind → MatchResult
+    ensures { FillsWithAgent handle.old handle.new result
         (agent_with_timeouts (agent_at (transport_numbered transport) (socket_address local.now))
-        remote.now timeouts.now)
-        (λ agent. OrOutOfMemory result None handle.new.slot.agent (pos 0)
-        (Some (record { agent = agent })))
-        (λ refusal. (result ≡ refusal_number refusal) × (handle.new.slot.agent ≡ None)) }
-
-    // A handle that gets no value is left as it was.
-    ensures left { IfNone handle.new.slot.agent (handle.new ≡ handle.old) }
+        remote.now timeouts.now) }
 {
     if handle.kind != EMPTY {
         return Refusal::FullHandle.code();
@@ -124,8 +108,7 @@ pub extern "C" fn stunp_agent_statistics(
     handle: &mut AgentHandle,
     statistics: &mut Statistics,
 ) -> i64
-    ensures missing { IfNone handle.old.slot.agent ((result ≡ missing handle.old.kind)
-        × (handle.new ≡ handle.old)
+    ensures missing { WithoutAgent handle.old result ((handle.new ≡ handle.old)
         × (statistics.new ≡ statistics.old)) }
     ensures answer { IfSome handle.old.slot.agent (λ _. result
         ≡ done_answer (statistics_answer statistics.old)) }
@@ -145,8 +128,7 @@ pub extern "C" fn stunp_agent_statistics(
 /// Frees the agent, and makes the handle empty. Does nothing if the handle has no agent.
 #[unsafe(no_mangle)]
 pub extern "C" fn stunp_agent_clear(alloc: Global, handle: &mut AgentHandle)
-    ensures freed { IfSome handle.old.slot.agent (λ _. handle.new.kind ≡ empty_kind) }
-    ensures left { IfNone handle.old.slot.agent (handle.new ≡ handle.old) }
+    ensures { FreesHandle handle.old.slot.agent handle.new.kind handle.old handle.new }
 {
     let _agent = handle.take(alloc);
 }
@@ -165,14 +147,10 @@ pub extern "C" fn stunp_agent_send_request(
     to: &Address,
     now: u64,
 ) -> i64
-    ensures missing { IfNone handle.old.slot.agent ((result ≡ missing handle.old.kind)
-        × (handle.new ≡ handle.old)) }
-    ensures answer { IfSome handle.old.slot.agent (λ kept. IsOrOutOfMemory result (done_answer
-        (at_address (socket_address to.now) (request_answer kept.agent message.now)))) }
-    ensures state { IfSome handle.old.slot.agent (λ kept. handle.new.slot.agent ≡ Some (record {
-      agent = left_by result kept.agent
-          (kept_after_request kept.agent message.now to.now now);
-    })) }
+    ensures sent { ChangesAgentOr handle.old handle.new result
+        (λ agent. done_answer
+        (at_address (socket_address to.now) (request_answer agent message.now)))
+        (λ agent. left_by result agent (kept_after_request agent message.now to.now now)) }
 
     // A failed allocation is returned only if the request would be taken.
     ensures taken { IfSome handle.old.slot.agent (λ kept. (result ≡ done_answer
@@ -197,13 +175,10 @@ pub extern "C" fn stunp_agent_send(
     message: &[u8],
     to: &Address,
 ) -> i64
-    ensures missing { IfNone handle.old.slot.agent ((result ≡ missing handle.old.kind)
-        × (handle.new ≡ handle.old)) }
-    ensures answer { IfSome handle.old.slot.agent (λ kept. result ≡ done_answer
-        (at_address (socket_address to.now) (sending_answer kept.agent message.now))) }
-    ensures state { IfSome handle.old.slot.agent (λ kept. handle.new.slot.agent ≡ Some (record {
-      agent = left_by result kept.agent (after_send message.now kept.agent);
-    })) }
+    ensures { ChangesAgent handle.old handle.new result
+        (λ agent. done_answer
+        (at_address (socket_address to.now) (sending_answer agent message.now)))
+        (λ agent. left_by result agent (after_send message.now agent)) }
 {
     let Some(mut kept) = handle.take(alloc) else {
         return missing(handle.kind);
@@ -224,14 +199,10 @@ pub extern "C" fn stunp_agent_handle(
     from: &Address,
     now: u64,
 ) -> i64
-    ensures missing { IfNone handle.old.slot.agent ((result ≡ missing handle.old.kind)
-        × (handle.new ≡ handle.old)) }
-    ensures answer { IfSome handle.old.slot.agent (λ kept. IsOrOutOfMemory result (number_answer
-        (at_address (socket_address from.now) (receiving_answer kept.agent message.now)))) }
-    ensures state { IfSome handle.old.slot.agent (λ kept. handle.new.slot.agent ≡ Some (record {
-      agent = left_by result kept.agent
-          (kept_after_message kept.agent message.now from.now now);
-    })) }
+    ensures handled { ChangesAgentOr handle.old handle.new result
+        (λ agent. number_answer
+        (at_address (socket_address from.now) (receiving_answer agent message.now)))
+        (λ agent. left_by result agent (kept_after_message agent message.now from.now now)) }
 
     // If no address is added to those that are kept, no failed allocation is returned.
     ensures no_memory { IfSome handle.old.slot.agent (λ kept.
@@ -257,16 +228,14 @@ pub extern "C" fn stunp_agent_poll_transmit(
     out: &mut [u8],
     to: &mut Address,
 ) -> i64
-    ensures missing { IfNone handle.old.slot.agent ((result ≡ missing handle.old.kind)
-        × (handle.new ≡ handle.old)
+    ensures missing { WithoutAgent handle.old result ((handle.new ≡ handle.old)
         × (out.new ≡ out.old) × (to.new ≡ to.old)) }
     ensures answer { IfSome handle.old.slot.agent (λ kept. result ≡ length_answer
         (sent_again (length out.old) (sent_by_poll now kept.agent))) }
 
     // Too small a buffer leaves the agent, so no transmission is lost.
-    ensures state { IfSome handle.old.slot.agent (λ kept. handle.new.slot.agent ≡ Some (record {
-      agent = left_by result kept.agent (after_poll_transmit now kept.agent);
-    })) }
+    ensures state { AgentBecomes handle.old handle.new (λ agent. left_by result agent
+        (after_poll_transmit now agent)) }
     ensures out { IfSome handle.old.slot.agent (λ kept. out.new ≡ left_by result out.old
         (bytes_told (sent_by_poll now kept.agent) out.old)) }
     ensures to { IfSome handle.old.slot.agent (λ kept. to.new ≡ left_by result to.old
@@ -291,14 +260,12 @@ pub extern "C" fn stunp_agent_poll(
     until: &mut u64,
     id: &mut [u8],
 ) -> i64
-    ensures missing { IfNone handle.old.slot.agent ((result ≡ missing handle.old.kind)
-        × (handle.new ≡ handle.old)
+    ensures missing { WithoutAgent handle.old result ((handle.new ≡ handle.old)
         × (until.new ≡ until.old) × (id.new ≡ id.old)) }
     ensures answer { IfSome handle.old.slot.agent (λ kept. result ≡ number_answer
         (polling_answer (length id.old) (poll_answer now kept.agent))) }
-    ensures state { IfSome handle.old.slot.agent (λ kept. handle.new.slot.agent ≡ Some (record {
-      agent = left_by result kept.agent (after_poll now kept.agent);
-    })) }
+    ensures state { AgentBecomes handle.old handle.new (λ agent. left_by result agent
+        (after_poll now agent)) }
     ensures until { IfSome handle.old.slot.agent (λ kept. until.new ≡ left_by result until.old
         (moment_told (poll_answer now kept.agent) until.old)) }
     ensures id { IfSome handle.old.slot.agent (λ kept. id.new ≡ left_by result id.old
@@ -321,8 +288,7 @@ pub extern "C" fn stunp_agent_is_outstanding(
     id: &[u8],
     peer: &mut Address,
 ) -> i64
-    ensures missing { IfNone handle.old.slot.agent ((result ≡ missing handle.old.kind)
-        × (handle.new ≡ handle.old)
+    ensures missing { WithoutAgent handle.old result ((handle.new ≡ handle.old)
         × (peer.new ≡ peer.old)) }
     ensures answer { IfSome handle.old.slot.agent (λ kept. result ≡ number_answer
         (outstanding_answer (id_in id.now) kept.agent)) }
@@ -341,13 +307,9 @@ pub extern "C" fn stunp_agent_is_outstanding(
 /// Cancels the request with this ID. Returns 1, or 0 if none is outstanding.
 #[unsafe(no_mangle)]
 pub extern "C" fn stunp_agent_cancel(alloc: Global, handle: &mut AgentHandle, id: &[u8]) -> i64
-    ensures missing { IfNone handle.old.slot.agent ((result ≡ missing handle.old.kind)
-        × (handle.new ≡ handle.old)) }
-    ensures answer { IfSome handle.old.slot.agent (λ kept. result ≡ number_answer
-        (outstanding_answer (id_in id.now) kept.agent)) }
-    ensures state { IfSome handle.old.slot.agent (λ kept. handle.new.slot.agent ≡ Some (record {
-      agent = with_changed with_cancellation (id_in id.now) kept.agent;
-    })) }
+    ensures { ChangesAgent handle.old handle.new result
+        (λ agent. number_answer (outstanding_answer (id_in id.now) agent))
+        (with_changed with_cancellation (id_in id.now)) }
 {
     let Some(mut kept) = handle.take(alloc) else {
         return missing(handle.kind);
@@ -364,13 +326,9 @@ pub extern "C" fn stunp_agent_cancel_retransmissions(
     handle: &mut AgentHandle,
     id: &[u8],
 ) -> i64
-    ensures missing { IfNone handle.old.slot.agent ((result ≡ missing handle.old.kind)
-        × (handle.new ≡ handle.old)) }
-    ensures answer { IfSome handle.old.slot.agent (λ kept. result ≡ number_answer
-        (outstanding_answer (id_in id.now) kept.agent)) }
-    ensures state { IfSome handle.old.slot.agent (λ kept. handle.new.slot.agent ≡ Some (record {
-      agent = with_changed without_retransmissions (id_in id.now) kept.agent;
-    })) }
+    ensures { ChangesAgent handle.old handle.new result
+        (λ agent. number_answer (outstanding_answer (id_in id.now) agent))
+        (with_changed without_retransmissions (id_in id.now)) }
 {
     let Some(mut kept) = handle.take(alloc) else {
         return missing(handle.kind);
@@ -390,13 +348,10 @@ pub extern "C" fn stunp_agent_configure(
     id: &[u8],
     timeouts: &Timeouts,
 ) -> i64
-    ensures missing { IfNone handle.old.slot.agent ((result ≡ missing handle.old.kind)
-        × (handle.new ≡ handle.old)) }
-    ensures answer { IfSome handle.old.slot.agent (λ kept. result ≡ number_answer
-        (unless_untimed timeouts.now (outstanding_answer (id_in id.now) kept.agent))) }
-    ensures state { IfSome handle.old.slot.agent (λ kept. handle.new.slot.agent ≡ Some (record {
-      agent = kept_after_configuring timeouts.now (id_in id.now) kept.agent;
-    })) }
+    ensures { ChangesAgent handle.old handle.new result
+        (λ agent. number_answer
+        (unless_untimed timeouts.now (outstanding_answer (id_in id.now) agent)))
+        (kept_after_configuring timeouts.now (id_in id.now)) }
 {
     let Some(mut kept) = handle.take(alloc) else {
         return missing(handle.kind);
@@ -414,13 +369,9 @@ pub extern "C" fn stunp_agent_validated_peer(
     handle: &mut AgentHandle,
     peer: &Address,
 ) -> i64
-    ensures missing { IfNone handle.old.slot.agent ((result ≡ missing handle.old.kind)
-        × (handle.new ≡ handle.old)) }
-    ensures answer { IfSome handle.old.slot.agent (λ _. IsOrOutOfMemory result (done_answer
-        (done_if_given (socket_address peer.now)))) }
-    ensures state { IfSome handle.old.slot.agent (λ kept. handle.new.slot.agent ≡ Some (record {
-      agent = left_by result kept.agent (kept_after_naming kept.agent peer.now);
-    })) }
+    ensures added { ChangesAgentOr handle.old handle.new result
+        (λ _. done_answer (done_if_given (socket_address peer.now)))
+        (λ agent. left_by result agent (kept_after_naming agent peer.now)) }
 
     // If the address is kept already, no failed allocation is returned.
     ensures there { IfSome handle.old.slot.agent (λ kept.
@@ -443,8 +394,7 @@ pub extern "C" fn stunp_agent_is_validated_peer(
     handle: &mut AgentHandle,
     peer: &Address,
 ) -> i64
-    ensures missing { IfNone handle.old.slot.agent ((result ≡ missing handle.old.kind)
-        × (handle.new ≡ handle.old)) }
+    ensures missing { WithoutAgent handle.old result (handle.new ≡ handle.old) }
     ensures answer { IfSome handle.old.slot.agent (λ kept. result ≡ number_answer
         (at_address (socket_address peer.now) (peer_answer kept.agent))) }
     ensures same { handle.new.slot.agent ≡ handle.old.slot.agent }
@@ -460,8 +410,7 @@ pub extern "C" fn stunp_agent_is_validated_peer(
 /// Returns the number of validated peers.
 #[unsafe(no_mangle)]
 pub extern "C" fn stunp_agent_peer_count(alloc: Global, handle: &mut AgentHandle) -> i64
-    ensures missing { IfNone handle.old.slot.agent ((result ≡ missing handle.old.kind)
-        × (handle.new ≡ handle.old)) }
+    ensures missing { WithoutAgent handle.old result (handle.new ≡ handle.old) }
     ensures answer { IfSome handle.old.slot.agent (λ kept. result
         ≡ length_answer (Ok (length kept.agent.peers))) }
     ensures same { handle.new.slot.agent ≡ handle.old.slot.agent }
@@ -482,13 +431,9 @@ pub extern "C" fn stunp_agent_forget_peer(
     handle: &mut AgentHandle,
     peer: &Address,
 ) -> i64
-    ensures missing { IfNone handle.old.slot.agent ((result ≡ missing handle.old.kind)
-        × (handle.new ≡ handle.old)) }
-    ensures answer { IfSome handle.old.slot.agent (λ _. result ≡ done_answer
-        (done_if_given (socket_address peer.now))) }
-    ensures state { IfSome handle.old.slot.agent (λ kept. handle.new.slot.agent ≡ Some (record {
-      agent = kept_after_forgetting kept.agent peer.now;
-    })) }
+    ensures { ChangesAgent handle.old handle.new result
+        (λ _. done_answer (done_if_given (socket_address peer.now)))
+        (λ agent. kept_after_forgetting agent peer.now) }
 {
     let Some(mut kept) = handle.take(alloc) else {
         return missing(handle.kind);

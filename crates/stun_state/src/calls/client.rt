@@ -4,16 +4,16 @@
 //! object of another type; `stunp_client_new` fails with `FullHandle` if the handle is not empty.
 //! Bytes that are not a message fail with `Truncated`, `NotStun` or `TooLarge`.
 
-ghost use Rattle.std.specs.Prelude.{◌≡◌, ◌≢◌, ◌⊎◌, length, pos, MatchOption, Some, None, Ok};
-ghost use Rattle.std.specs.Prelude.{IfNone, IfSome};
+ghost use Rattle.std.specs.Prelude.{◌≡◌, ◌⊎◌, length, pos, MatchOption, Some, None};
+ghost use Rattle.std.specs.Prelude.{IfSome};
 ghost use Rattle.stun_auth.specs.ClientSigning.{signing_algorithm};
 ghost use Rattle.stun_auth.specs.Client.{new_client};
 ghost use Rattle.stun_numbers.specs.Refusals.{refusal_number};
 ghost use Rattle.stun_numbers.specs.Buffers.{buffer_after, length_of};
-ghost use Rattle.stun_handles.specs.Kinds.{EMPTY as empty_kind, missing};
 ghost use Rattle.stun_handles.specs.Answers.{texts_refusal};
 ghost use Rattle.stun_handles.specs.Numbers.{OrOutOfMemory, done_answer, length_answer};
 ghost use Rattle.stun_state.specs.Answers.{done_if_given};
+ghost use Rattle.stun_state.specs.Calls.{FillsHandle, FreesHandle, WithoutClient};
 ghost use Rattle.stun_state.specs.Client as on_client;
 ghost use Rattle.stun_state.specs.Client.{client_after_validation, client_validation};
 ghost use Rattle.stun_state.specs.Client.{with_credentials};
@@ -31,14 +31,9 @@ use stun_numbers::refusal::Refusal;
 /// Creates a client without credentials. Fails with `FullHandle`, then `OutOfMemory`.
 #[unsafe(no_mangle)]
 pub extern "C" fn stunp_client_new(alloc: Global, handle: &mut ClientHandle) -> i64
-    ensures full { handle.old.kind ≢ empty_kind →
-        (result ≡ refusal_number Refusal.FullHandle) × (handle.new ≡ handle.old) }
-    ensures made { handle.old.kind ≡ empty_kind →
-        OrOutOfMemory result None handle.new.slot.client (pos 0)
-        (Some (record { client = new_client })) }
-
-    // A handle that gets no value is left as it was.
-    ensures left { IfNone handle.new.slot.client (handle.new ≡ handle.old) }
+    ensures { FillsHandle handle.old.kind handle.old handle.new handle.new.slot.client result
+        (OrOutOfMemory result None handle.new.slot.client (pos 0)
+        (Some (record { client = new_client }))) }
 {
     if handle.kind != EMPTY {
         return Refusal::FullHandle.code();
@@ -61,8 +56,7 @@ pub extern "C" fn stunp_client_set_credentials(
     name: &[u8],
     password: &[u8],
 ) -> i64
-    ensures missing { IfNone handle.old.slot.client ((result ≡ missing handle.old.kind)
-        × (handle.new ≡ handle.old)) }
+    ensures missing { WithoutClient handle.old result (handle.new ≡ handle.old) }
     ensures answer { IfSome handle.old.slot.client (λ kept. MatchOption
         (texts_refusal name.now password.now)
         (OrOutOfMemory result handle.old.slot.client handle.new.slot.client (pos 0)
@@ -86,8 +80,7 @@ pub extern "C" fn stunp_client_set_algorithms(
     handle: &mut ClientHandle,
     algorithms: u32,
 ) -> i64
-    ensures missing { IfNone handle.old.slot.client ((result ≡ missing handle.old.kind)
-        × (handle.new ≡ handle.old)) }
+    ensures missing { WithoutClient handle.old result (handle.new ≡ handle.old) }
     ensures answer { IfSome handle.old.slot.client (λ _. result ≡ done_answer
         (done_if_given (algorithms_numbered algorithms))) }
     ensures state { IfSome handle.old.slot.client (λ kept. handle.new.slot.client ≡ Some (record {
@@ -110,8 +103,7 @@ pub extern "C" fn stunp_client_set_anonymous_username(
     handle: &mut ClientHandle,
     feature: u32,
 ) -> i64
-    ensures missing { IfNone handle.old.slot.client ((result ≡ missing handle.old.kind)
-        × (handle.new ≡ handle.old)) }
+    ensures missing { WithoutClient handle.old result (handle.new ≡ handle.old) }
     ensures answer { IfSome handle.old.slot.client (λ _. result ≡ done_answer
         (done_if_given (feature_numbered feature))) }
     ensures state { IfSome handle.old.slot.client (λ kept. handle.new.slot.client ≡ Some (record {
@@ -129,8 +121,7 @@ pub extern "C" fn stunp_client_set_anonymous_username(
 /// Frees the client, and makes the handle empty. Does nothing if the handle has no client.
 #[unsafe(no_mangle)]
 pub extern "C" fn stunp_client_clear(alloc: Global, handle: &mut ClientHandle)
-    ensures freed { IfSome handle.old.slot.client (λ _. handle.new.kind ≡ empty_kind) }
-    ensures left { IfNone handle.old.slot.client (handle.new ≡ handle.old) }
+    ensures { FreesHandle handle.old.slot.client handle.new.kind handle.old handle.new }
 {
     let _client = handle.take(alloc);
 }
@@ -147,8 +138,7 @@ pub extern "C" fn stunp_client_sign(
     buffer: &mut [u8],
     length: usize,
 ) -> i64
-    ensures missing { IfNone handle.old.slot.client ((result ≡ missing handle.old.kind)
-        × (handle.new ≡ handle.old)
+    ensures missing { WithoutClient handle.old result ((handle.new ≡ handle.old)
         × (buffer.new ≡ buffer.old)) }
     ensures answer { IfSome handle.old.slot.client (λ kept. result
         ≡ length_answer (length_of (signed_by_client kept.client.state buffer.old length))) }
@@ -168,8 +158,7 @@ pub extern "C" fn stunp_client_sign(
 /// none.
 #[unsafe(no_mangle)]
 pub extern "C" fn stunp_client_signing_algorithm(alloc: Global, handle: &mut ClientHandle) -> i64
-    ensures missing { IfNone handle.old.slot.client ((result ≡ missing handle.old.kind)
-        × (handle.new ≡ handle.old)) }
+    ensures missing { WithoutClient handle.old result (handle.new ≡ handle.old) }
     ensures answer { IfSome handle.old.slot.client (λ kept. result
         ≡ pos (algorithm_or_none (signing_algorithm kept.client.state))) }
     ensures same { handle.new.slot.client ≡ handle.old.slot.client }
@@ -194,8 +183,7 @@ pub extern "C" fn stunp_client_validate(
     handle: &mut ClientHandle,
     message: &[u8],
 ) -> i64
-    ensures missing { IfNone handle.old.slot.client ((result ≡ missing handle.old.kind)
-        × (handle.new ≡ handle.old)) }
+    ensures missing { WithoutClient handle.old result (handle.new ≡ handle.old) }
     ensures answer { IfSome handle.old.slot.client (λ kept. OrOutOfMemory result
         handle.old.slot.client handle.new.slot.client
         (reading_answer (client_validation kept.client message.now))

@@ -6,18 +6,14 @@
 //! HMAC-SHA1 has 16 bytes, and one for HMAC-SHA256 has 32. A key that is not stored has no bytes;
 //! any other length fails with `BadArgument`.
 
-ghost use Rattle.std.specs.Prelude.{◌≡◌, length, Some, IfNone, IfSome};
-ghost use Rattle.stun_numbers.specs.Buffers.{buffer_after, length_of};
-ghost use Rattle.stun_handles.specs.Kinds.{missing};
+ghost use Rattle.std.specs.Prelude.{◌≡◌, length, IfSome};
 ghost use Rattle.stun_handles.specs.Addresses.{socket_address};
 ghost use Rattle.stun_handles.specs.Answers.{at_address};
-ghost use Rattle.stun_handles.specs.Numbers.{OrOutOfMemory, length_answer, number_answer};
+ghost use Rattle.stun_handles.specs.Numbers.{number_answer};
 ghost use Rattle.stun_state.specs.Answers.{after_address};
-ghost use Rattle.stun_state.specs.Handed.{kept_after_handed_signing, kept_after_handed_validation};
+ghost use Rattle.stun_state.specs.Calls.{SignsWith, ValidatesWith, WithoutServer};
 ghost use Rattle.stun_state.specs.Handed.{named_in_bytes, naming_answer, naming_length};
-ghost use Rattle.stun_state.specs.Handed.{naming_written, handed_signing, user_of_keys};
-ghost use Rattle.stun_state.specs.Handed.{user_of_password, handed_validation_number};
-ghost use Rattle.stun_state.specs.Numbers.{IsOrOutOfMemory, left_by};
+ghost use Rattle.stun_state.specs.Handed.{naming_written, user_of_keys, user_of_password};
 
 use crate::handed::Given;
 use crate::handle::server::ServerHandle;
@@ -41,8 +37,7 @@ pub extern "C" fn stunp_server_named_user(
     name: &mut [u8],
     name_length: &mut usize,
 ) -> i64
-    ensures missing { IfNone handle.old.slot.server ((result ≡ missing handle.old.kind)
-        × (handle.new ≡ handle.old)
+    ensures missing { WithoutServer handle.old result ((handle.new ≡ handle.old)
         × (name.new ≡ name.old) × (name_length.new ≡ name_length.old)) }
     ensures answer { IfSome handle.old.slot.server (λ kept. result ≡ number_answer
         (at_address (socket_address from.now)
@@ -80,16 +75,8 @@ pub extern "C" fn stunp_server_validate_of(
     name: &[u8],
     password: &[u8],
 ) -> i64
-    ensures missing { IfNone handle.old.slot.server ((result ≡ missing handle.old.kind)
-        × (handle.new ≡ handle.old)) }
-    ensures answer { IfSome handle.old.slot.server (λ kept. OrOutOfMemory result
-        handle.old.slot.server handle.new.slot.server
-        (handed_validation_number kept message.now from.now now words.now
-        (user_of_password name.now password.now))
-        (Some (record kept {
-          server = kept_after_handed_validation kept message.now from.now now words.now
-              (user_of_password name.now password.now);
-        }))) }
+    ensures { ValidatesWith handle.old handle.new result message.now from.now now words.now
+        (user_of_password name.now password.now) }
 {
     let Some(mut kept) = handle.take(alloc) else {
         return missing(handle.kind);
@@ -114,21 +101,8 @@ pub extern "C" fn stunp_server_sign_of(
     name: &[u8],
     password: &[u8],
 ) -> i64
-    ensures missing { IfNone handle.old.slot.server ((result ≡ missing handle.old.kind)
-        × (handle.new ≡ handle.old)
-        × (buffer.new ≡ buffer.old)) }
-    ensures answer { IfSome handle.old.slot.server (λ kept. IsOrOutOfMemory result (length_answer
-        (length_of (handed_signing kept.server buffer.old length to.now
-        (user_of_password name.now password.now))))) }
-    ensures written { IfSome handle.old.slot.server (λ kept. buffer.new ≡ left_by result buffer.old
-        (buffer_after (handed_signing kept.server buffer.old length to.now
-        (user_of_password name.now password.now)) buffer.old)) }
-    ensures state { IfSome handle.old.slot.server (λ kept.
-        handle.new.slot.server ≡ Some (record kept {
-          server = left_by result kept.server
-              (kept_after_handed_signing kept.server buffer.old length to.now
-              (user_of_password name.now password.now));
-        })) }
+    ensures { SignsWith handle.old handle.new result buffer.old buffer.new length to.now
+        (user_of_password name.now password.now) }
 {
     let Some(mut kept) = handle.take(alloc) else {
         return missing(handle.kind);
@@ -155,16 +129,8 @@ pub extern "C" fn stunp_server_validate_of_keys(
     sha1: &[u8],
     sha256: &[u8],
 ) -> i64
-    ensures missing { IfNone handle.old.slot.server ((result ≡ missing handle.old.kind)
-        × (handle.new ≡ handle.old)) }
-    ensures answer { IfSome handle.old.slot.server (λ kept. OrOutOfMemory result
-        handle.old.slot.server handle.new.slot.server
-        (handed_validation_number kept message.now from.now now words.now
-        (user_of_keys name.now sha1.now sha256.now))
-        (Some (record kept {
-          server = kept_after_handed_validation kept message.now from.now now words.now
-              (user_of_keys name.now sha1.now sha256.now);
-        }))) }
+    ensures { ValidatesWith handle.old handle.new result message.now from.now now words.now
+        (user_of_keys name.now sha1.now sha256.now) }
 {
     let Some(mut kept) = handle.take(alloc) else {
         return missing(handle.kind);
@@ -190,21 +156,8 @@ pub extern "C" fn stunp_server_sign_of_keys(
     sha1: &[u8],
     sha256: &[u8],
 ) -> i64
-    ensures missing { IfNone handle.old.slot.server ((result ≡ missing handle.old.kind)
-        × (handle.new ≡ handle.old)
-        × (buffer.new ≡ buffer.old)) }
-    ensures answer { IfSome handle.old.slot.server (λ kept. IsOrOutOfMemory result (length_answer
-        (length_of (handed_signing kept.server buffer.old length to.now
-        (user_of_keys name.now sha1.now sha256.now))))) }
-    ensures written { IfSome handle.old.slot.server (λ kept. buffer.new ≡ left_by result buffer.old
-        (buffer_after (handed_signing kept.server buffer.old length to.now
-        (user_of_keys name.now sha1.now sha256.now)) buffer.old)) }
-    ensures state { IfSome handle.old.slot.server (λ kept.
-        handle.new.slot.server ≡ Some (record kept {
-          server = left_by result kept.server
-              (kept_after_handed_signing kept.server buffer.old length to.now
-              (user_of_keys name.now sha1.now sha256.now));
-        })) }
+    ensures { SignsWith handle.old handle.new result buffer.old buffer.new length to.now
+        (user_of_keys name.now sha1.now sha256.now) }
 {
     let Some(mut kept) = handle.take(alloc) else {
         return missing(handle.kind);

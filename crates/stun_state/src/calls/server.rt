@@ -6,20 +6,21 @@
 //! length is neither 4 nor 16 with `BadArgument`.
 
 ghost use Rattle.std.specs.FinMap as map;
-ghost use Rattle.std.specs.Prelude.{◌≡◌, ◌≢◌, ◌-◌, length, pos, MatchOption, Some, None, Ok};
-ghost use Rattle.std.specs.Prelude.{IfNone, IfSome};
+ghost use Rattle.std.specs.Prelude.{◌≡◌, ◌-◌, length, pos, MatchOption, Some, None, Ok};
+ghost use Rattle.std.specs.Prelude.{IfSome};
 ghost use Rattle.stun_auth.specs.Forgetting.{after_forgetting, without_place};
 ghost use Rattle.stun_auth.specs.ForgettingSteps.{after_step, next_address};
 ghost use Rattle.stun_auth.specs.Registered.{with_user};
 ghost use Rattle.stun_auth.specs.Validation.{client_at, new_server};
 ghost use Rattle.stun_numbers.specs.Refusals.{refusal_or, refusal_number};
 ghost use Rattle.stun_numbers.specs.Buffers.{buffer_after, length_of};
-ghost use Rattle.stun_handles.specs.Kinds.{EMPTY as empty_kind, missing};
 ghost use Rattle.stun_handles.specs.Addresses.{socket_address, start_for, start_told};
 ghost use Rattle.stun_handles.specs.Answers.{text_refusal, texts_refusal};
 ghost use Rattle.stun_handles.specs.Numbers.{OrOutOfMemory, done_answer, length_answer};
 ghost use Rattle.stun_handles.specs.Numbers.{number_answer};
 ghost use Rattle.stun_state.specs.Answers.{after_address, after_start, at_start, done_if_given};
+ghost use Rattle.stun_state.specs.Calls.{ChangesServer, FillsHandle, FreesHandle, Judges};
+ghost use Rattle.stun_state.specs.Calls.{ServerBecomes, WithoutServer};
 ghost use Rattle.stun_state.specs.Codes.{algorithms_numbered, feature_numbered};
 ghost use Rattle.stun_state.specs.Memory.{LeavesServer};
 ghost use Rattle.stun_state.specs.Numbers.{found_answer, left_by};
@@ -41,15 +42,11 @@ use stun_numbers::refusal::Refusal;
 /// `FullHandle`, then `NotText`, then `OutOfMemory`.
 #[unsafe(no_mangle)]
 pub extern "C" fn stunp_server_new(alloc: Global, handle: &mut ServerHandle, realm: &[u8]) -> i64
-    ensures full { handle.old.kind ≢ empty_kind →
-        (result ≡ refusal_number Refusal.FullHandle) × (handle.new ≡ handle.old) }
-    ensures made { handle.old.kind ≡ empty_kind → MatchOption (text_refusal realm.now)
+    ensures { FillsHandle handle.old.kind handle.old handle.new handle.new.slot.server result
+        (MatchOption (text_refusal realm.now)
         (OrOutOfMemory result None handle.new.slot.server (pos 0)
         (Some (record { server = new_server realm.now; most_addresses = UNBOUNDED })))
-        (λ refusal. (result ≡ refusal_number refusal) × (handle.new.slot.server ≡ None)) }
-
-    // A handle that gets no value is left as it was.
-    ensures left { IfNone handle.new.slot.server (handle.new ≡ handle.old) }
+        (λ refusal. (result ≡ refusal_number refusal) × (handle.new.slot.server ≡ None))) }
 {
     if handle.kind != EMPTY {
         return Refusal::FullHandle.code();
@@ -79,14 +76,9 @@ pub extern "C" fn stunp_server_set_algorithms(
     handle: &mut ServerHandle,
     algorithms: u32,
 ) -> i64
-    ensures missing { IfNone handle.old.slot.server ((result ≡ missing handle.old.kind)
-        × (handle.new ≡ handle.old)) }
-    ensures answer { IfSome handle.old.slot.server (λ _. result ≡ done_answer
-        (done_if_given (algorithms_numbered algorithms))) }
-    ensures state { IfSome handle.old.slot.server (λ kept.
-        handle.new.slot.server ≡ Some (record kept {
-          server = on_server.server_with_algorithms (algorithms_numbered algorithms) kept.server;
-        })) }
+    ensures { ChangesServer handle.old handle.new result
+        (done_answer (done_if_given (algorithms_numbered algorithms)))
+        (on_server.server_with_algorithms (algorithms_numbered algorithms)) }
 {
     let Some(mut kept) = handle.take(alloc) else {
         return missing(handle.kind);
@@ -104,14 +96,9 @@ pub extern "C" fn stunp_server_set_anonymous_username(
     handle: &mut ServerHandle,
     feature: u32,
 ) -> i64
-    ensures missing { IfNone handle.old.slot.server ((result ≡ missing handle.old.kind)
-        × (handle.new ≡ handle.old)) }
-    ensures answer { IfSome handle.old.slot.server (λ _. result ≡ done_answer
-        (done_if_given (feature_numbered feature))) }
-    ensures state { IfSome handle.old.slot.server (λ kept.
-        handle.new.slot.server ≡ Some (record kept {
-          server = on_server.server_with_feature (feature_numbered feature) kept.server;
-        })) }
+    ensures { ChangesServer handle.old handle.new result
+        (done_answer (done_if_given (feature_numbered feature)))
+        (on_server.server_with_feature (feature_numbered feature)) }
 {
     let Some(mut kept) = handle.take(alloc) else {
         return missing(handle.kind);
@@ -128,13 +115,7 @@ pub extern "C" fn stunp_server_set_nonce_expiry(
     handle: &mut ServerHandle,
     nanoseconds: u64,
 ) -> i64
-    ensures missing { IfNone handle.old.slot.server ((result ≡ missing handle.old.kind)
-        × (handle.new ≡ handle.old)) }
-    ensures answer { IfSome handle.old.slot.server (λ _. result ≡ pos 0) }
-    ensures state { IfSome handle.old.slot.server (λ kept.
-        handle.new.slot.server ≡ Some (record kept {
-          server = with_expiry nanoseconds kept.server;
-        })) }
+    ensures { ChangesServer handle.old handle.new result (pos 0) (with_expiry nanoseconds) }
 {
     let Some(mut kept) = handle.take(alloc) else {
         return missing(handle.kind);
@@ -151,8 +132,7 @@ pub extern "C" fn stunp_server_set_most_addresses(
     handle: &mut ServerHandle,
     most: usize,
 ) -> i64
-    ensures missing { IfNone handle.old.slot.server ((result ≡ missing handle.old.kind)
-        × (handle.new ≡ handle.old)) }
+    ensures missing { WithoutServer handle.old result (handle.new ≡ handle.old) }
     ensures answer { IfSome handle.old.slot.server (λ _. result ≡ pos 0) }
     ensures state { IfSome handle.old.slot.server (λ kept.
         handle.new.slot.server ≡ Some (record kept {
@@ -170,8 +150,7 @@ pub extern "C" fn stunp_server_set_most_addresses(
 /// Frees the server, and makes the handle empty. Does nothing if the handle has no server.
 #[unsafe(no_mangle)]
 pub extern "C" fn stunp_server_clear(alloc: Global, handle: &mut ServerHandle)
-    ensures freed { IfSome handle.old.slot.server (λ _. handle.new.kind ≡ empty_kind) }
-    ensures left { IfNone handle.old.slot.server (handle.new ≡ handle.old) }
+    ensures { FreesHandle handle.old.slot.server handle.new.kind handle.old handle.new }
 {
     let _server = handle.take(alloc);
 }
@@ -185,8 +164,7 @@ pub extern "C" fn stunp_server_add_user(
     name: &[u8],
     password: &[u8],
 ) -> i64
-    ensures missing { IfNone handle.old.slot.server ((result ≡ missing handle.old.kind)
-        × (handle.new ≡ handle.old)) }
+    ensures missing { WithoutServer handle.old result (handle.new ≡ handle.old) }
     ensures answer { IfSome handle.old.slot.server (λ kept. MatchOption
         (texts_refusal name.now password.now)
         (OrOutOfMemory result handle.old.slot.server handle.new.slot.server (pos 0)
@@ -214,14 +192,9 @@ pub extern "C" fn stunp_server_remove_user(
     handle: &mut ServerHandle,
     name: &[u8],
 ) -> i64
-    ensures missing { IfNone handle.old.slot.server ((result ≡ missing handle.old.kind)
-        × (handle.new ≡ handle.old)) }
-    ensures answer { IfSome handle.old.slot.server (λ _. result ≡ done_answer
-        (refusal_or (text_refusal name.now) (Ok tt))) }
-    ensures state { IfSome handle.old.slot.server (λ kept.
-        handle.new.slot.server ≡ Some (record kept {
-          server = without_named (text_refusal name.now) kept.server name.now;
-        })) }
+    ensures { ChangesServer handle.old handle.new result
+        (done_answer (refusal_or (text_refusal name.now) (Ok tt)))
+        (λ server. without_named (text_refusal name.now) server name.now) }
 {
     let Some(mut kept) = handle.take(alloc) else {
         return missing(handle.kind);
@@ -247,16 +220,10 @@ pub extern "C" fn stunp_server_validate(
     now: u64,
     words: &[u32; 16],
 ) -> i64
-    ensures missing { IfNone handle.old.slot.server ((result ≡ missing handle.old.kind)
-        × (handle.new ≡ handle.old)) }
-
     // The number of what the authenticator returns, and what its call leaves.
-    ensures answer { IfSome handle.old.slot.server (λ kept. OrOutOfMemory result
-        handle.old.slot.server handle.new.slot.server
-        (validation_number kept message.now from.now now words.now)
-        (Some (record kept {
-          server = kept_after_validating kept message.now from.now now words.now;
-        }))) }
+    ensures judged { Judges handle.old handle.new result
+        (λ kept. validation_number kept message.now from.now now words.now)
+        (λ kept. kept_after_validating kept message.now from.now now words.now) }
 
     // If nothing of the server changes, as if the same client is accepted again, no failed
     // allocation is returned.
@@ -283,8 +250,7 @@ pub extern "C" fn stunp_server_client(
     name: &mut [u8],
     name_length: &mut usize,
 ) -> i64
-    ensures missing { IfNone handle.old.slot.server ((result ≡ missing handle.old.kind)
-        × (handle.new ≡ handle.old)
+    ensures missing { WithoutServer handle.old result ((handle.new ≡ handle.old)
         × (name.new ≡ name.old) × (name_length.new ≡ name_length.old)) }
     ensures answer { IfSome handle.old.slot.server (λ kept. result ≡ found_answer
         (client_found kept.server at.now (length name.old))) }
@@ -320,18 +286,14 @@ pub extern "C" fn stunp_server_sign(
     length: usize,
     to: &Address,
 ) -> i64
-    ensures missing { IfNone handle.old.slot.server ((result ≡ missing handle.old.kind)
-        × (handle.new ≡ handle.old)
+    ensures missing { WithoutServer handle.old result ((handle.new ≡ handle.old)
         × (buffer.new ≡ buffer.old)) }
     ensures answer { IfSome handle.old.slot.server (λ kept. result
         ≡ length_answer (length_of (signed_for kept.server buffer.old length to.now))) }
     ensures written { IfSome handle.old.slot.server (λ kept. buffer.new
         ≡ buffer_after (signed_for kept.server buffer.old length to.now) buffer.old) }
-    ensures state { IfSome handle.old.slot.server (λ kept.
-        handle.new.slot.server ≡ Some (record kept {
-          server = left_by result kept.server
-              (kept_after_signing kept.server buffer.old length to.now);
-        })) }
+    ensures state { ServerBecomes handle.old handle.new (λ server. left_by result server
+        (kept_after_signing server buffer.old length to.now)) }
 {
     let Some(mut kept) = handle.take(alloc) else {
         return missing(handle.kind);
@@ -344,8 +306,7 @@ pub extern "C" fn stunp_server_sign(
 /// Returns the number of addresses that have a record.
 #[unsafe(no_mangle)]
 pub extern "C" fn stunp_server_address_count(alloc: Global, handle: &mut ServerHandle) -> i64
-    ensures missing { IfNone handle.old.slot.server ((result ≡ missing handle.old.kind)
-        × (handle.new ≡ handle.old)) }
+    ensures missing { WithoutServer handle.old result (handle.new ≡ handle.old) }
     ensures answer { IfSome handle.old.slot.server (λ kept. result
         ≡ length_answer (Ok (map.len kept.server.places))) }
     ensures same { handle.new.slot.server ≡ handle.old.slot.server }
@@ -367,8 +328,7 @@ pub extern "C" fn stunp_server_nonce(
     at: &Address,
     nonce: &mut [u8],
 ) -> i64
-    ensures missing { IfNone handle.old.slot.server ((result ≡ missing handle.old.kind)
-        × (handle.new ≡ handle.old)
+    ensures missing { WithoutServer handle.old result ((handle.new ≡ handle.old)
         × (nonce.new ≡ nonce.old)) }
     ensures answer { IfSome handle.old.slot.server (λ kept. result ≡ length_answer
         (nonce_found kept.server at.now (length nonce.old))) }
@@ -392,15 +352,9 @@ pub extern "C" fn stunp_server_remove_client(
     handle: &mut ServerHandle,
     at: &Address,
 ) -> i64
-    ensures missing { IfNone handle.old.slot.server ((result ≡ missing handle.old.kind)
-        × (handle.new ≡ handle.old)) }
-    ensures answer { IfSome handle.old.slot.server (λ _. result ≡ done_answer
-        (done_if_given (socket_address at.now))) }
-    ensures state { IfSome handle.old.slot.server (λ kept.
-        handle.new.slot.server ≡ Some (record kept {
-          server = after_address (socket_address at.now) kept.server
-              (without_client kept.server);
-        })) }
+    ensures { ChangesServer handle.old handle.new result
+        (done_answer (done_if_given (socket_address at.now)))
+        (λ server. after_address (socket_address at.now) server (without_client server)) }
 {
     let Some(mut kept) = handle.take(alloc) else {
         return missing(handle.kind);
@@ -413,15 +367,9 @@ pub extern "C" fn stunp_server_remove_client(
 /// Removes the record of an address. Fails with `BadArgument` for the address.
 #[unsafe(no_mangle)]
 pub extern "C" fn stunp_server_forget(alloc: Global, handle: &mut ServerHandle, at: &Address) -> i64
-    ensures missing { IfNone handle.old.slot.server ((result ≡ missing handle.old.kind)
-        × (handle.new ≡ handle.old)) }
-    ensures answer { IfSome handle.old.slot.server (λ _. result ≡ done_answer
-        (done_if_given (socket_address at.now))) }
-    ensures state { IfSome handle.old.slot.server (λ kept.
-        handle.new.slot.server ≡ Some (record kept {
-          server = after_address (socket_address at.now) kept.server
-              (without_place kept.server);
-        })) }
+    ensures { ChangesServer handle.old handle.new result
+        (done_answer (done_if_given (socket_address at.now)))
+        (λ server. after_address (socket_address at.now) server (without_place server)) }
 {
     let Some(mut kept) = handle.take(alloc) else {
         return missing(handle.kind);
@@ -440,13 +388,8 @@ pub extern "C" fn stunp_server_forget_expired(
     now: u64,
     age: u64,
 ) -> i64
-    ensures missing { IfNone handle.old.slot.server ((result ≡ missing handle.old.kind)
-        × (handle.new ≡ handle.old)) }
-    ensures answer { IfSome handle.old.slot.server (λ _. result ≡ pos 0) }
-    ensures state { IfSome handle.old.slot.server (λ kept.
-        handle.new.slot.server ≡ Some (record kept {
-          server = after_forgetting kept.server (now - age);
-        })) }
+    ensures { ChangesServer handle.old handle.new result (pos 0)
+        (λ server. after_forgetting server (now - age)) }
 {
     let Some(mut kept) = handle.take(alloc) else {
         return missing(handle.kind);
@@ -469,16 +412,13 @@ pub extern "C" fn stunp_server_forget_expired_within(
     from: &mut Address,
     most: usize,
 ) -> i64
-    ensures missing { IfNone handle.old.slot.server ((result ≡ missing handle.old.kind)
-        × (handle.new ≡ handle.old)
+    ensures missing { WithoutServer handle.old result ((handle.new ≡ handle.old)
         × (from.new ≡ from.old)) }
     ensures answer { IfSome handle.old.slot.server (λ kept. result ≡ number_answer
         (at_start (start_told from.old) (step_answer kept.server most))) }
-    ensures state { IfSome handle.old.slot.server (λ kept.
-        handle.new.slot.server ≡ Some (record kept {
-          server = after_start (start_told from.old) kept.server
-              (λ start. after_step kept.server (now - age) start most);
-        })) }
+    ensures state { ServerBecomes handle.old handle.new (λ server.
+        after_start (start_told from.old) server
+        (λ start. after_step server (now - age) start most)) }
     ensures from { IfSome handle.old.slot.server (λ kept. from.new
         ≡ after_start (start_told from.old) from.old
         (λ start. start_for (next_address kept.server start most))) }

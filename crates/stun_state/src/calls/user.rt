@@ -4,14 +4,15 @@
 //! A call on a server fails first with `EmptyHandle` if the server's handle is empty, or with
 //! `WrongHandle` if it has an object of another type, and then likewise for the user's handle.
 
-ghost use Rattle.std.specs.Prelude.{◌≡◌, ◌≢◌, pos, Some, None, IfNone, IfSome, MatchResult};
+ghost use Rattle.std.specs.Prelude.{◌≡◌, Some, IfSome};
 ghost use Rattle.stun_auth.specs.Handed.{with_users};
 ghost use Rattle.stun_numbers.specs.Buffers.{buffer_after, length_of};
 ghost use Rattle.stun_numbers.specs.Refusals.{refusal_number};
-ghost use Rattle.stun_handles.specs.Kinds.{EMPTY as empty_kind, missing};
 ghost use Rattle.stun_handles.specs.Addresses.{socket_address};
 ghost use Rattle.stun_handles.specs.Numbers.{OrOutOfMemory, length_answer};
-ghost use Rattle.stun_state.specs.Handed.{IsUserOf, just_given, kept_after_prepared_signing};
+ghost use Rattle.stun_state.specs.Calls.{FreesHandle, IfUserOf, KeepsHandle, Prepares};
+ghost use Rattle.stun_state.specs.Calls.{WithoutServer, WithoutUser};
+ghost use Rattle.stun_state.specs.Handed.{IsUserOf, kept_after_prepared_signing};
 ghost use Rattle.stun_state.specs.Handed.{kept_after_prepared_validation, user_of_keys};
 ghost use Rattle.stun_state.specs.Handed.{user_of_password, with_only};
 ghost use Rattle.stun_state.specs.Memory.{LeavesServer};
@@ -42,20 +43,9 @@ pub extern "C" fn stunp_user_new(
     name: &[u8],
     password: &[u8],
 ) -> i64
-    ensures full { handle.old.kind ≢ empty_kind →
-        (result ≡ refusal_number Refusal.FullHandle) × (handle.new ≡ handle.old) }
-    ensures missing { handle.old.kind ≡ empty_kind → IfNone server.old.slot.server
-        ((result ≡ missing server.old.kind) × (handle.new ≡ handle.old)) }
-    ensures made { handle.old.kind ≡ empty_kind → IfSome server.old.slot.server (λ kept. MatchResult
-        (just_given kept.server.registered (user_of_password name.now password.now))
-        (λ user. OrOutOfMemory result None handle.new.slot.user (pos 0)
-        (Some (record { user = user })))
-        (λ refusal. (result ≡ refusal_number refusal) × (handle.new.slot.user ≡ None))) }
-
-    // A handle that gets no value is left as it was.
-    ensures left { IfNone handle.new.slot.user (handle.new ≡ handle.old) }
-    ensures same { server.new.slot.server ≡ server.old.slot.server }
-    ensures other { IfNone server.old.slot.server (server.new ≡ server.old) }
+    ensures filled { Prepares handle.old handle.new result server.old
+        (user_of_password name.now password.now) }
+    ensures same { KeepsHandle server.new server.old server.new.slot.server server.old.slot.server }
 {
     if handle.kind != EMPTY {
         return Refusal::FullHandle.code();
@@ -85,20 +75,9 @@ pub extern "C" fn stunp_user_new_of_keys(
     sha1: &[u8],
     sha256: &[u8],
 ) -> i64
-    ensures full { handle.old.kind ≢ empty_kind →
-        (result ≡ refusal_number Refusal.FullHandle) × (handle.new ≡ handle.old) }
-    ensures missing { handle.old.kind ≡ empty_kind → IfNone server.old.slot.server
-        ((result ≡ missing server.old.kind) × (handle.new ≡ handle.old)) }
-    ensures made { handle.old.kind ≡ empty_kind → IfSome server.old.slot.server (λ kept. MatchResult
-        (just_given kept.server.registered (user_of_keys name.now sha1.now sha256.now))
-        (λ user. OrOutOfMemory result None handle.new.slot.user (pos 0)
-        (Some (record { user = user })))
-        (λ refusal. (result ≡ refusal_number refusal) × (handle.new.slot.user ≡ None))) }
-
-    // A handle that gets no value is left as it was.
-    ensures left { IfNone handle.new.slot.user (handle.new ≡ handle.old) }
-    ensures same { server.new.slot.server ≡ server.old.slot.server }
-    ensures other { IfNone server.old.slot.server (server.new ≡ server.old) }
+    ensures filled { Prepares handle.old handle.new result server.old
+        (user_of_keys name.now sha1.now sha256.now) }
+    ensures same { KeepsHandle server.new server.old server.new.slot.server server.old.slot.server }
 {
     if handle.kind != EMPTY {
         return Refusal::FullHandle.code();
@@ -120,8 +99,7 @@ pub extern "C" fn stunp_user_new_of_keys(
 /// Frees the user, and makes the handle empty. Does nothing if the handle has no user.
 #[unsafe(no_mangle)]
 pub extern "C" fn stunp_user_clear(alloc: Global, handle: &mut UserHandle)
-    ensures freed { IfSome handle.old.slot.user (λ _. handle.new.kind ≡ empty_kind) }
-    ensures left { IfNone handle.old.slot.user (handle.new ≡ handle.old) }
+    ensures { FreesHandle handle.old.slot.user handle.new.kind handle.old handle.new }
 {
     let _user = handle.take(alloc);
 }
@@ -142,31 +120,25 @@ pub extern "C" fn stunp_server_validate_user(
     words: &[u32; 16],
     user: &mut UserHandle,
 ) -> i64
-    ensures missing { IfNone handle.old.slot.server ((result ≡ missing handle.old.kind)
-        × (handle.new ≡ handle.old)) }
-    ensures nobody { IfSome handle.old.slot.server (λ _. IfNone user.old.slot.user
-        ((result ≡ missing user.old.kind)
-        × (handle.new.slot.server ≡ handle.old.slot.server))) }
+    ensures missing { WithoutServer handle.old result (handle.new ≡ handle.old) }
+    ensures nobody { IfSome handle.old.slot.server (λ _. WithoutUser user.old result
+        (handle.new.slot.server ≡ handle.old.slot.server)) }
     ensures foreign { IfSome handle.old.slot.server (λ kept. IfSome user.old.slot.user (λ one.
         ¬ (IsUserOf kept.server one.user) → (result ≡ refusal_number Refusal.WrongHandle)
         × (handle.new.slot.server ≡ handle.old.slot.server))) }
-    ensures answer { IfSome handle.old.slot.server (λ kept. IfSome user.old.slot.user (λ one.
-        IsUserOf kept.server one.user → OrOutOfMemory result
+    ensures answer { IfUserOf handle.old user.old (λ kept one. OrOutOfMemory result
         handle.old.slot.server handle.new.slot.server
-        (validation_number (with_only kept one.user) message.now from.now now words.now)
+        (validation_number (with_only kept one) message.now from.now now words.now)
         (Some (record kept {
-          server = kept_after_prepared_validation kept message.now from.now now words.now one.user;
-        })))) }
+          server = kept_after_prepared_validation kept message.now from.now now words.now one;
+        }))) }
 
     // If nothing of the server changes, as if the same client is accepted again, no failed
     // allocation is returned.
-    ensures unchanged { IfSome handle.old.slot.server (λ kept. IfSome user.old.slot.user (λ one.
-        IsUserOf kept.server one.user →
-        LeavesServer (with_only kept one.user) message.now now words.now
-        (socket_address from.now) → result
-        ≡ validation_number (with_only kept one.user) message.now from.now now words.now)) }
-    ensures same { user.new.slot.user ≡ user.old.slot.user }
-    ensures other { IfNone user.old.slot.user (user.new ≡ user.old) }
+    ensures unchanged { IfUserOf handle.old user.old (λ kept one.
+        LeavesServer (with_only kept one) message.now now words.now (socket_address from.now) →
+        result ≡ validation_number (with_only kept one) message.now from.now now words.now) }
+    ensures same { KeepsHandle user.new user.old user.new.slot.user user.old.slot.user }
 {
     let Some(mut kept) = handle.take(alloc) else {
         return missing(handle.kind);
@@ -202,30 +174,25 @@ pub extern "C" fn stunp_server_sign_user(
     to: &Address,
     user: &mut UserHandle,
 ) -> i64
-    ensures missing { IfNone handle.old.slot.server ((result ≡ missing handle.old.kind)
-        × (handle.new ≡ handle.old)
+    ensures missing { WithoutServer handle.old result ((handle.new ≡ handle.old)
         × (buffer.new ≡ buffer.old)) }
-    ensures nobody { IfSome handle.old.slot.server (λ _. IfNone user.old.slot.user
-        ((result ≡ missing user.old.kind)
-        × (handle.new.slot.server ≡ handle.old.slot.server)
+    ensures nobody { IfSome handle.old.slot.server (λ _. WithoutUser user.old result
+        ((handle.new.slot.server ≡ handle.old.slot.server)
         × (buffer.new ≡ buffer.old))) }
     ensures foreign { IfSome handle.old.slot.server (λ kept. IfSome user.old.slot.user (λ one.
         ¬ (IsUserOf kept.server one.user) → (result ≡ refusal_number Refusal.WrongHandle)
         × (handle.new.slot.server ≡ handle.old.slot.server)
         × (buffer.new ≡ buffer.old))) }
-    ensures answer { IfSome handle.old.slot.server (λ kept. IfSome user.old.slot.user (λ one.
-        IsUserOf kept.server one.user → result ≡ length_answer (length_of
-        (signed_for (with_users kept.server one.user) buffer.old length to.now)))) }
-    ensures written { IfSome handle.old.slot.server (λ kept. IfSome user.old.slot.user (λ one.
-        IsUserOf kept.server one.user → buffer.new ≡ buffer_after
-        (signed_for (with_users kept.server one.user) buffer.old length to.now) buffer.old)) }
-    ensures state { IfSome handle.old.slot.server (λ kept. IfSome user.old.slot.user (λ one.
-        IsUserOf kept.server one.user → handle.new.slot.server ≡ Some (record kept {
+    ensures answer { IfUserOf handle.old user.old (λ kept one. result ≡ length_answer
+        (length_of (signed_for (with_users kept.server one) buffer.old length to.now))) }
+    ensures written { IfUserOf handle.old user.old (λ kept one. buffer.new ≡ buffer_after
+        (signed_for (with_users kept.server one) buffer.old length to.now) buffer.old) }
+    ensures state { IfUserOf handle.old user.old (λ kept one.
+        handle.new.slot.server ≡ Some (record kept {
           server = left_by result kept.server
-              (kept_after_prepared_signing kept.server buffer.old length to.now one.user);
-        }))) }
-    ensures same { user.new.slot.user ≡ user.old.slot.user }
-    ensures other { IfNone user.old.slot.user (user.new ≡ user.old) }
+              (kept_after_prepared_signing kept.server buffer.old length to.now one);
+        })) }
+    ensures same { KeepsHandle user.new user.old user.new.slot.user user.old.slot.user }
 {
     let Some(mut kept) = handle.take(alloc) else {
         return missing(handle.kind);

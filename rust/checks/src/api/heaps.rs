@@ -1,7 +1,7 @@
 //! How many bytes an agent, a server and a client take of a heap, in blocks of 16. What they tell
 //! takes none. Each text is at the heap that it came with.
 
-use crate::exported::stun_agent::agent::StunAgent;
+use crate::exported::stun_agent::agent::{StunAgent, StunAgentPollRet};
 use crate::exported::stun_auth::auth::{Feature, LongTermClientAuth, LongTermServerAuth};
 use crate::exported::stun_base::transport::TransportType;
 use crate::exported::stun_types::message::{IntegrityAlgorithm, MessageClass};
@@ -65,17 +65,62 @@ fn take_up<A: Allocator + Copy>(
     Ok(())
 }
 
-/// A request that follows another takes its own 20 bytes, and a node for what it awaits.
+/// A request that follows another takes its own 20 bytes, a leaf and a fork.
 #[test]
-fn a_request_takes_its_bytes_and_a_node() {
+fn a_request_takes_its_bytes_a_leaf_and_a_fork() {
     crate::host::run(|rt: HostRuntime| -> Result<(), Fail> {
         let heap = LocalHeap::new(rt.alloc(), 16384)?;
         let mut agent = StunAgent::builder(&heap, TransportType::Udp, local()).build();
         ask(&mut agent, 1)?;
         let used = heap.used();
-        ask(&mut agent, 2)?;
+        let mut other = message(REQUEST, 1);
+        other[8] = 0x80;
+        let _sent = agent.send_request(other, peer(), at(0))?;
         let taken = heap.used().saturating_sub(used);
-        assert!(taken > 32 && taken <= 160);
+        assert!(taken > 32 && taken <= 416, "{taken} bytes");
+        Ok(())
+    });
+}
+
+/// The IDs 1 and 2 part in the last two bits, so that each two bits before take a fork.
+#[test]
+fn two_requests_of_close_ids_take_a_fork_for_each_two_bits() {
+    crate::host::run(|rt: HostRuntime| -> Result<(), Fail> {
+        let heap = LocalHeap::new(rt.alloc(), 16384)?;
+        let mut agent = StunAgent::builder(&heap, TransportType::Udp, local()).build();
+        ask(&mut agent, 1)?;
+        ask(&mut agent, 2)?;
+        let used = heap.used();
+        assert!(used <= 48 * 192 + 512, "{used} bytes");
+        ask(&mut agent, 3)?;
+        let taken = heap.used().saturating_sub(used);
+        assert!(taken <= 224, "{taken} bytes");
+        Ok(())
+    });
+}
+
+/// A request that ends leaves no fork behind: what one of three takes is what the first took.
+#[test]
+fn requests_that_end_give_their_forks_back() {
+    crate::host::run(|rt: HostRuntime| -> Result<(), Fail> {
+        let heap = LocalHeap::new(rt.alloc(), 16384)?;
+        let mut agent = StunAgent::builder(&heap, TransportType::Udp, local()).build();
+        let empty = heap.used();
+        ask(&mut agent, 1)?;
+        let one = heap.used();
+        ask(&mut agent, 2)?;
+        ask(&mut agent, 3)?;
+        for (number, left) in [(3, None), (2, Some(one)), (1, Some(empty))] {
+            agent
+                .mut_request_transaction(id(number)?)
+                .ok_or("it is outstanding")?
+                .cancel();
+            assert_eq!(
+                agent.poll(at(0)),
+                StunAgentPollRet::TransactionCancelled(id(number)?)
+            );
+            assert!(left.is_none_or(|left| heap.used() == left));
+        }
         Ok(())
     });
 }

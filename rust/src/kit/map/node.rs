@@ -4,8 +4,8 @@ use crate::kit::alloc::{AllocError, Allocator};
 use ::alloc::vec::Vec;
 use core::borrow::Borrow;
 use core::cmp::Ordering;
-use core::ops::Range;
-use core::{mem, slice};
+use core::mem;
+use core::ops::{Bound, Range};
 
 /// The maximum number of entries of a node. Each node has the capacity for that many.
 pub(super) const MOST: usize = 32;
@@ -13,16 +13,13 @@ pub(super) const MOST: usize = 32;
 /// The number of keys that a search of a node passes over at once.
 const STEP: usize = 4;
 
-/// The maximum number of nodes above a leaf. A node is split only if it is full, so 2^64 calls do
-/// not make a tree that is higher.
-pub(super) const HIGHEST: usize = 32;
-
 /// The number of bits of an index in a way.
 const INDEX_BITS: u32 = 6;
 
-/// The way from the root to an entry of a leaf: the index of the child in each node above the leaf,
-/// and then the index of the entry, the first index in the lowest bits. The indices that the bits
-/// have no room for are cut off, so whoever follows a way looks at the key where it ends.
+/// The way from the root to an entry: the index of the child in each node above it, and then the
+/// index of the entry, each of them plus one, and the first one in the lowest bits. The indices
+/// that the bits have no room for are cut off, so whoever follows a way looks at the key where it
+/// ends.
 #[derive(Clone, Copy)]
 pub(super) struct Way {
     pub(super) indices: usize,
@@ -37,15 +34,19 @@ impl Way {
 
     /// Goes on at an index.
     pub(super) fn push(&mut self, at: usize) {
-        self.indices |= at.checked_shl(self.bits).unwrap_or(0);
+        self.indices |= (at + 1).checked_shl(self.bits).unwrap_or(0);
         self.bits += INDEX_BITS;
     }
 
     /// Follows a way by one index.
-    pub(super) fn first(indices: usize) -> (usize, usize) {
-        (indices & ((1 << INDEX_BITS) - 1), indices >> INDEX_BITS)
+    fn first(indices: usize) -> (usize, usize) {
+        let first = indices & ((1 << INDEX_BITS) - 1);
+        (first.wrapping_sub(1), indices >> INDEX_BITS)
     }
 }
+
+/// An entry: its node, and its index in it.
+pub(super) type Spot<'a, K, V> = (&'a Node<K, V>, usize);
 
 /// A node of the tree: a leaf, or one with a child before, between and after its entries. All
 /// leaves have the same number of nodes above them.
@@ -61,33 +62,6 @@ pub(super) struct Node<K, V> {
     // The index of the value of each key.
     places: [u8; MOST],
     pub(super) children: Vec<Node<K, V>>,
-}
-
-/// Entries of a node in the order of their keys.
-pub(super) struct Run<'a, K, V> {
-    keys: slice::Iter<'a, K>,
-    places: slice::Iter<'a, u8>,
-    values: &'a [V],
-}
-
-impl<K, V> Run<'_, K, V> {
-    /// Returns no entries.
-    pub(super) fn none() -> Self {
-        Run {
-            keys: [].iter(),
-            places: [].iter(),
-            values: &[],
-        }
-    }
-}
-
-impl<'a, K, V> Iterator for Run<'a, K, V> {
-    type Item = (&'a K, &'a V);
-
-    fn next(&mut self) -> Option<Self::Item> {
-        let (key, place) = (self.keys.next()?, self.places.next()?);
-        Some((key, &self.values[usize::from(*place)]))
-    }
 }
 
 /// The place of a value that is removed, until its key is removed too.
@@ -178,16 +152,49 @@ impl<K: Ord, V> Node<K, V> {
         Err(at)
     }
 
-    /// Returns the leaf that a way leads to, and the index of an entry that it may have.
-    pub(super) fn follow(&self, mut indices: usize) -> Option<(&Self, usize)> {
-        let mut node = self;
-        loop {
-            let (at, next) = Way::first(indices);
-            if node.is_leaf() {
-                return Some((node, at));
-            }
+    /// Returns the node that a way leads to, the index of an entry that it may have, and the way to
+    /// the entry behind that one if this is a leaf.
+    pub(super) fn follow(&self, way: usize) -> Option<(Spot<'_, K, V>, usize)> {
+        let (mut node, mut step) = (self, 1_usize);
+        let (mut at, mut rest) = Way::first(way);
+        while rest > 0 {
             node = node.children.get(at)?;
-            indices = next;
+            (at, rest) = Way::first(rest);
+            step <<= INDEX_BITS;
+        }
+        Some(((node, at), way.wrapping_add(step)))
+    }
+
+    /// Returns the value of the entry that a way leads to.
+    pub(super) fn follow_mut(&mut self, way: usize) -> Option<&mut V> {
+        let mut node = self;
+        let (mut at, mut rest) = Way::first(way);
+        while rest > 0 {
+            node = node.children.get_mut(at)?;
+            (at, rest) = Way::first(rest);
+        }
+        Some(node.value_mut(at))
+    }
+
+    /// Returns the first entry whose key is not before `start`, and the way to it.
+    pub(super) fn seek(&self, start: Bound<&K>) -> (Option<Spot<'_, K, V>>, Way) {
+        let (mut node, mut way) = (self, Way::ROOT);
+        let (mut found, mut found_way) = (None, way);
+        loop {
+            let at = match start {
+                Bound::Included(key) => node.search(key).unwrap_or_else(|at| at),
+                Bound::Excluded(key) => node.search(key).map_or_else(|at| at, |at| at + 1),
+                Bound::Unbounded => 0,
+            };
+            way.push(at);
+            if at < node.len() {
+                // This is the entry unless the child before it has one.
+                (found, found_way) = (Some((node, at)), way);
+            }
+            let Some(child) = node.children.get(at) else {
+                return (found, found_way);
+            };
+            node = child;
         }
     }
 
@@ -212,15 +219,6 @@ impl<K: Ord, V> Node<K, V> {
     /// Returns a mutable reference to the value of the key at an index.
     pub(super) fn value_mut(&mut self, at: usize) -> &mut V {
         &mut self.values[usize::from(self.places[at])]
-    }
-
-    /// Returns the entries from an index on.
-    pub(super) fn entries(&self, from: usize) -> Run<'_, K, V> {
-        Run {
-            keys: self.keys[from..].iter(),
-            places: self.places[from..].iter(),
-            values: &self.values,
-        }
     }
 
     /// Inserts an entry at an index. The node is not full.

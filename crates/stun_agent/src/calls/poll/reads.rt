@@ -1,6 +1,6 @@
-//! The permission to read deadlines: under a count (`Reads`), or without one (`Uncounted`). Only
-//! `calls::poll` can create either, so the calls below it can read under the count that they are
-//! passed, and begin no other.
+//! The permission to search for a request by its deadline: under a count (`Reads`), or without one
+//! (`Uncounted`). Only `calls::poll` can create either, so the calls below it can search under the
+//! count that they are passed, and begin no other.
 ghost use Rattle.std.specs.Prelude.{◌≡◌, ◌+◌, Some, codes};
 ghost use Rattle.std.specs.Fmt.{WritesOnOk};
 ghost use Rattle.stun_agent.specs.Deadlines.{IsUnused};
@@ -9,7 +9,7 @@ use std::fmt;
 use std::marker::Model;
 use std::sync::ledger::{Blank, Book, Ledger, Share};
 
-/// The number of deadlines that a call has read. It takes no memory, and no program can read it.
+/// The number of requests that a search has read. It takes no memory, and no program can read it.
 ///
 /// Contracts: they see it as a number.
 #[derive(Drop)]
@@ -56,8 +56,8 @@ impl<L: Ledger> Reads<L> {
     }
 }
 
-/// The permission to read deadlines without a count for the caller. The calls that return
-/// retransmissions create it. `poll_counted` creates none.
+/// The permission to search for a request without a count. The calls that return retransmissions
+/// create it. `poll_counted` creates none.
 #[derive(Clone, Copy)]
 pub(crate) struct Uncounted {
     leave: (),
@@ -66,13 +66,5 @@ pub(crate) struct Uncounted {
 impl Uncounted {
     pub(super) fn new() -> Self {
         Uncounted { leave: () }
-    }
-
-    /// Begins a count that is dropped after the search.
-    pub(crate) fn begin<L: Ledger>(self, blank: Blank) -> Reads<L>
-        requires { IsUnused blank.name blank.parts L.name L.parts }
-        ensures { result ≡ 0 }
-    {
-        Reads::new(blank)
     }
 }

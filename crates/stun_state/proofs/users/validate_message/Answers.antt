@@ -10,17 +10,8 @@ use Rattle.stun_state.specs.Server.{server_validation_answer}
 use Rattle.stun_state.proofs.Reasons.{server_refused}
 use Rattle.stun_state.proofs.users.validate_message.Goals as goal
 
-pub returns-in-Ok-clause-answer : goal.returns-in-Ok-clause-answer
-returns-in-Ok-clause-answer g c =
-    let drawn = next_words-source 16 c.new-source.result c.new-source.ensures.count
-    ∙ c.new-source.ensures.words in
-    let server = g.U.Users.server_with c.args.users.now c.args.server.now in
-    ap server_validation_answer (ap Ok c.validated_algorithm.ensures ∙ c.in-Ok.ensures.answer
-    ∙ ap (λ ws. answer (sight server c.args.from) c.args.now ws (reading_of c.args.message.now))
-    drawn)
-
-pub returns-in-Ok-clause-state : goal.returns-in-Ok-clause-state
-returns-in-Ok-clause-state g c =
+pub returns-in-Ok-clause-judged : goal.returns-in-Ok-clause-judged
+returns-in-Ok-clause-judged g c =
     let drawn = next_words-source 16 c.new-source.result c.new-source.ensures.count
     ∙ c.new-source.ensures.words in
     let server = g.U.Users.server_with c.args.users.now c.args.server.now in
@@ -28,35 +19,39 @@ returns-in-Ok-clause-state g c =
     → ServerSeen =
     λ ws. g.U.Users.server_left
     (after_validation server c.args.from c.args.now ws (reading_of c.args.message.now))
-    c.args.server.now in c.in-Ok.ensures.state ∙ ap left drawn
+    c.args.server.now in
+    record {
+      answer = ap server_validation_answer (ap Ok c.validated_algorithm.ensures
+          ∙ c.in-Ok.ensures.answer
+          ∙ ap (λ ws.
+          answer (sight server c.args.from) c.args.now ws (reading_of c.args.message.now)) drawn);
+      state = c.in-Ok.ensures.state ∙ ap left drawn;
+    }
 
-pub returns-in-Err-clause-answer : goal.returns-in-Err-clause-answer
-returns-in-Err-clause-answer g c =
+pub returns-in-Err-clause-judged : goal.returns-in-Err-clause-judged
+returns-in-Err-clause-judged g c =
     let drawn = next_words-source 16 c.new-source.result c.new-source.ensures.count
     ∙ c.new-source.ensures.words in
     let server = g.U.Users.server_with c.args.users.now c.args.server.now in
     let right : List ℕ
     → Answer =
     λ ws. answer (sight server c.args.from) c.args.now ws (reading_of c.args.message.now) in
-    server_refused c.in-Err.error c.server_refusal.result
-    (λ r. Err r ≡ server_validation_answer (right c.args.words)) (λ r. Unit {0})
-    (c.server_refusal.ensures ∙ ap refusal_of_server c.reason.ensures)
-    (λ is. ap server_validation_answer (is ∙ ap right drawn)) (λ none. none) c.in-Err.ensures.answer
-
-pub returns-in-Err-clause-state : goal.returns-in-Err-clause-state
-returns-in-Err-clause-state g c =
-    let drawn = next_words-source 16 c.new-source.result c.new-source.ensures.count
-    ∙ c.new-source.ensures.words in
-    let server = g.U.Users.server_with c.args.users.now c.args.server.now in
     let left : List ℕ
     → ServerSeen =
     λ ws. g.U.Users.server_left
     (after_validation server c.args.from c.args.now ws (reading_of c.args.message.now))
-    c.args.server.now in server_refused c.in-Err.error c.server_refusal.result
-    (λ r. c.validate.new.server ≡ left c.args.words)
-    (λ r. c.validate.new.server ≡ c.args.server.now)
-    (c.server_refusal.ensures ∙ ap refusal_of_server c.reason.ensures)
-    (λ is. is ∙ ap left drawn) (λ same. same) c.in-Err.ensures.state
+    c.args.server.now in
+    let refused = c.server_refusal.ensures ∙ ap refusal_of_server c.reason.ensures in
+    record {
+      answer = server_refused c.in-Err.error c.server_refusal.result
+          (λ r. Err r ≡ server_validation_answer (right c.args.words)) (λ r. Unit {0}) refused
+          (λ is. ap server_validation_answer (is ∙ ap right drawn)) (λ none. none)
+          c.in-Err.ensures.answer;
+      state = server_refused c.in-Err.error c.server_refusal.result
+          (λ r. c.validate.new.server ≡ left c.args.words)
+          (λ r. c.validate.new.server ≡ c.args.server.now) refused
+          (λ is. is ∙ ap left drawn) (λ same. same) c.in-Err.ensures.state;
+    }
 
 pub returns-in-Err-clause-unchanged : goal.returns-in-Err-clause-unchanged
 returns-in-Err-clause-unchanged g c nothing =

@@ -5,15 +5,21 @@ use Rattle.stun_state.specs.Handed.{handed_signing, user_of_password}
 use Rattle.stun_state.proofs.Exports.{left_buffer, some_is}
 use Rattle.stun_state.proofs.calls.handed.stunp_server_sign_of.Goals as goal
 
-pub returns-clause-written : goal.returns-clause-written
-returns-clause-written c =
+pub returns : goal.returns
+returns c =
     let before = c.deref_mut.result.now in
     let kept : c.args.handle.now.slot.server ≡ Some before = search rules in
     let told : to_z w64 (of_z w64 c.length-answer.result) ≡ length_answer c.sign-signed.result =
     search rules in
     let user = user_of_password c.args.name.now c.args.password.now in
-    some_is _ before _ kept
-    (left_buffer c.sign-signed.result
-    (handed_signing before.server c.args.buffer.now c.args.length c.args.to.now user)
-    _ c.args.buffer.now
-    c.sign-signed.new.buffer told c.sign-signed.ensures.answer c.sign-signed.ensures.written)
+    record {
+      missing = search rules;
+      answer = search rules;
+      written = some_is _ before _ kept
+          (left_buffer c.sign-signed.result
+          (handed_signing before.server c.args.buffer.now c.args.length c.args.to.now user)
+          _ c.args.buffer.now
+          c.sign-signed.new.buffer told c.sign-signed.ensures.answer
+          c.sign-signed.ensures.written);
+      state = search rules;
+    }

@@ -1,18 +1,16 @@
--- The index gets the request's deadline.
-use Rattle.std.proofs.Common.{◌∷◌, ◌∙◌, ap, subst}
-use Rattle.std.specs.Prelude.{IsPermutation}
-use Rattle.stun_agent.specs.declared.state.deadlines.Deadline.{Deadline}
+-- What is put at an ID is there.
+use Rattle.std.proofs.Common.{◌∙◌, ap}
 use Rattle.stun_agent.specs.Transactions.{at}
-use Rattle.stun_agent.specs.code.Transactions.{Outstanding}
-use Rattle.stun_agent.proofs.IndexedLemmas.{indexed_with}
+use Rattle.stun_agent.specs.code.Tree.{items}
+use Rattle.stun_agent.proofs.Ascending.{lookup-insert_same}
+use Rattle.stun_agent.proofs.InsertLemmas.{ok_after}
 use Rattle.stun_agent.proofs.state.outstanding.Outstanding.insert.Goals as goal
 
-pub invariant_of-self-in-Ok-2 : goal.invariant_of-self-in-Ok-2
-invariant_of-self-in-Ok-2 g c =
-    let absent = ap (λ (o : Outstanding). at c.args.id o.requests) c.self.view_is
-    ∙ c.requires.absent in
-    let put =
-    subst (λ (d : Deadline). IsPermutation (d ∷ c.self.inside.deadlines) c.put.new.self)
-    (c.in_ok-entry.ensures ∙ c.deadline.ensures) c.put.ensures in
-    indexed_with _ _ _ _ _ c.self.invariant c.args.id c.args.request absent c.requires.named
-    c.in-Ok.ensures.entries put
+pub returns-clause-there : goal.returns-clause-there
+returns-clause-there g c =
+    let all = items c.self.inside.root in
+    ok_after c.insert.result
+    (λ is. ap (at c.args.id)
+    (rw (c.in_ok-leaf.ensures.ok, c.new.ensures) at is)
+    ∙ lookup-insert_same c.args.id c.args.request all)
+    c.insert.ensures.ok

@@ -1,0 +1,71 @@
+-- What requests await, by what is to happen then.
+use Rattle.std.specs.Prelude.{ℕ, Bool, true, false, ◌||◌, nat_le, if◌then◌else◌, [], ◌∷◌}
+use Rattle.std.specs.Prelude.{Option, Some, None}
+use Rattle.std.specs.Option.{option_map_or}
+use Rattle.stun_base.specs.declared.wire.transport.TransportType.{TransportType}
+use Rattle.stun_agent.specs.Transactions.{Transaction, Transactions, awaited_moment, has_slots}
+use Rattle.stun_agent.specs.Transactions.{is_cancelled, sooner}
+
+-- the earliest moments that some transactions await, by what is to happen then: one with timeouts
+-- left is to be sent again, another is to end, and a cancelled one is to end at once
+pub record Awaited : Type 0 where
+  pub slot : Option ℕ
+  pub end : Option ℕ
+  pub cancelled : Bool
+
+-- no transaction
+abbrev pub nothing : Awaited
+nothing = record { slot = None; end = None; cancelled = false }
+
+-- one that is sent again at a moment, or would be if it were not silent
+abbrev pub slot_at : ℕ → Awaited
+slot_at moment = record { slot = Some moment; end = None; cancelled = false }
+
+-- one that ends at a moment
+abbrev pub end_at : ℕ → Awaited
+end_at moment = record { slot = None; end = Some moment; cancelled = false }
+
+-- a cancelled one
+abbrev pub cancelled_one : Awaited
+cancelled_one = record { slot = None; end = None; cancelled = true }
+
+-- what a transaction awaits
+abbrev pub awaited_by : TransportType → Transaction → Awaited
+awaited_by transport t =
+    if is_cancelled t.sending then cancelled_one
+    else (if has_slots transport t then slot_at (awaited_moment transport t)
+    else end_at (awaited_moment transport t))
+
+-- the lesser of two numbers, each of which may be absent
+abbrev pub lesser : Option ℕ → Option ℕ → Option ℕ
+lesser one None = one
+lesser one (Some other) = sooner one other
+
+-- what these and those await
+abbrev pub joined : Awaited → Awaited → Awaited
+joined these those = record {
+  slot = lesser these.slot those.slot;
+  end = lesser these.end those.end;
+  cancelled = these.cancelled || those.cancelled;
+}
+
+-- what all of them await
+abbrev pub awaited_of : TransportType → Transactions → Awaited
+awaited_of transport [] = nothing
+awaited_of transport (e ∷ es) = joined (awaited_by transport e.1) (awaited_of transport es)
+
+-- a moment that has come
+abbrev pub has_come : ℕ → Option ℕ → Bool
+has_come now moment = option_map_or (λ m. nat_le m now) moment false
+
+-- one of them is due to be sent again, or would be if it were not silent
+abbrev pub some_due : ℕ → Awaited → Bool
+some_due now awaited = has_come now awaited.slot
+
+-- one of them is over
+abbrev pub some_over : ℕ → Awaited → Bool
+some_over now awaited = awaited.cancelled || has_come now awaited.end
+
+-- the earliest moment of one that is not cancelled
+abbrev pub first_awaited : Awaited → Option ℕ
+first_awaited awaited = lesser awaited.slot awaited.end

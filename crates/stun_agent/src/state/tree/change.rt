@@ -1,0 +1,220 @@
+//! Changes requests in a tree: one that its user changes, and those whose timeouts pass.
+ghost use Rattle.std.specs.Prelude.{◌≡◌, ◌≤◌, ◌+◌, ℕ, length, true};
+ghost use Rattle.std.specs.Option.{option_map};
+ghost use Rattle.stun_agent.specs.Transactions.{with_change_at, next_sent, is_due, after_slot};
+ghost use Rattle.stun_agent.specs.Transactions.{after_slots};
+ghost use Rattle.stun_agent.specs.code.Awaited.{awaited_by, awaited_of};
+ghost use Rattle.stun_agent.specs.code.Transactions.{changed_transaction, length_sent};
+ghost use Rattle.stun_agent.specs.code.Tree.{items, half_items, fork_items, IsOrdered};
+ghost use Rattle.stun_agent.specs.code.Tree.{IsOrderedHalf, IsOrderedFork, IsTimed, IsTimedHalf};
+ghost use Rattle.stun_agent.specs.code.Tree.{IsTimedFork};
+
+use crate::calls::poll::reads::Uncounted;
+use crate::state::awaited::Awaited;
+use crate::state::transaction::Change;
+use crate::state::tree::{Fork, Half, Leaf, Link, middle};
+use std::alloc::Allocator;
+use stun_base::instant::Instant;
+use stun_base::transaction_id::TransactionId;
+use stun_base::transport::TransportType;
+
+/// Changes the request of an ID, if it is there. Does not allocate.
+#[cycle(change)]
+pub(crate) fn change<A: Allocator>(
+    link: &mut Link<A>,
+    low: u128,
+    high: u128,
+    transport: TransportType,
+    id: TransactionId,
+    to: Change,
+)
+    requires { IsOrdered low high link.old }
+    ensures after { items link.new
+        ≡ with_change_at (changed_transaction to) id (items link.old) }
+    ensures ordered { IsOrdered low high link.new }
+    ensures timed { IsTimed transport link.old → IsTimed transport link.new }
+{
+    match link {
+        Link::Empty => {}
+        Link::Leaf(awaited, leaf) => {
+            if leaf.id == id {
+                *awaited = leaf.change(transport, to);
+            }
+        }
+        Link::Fork(awaited, fork) => {
+            *awaited = change_below(fork, low, high, transport, id, to);
+        }
+    }
+}
+
+/// As `change`, below a fork. Returns what the requests then await.
+#[cycle(change)]
+fn change_below<A: Allocator>(
+    fork: &mut Fork<A>,
+    low: u128,
+    high: u128,
+    transport: TransportType,
+    id: TransactionId,
+    to: Change,
+) -> Awaited
+    requires wide { low + 2 ≤ high }
+    requires ordered { IsOrderedFork low high fork.old }
+    ensures after { fork_items fork.new
+        ≡ with_change_at (changed_transaction to) id (fork_items fork.old) }
+    ensures ordered { IsOrderedFork low high fork.new }
+    ensures timed { IsTimedFork transport fork.old → IsTimedFork transport fork.new }
+    ensures awaited { IsTimedFork transport fork.old
+        → result ≡ awaited_of transport (fork_items fork.new) }
+{
+    let middle = middle(low, high);
+    if id.as_u128() < middle {
+        change_in(&mut fork.left, low, middle, transport, id, to);
+    } else {
+        change_in(&mut fork.right, middle, high, transport, id, to);
+    }
+    fork.awaited()
+}
+
+/// As `change`, of a half.
+#[cycle(change)]
+fn change_in<A: Allocator>(
+    half: &mut Half<A>,
+    low: u128,
+    high: u128,
+    transport: TransportType,
+    id: TransactionId,
+    to: Change,
+)
+    requires { IsOrderedHalf low high half.old }
+    ensures after { half_items half.new
+        ≡ with_change_at (changed_transaction to) id (half_items half.old) }
+    ensures ordered { IsOrderedHalf low high half.new }
+    ensures timed { IsTimedHalf transport half.old → IsTimedHalf transport half.new }
+{
+    let middle = middle(low, high);
+    if id.as_u128() < middle {
+        change(&mut half.left, low, middle, transport, id, to);
+    } else {
+        change(&mut half.right, middle, high, transport, id, to);
+    }
+}
+
+impl<A: Allocator> Leaf<A> {
+    /// Changes the request, and returns what it then awaits.
+    fn change(&mut self, transport: TransportType, to: Change) -> Awaited
+        ensures after { self.new ≡ (self.old.0, changed_transaction to self.old.1) }
+        ensures awaited { result ≡ awaited_by transport (changed_transaction to self.old.1) }
+    {
+        self.request.change(to);
+        self.request.awaited_by(transport)
+    }
+
+    /// Passes the timeout that is due, and sets what the request then awaits. Returns its ID and
+    /// how many bytes it has, if it is sent again.
+    fn pass_slot(
+        &mut self,
+        awaited: &mut Awaited,
+        transport: TransportType,
+        now: Instant,
+    ) -> Option<(TransactionId, usize)>
+        requires { is_due transport now self.old.1 ≡ true }
+        ensures sent { result ≡ option_map (λ length. (self.old.0, length))
+            (length_sent self.old.1) }
+        ensures after { self.new ≡ (self.old.0, after_slot now self.old.1) }
+        ensures awaited { awaited.new ≡ awaited_by transport self.new.1 }
+    {
+        self.request.take_slot(now);
+        *awaited = self.request.awaited_by(transport);
+        let length = self.request.length_sent()?;
+        Some((self.id, length))
+    }
+}
+
+/// Passes the timeouts (slots) that are due, by ascending IDs, up to that of a request to send
+/// again. Returns its ID and how many bytes it has.
+#[cycle(pass_slots)]
+pub(crate) fn pass_slots<A: Allocator>(
+    link: &mut Link<A>,
+    transport: TransportType,
+    now: Instant,
+    leave: Uncounted,
+) -> Option<(TransactionId, usize)>
+    requires { IsTimed transport link.old }
+    ensures sent { result ≡ option_map (λ e. (e.0, length e.1.bytes))
+        (next_sent transport now (items link.old)) }
+    ensures after { (low high : ℕ) → IsOrdered low high link.old
+        → items link.new ≡ after_slots transport now
+        (option_map (λ e. e.0) (next_sent transport now (items link.old))) (items link.old) }
+    ensures ordered { (low high : ℕ) → IsOrdered low high link.old → IsOrdered low high link.new }
+    ensures timed { IsTimed transport link.new }
+{
+    match link {
+        Link::Empty => None,
+        Link::Leaf(awaited, leaf) => {
+            if !awaited.is_due(now) {
+                return None;
+            }
+            leaf.pass_slot(awaited, transport, now)
+        }
+        Link::Fork(awaited, fork) => {
+            if !awaited.is_due(now) {
+                return None;
+            }
+            pass_slots_below(fork, awaited, transport, now, leave)
+        }
+    }
+}
+
+/// As `pass_slots`, below a fork. Sets what its requests then await.
+#[cycle(pass_slots)]
+fn pass_slots_below<A: Allocator>(
+    fork: &mut Fork<A>,
+    awaited: &mut Awaited,
+    transport: TransportType,
+    now: Instant,
+    leave: Uncounted,
+) -> Option<(TransactionId, usize)>
+    requires { IsTimedFork transport fork.old }
+    ensures sent { result ≡ option_map (λ e. (e.0, length e.1.bytes))
+        (next_sent transport now (fork_items fork.old)) }
+    ensures after { (low high : ℕ) → low ≤ high → IsOrderedFork low high fork.old
+        → fork_items fork.new ≡ after_slots transport now
+        (option_map (λ e. e.0) (next_sent transport now (fork_items fork.old)))
+        (fork_items fork.old) }
+    ensures ordered { (low high : ℕ) → IsOrderedFork low high fork.old
+        → IsOrderedFork low high fork.new }
+    ensures timed { IsTimedFork transport fork.new }
+    ensures awaited { awaited.new ≡ awaited_of transport (fork_items fork.new) }
+{
+    let sent = match pass_slots_in(&mut fork.left, transport, now, leave) {
+        Some(sent) => Some(sent),
+        None => pass_slots_in(&mut fork.right, transport, now, leave),
+    };
+    *awaited = fork.awaited();
+    sent
+}
+
+/// As `pass_slots`, of a half.
+#[cycle(pass_slots)]
+fn pass_slots_in<A: Allocator>(
+    half: &mut Half<A>,
+    transport: TransportType,
+    now: Instant,
+    leave: Uncounted,
+) -> Option<(TransactionId, usize)>
+    requires { IsTimedHalf transport half.old }
+    ensures sent { result ≡ option_map (λ e. (e.0, length e.1.bytes))
+        (next_sent transport now (half_items half.old)) }
+    ensures after { (low high : ℕ) → low ≤ high → IsOrderedHalf low high half.old
+        → half_items half.new ≡ after_slots transport now
+        (option_map (λ e. e.0) (next_sent transport now (half_items half.old)))
+        (half_items half.old) }
+    ensures ordered { (low high : ℕ) → IsOrderedHalf low high half.old
+        → IsOrderedHalf low high half.new }
+    ensures timed { IsTimedHalf transport half.new }
+{
+    match pass_slots(&mut half.left, transport, now, leave) {
+        Some(sent) => Some(sent),
+        None => pass_slots(&mut half.right, transport, now, leave),
+    }
+}

@@ -1,0 +1,199 @@
+//! Adds requests to a tree.
+ghost use Rattle.std.specs.Prelude.{◌≡◌, ◌≤◌, ◌+◌, [], ◌∷◌, None, OnOk, OnErr};
+ghost use Rattle.stun_base.specs.declared.wire.transport.TransportType.{TransportType};
+ghost use Rattle.stun_agent.specs.Transactions.{at, with};
+ghost use Rattle.stun_agent.specs.code.Awaited.{awaited_by};
+ghost use Rattle.stun_agent.specs.code.Tree.{items, half_items, fork_items, IsPlaced, IsFork};
+ghost use Rattle.stun_agent.specs.code.Tree.{IsLeaf, IsOrdered, IsOrderedHalf, IsOrderedFork};
+ghost use Rattle.stun_agent.specs.code.Tree.{IsTimed, IsTimedHalf, IsTimedFork};
+
+use crate::state::awaited::Awaited;
+use crate::state::tree::{Fork, Half, Leaf, Link, middle};
+use std::alloc::{AllocError, Allocator};
+use std::mem;
+
+/// Adds a request, of an ID that is not there. If an allocation fails, the requests are as before.
+#[cycle(insert)]
+pub(crate) fn insert<A: Allocator + Copy>(
+    link: &mut Link<A>,
+    low: u128,
+    high: u128,
+    alloc: A,
+    awaited: &Awaited,
+    leaf: Box<Leaf<A>, A>,
+) -> Result<(), AllocError>
+    requires ordered { IsOrdered low high link.old }
+    requires placed { IsPlaced low high leaf.value }
+    requires absent { at leaf.value.0 (items link.old) ≡ None }
+    ensures ok { OnOk result (items link.new ≡ with leaf.value.0 leaf.value.1 (items link.old)) }
+    ensures err { OnErr result (items link.new ≡ items link.old) }
+    ensures ordered { IsOrdered low high link.new }
+    ensures timed { (transport : TransportType) → awaited.now ≡ awaited_by transport leaf.value.1
+        → IsTimed transport link.old → IsTimed transport link.new }
+{
+    match link {
+        Link::Empty => {
+            *link = Link::Leaf(awaited.copied(), leaf);
+            Ok(())
+        }
+        Link::Leaf(_, _) => {
+            deepen(link, low, high, alloc)?;
+            insert_below(link, low, high, alloc, awaited, leaf)
+        }
+        Link::Fork(_, _) => insert_below(link, low, high, alloc, awaited, leaf),
+    }
+}
+
+/// As `insert`, below a fork.
+#[cycle(insert)]
+fn insert_below<A: Allocator + Copy>(
+    link: &mut Link<A>,
+    low: u128,
+    high: u128,
+    alloc: A,
+    awaited: &Awaited,
+    leaf: Box<Leaf<A>, A>,
+) -> Result<(), AllocError>
+    requires fork { IsFork link.old }
+    requires ordered { IsOrdered low high link.old }
+    requires placed { IsPlaced low high leaf.value }
+    requires absent { at leaf.value.0 (items link.old) ≡ None }
+    ensures ok { OnOk result (items link.new ≡ with leaf.value.0 leaf.value.1 (items link.old)) }
+    ensures err { OnErr result (items link.new ≡ items link.old) }
+    ensures ordered { IsOrdered low high link.new }
+    ensures timed { (transport : TransportType) → awaited.now ≡ awaited_by transport leaf.value.1
+        → IsTimed transport link.old → IsTimed transport link.new }
+{
+    let Link::Fork(before, fork) = link else {
+        return Ok(());
+    };
+    let fork = &mut **fork;
+    let middle = middle(low, high);
+    if leaf.id.as_u128() < middle {
+        insert_in(&mut fork.left, low, middle, alloc, awaited, leaf)?;
+    } else {
+        insert_in(&mut fork.right, middle, high, alloc, awaited, leaf)?;
+    }
+    *before = fork.awaited();
+    Ok(())
+}
+
+/// As `insert`, into a half.
+#[cycle(insert)]
+fn insert_in<A: Allocator + Copy>(
+    half: &mut Half<A>,
+    low: u128,
+    high: u128,
+    alloc: A,
+    awaited: &Awaited,
+    leaf: Box<Leaf<A>, A>,
+) -> Result<(), AllocError>
+    requires ordered { IsOrderedHalf low high half.old }
+    requires placed { IsPlaced low high leaf.value }
+    requires absent { at leaf.value.0 (half_items half.old) ≡ None }
+    ensures ok { OnOk result
+        (half_items half.new ≡ with leaf.value.0 leaf.value.1 (half_items half.old)) }
+    ensures err { OnErr result (half_items half.new ≡ half_items half.old) }
+    ensures ordered { IsOrderedHalf low high half.new }
+    ensures timed { (transport : TransportType) → awaited.now ≡ awaited_by transport leaf.value.1
+        → IsTimedHalf transport half.old → IsTimedHalf transport half.new }
+{
+    let middle = middle(low, high);
+    if leaf.id.as_u128() < middle {
+        insert(&mut half.left, low, middle, alloc, awaited, leaf)
+    } else {
+        insert(&mut half.right, middle, high, alloc, awaited, leaf)
+    }
+}
+
+/// Makes a fork of a leaf, so that another one has room beside it.
+fn deepen<A: Allocator + Copy>(
+    link: &mut Link<A>,
+    low: u128,
+    high: u128,
+    alloc: A,
+) -> Result<(), AllocError>
+    requires leaf { IsLeaf link.old }
+    requires ordered { IsOrdered low high link.old }
+    requires wide { low + 2 ≤ high }
+    ensures ok { OnOk result (IsFork link.new) }
+    ensures items { items link.new ≡ items link.old }
+    ensures ordered { IsOrdered low high link.new }
+    ensures timed { (transport : TransportType) → IsTimed transport link.old
+        → IsTimed transport link.new }
+{
+    let mut fork = Box::new(alloc, Fork::empty())?;
+    match mem::replace(link, Link::Empty) {
+        Link::Leaf(awaited, leaf) => {
+            *fork = Fork::of(low, high, awaited.copied(), leaf);
+            *link = Link::Fork(awaited, fork);
+        }
+        other => *link = other,
+    }
+    Ok(())
+}
+
+impl<A: Allocator> Fork<A> {
+    /// No request.
+    fn empty() -> Self {
+        Fork {
+            left: Half {
+                left: Link::Empty,
+                right: Link::Empty,
+            },
+            right: Half {
+                left: Link::Empty,
+                right: Link::Empty,
+            },
+        }
+    }
+
+    /// One request, in its half of the IDs from `low` to `high`.
+    fn of(low: u128, high: u128, awaited: Awaited, leaf: Box<Leaf<A>, A>) -> Self
+        requires { IsPlaced low high leaf.value }
+        ensures items { fork_items result ≡ leaf.value ∷ [] }
+        ensures ordered { IsOrderedFork low high result }
+        ensures timed { (transport : TransportType) → awaited ≡ awaited_by transport leaf.value.1
+            → IsTimedFork transport result }
+    {
+        let none = Half {
+            left: Link::Empty,
+            right: Link::Empty,
+        };
+        let middle = middle(low, high);
+        if leaf.id.as_u128() < middle {
+            Fork {
+                left: Half::of(low, middle, awaited, leaf),
+                right: none,
+            }
+        } else {
+            Fork {
+                left: none,
+                right: Half::of(middle, high, awaited, leaf),
+            }
+        }
+    }
+}
+
+impl<A: Allocator> Half<A> {
+    /// One request, in its half of the IDs from `low` to `high`.
+    fn of(low: u128, high: u128, awaited: Awaited, leaf: Box<Leaf<A>, A>) -> Self
+        requires { IsPlaced low high leaf.value }
+        ensures items { half_items result ≡ leaf.value ∷ [] }
+        ensures ordered { IsOrderedHalf low high result }
+        ensures timed { (transport : TransportType) → awaited ≡ awaited_by transport leaf.value.1
+            → IsTimedHalf transport result }
+    {
+        if leaf.id.as_u128() < middle(low, high) {
+            Half {
+                left: Link::Leaf(awaited, leaf),
+                right: Link::Empty,
+            }
+        } else {
+            Half {
+                left: Link::Empty,
+                right: Link::Leaf(awaited, leaf),
+            }
+        }
+    }
+}

@@ -25,8 +25,9 @@ pub struct BTreeMap<K: Ord, V, A: Allocator = Global> {
     root: Node<K, V>,
     alloc: A,
     len: usize,
-    // The way to the entry that was inserted or changed last, or that a range began with. Calls
-    // that follow one another are often about one key, or about a key and the next one.
+    // The path to the entry that was last inserted, replaced or borrowed mutably, or with which a
+    // range with an excluded start began. Successive calls are often about one key, or about a key
+    // and the next one.
     recent: AtomicUsize,
 }
 
@@ -68,7 +69,7 @@ impl<K: Ord, V, A: Allocator> BTreeMap<K, V, A> {
         }
     }
 
-    /// Returns the entry of a key if `recent` leads to it.
+    /// Returns the entry of a key if it is the one at the end of the path `recent`.
     fn find_recent<Q: Ord + ?Sized>(&self, key: &Q) -> Option<Spot<'_, K, V>>
     where
         K: Borrow<Q>,
@@ -108,8 +109,8 @@ impl<K: Ord, V, A: Allocator> BTreeMap<K, V, A> {
         self.get(key).is_some()
     }
 
-    /// Inserts a value and returns the previous value of its key, which is not replaced itself. If
-    /// an allocation fails, the error returns key and value.
+    /// Inserts a value and returns the previous value of the key, if there was one. The stored key
+    /// is not replaced. If an allocation fails, the error returns the key and the value.
     pub fn insert(&mut self, key: K, value: V) -> Result<Option<V>, AllocFailed<(K, V)>> {
         match self.place(&key) {
             Ok((node, Ok(at))) => Ok(Some(mem::replace(node.value_mut(at), value))),
@@ -124,9 +125,9 @@ impl<K: Ord, V, A: Allocator> BTreeMap<K, V, A> {
         }
     }
 
-    /// Finds the node and the index of a key, or those where it can be inserted. If there is no
-    /// room for it, each node on the way that is full is split, so that there is room at each. A
-    /// full leaf whose neighbor has room gives it entries instead.
+    /// Finds the node and the index of a key, or those where it can be inserted. If the leaf for a
+    /// new key is full, each full node on the path to it is split, so that there is room in each. A
+    /// full leaf whose neighbor has room moves entries to it instead.
     fn place(&mut self, key: &K) -> Result<Place<'_, K, V>, AllocError> {
         if self.root.keys.capacity() == 0 {
             self.root = Node::new(true, &self.alloc)?;
@@ -215,8 +216,8 @@ impl<K: Ord, V, A: Allocator> BTreeMap<K, V, A> {
     pub fn range<R: RangeBounds<K>>(&self, range: R) -> impl Iterator<Item = (&K, &V)> {
         let has_end = !matches!(range.end_bound(), Bound::Unbounded);
         let entries = Entries::new(&self.root, self.seek(range.start_bound()));
-        // No key is before the start. So a range without an end is not needed again, and copying it
-        // would take longer than a step of a walk.
+        // The entries begin at the start of the range. So a range without an end is not needed
+        // again, and moving it into the iterator would take longer than a step of a walk.
         let range = has_end.then_some(range);
         entries.take_while(move |(key, _)| match range.as_ref().map(R::end_bound) {
             Some(Bound::Included(end)) => *key <= end,
@@ -230,8 +231,8 @@ impl<K: Ord, V, A: Allocator> BTreeMap<K, V, A> {
         self.seek_recent(start).or_else(|| self.seek_far(start))
     }
 
-    /// Like [`Self::seek`], but looks only at the entry that `recent` leads to, and at the next one
-    /// in its leaf.
+    /// Like [`Self::seek`], but looks only at the entry at the end of the path `recent`, and at the
+    /// next entry in its leaf.
     #[inline]
     fn seek_recent(&self, start: Bound<&K>) -> Option<Spot<'_, K, V>> {
         let (key, is_past) = match start {
@@ -249,7 +250,7 @@ impl<K: Ord, V, A: Allocator> BTreeMap<K, V, A> {
         if !node.is_leaf() || at + 1 == node.len() {
             return None;
         }
-        // This is a walk by single keys, which goes on at this entry.
+        // The caller walks over the map key by key, and will continue at this entry.
         self.recent.store(next, Ordering::Relaxed);
         Some((node, at + 1))
     }

@@ -3,16 +3,17 @@
 use super::node::{Node, Spot};
 use core::ops::Bound;
 
-/// The entries of a tree from one on, in the order of their keys.
+/// An iterator over the entries of a tree from a given one on, in the order of their keys.
 pub(super) struct Entries<'a, K, V> {
     root: &'a Node<K, V>,
     spot: Option<Spot<'a, K, V>>,
-    // The entry of `spot` was returned, so the next one is the one behind it.
+    // If true, the entry of `spot` was returned, and the next entry is the one after it.
     is_past: bool,
 }
 
 impl<'a, K: Ord, V> Entries<'a, K, V> {
-    /// Begins at an entry of a tree, or has no entries.
+    /// Creates an iterator that begins at an entry of the tree, or that is empty if `spot` is
+    /// `None`.
     pub(super) fn new(root: &'a Node<K, V>, spot: Option<Spot<'a, K, V>>) -> Self {
         Entries {
             root,

@@ -1,4 +1,4 @@
-//! The nodes of a B-tree, and the ways that lead to them.
+//! The nodes of a B-tree, and the paths to their entries.
 
 use crate::kit::alloc::{AllocError, Allocator};
 use ::alloc::vec::Vec;
@@ -10,16 +10,16 @@ use core::ops::{Bound, Range};
 /// The maximum number of entries of a node. Each node has the capacity for that many.
 pub(super) const MOST: usize = 32;
 
-/// The number of keys that a search of a node passes over at once.
+/// The number of keys that a search in a node skips with one comparison.
 const STEP: usize = 4;
 
-/// The number of bits of an index in a way.
+/// The number of bits of an index in a path.
 const INDEX_BITS: u32 = 6;
 
-/// The way from the root to an entry: the index of the child in each node above it, and then the
-/// index of the entry, each of them plus one, and the first one in the lowest bits. The indices
-/// that the bits have no room for are cut off, so whoever follows a way looks at the key where it
-/// ends.
+/// The path from the root to an entry. It holds the index of the child to follow in each node, then
+/// the index of the entry. Each index is stored plus one in six bits, beginning with the lowest.
+/// Indices that no longer fit are dropped, so the caller must compare the key at the end of the
+/// path.
 #[derive(Clone, Copy)]
 pub(super) struct Way {
     pub(super) indices: usize,
@@ -32,13 +32,13 @@ impl Way {
         bits: 0,
     };
 
-    /// Goes on at an index.
+    /// Appends an index to the path.
     pub(super) fn push(&mut self, at: usize) {
         self.indices |= (at + 1).checked_shl(self.bits).unwrap_or(0);
         self.bits += INDEX_BITS;
     }
 
-    /// Follows a way by one index.
+    /// Returns the first index of a path, and the rest of the path.
     fn first(indices: usize) -> (usize, usize) {
         let first = indices & ((1 << INDEX_BITS) - 1);
         (first.wrapping_sub(1), indices >> INDEX_BITS)
@@ -48,26 +48,26 @@ impl Way {
 /// An entry: its node, and its index in it.
 pub(super) type Spot<'a, K, V> = (&'a Node<K, V>, usize);
 
-/// A node of the tree: a leaf, or one with a child before, between and after its entries. All
+/// A node of the tree: a leaf, or a node with a child before, between and after its entries. All
 /// leaves have the same number of nodes above them.
 ///
-/// Two neighbors that together fill at most half a node are merged when an entry of them is
-/// removed. A node can still be empty if its neighbors are full.
+/// When an entry below a child is removed, the child is merged with a neighbor if both together
+/// fill at most half a node. A node can still be empty if its neighbors are full.
 ///
-/// The keys are in their order. The values are not, because they may be large: a new one is the
-/// last one, and the last one takes the place of one that is removed.
+/// The keys are sorted. The values are not sorted, because they may be large: a new value is
+/// appended, and when a value is removed the last one is moved into its slot.
 pub(super) struct Node<K, V> {
     pub(super) keys: Vec<K>,
     values: Vec<V>,
-    // The index of the value of each key.
+    // The index in `values` of the value of each key.
     places: [u8; MOST],
     pub(super) children: Vec<Node<K, V>>,
 }
 
-/// The place of a value that is removed, until its key is removed too.
+/// The index for a key whose value was removed, until the key is removed too.
 const NOWHERE: u8 = u8::MAX;
 
-/// Returns the index of a value as a place.
+/// Converts the index of a value to the type of `places`.
 #[allow(
     clippy::cast_possible_truncation,
     reason = "a node has few values"
@@ -103,13 +103,14 @@ impl<K: Ord, V> Node<K, V> {
         Ok(node)
     }
 
-    /// Returns the bytes that an allocator is asked for.
+    /// Returns the number of bytes that a node requests from its allocator.
     const fn bytes(is_leaf: bool) -> usize {
         let children = if is_leaf { 0 } else { MOST + 1 };
         MOST * (size_of::<K>() + size_of::<V>()) + children * size_of::<Self>()
     }
 
-    /// Tells the allocator that the memory of this node and of all below it is no longer used.
+    /// Tells the allocator that the memory of this node and of all nodes below it is no longer
+    /// used.
     pub(super) fn leave<A: Allocator>(&self, alloc: &A) {
         self.children.iter().for_each(|child| child.leave(alloc));
         if self.keys.capacity() > 0 {
@@ -126,14 +127,14 @@ impl<K: Ord, V> Node<K, V> {
         self.children.is_empty()
     }
 
-    /// Returns the index of a key, or else the index of the first entry behind it, which is also
-    /// that of the child where the key would be.
+    /// Returns the index of a key, or else the index of the first entry after it, which is also the
+    /// index of the child in which the key would be.
     pub(super) fn search<Q: Ord + ?Sized>(&self, key: &Q) -> Result<usize, usize>
     where
         K: Borrow<Q>,
     {
-        // A processor reads ahead in these loops. In a binary search each step waits for the one
-        // before, which takes longer at so few keys.
+        // A processor can load the next keys of these loops ahead of time. In a binary search each
+        // step waits for the one before, which takes longer with so few keys.
         let mut at = 0;
         while self
             .keys
@@ -152,8 +153,8 @@ impl<K: Ord, V> Node<K, V> {
         Err(at)
     }
 
-    /// Returns the node that a way leads to, the index of an entry that it may have, and the way to
-    /// the entry behind that one if this is a leaf.
+    /// Follows a path. Returns the node at its end, the index of an entry that this node may have,
+    /// and, if the node is a leaf, the path to the entry after that one.
     pub(super) fn follow(&self, way: usize) -> Option<(Spot<'_, K, V>, usize)> {
         let (mut node, mut step) = (self, 1_usize);
         let (mut at, mut rest) = Way::first(way);
@@ -165,7 +166,7 @@ impl<K: Ord, V> Node<K, V> {
         Some(((node, at), way.wrapping_add(step)))
     }
 
-    /// Returns the value of the entry that a way leads to.
+    /// Returns the value of the entry at the end of a path.
     pub(super) fn follow_mut(&mut self, way: usize) -> Option<&mut V> {
         let mut node = self;
         let (mut at, mut rest) = Way::first(way);
@@ -176,7 +177,7 @@ impl<K: Ord, V> Node<K, V> {
         Some(node.value_mut(at))
     }
 
-    /// Returns the first entry whose key is not before `start`, and the way to it.
+    /// Returns the first entry whose key is not before `start`, and the path to it.
     pub(super) fn seek(&self, start: Bound<&K>) -> (Option<Spot<'_, K, V>>, Way) {
         let (mut node, mut way) = (self, Way::ROOT);
         let (mut found, mut found_way) = (None, way);
@@ -249,7 +250,7 @@ impl<K: Ord, V> Node<K, V> {
         self.keys.remove(at)
     }
 
-    /// Removes the value of the key at an index. The key has no value then.
+    /// Removes and returns the value of the key at an index. The key then has no value.
     fn take_value(&mut self, at: usize) -> V {
         let free = mem::replace(&mut self.places[at], NOWHERE);
         let value = self.values.swap_remove(usize::from(free));
@@ -279,8 +280,9 @@ impl<K: Ord, V> Node<K, V> {
         }
     }
 
-    /// Moves entries of a leaf that is full to a neighbor with room, so that both have as many. If
-    /// both neighbors are nearly full, it returns `false`, and no entry moves.
+    /// Moves entries of a full leaf to the neighbor with more room, so that both have about as
+    /// many, and returns `true`. If the child is no leaf, or no neighbor has room for two entries,
+    /// no entry moves, and it returns `false`.
     pub(super) fn share(&mut self, at: usize) -> bool {
         let room = |child: Option<&Self>| child.map_or(0, |child| MOST - child.len());
         let before = at
@@ -381,8 +383,8 @@ impl<K: Ord, V> Node<K, V> {
         Some(self.take(last))
     }
 
-    /// Removes the entry at an index of a node that is no leaf. The last entry before it takes its
-    /// place.
+    /// Removes the entry at an index of a node that is no leaf. If there are entries below the
+    /// child before it, the last of them replaces it.
     fn take_between<A: Allocator>(&mut self, at: usize, alloc: &A) -> (K, V) {
         let Some((key, value)) = self.children[at].pop(alloc) else {
             self.children.remove(at).leave(alloc);

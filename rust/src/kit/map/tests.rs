@@ -1,4 +1,4 @@
-//! What the map finds without a search, and how full its nodes are.
+//! Walks by single keys, which the map speeds up, and the memory of a map of scattered keys.
 
 extern crate std;
 
@@ -7,8 +7,8 @@ use crate::kit::tests::{Sparse, play};
 use core::ops::Bound;
 use std::{collections, vec};
 
-/// Calls that follow one another are about one key, or about a key and the next one, which the map
-/// finds without a search.
+/// Successive calls are about one key, or about a key and the next one. Their results are those of
+/// the standard map.
 #[test]
 fn a_walk_by_single_keys_is_as_the_standard_one() {
     play(4, |heap, dice, turns| {
@@ -54,7 +54,8 @@ fn a_walk_by_single_keys_is_as_the_standard_one() {
     });
 }
 
-/// A leaf gives entries to its neighbors before it is split, so that leaves are nearly full.
+/// A full leaf moves entries to a neighbor with room before it is split. So the memory of the nodes
+/// is less than 1.3 times that of the entries.
 #[test]
 fn a_map_of_scattered_keys_has_full_nodes() {
     let heap = Sparse::new(0);

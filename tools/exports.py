@@ -7,11 +7,13 @@ closed family by its enum. What a declaration says to compilers, `STUNP_READS` a
 compared with what its parameters want. The structs but the handles are compared by their fields.
 The numbers of refusals, attribute types, methods, classes, algorithms, transports, features and
 fingerprints are compared with the sources, and so are lengths. The handles' fields and the numbers
-of other answers are not compared. Of the archives that
-are built it looks whether they have writable data or thread-locals: they must not. Run at the top
-of the repository. Prints each difference with the files and lines that name it, then a count; the
-status is 1 if there is one.
+of other answers are not compared. With the definitions of attribute types it compares the registry
+of stun_inspect, the lists of types that must be understood, and the pages that list attributes. Of
+the archives that are built it looks whether they have writable data or thread-locals: they must
+not. Run at the top of the repository. Prints each difference with the files and lines that name it,
+then a count; the status is 1 if there is one.
 """
+import collections
 import re
 import shutil
 import subprocess
@@ -75,6 +77,33 @@ LENGTHS = {
     "MOST_KNOWN": ("stun_c/src/unknown.rt", "MOST_KNOWN"),
     "NAME_MAX": ("stun_c_endpoint/src/received.rt", "NAME_ROOM"),
 }
+# The definitions of attribute types, and one of them: its RFC, and the file and line.
+TYPES = ("crates/stun_base/specs/Attributes.antt", "crates/stun_extra/specs/AttributeTypes.antt")
+Type = collections.namedtuple("Type", "number rfc place")
+# The registry of stun_inspect, and a name that is longer there, as IANA has it.
+REGISTRY, LONGER = "crates/stun_inspect/src/registry.rt", {"ECN-CHECK": "ECN-CHECK STUN"}
+# Lists of types that must be understood, which are those below 0x8000. Each list has the types of
+# these RFCs, or if none is named, all that the library reads. The client of the exported crate has
+# no list of its own: it understands STUN and the rows of rust/src/attributes.rs. The lists of
+# endpoint.rs leave out the types of STUN.
+LISTS = [
+    ("crates/stun_c_endpoint/src/client/settings.rt", "UNDERSTOOD", ()),
+    ("crates/stun_ice/specs/Parts.antt", "UNDERSTOOD", (8489, 8445)),
+    ("crates/stun_ice/src/parts.rt", "UNDERSTOOD", (8489, 8445)),
+    ("rust/src/ported.rs", "STUN", (8489,)), ("rust/src/ported.rs", "ICE", (8489, 8445)),
+    ("rust/src/ported.rs", "TURN", (8489, 8656)),
+    ("rust/src/endpoint.rs", "ICE", (8445,)), ("rust/src/endpoint.rs", "TURN", (8656,)),
+    ("tests/endpoint_messages.py", "OWN", (8489,)), ("tests/endpoint_client.py", "READ", ()),
+]
+# Paragraphs that list the further attributes by their RFCs: a file, and how the paragraph begins.
+PARAGRAPHS = [(TYPES[1], "-- The types of attributes:"),
+              ("crates/stun_extra/src/attribute.rt", "//! Further attributes:"),
+              ("rust/src/extra.rs", "/// Further attributes:"),
+              ("rust/README.md", "The module `extra` has")]
+# The paragraph that names the forms of further attributes, and those that have no alias in
+# stun_extra/src/attribute.rt. UNKNOWN-ATTRIBUTES is in the paragraph above it, and
+# PASSWORD-ALGORITHMS is in it because stun_extra reads all of its list.
+FURTHER = ("docs/DEFINITIONS.md", "**Further attributes**")
 HANDLES = ("stunp_agent *", "stunp_server *", "stunp_client *", "stunp_user *")
 wrong, compared, were_read = [], 0, {}
 
@@ -241,6 +270,117 @@ def compare_numbers(header):
     compare("length of a text", {"LONGEST_ERROR_TEXT": True},
             {"LONGEST_ERROR_TEXT": longest < declared["LONGEST_ERROR_TEXT"]})
 
+def line_at(text, offset):
+    return text.count("\n", 0, offset) + 1
+
+def attribute_types(path):
+    """The attribute types that a file defines, by their names in the registry."""
+    text, found = read(path), {}
+    for one in re.finditer(r"(?m)^((?:--.*\n)*)abbrev pub (\w+) : ℕ\n\2 = (0x\w{4})$", text):
+        rfc = re.search(r"RFC\s(?:-- )?(\d+)", one[1])
+        name = one[2] if f"-- {one[2]} (" in one[1] else one[2].replace("_", "-")
+        place = f"{path}:{line_at(text, one.end())}"
+        found[name] = Type(int(one[3], 16), int(rfc[1]) if rfc else 8489, place)
+    return found
+
+def compare_registry(types):
+    """Each type is in the registry under its name, and no other type has that name there."""
+    global compared
+    compared += len(types)
+    text = read(REGISTRY)
+    found = [(int(one[1], 16), one[2], f"{REGISTRY}:{line_at(text, one.start())}")
+             for one in re.finditer(r'(0x\w{4})[^"\n]*=> entry\("([^"]*)"', text)]
+    for name, kind in types.items():
+        name = LONGER.get(name, name)
+        entry = f'0x{kind.number:04X} => entry("{name}", ..)'
+        near = [one for one in found if one[0] == kind.number or one[1] == name]
+        wrong.extend(f"{place}: 0x{number:04X} is {other} there, but by {kind.place} it is {entry}: "
+                     "make them alike" for number, other, place in near
+                     if (number, other) != (kind.number, name))
+        if not near:
+            wrong.append(f"{REGISTRY}: nothing is there for {kind.place}: add {entry}")
+
+def numbers_of_list(path, name, types, lists):
+    """Where a list is, and its numbers. `lists` has those that it may begin with."""
+    text = read(path)
+    one = re.search(rf"(?m)^ *(?:pub(?:\(crate\))? const )?({name})\b[^=\n]*=((?:.|\n)*?)"
+                    r"(?:;\n|\n\n|\n(?=[#\w]))", text)
+    if not one:
+        wrong.append(f"{path}: it has no list {name}: correct LISTS in tools/exports.py")
+        return path, []
+    numbers = []
+    for word in re.findall(r"0x\w{4}\b|AttributeType::\w+|\bOWN\b|\bSTUN\b", one[2]):
+        constant = word.rpartition("::")[2].replace("_", "-")
+        if word in lists:
+            numbers += lists[word]
+        else:
+            numbers.append(types[constant].number if constant in types else int(word, 16))
+    return f"{path}:{line_at(text, one.start(1))}", numbers
+
+def compare_lists(types):
+    """Each list has the types that it should have, each once."""
+    global compared
+    names, lists = {kind.number: f"{name}, {kind.place}" for name, kind in types.items()}, {}
+    for path, name, rfcs in LISTS:
+        place, listed = numbers_of_list(path, name, types, lists)
+        lists[name] = listed
+        wanted = [kind.number for kind in types.values()
+                  if kind.number < 0x8000 and (not rfcs or kind.rfc in rfcs)]
+        compared += len(wanted)
+        for number in sorted({*listed, *wanted} if listed else ()):
+            what = f"0x{number:04X} ({names.get(number, 'which the library does not read')})"
+            if listed.count(number) < wanted.count(number):
+                wrong.append(f"{place}: {name} lacks {what}: add it")
+            if listed.count(number) > wanted.count(number):
+                which = "twice" if number in wanted else "but should not"
+                wrong.append(f"{place}: {name} has {what} {which}: remove it")
+
+def paragraph(path, start):
+    """The paragraph of a page or a comment that begins so, as one line, and where it is."""
+    lines = Path(path).read_text("utf-8").split("\n")
+    first = next((number for number, line in enumerate(lines) if line.startswith(start)), None)
+    if first is None:
+        wrong.append(f"{path}: no line begins with {start!r}: correct it in tools/exports.py")
+        return "", path
+    plain = [re.sub(r"^(?:///|//!|--) ?", "", line) for line in lines[first:]]
+    return " ".join(plain[:plain.index("")]), f"{path}:{first + 1}"
+
+def compare_paragraphs(further):
+    """The paragraphs name the RFCs of the further attributes, and no others."""
+    global compared
+    rfcs = {kind.rfc: f"{name} ({kind.place})" for name, kind in further.items()}
+    for path, start in PARAGRAPHS:
+        text, place = paragraph(path, start)
+        named = {int(number) for number in re.findall(r"\b\d{4}\b", text)}
+        compared += len(named)
+        wrong.extend(f"{place}: RFC {rfc} is named there, of which no attribute is defined in "
+                     f"{TYPES[1]}: correct it" for rfc in sorted(named - set(rfcs)))
+        if text and not re.search(r"\bothers\b|\bother RFCs\b", text):
+            wrong.extend(f"{place}: RFC {rfc} is not named there, which has {rfcs[rfc]}: add it"
+                         for rfc in sorted(set(rfcs) - named))
+
+def compare_further(further):
+    """The page names the forms of the aliases, and the attributes without an alias."""
+    global compared
+    source = "crates/stun_extra/src/attribute.rt"
+    aliases = re.findall(r"(?m)^pub type \w+(?:<'a>)? = (\w+)<(?:'a, )?(0x\w{4})", read(source))
+    aliased = {int(number, 16) for _, number in aliases}
+    wanted = {name for name, kind in further.items() if kind.number not in aliased}
+    wanted = wanted - {"UNKNOWN-ATTRIBUTES"} | {"PASSWORD-ALGORITHMS"}
+    wanted |= {form for form, _ in aliases}
+    text, place = paragraph(*FURTHER)
+    if not text:
+        return
+    forms, _, others = text.partition("The others are")
+    named = {*re.findall(r"`([A-Z]\w+)`", forms), *re.findall(r"\b[A-Z][A-Z_-]+[A-Z]\b", others)}
+    compared += len(wanted)
+    wrong.extend(f"{place}: {name} is not named there. It is a form of aliases in {source}, or has "
+                 "no alias there: name it with the function that reads it"
+                 for name in sorted(wanted - named))
+    wrong.extend(f"{place}: {name} is named there. It is no form of aliases in {source}, and no "
+                 "further attribute without an alias there: remove it"
+                 for name in sorted(named - wanted))
+
 def written_sections(archive):
     """The sections of an archive that a program writes to, or has for each thread. Those that the
     loader alone writes are none."""
@@ -298,6 +438,11 @@ def main():
     compare("refusal", refusals, numbers)
     compare("declared refusal", numbers, refusals)
     compare_numbers(header)
+    core, further = map(attribute_types, TYPES)
+    compare_registry({**core, **further})
+    compare_lists({**core, **further})
+    compare_paragraphs(further)
+    compare_further(further)
     compare_archives()
     print("\n".join(wrong + [f"exports: {compared} compared, {len(wrong)} differ"]))
     return bool(wrong)

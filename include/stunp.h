@@ -293,6 +293,8 @@ typedef enum stunp_attribute_type {
     STUNP_THIRD_PARTY_AUTHORIZATION = 0x802e,
     /* ECN (RFC 6679, section 7.2.2) */
     STUNP_ECN_CHECK = 0x802d,
+    /* round-trip times and packet loss (RFC 7982, section 3.2) */
+    STUNP_TRANSACTION_TRANSMIT_COUNTER = 0x8025,
     /* NAT behavior discovery (RFC 5780, section 7) */
     STUNP_CHANGE_REQUEST = 0x0003,
     STUNP_PADDING = 0x0026,

@@ -452,6 +452,9 @@ table! {
     ECN_CHECK, "ECN-CHECK (RFC 6679, section 7.2.2)":
         number_attribute(EcnCheck, number, bits: u32, "the 32 bits");
 
+    TRANSACTION_TRANSMIT_COUNTER, "TRANSACTION_TRANSMIT_COUNTER (RFC 7982, section 3.2)":
+        own_attribute(TransactionTransmitCounter);
+
     // NAT behavior discovery (RFC 5780, section 7).
 
     CHANGE_REQUEST, "CHANGE-REQUEST (RFC 5780, section 7.2)":

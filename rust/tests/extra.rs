@@ -1,5 +1,5 @@
 //! FINGERPRINT, unknown attributes and streams of messages, at the samples of RFC 5769. The values
-//! of further attributes are typed from RFC 8489, 8445, 8656, 5780, 6062, 7635 and 8016.
+//! of further attributes are typed from RFC 8489, 8445, 8656, 5780, 6062, 7635, 7982 and 8016.
 use seatcrane_stun::Instant;
 use seatcrane_stun::endpoint::{Body, Client, Output};
 use seatcrane_stun::extra::attribute::*;
@@ -425,6 +425,17 @@ fn reads_what_discovery_writes() {
         stands(Padding::new(&[1, 2, 3]), 0x0026, &[1, 2, 3]).padding(),
         &[1, 2, 3]
     );
+}
+
+#[test]
+fn reads_the_transmissions_of_a_transaction() {
+    let counter = TransactionTransmitCounter::new(7, 255);
+    let counter = stands(counter, 0x8025, &[0, 0, 7, 255]);
+    assert_eq!((counter.requests(), counter.responses()), (7, 255));
+    // The first 16 bits are ignored.
+    let raw = RawAttribute::new(TransactionTransmitCounter::TYPE, &[0xFF, 0xFF, 7, 255]);
+    assert_eq!(TransactionTransmitCounter::from_raw(raw), Ok(counter));
+    refuses::<TransactionTransmitCounter>(&[&[], &[7, 255], &[0; 3], &[0; 8]]);
 }
 
 /// A client asks for a long response (RFC 5780, section 7.6), and PADDING must be understood.

@@ -1,6 +1,7 @@
 -- The types of attributes: of STUN (RFC 8489, section 18.3), of ICE (RFC 8445, section 16.1), of
 -- TURN (RFC 8656, section 18; RFC 6062; RFC 8016), of third-party authorization (RFC 7635), of ECN
--- (RFC 6679), and of NAT behavior discovery (RFC 5780, section 7).
+-- (RFC 6679), of the transmissions of a transaction (RFC 7982), and of NAT behavior discovery (RFC
+-- 5780, section 7).
 use Rattle.std.specs.Prelude.{ℕ}
 
 -- MAPPED-ADDRESS (RFC 8489, section 14.1)
@@ -102,6 +103,10 @@ THIRD_PARTY_AUTHORIZATION = 0x802E
 -- ECN-CHECK (RFC 6679, section 7.2.2)
 abbrev pub ECN_CHECK : ℕ
 ECN_CHECK = 0x802D
+
+-- TRANSACTION_TRANSMIT_COUNTER (RFC 7982, section 3.2)
+abbrev pub TRANSACTION_TRANSMIT_COUNTER : ℕ
+TRANSACTION_TRANSMIT_COUNTER = 0x8025
 
 -- CHANGE-REQUEST (RFC 5780, section 7.2)
 abbrev pub CHANGE_REQUEST : ℕ

@@ -1,6 +1,7 @@
 //! Further attributes: of STUN (RFC 8489, section 14), of ICE (RFC 8445, section 16.1), of TURN
 //! (RFC 8656, section 18; RFC 6062; RFC 8016), of third-party authorization (RFC 7635), of ECN (RFC
-//! 6679), and of NAT behavior discovery (RFC 5780, section 7).
+//! 6679), of the transmissions of a transaction (RFC 7982), and of NAT behavior discovery (RFC 5780,
+//! section 7).
 //!
 //! Attributes whose values have the same form share a type, such as [`Number`], and are its aliases
 //! below. The others have a file each.
@@ -32,6 +33,7 @@ mod reservation_token;
 mod response_port;
 mod text;
 mod tie_breaker;
+mod transmit_counter;
 mod use_candidate;
 mod value;
 mod xored;
@@ -56,6 +58,7 @@ use stun_types::limits::TEXT_LIMIT;
 use stun_types::prelude::*;
 pub use text::Text;
 pub use tie_breaker::TieBreaker;
+pub use transmit_counter::TransactionTransmitCounter;
 pub use use_candidate::UseCandidate;
 pub use xored::XorAddress;
 

@@ -337,6 +337,9 @@ table! {
     ADDITIONAL_ADDRESS_FAMILY, "ADDITIONAL-ADDRESS-FAMILY (RFC 8656, section 18.11)":
         own_attribute(AdditionalAddressFamily);
 
+    ICMP, "ICMP (RFC 8656, section 18.13)":
+        own_attribute(Icmp);
+
     // TURN over TCP (RFC 6062) and with mobility (RFC 8016).
 
     /// CONNECTION-ID (RFC 6062, section 6.2.1): the number of a TCP connection between a TURN

@@ -296,6 +296,26 @@ fn reads_what_turn_writes() {
 }
 
 #[test]
+fn reads_what_icmp_reported() {
+    let icmp = Icmp::new(3, 4, 1280).unwrap();
+    let icmp = stands(icmp, 0x8004, &[0, 0, 6, 4, 0, 0, 5, 0]);
+    assert_eq!(
+        (icmp.icmp_type(), icmp.code(), icmp.error_data()),
+        (3, 4, 1280)
+    );
+    // The type has 7 bits and the code has 9. The first 16 bits are ignored.
+    let most = Icmp::new(127, 511, u32::MAX).unwrap();
+    let most = stands(most, 0x8004, &[0, 0, 255, 255, 255, 255, 255, 255]);
+    let raw = RawAttribute::new(Icmp::TYPE, &[0xFF; 8]);
+    assert_eq!(Icmp::from_raw(raw), Ok(most));
+    for (icmp_type, code) in [(128, 0), (0, 512), (255, 65535)] {
+        let refused = Icmp::new(icmp_type, code, 0);
+        assert_eq!(refused, Err(StunWriteError::NotAllowed));
+    }
+    refuses::<Icmp>(&[&[], &[0; 4], &[0; 7], &[0; 12]]);
+}
+
+#[test]
 fn reads_addresses_and_texts() {
     let ipv4 = "192.0.2.1:32853".parse().unwrap();
     let ipv6 = "[2001:db8:1234:5678:11:2233:4455:6677]:32853"

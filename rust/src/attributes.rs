@@ -337,6 +337,9 @@ table! {
     ADDITIONAL_ADDRESS_FAMILY, "ADDITIONAL-ADDRESS-FAMILY (RFC 8656, section 18.11)":
         own_attribute(AdditionalAddressFamily);
 
+    ADDRESS_ERROR_CODE, "ADDRESS-ERROR-CODE (RFC 8656, section 18.12)":
+        own_attribute(AddressErrorCode);
+
     ICMP, "ICMP (RFC 8656, section 18.13)":
         own_attribute(Icmp);
 

@@ -296,22 +296,37 @@ fn reads_what_turn_writes() {
 }
 
 #[test]
+fn reads_why_an_address_was_not_allocated() {
+    let full = AddressErrorCode::new(AddressFamily::Ipv6, 508, "full!").unwrap();
+    let full = stands(full, 0x8001, b"\x02\0\x05\x08full!");
+    assert_eq!((full.code(), full.reason()), (508, "full!"));
+    assert_eq!(full.family(), AddressFamily::Ipv6);
+    // The 13 bits after the family are ignored.
+    let raw = RawAttribute::new(AddressErrorCode::TYPE, &[1, 0xFF, 0xFC, 40]);
+    let lacks = AddressErrorCode::new(AddressFamily::Ipv4, 440, "");
+    assert_eq!(AddressErrorCode::from_raw(raw).ok(), lacks.ok());
+    let long = "x".repeat(764);
+    let refused = |code| AddressErrorCode::new(AddressFamily::Ipv4, code, &long).err();
+    assert_eq!(refused(299), Some(StunWriteError::NotAllowed));
+    assert_eq!(refused(700), Some(StunWriteError::NotAllowed));
+    assert_eq!(refused(440), Some(StunWriteError::TooLarge));
+    refuses::<AddressErrorCode>(&[&[], &[1, 0, 4], &[0, 0, 4, 40], &[3, 0, 4, 40]]);
+    refuses::<AddressErrorCode>(&[&[1, 0, 2, 40], &[1, 0, 7, 40], &[1, 0, 4, 100]]);
+    refuses::<AddressErrorCode>(&[&[1, 0, 4, 40, 0xFF]]);
+}
+
+#[test]
 fn reads_what_icmp_reported() {
     let icmp = Icmp::new(3, 4, 1280).unwrap();
     let icmp = stands(icmp, 0x8004, &[0, 0, 6, 4, 0, 0, 5, 0]);
-    assert_eq!(
-        (icmp.icmp_type(), icmp.code(), icmp.error_data()),
-        (3, 4, 1280)
-    );
+    assert_eq!((icmp.icmp_type(), icmp.code()), (3, 4));
+    assert_eq!(icmp.error_data(), 1280);
     // The type has 7 bits and the code has 9. The first 16 bits are ignored.
-    let most = Icmp::new(127, 511, u32::MAX).unwrap();
-    let most = stands(most, 0x8004, &[0, 0, 255, 255, 255, 255, 255, 255]);
+    let most = Icmp::new(127, 511, u32::MAX);
     let raw = RawAttribute::new(Icmp::TYPE, &[0xFF; 8]);
-    assert_eq!(Icmp::from_raw(raw), Ok(most));
-    for (icmp_type, code) in [(128, 0), (0, 512), (255, 65535)] {
-        let refused = Icmp::new(icmp_type, code, 0);
-        assert_eq!(refused, Err(StunWriteError::NotAllowed));
-    }
+    assert_eq!(Icmp::from_raw(raw).ok(), most.ok());
+    assert_eq!(Icmp::new(128, 0, 0), Err(StunWriteError::NotAllowed));
+    assert_eq!(Icmp::new(0, 512, 0), Err(StunWriteError::NotAllowed));
     refuses::<Icmp>(&[&[], &[0; 4], &[0; 7], &[0; 12]]);
 }
 

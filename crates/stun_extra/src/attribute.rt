@@ -1,7 +1,7 @@
 //! Further attributes: of STUN (RFC 8489, section 14), of ICE (RFC 8445, section 16.1), of TURN
 //! (RFC 8656, section 18; RFC 6062; RFC 8016), of third-party authorization (RFC 7635), of ECN (RFC
-//! 6679), of the transmissions of a transaction (RFC 7982), and of NAT behavior discovery (RFC 5780,
-//! section 7).
+//! 6679), of the transmissions of a transaction (RFC 7982), and of NAT behavior discovery (RFC
+//! 5780, section 7).
 //!
 //! Attributes whose values have the same form share a type, such as [`Number`], and are its aliases
 //! below. The others have a file each.
@@ -19,6 +19,7 @@ ghost use Rattle.stun_types.specs.Limits.{TEXT_LIMIT};
 
 mod additional_address_family;
 mod address;
+mod address_error_code;
 mod address_family;
 mod algorithm_list;
 mod bytes;
@@ -41,6 +42,7 @@ mod xored;
 
 pub use additional_address_family::AdditionalAddressFamily;
 pub use address::PlainAddress;
+pub use address_error_code::AddressErrorCode;
 pub use address_family::AddressFamily;
 pub use algorithm_list::{AlgorithmEntries, AlgorithmEntry, AlgorithmList};
 pub use bytes::Bytes;

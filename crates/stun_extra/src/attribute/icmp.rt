@@ -34,14 +34,16 @@ const CODES: u16 = 512;
 /// use seatcrane_stun::extra::attribute::Icmp;
 /// use seatcrane_stun::types::message::{Message, StunParseError};
 ///
-/// /// Returns the MTU of the next hop, if an IPv4 router has no other reason for its report.
+/// /// Returns the MTU of the next hop, if an IPv4 router reported that a datagram was too big.
 /// fn next_hop_mtu(indication: &Message<'_>) -> Result<Option<u32>, StunParseError> {
 ///     let icmp = indication.attribute::<Icmp>()?;
 ///     let too_big = icmp.icmp_type() == 3 && icmp.code() == 4;
 ///     Ok(too_big.then_some(icmp.error_data()))
 /// }
-/// # let indication = b"\0\x17\0\x0c\x21\x12\xa4\x42 any 12 byte\x80\x04\0\x08\0\0\x06\x04\0\0\x05\0";
-/// # assert_eq!(next_hop_mtu(&Message::from_bytes(indication).unwrap()), Ok(Some(1280)));
+/// # let indication = b"\0\x17\0\x0c\x21\x12\xa4\x42 any 12 byte\
+/// #                    \x80\x04\0\x08\0\0\x06\x04\0\0\x05\0";
+/// # let indication = Message::from_bytes(indication).unwrap();
+/// # assert_eq!(next_hop_mtu(&indication), Ok(Some(1280)));
 /// ```
 #[derive(Clone, Copy, Debug, PartialEq, Eq)]
 pub struct Icmp {

@@ -1,5 +1,5 @@
 //! TRANSACTION_TRANSMIT_COUNTER (RFC 7982, section 3.2).
-ghost use Rattle.std.specs.Prelude.{◌≡◌, ◌<◌, ◌^◌};
+ghost use Rattle.std.specs.Prelude.{◌≡◌};
 ghost use Rattle.stun_extra.specs.AttributeTypes.{TRANSACTION_TRANSMIT_COUNTER};
 ghost use Rattle.stun_extra.specs.TransmitCounter.{AreCounts, counts_of, counts_of-written};
 ghost use Rattle.stun_extra.specs.TransmitCounter.{counts_value};

@@ -280,6 +280,8 @@ typedef enum stunp_attribute_type {
     STUNP_DONT_FRAGMENT = 0x001a,
     STUNP_RESERVATION_TOKEN = 0x0022,
     STUNP_ADDITIONAL_ADDRESS_FAMILY = 0x8000,
+    STUNP_ADDRESS_ERROR_CODE = 0x8001,
+    STUNP_ICMP = 0x8004,
     /* ICE (RFC 8445, section 16.1) */
     STUNP_PRIORITY = 0x0024,
     STUNP_USE_CANDIDATE = 0x0025,
@@ -293,6 +295,8 @@ typedef enum stunp_attribute_type {
     STUNP_THIRD_PARTY_AUTHORIZATION = 0x802e,
     /* ECN (RFC 6679, section 7.2.2) */
     STUNP_ECN_CHECK = 0x802d,
+    /* round-trip times and packet loss (RFC 7982, section 3.2) */
+    STUNP_TRANSACTION_TRANSMIT_COUNTER = 0x8025,
     /* NAT behavior discovery (RFC 5780, section 7) */
     STUNP_CHANGE_REQUEST = 0x0003,
     STUNP_PADDING = 0x0026,

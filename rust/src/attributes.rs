@@ -337,6 +337,12 @@ table! {
     ADDITIONAL_ADDRESS_FAMILY, "ADDITIONAL-ADDRESS-FAMILY (RFC 8656, section 18.11)":
         own_attribute(AdditionalAddressFamily);
 
+    ADDRESS_ERROR_CODE, "ADDRESS-ERROR-CODE (RFC 8656, section 18.12)":
+        own_attribute(AddressErrorCode);
+
+    ICMP, "ICMP (RFC 8656, section 18.13)":
+        own_attribute(Icmp);
+
     // TURN over TCP (RFC 6062) and with mobility (RFC 8016).
 
     /// CONNECTION-ID (RFC 6062, section 6.2.1): the number of a TCP connection between a TURN
@@ -451,6 +457,9 @@ table! {
     /// ```
     ECN_CHECK, "ECN-CHECK (RFC 6679, section 7.2.2)":
         number_attribute(EcnCheck, number, bits: u32, "the 32 bits");
+
+    TRANSACTION_TRANSMIT_COUNTER, "TRANSACTION_TRANSMIT_COUNTER (RFC 7982, section 3.2)":
+        own_attribute(TransactionTransmitCounter);
 
     // NAT behavior discovery (RFC 5780, section 7).
 

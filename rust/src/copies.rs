@@ -1,5 +1,6 @@
 //! Copies of values whose memory the global allocator provides.
 
+use crate::exported::stun_extra::attribute::AddressErrorCode;
 use crate::exported::stun_types::attribute::{
     ErrorCode, MessageIntegritySha256, Nonce, PasswordAlgorithms, RawAttribute, Realm, Username,
 };
@@ -35,6 +36,7 @@ macro_rules! clone {
 
 // Only the copy of a key of more than 32 bytes allocates.
 clone!(
+    AddressErrorCode<'_>,
     ErrorCode<'_>,
     MessageAttributesIter<'_>,
     MessageIntegritySha256<'_>,

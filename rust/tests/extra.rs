@@ -1,5 +1,5 @@
 //! FINGERPRINT, unknown attributes and streams of messages, at the samples of RFC 5769. The values
-//! of further attributes are typed from RFC 8489, 8445, 8656, 5780, 6062, 7635 and 8016.
+//! of further attributes are typed from RFC 8489, 8445, 8656, 5780, 6062, 7635, 7982 and 8016.
 use seatcrane_stun::Instant;
 use seatcrane_stun::endpoint::{Body, Client, Output};
 use seatcrane_stun::extra::attribute::*;
@@ -296,6 +296,41 @@ fn reads_what_turn_writes() {
 }
 
 #[test]
+fn reads_why_an_address_was_not_allocated() {
+    let full = AddressErrorCode::new(AddressFamily::Ipv6, 508, "full!").unwrap();
+    let full = stands(full, 0x8001, b"\x02\0\x05\x08full!");
+    assert_eq!((full.code(), full.reason()), (508, "full!"));
+    assert_eq!(full.family(), AddressFamily::Ipv6);
+    // The 13 bits after the family are ignored.
+    let raw = RawAttribute::new(AddressErrorCode::TYPE, &[1, 0xFF, 0xFC, 40]);
+    let lacks = AddressErrorCode::new(AddressFamily::Ipv4, 440, "");
+    assert_eq!(AddressErrorCode::from_raw(raw).ok(), lacks.ok());
+    let long = "x".repeat(764);
+    let refused = |code| AddressErrorCode::new(AddressFamily::Ipv4, code, &long).err();
+    assert_eq!(refused(299), Some(StunWriteError::NotAllowed));
+    assert_eq!(refused(700), Some(StunWriteError::NotAllowed));
+    assert_eq!(refused(440), Some(StunWriteError::TooLarge));
+    refuses::<AddressErrorCode>(&[&[], &[1, 0, 4], &[0, 0, 4, 40], &[3, 0, 4, 40]]);
+    refuses::<AddressErrorCode>(&[&[1, 0, 2, 40], &[1, 0, 7, 40], &[1, 0, 4, 100]]);
+    refuses::<AddressErrorCode>(&[&[1, 0, 4, 40, 0xFF]]);
+}
+
+#[test]
+fn reads_what_icmp_reported() {
+    let icmp = Icmp::new(3, 4, 1280).unwrap();
+    let icmp = stands(icmp, 0x8004, &[0, 0, 6, 4, 0, 0, 5, 0]);
+    assert_eq!((icmp.icmp_type(), icmp.code()), (3, 4));
+    assert_eq!(icmp.error_data(), 1280);
+    // The type has 7 bits and the code has 9. The first 16 bits are ignored.
+    let most = Icmp::new(127, 511, u32::MAX);
+    let raw = RawAttribute::new(Icmp::TYPE, &[0xFF; 8]);
+    assert_eq!(Icmp::from_raw(raw).ok(), most.ok());
+    assert_eq!(Icmp::new(128, 0, 0), Err(StunWriteError::NotAllowed));
+    assert_eq!(Icmp::new(0, 512, 0), Err(StunWriteError::NotAllowed));
+    refuses::<Icmp>(&[&[], &[0; 4], &[0; 7], &[0; 12]]);
+}
+
+#[test]
 fn reads_addresses_and_texts() {
     let ipv4 = "192.0.2.1:32853".parse().unwrap();
     let ipv6 = "[2001:db8:1234:5678:11:2233:4455:6677]:32853"
@@ -425,6 +460,17 @@ fn reads_what_discovery_writes() {
         stands(Padding::new(&[1, 2, 3]), 0x0026, &[1, 2, 3]).padding(),
         &[1, 2, 3]
     );
+}
+
+#[test]
+fn reads_the_transmissions_of_a_transaction() {
+    let counter = TransactionTransmitCounter::new(7, 255);
+    let counter = stands(counter, 0x8025, &[0, 0, 7, 255]);
+    assert_eq!((counter.requests(), counter.responses()), (7, 255));
+    // The first 16 bits are ignored.
+    let raw = RawAttribute::new(TransactionTransmitCounter::TYPE, &[0xFF, 0xFF, 7, 255]);
+    assert_eq!(TransactionTransmitCounter::from_raw(raw), Ok(counter));
+    refuses::<TransactionTransmitCounter>(&[&[], &[7, 255], &[0; 3], &[0; 8]]);
 }
 
 /// A client asks for a long response (RFC 5780, section 7.6), and PADDING must be understood.

@@ -1,6 +1,7 @@
 -- The types of attributes: of STUN (RFC 8489, section 18.3), of ICE (RFC 8445, section 16.1), of
 -- TURN (RFC 8656, section 18; RFC 6062; RFC 8016), of third-party authorization (RFC 7635), of ECN
--- (RFC 6679), and of NAT behavior discovery (RFC 5780, section 7).
+-- (RFC 6679), of the transmissions of a transaction (RFC 7982), and of NAT behavior discovery (RFC
+-- 5780, section 7).
 use Rattle.std.specs.Prelude.{ℕ}
 
 -- MAPPED-ADDRESS (RFC 8489, section 14.1)
@@ -83,6 +84,14 @@ RESERVATION_TOKEN = 0x0022
 abbrev pub ADDITIONAL_ADDRESS_FAMILY : ℕ
 ADDITIONAL_ADDRESS_FAMILY = 0x8000
 
+-- ADDRESS-ERROR-CODE (RFC 8656, section 18.12)
+abbrev pub ADDRESS_ERROR_CODE : ℕ
+ADDRESS_ERROR_CODE = 0x8001
+
+-- ICMP (RFC 8656, section 18.13)
+abbrev pub ICMP : ℕ
+ICMP = 0x8004
+
 -- CONNECTION-ID (RFC 6062, section 6.2.1)
 abbrev pub CONNECTION_ID : ℕ
 CONNECTION_ID = 0x002A
@@ -102,6 +111,10 @@ THIRD_PARTY_AUTHORIZATION = 0x802E
 -- ECN-CHECK (RFC 6679, section 7.2.2)
 abbrev pub ECN_CHECK : ℕ
 ECN_CHECK = 0x802D
+
+-- TRANSACTION_TRANSMIT_COUNTER (RFC 7982, section 3.2)
+abbrev pub TRANSACTION_TRANSMIT_COUNTER : ℕ
+TRANSACTION_TRANSMIT_COUNTER = 0x8025
 
 -- CHANGE-REQUEST (RFC 5780, section 7.2)
 abbrev pub CHANGE_REQUEST : ℕ

@@ -23,6 +23,10 @@ pub mod Values
 pub mod Address
 -- the values of TURN's attributes (RFC 8656, section 18)
 pub mod Turn
+-- the values of ADDRESS-ERROR-CODE and ICMP (RFC 8656, sections 18.12 and 18.13)
+pub mod TurnErrors
+-- the value of TRANSACTION_TRANSMIT_COUNTER (RFC 7982, section 3.2)
+pub mod TransmitCounter
 -- the values of the attributes of NAT behavior discovery (RFC 5780, section 7)
 pub mod Discovery
 -- the methods of TURN (RFC 8656, section 17)

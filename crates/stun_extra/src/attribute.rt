@@ -1,6 +1,7 @@
 //! Further attributes: of STUN (RFC 8489, section 14), of ICE (RFC 8445, section 16.1), of TURN
 //! (RFC 8656, section 18; RFC 6062; RFC 8016), of third-party authorization (RFC 7635), of ECN (RFC
-//! 6679), and of NAT behavior discovery (RFC 5780, section 7).
+//! 6679), of the transmissions of a transaction (RFC 7982), and of NAT behavior discovery (RFC
+//! 5780, section 7).
 //!
 //! Attributes whose values have the same form share a type, such as [`Number`], and are its aliases
 //! below. The others have a file each.
@@ -18,6 +19,7 @@ ghost use Rattle.stun_types.specs.Limits.{TEXT_LIMIT};
 
 mod additional_address_family;
 mod address;
+mod address_error_code;
 mod address_family;
 mod algorithm_list;
 mod bytes;
@@ -25,6 +27,7 @@ mod change_request;
 mod channel_number;
 mod dont_fragment;
 mod even_port;
+mod icmp;
 mod number;
 mod requested_address_family;
 mod requested_transport;
@@ -32,12 +35,14 @@ mod reservation_token;
 mod response_port;
 mod text;
 mod tie_breaker;
+mod transmit_counter;
 mod use_candidate;
 mod value;
 mod xored;
 
 pub use additional_address_family::AdditionalAddressFamily;
 pub use address::PlainAddress;
+pub use address_error_code::AddressErrorCode;
 pub use address_family::AddressFamily;
 pub use algorithm_list::{AlgorithmEntries, AlgorithmEntry, AlgorithmList};
 pub use bytes::Bytes;
@@ -45,6 +50,7 @@ pub use change_request::ChangeRequest;
 pub use channel_number::ChannelNumber;
 pub use dont_fragment::DontFragment;
 pub use even_port::EvenPort;
+pub use icmp::Icmp;
 pub use number::Number;
 pub use requested_address_family::RequestedAddressFamily;
 pub use requested_transport::RequestedTransport;
@@ -56,6 +62,7 @@ use stun_types::limits::TEXT_LIMIT;
 use stun_types::prelude::*;
 pub use text::Text;
 pub use tie_breaker::TieBreaker;
+pub use transmit_counter::TransactionTransmitCounter;
 pub use use_candidate::UseCandidate;
 pub use xored::XorAddress;
 

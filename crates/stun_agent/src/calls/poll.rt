@@ -38,8 +38,8 @@ impl<A: Allocator + Copy> StunAgent<A> {
     /// the retransmission timers. Once a retransmission is due, `poll` does not wait: it returns
     /// `now`.
     ///
-    /// Does not allocate. However many requests are outstanding, this call reads at most one of them,
-    /// the one that it ends (`poll_counted`).
+    /// Asks the agent's allocator for nothing. However many requests are outstanding, this call
+    /// reads at most one of them, the one that it ends (`poll_counted`).
     pub fn poll(&mut self, now: Instant) -> StunAgentPollRet
         ensures answer { result ≡ poll_answer now self.old }
         ensures after { self.new ≡ after_poll now self.old }
@@ -79,9 +79,9 @@ impl<A: Allocator + Copy> StunAgent<A> {
         ensures path { result.1 ≤ most_reads }
     {
         let mut reads = Reads::<L>::new(blank);
-        let (over, until) = self.outstanding.find_over(now, &mut reads);
-        let Some((id, repeats)) = over else {
-            return (StunAgentPollRet::WaitUntil(until), reads);
+        let (id, repeats) = match self.outstanding.find_over(now, &mut reads) {
+            Ok(ended) => ended,
+            Err(until) => return (StunAgentPollRet::WaitUntil(until), reads),
         };
         let _ended = self.outstanding.remove(id);
         counting::count_end(&mut self.stats, repeats);
@@ -93,8 +93,7 @@ impl<A: Allocator + Copy> StunAgent<A> {
     }
 
     /// Returns the earliest time at which a request is due to be sent again or to end, if there is
-    /// any. Cancelled requests do not count, because they end at the next `poll`. Does not
-    /// allocate.
+    /// any. Canceled requests do not count, because they end at the next `poll`. Does not allocate.
     pub fn next_awaited(&self) -> Option<Instant>
         ensures least { result ≡ next_awaited self.now.transport self.now.transactions }
         ensures kept { AreKept self.now.transactions }
@@ -120,17 +119,7 @@ impl<A: Allocator + Copy> StunAgent<A> {
         let Ok(Some(id)) = self.pass_and_count(now, None) else {
             return None;
         };
-        let transport = self.outstanding.transport();
-        let from = self.local_addr;
-        let request = self.outstanding.get(id)?;
-        let to = request.to();
-        let data = request.bytes();
-        Some(Transmit {
-            data,
-            transport,
-            from,
-            to,
-        })
+        self.transmit_of(id)
     }
 
     /// Like `poll_transmit`, but fails with `NoRoom` if the bytes do not fit into `room`. The agent
@@ -153,19 +142,7 @@ impl<A: Allocator + Copy> StunAgent<A> {
         let Some(id) = self.pass_and_count(now, Some(room))? else {
             return Ok(None);
         };
-        let transport = self.outstanding.transport();
-        let from = self.local_addr;
-        let Some(request) = self.outstanding.get(id) else {
-            return Ok(None);
-        };
-        let to = request.to();
-        let data = request.bytes();
-        Ok(Some(Transmit {
-            data,
-            transport,
-            from,
-            to,
-        }))
+        Ok(self.transmit_of(id))
     }
 
     /// Returns what `poll_transmit` would return at this time, and leaves the agent unchanged.
@@ -177,6 +154,20 @@ impl<A: Allocator + Copy> StunAgent<A> {
             ≡ option_map (λ e. datagram_of self.now e.1) (sent_by_poll now self.now) }
     {
         let request = self.outstanding.next_sent(now, Uncounted::new())?;
+        Some(Transmit {
+            data: request.bytes(),
+            transport: self.outstanding.transport(),
+            from: self.local_addr,
+            to: request.to(),
+        })
+    }
+
+    /// Returns the bytes of the request with this transaction ID, and where to send them.
+    fn transmit_of(&self, id: TransactionId) -> Option<Transmit<&[u8]>>
+        ensures { option_map lent_datagram result
+            ≡ option_map (datagram_of self.now) (at id self.now.transactions) }
+    {
+        let request = self.outstanding.get(id)?;
         Some(Transmit {
             data: request.bytes(),
             transport: self.outstanding.transport(),

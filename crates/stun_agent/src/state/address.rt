@@ -4,7 +4,7 @@ ghost use Rattle.stun_base.specs.Address.{same_address};
 
 use std::net::SocketAddr;
 
-/// Whether two addresses are equal.
+/// Returns whether two addresses are equal.
 pub(crate) fn is_same(one: SocketAddr, other: SocketAddr) -> bool
     ensures { result ≡ same_address one other }
 {

@@ -32,7 +32,7 @@ impl Model for Awaited {
 }
 
 impl Awaited {
-    /// No request.
+    /// Creates the value for no requests.
     pub(crate) fn nothing() -> Self
         ensures { result ≡ nothing }
     {
@@ -45,7 +45,8 @@ impl Awaited {
         }
     }
 
-    /// A request that is sent again at this time, or would be if it were not silent.
+    /// Creates the value for a request whose slot is at this time: it is sent again then, unless its
+    /// retransmissions are canceled.
     pub(crate) fn slot_at(slot: Instant) -> Self
         ensures { result ≡ slot_at slot }
     {
@@ -58,7 +59,7 @@ impl Awaited {
         }
     }
 
-    /// A request that ends at this time, after its last wait.
+    /// Creates the value for a request that ends at this time, after its last wait.
     pub(crate) fn end_at(end: Instant) -> Self
         ensures { result ≡ end_at end }
     {
@@ -71,7 +72,7 @@ impl Awaited {
         }
     }
 
-    /// A canceled request, which ends at the next poll that reaches it.
+    /// Creates the value for a canceled request, which ends at the next poll that reaches it.
     pub(crate) fn cancelled() -> Self
         ensures { result ≡ cancelled_one }
     {
@@ -96,28 +97,29 @@ impl Awaited {
         }
     }
 
-    /// The earliest retransmission.
+    /// Returns the earliest slot: the time at which one of the requests is sent again, or would be
+    /// if its retransmissions were not canceled.
     pub(crate) fn slot(&self) -> Option<Instant>
         ensures { result ≡ self.now.slot }
     {
         if self.has_slot { Some(self.slot) } else { None }
     }
 
-    /// The earliest end.
+    /// Returns the earliest time at which one of the requests ends.
     pub(crate) fn end(&self) -> Option<Instant>
         ensures { result ≡ self.now.end }
     {
         if self.has_end { Some(self.end) } else { None }
     }
 
-    /// The earliest time.
+    /// Returns the earlier of the earliest slot and the earliest end.
     pub(crate) fn first(&self) -> Option<Instant>
         ensures { result ≡ first_awaited self.now }
     {
         earlier(self.slot(), self.end())
     }
 
-    /// What these requests and those await.
+    /// Joins two values: returns what the requests of both await.
     pub(crate) fn joined(&self, other: &Awaited) -> Self
         ensures { result ≡ joined self.now other.now }
     {
@@ -130,14 +132,14 @@ impl Awaited {
         }
     }
 
-    /// Whether a retransmission is due.
+    /// Returns whether the slot of one of the requests is due.
     pub(crate) fn is_due(&self, now: Instant) -> bool
         ensures { result ≡ some_due now self.now }
     {
         self.has_slot && self.slot <= now
     }
 
-    /// Whether a request is over.
+    /// Returns whether one of the requests is over.
     pub(crate) fn is_over(&self, now: Instant) -> bool
         ensures { result ≡ some_over now self.now }
     {
@@ -145,7 +147,7 @@ impl Awaited {
     }
 }
 
-/// The earlier of two times, each of which may be absent.
+/// Returns the earlier of two times, each of which may be absent.
 fn earlier(one: Option<Instant>, other: Option<Instant>) -> Option<Instant>
     ensures { result ≡ lesser one other }
 {
@@ -156,8 +158,8 @@ fn earlier(one: Option<Instant>, other: Option<Instant>) -> Option<Instant>
     }
 }
 
-/// The earlier of two times, each of which counts only if it is there. If neither does, the result
-/// is any time.
+/// Returns the earlier of two times, each of which counts only if it is there. If neither counts,
+/// the result is any time.
 fn earlier_of(is_there: bool, one: Instant, is_other_there: bool, other: Instant) -> Instant
     ensures { (if is_there || is_other_there then Some result else None)
         ≡ lesser (if is_there then Some one else None)

@@ -1,11 +1,11 @@
 //! The outstanding requests of an agent.
 ghost use Rattle.std.specs.Prelude.{◌≡◌, ◌+◌, ◌≤◌, ◌<◌, [], length, Some, None};
-ghost use Rattle.std.specs.Prelude.{IfSome, IsSomeAnd, IfOk, OnOk, OnErr, MatchOption};
+ghost use Rattle.std.specs.Prelude.{IfSome, IsSomeAnd, IfOk, OnOk, IfErr, OnErr};
 ghost use Rattle.std.specs.Option.{option_map, option_copied};
 ghost use Rattle.stun_agent.specs.Deadlines.{early_requests, most_reads};
 ghost use Rattle.stun_agent.specs.Transactions.{AreKept, at, with, without, with_change_at};
 ghost use Rattle.stun_agent.specs.Transactions.{first_over, wake_up, next_awaited};
-ghost use Rattle.stun_agent.specs.Transactions.{next_sent, after_slots, repeats, IsNamed};
+ghost use Rattle.stun_agent.specs.Transactions.{next_sent, after_slots, IsNamed};
 ghost use Rattle.stun_agent.specs.code.Transactions.{contents, id_and_repeats, changed_transaction};
 
 use crate::calls::poll::reads::{Reads, Uncounted};
@@ -24,7 +24,7 @@ use stun_base::instant::Instant;
 use stun_base::transaction_id::TransactionId;
 use stun_base::transport::TransportType;
 
-/// An agent is to be polled at least this often.
+/// The longest wait that `poll` returns, in seconds.
 const LONGEST_WAIT_SECONDS: u64 = 3600;
 
 /// The outstanding requests in a tree by their IDs, and the transport that carries them. A contract
@@ -69,7 +69,8 @@ impl<A: Allocator + Copy> Outstanding<A> {
         lookups::get(&self.root, 0, IDS, id)
     }
 
-    /// Stores a request at an ID that has none. If an allocation fails, nothing changes.
+    /// Stores a request whose ID has none. If an allocation fails, the requests stay as they were,
+    /// but forks that were made before the failure stay: up to 47 of them.
     pub(crate) fn insert(
         &mut self,
         alloc: A,
@@ -89,7 +90,7 @@ impl<A: Allocator + Copy> Outstanding<A> {
         insert(&mut self.root, 0, IDS, alloc, &awaited, leaf)
     }
 
-    /// Removes a request.
+    /// Removes the request with this ID.
     pub(crate) fn remove(&mut self, id: TransactionId) -> Option<Transaction<A>>
         ensures answer { result ≡ at id self.old.requests }
         ensures after { self.new ≡ record self.old { requests = without id self.old.requests } }
@@ -97,40 +98,30 @@ impl<A: Allocator + Copy> Outstanding<A> {
         remove(&mut self.root, 0, IDS, id)
     }
 
-    /// Returns the ID of the request that is to end, and whether it was still sent again; and when
-    /// to poll again, if none ends. Counts the entries that it reads.
+    /// Returns the ID of the request to end and whether it was still being retransmitted. If none
+    /// ends, returns the time of the next poll. Counts each entry that it reads.
     pub(crate) fn find_over<L: Ledger>(
         &self,
         now: Instant,
         reads: &mut Reads<L>,
-    ) -> (Option<(TransactionId, bool)>, Instant)
-        ensures over { result.0 ≡ option_map id_and_repeats
-            (first_over self.now.transport now self.now.requests) }
-        ensures until { first_over self.now.transport now self.now.requests ≡ None
-            → result.1 ≡ wake_up self.now.transport now self.now.requests }
+    ) -> Result<(TransactionId, bool), Instant>
+        ensures over { IfOk result (λ ended. Some ended ≡ option_map id_and_repeats
+            (first_over self.now.transport now self.now.requests)) }
+        ensures none { OnErr result
+            (first_over self.now.transport now self.now.requests ≡ None) }
+        ensures until { IfErr result (λ until. until
+            ≡ wake_up self.now.transport now self.now.requests) }
         ensures work { reads.new ≤ reads.old
             + early_requests self.now.transport now self.now.requests }
         ensures path { reads.new ≤ reads.old + most_reads }
     {
-        let ended = search::find_ended(&self.root, now, reads);
-        (self.with_repeats(ended), self.wake_up(now))
-    }
-
-    /// Pairs an ID with whether its request is still sent again.
-    fn with_repeats(&self, told: Option<TransactionId>) -> Option<(TransactionId, bool)>
-        ensures { MatchOption told (result ≡ None) (λ id. result
-            ≡ option_map (λ t. (id, repeats t.sending)) (at id self.now.requests)) }
-    {
-        match told {
-            Some(id) => {
-                let request = self.get(id)?;
-                Some((id, request.sending().repeats()))
-            }
-            None => None,
+        match search::find_ended(&self.root, now, reads) {
+            Some(ended) => Ok(ended),
+            None => Err(self.wake_up(now)),
         }
     }
 
-    /// When to poll again, if no request is over.
+    /// Returns the time of the next poll if no request is over.
     fn wake_up(&self, now: Instant) -> Instant
         ensures { first_over self.now.transport now self.now.requests ≡ None
             → result ≡ wake_up self.now.transport now self.now.requests }
@@ -143,7 +134,7 @@ impl<A: Allocator + Copy> Outstanding<A> {
         now.max(first)
     }
 
-    /// The next time that a request awaits. Canceled requests do not count.
+    /// Returns the next time that a request awaits. Canceled requests do not count.
     pub(crate) fn next_awaited(&self) -> Option<Instant>
         ensures least { result ≡ next_awaited self.now.transport self.now.requests }
         ensures kept { AreKept self.now.requests }
@@ -151,9 +142,9 @@ impl<A: Allocator + Copy> Outstanding<A> {
         self.root.awaited().first()
     }
 
-    /// Passes the timeouts (slots) that are due, by ascending IDs, up to that of a request to send
-    /// again. Returns its ID and how many bytes it has. If these do not fit into the room, it
-    /// fails, and nothing changes.
+    /// Advances requests whose slot is due, in order of their IDs, up to and including the first
+    /// one to retransmit. Returns the ID and the number of bytes of that request. If its bytes do
+    /// not fit into the room, the call fails, and nothing changes.
     pub(crate) fn pass_due_slots(
         &mut self,
         now: Instant,
@@ -206,7 +197,7 @@ impl<A: Allocator + Copy> Outstanding<A> {
         Ok(())
     }
 
-    /// The request that `pass_due_slots` would send again.
+    /// Returns the request that `pass_due_slots` would send again.
     pub(crate) fn next_sent(&self, now: Instant, leave: Uncounted) -> Option<&Transaction<A>>
         ensures { option_copied result ≡ option_map (λ e. e.1)
             (next_sent self.now.transport now self.now.requests) }

@@ -36,7 +36,7 @@ impl Model for Timeouts {
 }
 
 impl Timeouts {
-    /// The timeouts of these settings.
+    /// Creates the timeouts of these settings.
     pub(crate) fn of(settings: RequestRto) -> Self
         ensures { result ≡ settings_of settings }
     {
@@ -51,7 +51,7 @@ impl Timeouts {
         }
     }
 
-    /// The settings that have these timeouts.
+    /// Returns the settings that have these timeouts.
     pub(crate) fn settings(&self) -> RequestRto
         ensures { settings_of result ≡ self.now }
     {

@@ -44,7 +44,7 @@ impl Sending {
         matches!(&self, Sending::Cancelled)
     }
 
-    /// The state after its retransmissions are canceled.
+    /// Returns the state after the retransmissions are canceled.
     fn silenced(self) -> Sending
         ensures { result ≡ after_silence self }
     {
@@ -130,7 +130,7 @@ impl<A: Allocator> Transaction<A> {
         self.to
     }
 
-    /// Whether it was sent to this address.
+    /// Returns whether the request was sent to this address.
     pub(crate) fn went_to(&self, address: SocketAddr) -> bool
         ensures { result ≡ same_address address self.now.to }
     {
@@ -143,7 +143,7 @@ impl<A: Allocator> Transaction<A> {
         self.integrity
     }
 
-    /// The nanoseconds from sending it to this time, if no timeout has passed.
+    /// Returns the nanoseconds from sending the request to this time, if no timeout has passed.
     pub(crate) fn round_trip(&self, moment: Option<Instant>) -> Option<u64>
         ensures { result ≡ round_trip moment self.now }
     {
@@ -172,7 +172,7 @@ impl<A: Allocator> Transaction<A> {
         }
     }
 
-    /// Whether timeouts are left, each with a transmission at its end.
+    /// Returns whether timeouts are left, each with a slot at its end.
     fn has_slots(&self, transport: TransportType) -> bool
         ensures { result ≡ has_slots transport self.now }
     {
@@ -185,7 +185,7 @@ impl<A: Allocator> Transaction<A> {
         self.sending.is_cancelled()
     }
 
-    /// The time at which it is sent again, or ends.
+    /// Returns the time of the next slot, or of the end if no slot is left.
     pub(crate) fn awaited(&self, transport: TransportType) -> Instant
         ensures { result ≡ awaited_moment transport self.now }
     {
@@ -198,7 +198,7 @@ impl<A: Allocator> Transaction<A> {
         self.last + wait
     }
 
-    /// What it awaits.
+    /// Returns what the request awaits.
     pub(crate) fn awaited_by(&self, transport: TransportType) -> Awaited
         ensures { result ≡ awaited_by transport self.now }
     {
@@ -211,7 +211,7 @@ impl<A: Allocator> Transaction<A> {
         }
     }
 
-    /// How many bytes it has, if it is sent again.
+    /// Returns the number of bytes of the request, if it is still retransmitted.
     pub(crate) fn length_sent(&self) -> Option<usize>
         ensures { result ≡ length_sent self.now }
     {

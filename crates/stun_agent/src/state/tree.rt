@@ -1,12 +1,15 @@
 //! The outstanding requests in a tree by their IDs. Each link tells what the requests below it
 //! await, so a search for those that are due goes only where there are some.
 //!
-//! The fields of a `Leaf` are private to this module. A search sees the times of links, and only
-//! `read_entry`, which counts, returns the ID of a request. The modules below this one are
-//! for calls that have an ID already, or that send requests again.
+//! The fields of a `Leaf` are private to this module and to the modules below it. A search under
+//! `Reads` sees the times of links, and `read_entry`, which counts, is its only way to the ID of a
+//! request. The modules below this one are for calls that have an ID already, and for those that
+//! send requests again, which hold the permission `Uncounted`: `pass_slots` returns an ID without a
+//! count.
 ghost use Rattle.std.specs.Prelude.{◌≡◌, ◌+◌};
 ghost use Rattle.stun_base.specs.declared.wire.transport.TransportType.{TransportType};
 ghost use Rattle.stun_agent.specs.code.Awaited.{awaited_of};
+ghost use Rattle.stun_agent.specs.code.Transactions.{id_and_repeats};
 ghost use Rattle.stun_agent.specs.code.Tree.{items, half_items, fork_items, told, middle};
 ghost use Rattle.stun_agent.specs.code.Tree.{IsTimed, IsTimedHalf, IsTimedFork};
 
@@ -85,7 +88,7 @@ pub(crate) struct Half<A: Allocator> {
 }
 
 impl<A: Allocator> Link<A> {
-    /// Returns what the requests below it await. This does not count.
+    /// Returns what the requests below this link await, without a count.
     pub(crate) fn awaited(&self) -> Awaited
         ensures told { result ≡ told self.now }
         ensures timed { (transport : TransportType) → IsTimed transport self.now
@@ -119,23 +122,23 @@ impl<A: Allocator> Half<A> {
     }
 }
 
-/// Reads an entry: returns the ID of a request. A search has no other way to it, and each call
-/// counts once.
+/// Reads an entry: returns the ID of a request, and whether the request is still being
+/// retransmitted. A search under `Reads` has no other way to an ID, and each call counts once.
 pub(crate) fn read_entry<A: Allocator, L: Ledger>(
     leaf: &Leaf<A>,
     reads: &mut Reads<L>,
-) -> TransactionId
-    ensures id { result ≡ leaf.now.0 }
+) -> (TransactionId, bool)
+    ensures entry { result ≡ id_and_repeats leaf.now }
     ensures counts { reads.new ≡ reads.old + 1 }
 {
     reads.tick();
-    leaf.id
+    (leaf.id, leaf.request.sending().repeats())
 }
 
 /// All IDs are below this number.
 pub(crate) const IDS: u128 = 1 << 96;
 
-/// Where the greater half of the IDs from `low` to `high` begins.
+/// Returns the first ID of the upper half of the range from `low` up to, but not including, `high`.
 fn middle(low: u128, high: u128) -> u128
     ensures { result ≡ middle low high }
 {

@@ -1,4 +1,4 @@
-//! Changes requests in a tree: one that its user changes, and those whose timeouts pass.
+//! Changes requests in a tree: one that its user changes, and those whose slots are due.
 ghost use Rattle.std.specs.Prelude.{◌≡◌, ◌≤◌, ◌+◌, ℕ, length, true};
 ghost use Rattle.std.specs.Option.{option_map};
 ghost use Rattle.stun_agent.specs.Transactions.{with_change_at, next_sent, is_due, after_slot};
@@ -18,7 +18,7 @@ use stun_base::instant::Instant;
 use stun_base::transaction_id::TransactionId;
 use stun_base::transport::TransportType;
 
-/// Changes the request of an ID, if it is there. Does not allocate.
+/// Changes the request with this ID, if it is in the tree. Does not allocate.
 #[cycle(change)]
 pub(crate) fn change<A: Allocator>(
     link: &mut Link<A>,
@@ -47,7 +47,7 @@ pub(crate) fn change<A: Allocator>(
     }
 }
 
-/// As `change`, below a fork. Returns what the requests then await.
+/// Like `change`, but for the requests below a fork. Returns what they then await.
 #[cycle(change)]
 fn change_below<A: Allocator>(
     fork: &mut Fork<A>,
@@ -75,7 +75,7 @@ fn change_below<A: Allocator>(
     fork.awaited()
 }
 
-/// As `change`, of a half.
+/// Like `change`, but for the requests below a half of a fork.
 #[cycle(change)]
 fn change_in<A: Allocator>(
     half: &mut Half<A>,
@@ -109,8 +109,8 @@ impl<A: Allocator> Leaf<A> {
         self.request.awaited_by(transport)
     }
 
-    /// Passes the timeout that is due, and sets what the request then awaits. Returns its ID and
-    /// how many bytes it has, if it is sent again.
+    /// Passes the slot that is due, and sets what the request then awaits. If the request is still
+    /// retransmitted, returns its ID and the number of its bytes.
     fn pass_slot(
         &mut self,
         awaited: &mut Awaited,
@@ -130,8 +130,8 @@ impl<A: Allocator> Leaf<A> {
     }
 }
 
-/// Passes the timeouts (slots) that are due, by ascending IDs, up to that of a request to send
-/// again. Returns its ID and how many bytes it has.
+/// Advances requests whose slot is due, in order of their IDs, up to and including the first one to
+/// retransmit. Returns the ID and the number of bytes of that request.
 #[cycle(pass_slots)]
 pub(crate) fn pass_slots<A: Allocator>(
     link: &mut Link<A>,
@@ -165,7 +165,7 @@ pub(crate) fn pass_slots<A: Allocator>(
     }
 }
 
-/// As `pass_slots`, below a fork. Sets what its requests then await.
+/// Like `pass_slots`, but for the requests below a fork. Sets what they then await.
 #[cycle(pass_slots)]
 fn pass_slots_below<A: Allocator>(
     fork: &mut Fork<A>,
@@ -194,7 +194,7 @@ fn pass_slots_below<A: Allocator>(
     sent
 }
 
-/// As `pass_slots`, of a half.
+/// Like `pass_slots`, but for the requests below a half of a fork.
 #[cycle(pass_slots)]
 fn pass_slots_in<A: Allocator>(
     half: &mut Half<A>,

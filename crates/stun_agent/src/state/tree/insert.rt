@@ -12,7 +12,8 @@ use crate::state::tree::{Fork, Half, Leaf, Link, middle};
 use std::alloc::{AllocError, Allocator};
 use std::mem;
 
-/// Adds a request, of an ID that is not there. If an allocation fails, the requests are as before.
+/// Adds a request whose ID is not in the tree. If an allocation fails, the requests stay as they
+/// were, but forks that were made before the failure stay: up to 47 of them.
 #[cycle(insert)]
 pub(crate) fn insert<A: Allocator + Copy>(
     link: &mut Link<A>,
@@ -44,7 +45,7 @@ pub(crate) fn insert<A: Allocator + Copy>(
     }
 }
 
-/// As `insert`, below a fork.
+/// Like `insert`, but for a link that leads to a fork.
 #[cycle(insert)]
 fn insert_below<A: Allocator + Copy>(
     link: &mut Link<A>,
@@ -78,7 +79,7 @@ fn insert_below<A: Allocator + Copy>(
     Ok(())
 }
 
-/// As `insert`, into a half.
+/// Like `insert`, but for the requests below a half of a fork.
 #[cycle(insert)]
 fn insert_in<A: Allocator + Copy>(
     half: &mut Half<A>,
@@ -106,7 +107,7 @@ fn insert_in<A: Allocator + Copy>(
     }
 }
 
-/// Makes a fork of a leaf, so that another one has room beside it.
+/// Replaces a leaf by a fork that contains it, so that another leaf can be added.
 fn deepen<A: Allocator + Copy>(
     link: &mut Link<A>,
     low: u128,
@@ -134,7 +135,7 @@ fn deepen<A: Allocator + Copy>(
 }
 
 impl<A: Allocator> Fork<A> {
-    /// No request.
+    /// Creates a fork without requests.
     fn empty() -> Self {
         Fork {
             left: Half {
@@ -148,7 +149,8 @@ impl<A: Allocator> Fork<A> {
         }
     }
 
-    /// One request, in its half of the IDs from `low` to `high`.
+    /// Creates a fork with one request, which is put where its ID belongs in the range from `low`
+    /// up to `high`.
     fn of(low: u128, high: u128, awaited: Awaited, leaf: Box<Leaf<A>, A>) -> Self
         requires { IsPlaced low high leaf.value }
         ensures items { fork_items result ≡ leaf.value ∷ [] }
@@ -176,7 +178,8 @@ impl<A: Allocator> Fork<A> {
 }
 
 impl<A: Allocator> Half<A> {
-    /// One request, in its half of the IDs from `low` to `high`.
+    /// Creates a half of a fork with one request, which is put where its ID belongs in the range
+    /// from `low` up to `high`.
     fn of(low: u128, high: u128, awaited: Awaited, leaf: Box<Leaf<A>, A>) -> Self
         requires { IsPlaced low high leaf.value }
         ensures items { half_items result ≡ leaf.value ∷ [] }

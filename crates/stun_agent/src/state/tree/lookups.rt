@@ -1,4 +1,4 @@
-//! Finds requests in a tree: the one of an ID, and the one to send again.
+//! Finds requests in a tree: the one with an ID, and the one to send again.
 ghost use Rattle.std.specs.Prelude.{◌≡◌};
 ghost use Rattle.std.specs.Option.{option_map, option_copied};
 ghost use Rattle.stun_base.specs.declared.wire.transport.TransportType.{TransportType};
@@ -13,7 +13,7 @@ use std::alloc::Allocator;
 use stun_base::instant::Instant;
 use stun_base::transaction_id::TransactionId;
 
-/// Returns the request of an ID.
+/// Returns the request with this ID.
 #[cycle(get)]
 pub(crate) fn get<A: Allocator>(
     link: &Link<A>,
@@ -44,7 +44,7 @@ pub(crate) fn get<A: Allocator>(
     }
 }
 
-/// As `get`, of a half.
+/// Like `get`, but for the requests below a half of a fork.
 #[cycle(get)]
 fn get_in<A: Allocator>(
     half: &Half<A>,
@@ -63,7 +63,7 @@ fn get_in<A: Allocator>(
     }
 }
 
-/// Returns the request of the least ID among those that are due and sent again.
+/// Returns the request with the least ID among those that are due and still retransmitted.
 #[cycle(next_sent)]
 pub(crate) fn next_sent<A: Allocator>(
     link: &Link<A>,
@@ -98,7 +98,7 @@ pub(crate) fn next_sent<A: Allocator>(
     }
 }
 
-/// As `next_sent`, of a half.
+/// Like `next_sent`, but for the requests below a half of a fork.
 #[cycle(next_sent)]
 fn next_sent_in<A: Allocator>(
     half: &Half<A>,

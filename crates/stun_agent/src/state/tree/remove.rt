@@ -16,7 +16,7 @@ use std::alloc::Allocator;
 use std::mem;
 use stun_base::transaction_id::TransactionId;
 
-/// Removes the request of an ID, and the forks that it leaves with one request or none.
+/// Removes the request with this ID, and the forks above it that are left with one leaf or nothing.
 #[cycle(remove)]
 pub(crate) fn remove<A: Allocator>(
     link: &mut Link<A>,
@@ -51,7 +51,7 @@ pub(crate) fn remove<A: Allocator>(
     }
 }
 
-/// As `remove`, below a fork, which may be left with one request or none.
+/// Like `remove`, but for the requests below a fork, which may be left with one leaf or nothing.
 #[cycle(remove)]
 fn remove_below<A: Allocator>(
     fork: &mut Fork<A>,
@@ -75,7 +75,7 @@ fn remove_below<A: Allocator>(
     }
 }
 
-/// As `remove`, of a half.
+/// Like `remove`, but for the requests below a half of a fork.
 #[cycle(remove)]
 fn remove_in<A: Allocator>(
     half: &mut Half<A>,
@@ -114,7 +114,7 @@ fn take_leaf<A: Allocator>(link: &mut Link<A>) -> Option<Transaction<A>>
 }
 
 impl<A: Allocator> Link<A> {
-    /// Whether the request that it leads to has this ID.
+    /// Returns whether the request that this link leads to has this ID.
     fn is_of(&self, id: TransactionId) -> bool
         requires { IsLeaf self.now }
         ensures yes { result ≡ true → at id (items self.now) ≡ first_request (items self.now) }
@@ -129,7 +129,7 @@ impl<A: Allocator> Link<A> {
 }
 
 impl<A: Allocator> Fork<A> {
-    /// Takes out what is below this fork, if that is one request or none.
+    /// Takes out what is below this fork, if that is one leaf or nothing.
     fn take_lone(&mut self) -> Option<Link<A>>
         ensures none { MatchOption result (self.new ≡ self.old) (λ _. Unit {0}) }
         ensures items { IfSome result (λ link. items link ≡ fork_items self.old) }
@@ -146,7 +146,7 @@ impl<A: Allocator> Fork<A> {
         }
     }
 
-    /// As `take_lone`. If there are more requests, returns what they await.
+    /// Like `take_lone`, but otherwise returns what the requests below this fork await.
     fn collapse(&mut self) -> Result<Link<A>, Awaited>
         ensures items { IfOk result (λ link. items link ≡ fork_items self.old) }
         ensures lone { IfOk result IsLone }
@@ -174,7 +174,7 @@ impl<A: Allocator> Half<A> {
         }
     }
 
-    /// Takes out what is below this half, if that is one request or none.
+    /// Takes out what is below this half, if that is one leaf or nothing.
     fn take_lone(&mut self) -> Option<Link<A>>
         ensures none { MatchOption result (self.new ≡ self.old) (λ _. Unit {0}) }
         ensures items { IfSome result (λ link. items link ≡ half_items self.old) }

@@ -8,6 +8,10 @@ pub mod Fingerprint
 -- types that must be understood and are not known, and UNKNOWN-ATTRIBUTES (sections 6.3.1 and
 -- 14.13)
 pub mod Unknown
+-- ERROR-CODE, as an attribute to write (section 14.8)
+pub mod Errors
+-- Binding, the method of STUN itself (section 18.2)
+pub mod Binding
 -- PASSWORD-ALGORITHMS with every algorithm and its parameters (section 14.11)
 pub mod AlgorithmList
 -- law: a list that is written is read again
@@ -21,6 +25,8 @@ pub mod AttributeTypes
 pub mod Values
 -- addresses that are not XORed (RFC 8489, section 14.1)
 pub mod Address
+-- socket addresses, whose two spellings of IPv4 are one (RFC 4291, section 2.5.5.2)
+pub mod CanonicalAddress
 -- the values of TURN's attributes (RFC 8656, section 18)
 pub mod Turn
 -- the values of ADDRESS-ERROR-CODE and ICMP (RFC 8656, sections 18.12 and 18.13)

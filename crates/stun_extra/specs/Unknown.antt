@@ -1,6 +1,6 @@
 -- Types of attributes that must be understood and are not known (RFC 8489, sections 6.3.1 and
 -- 14.13).
-use Rattle.std.specs.Prelude.{◌≡◌, ◌<◌, ◌+◌, ◌*◌, ◌/◌, ◌%◌, ◌^◌, ℕ, Bool, List, []}
+use Rattle.std.specs.Prelude.{◌≡◌, ◌<◌, ◌+◌, ◌*◌, ◌/◌, ◌%◌, ◌^◌, ℕ, Bool, true, false, List, []}
 use Rattle.std.specs.Prelude.{◌∷◌, codes, filter, map, length, nat_lt, not, ◌==◌}
 use Rattle.std.specs.Prelude.{◌&&◌, ◌≢◌, ◌⊎◌, Option, Some, None, if◌then◌else◌}
 use Rattle.std.proofs.Common.{arith, refl}
@@ -49,6 +49,11 @@ types_of kinds = map (λ kind. record { 0 = kind }) kinds
 abbrev pub unknown_types : List AttributeType → List ℕ → List AttributeType
 unknown_types known bytes =
     types_of (without_repeats (filter (is_unknown known) (kinds_of (visible bytes))))
+
+-- whether a list has no types
+abbrev pub is_empty : List AttributeType → Bool
+is_empty [] = true
+is_empty (kind ∷ kinds) = false
 
 -- a message has a visible attribute that must be understood and is not known
 abbrev pub HasUnknown : List AttributeType → List ℕ → Type 0

@@ -3,6 +3,7 @@
 #![tactic(auto)]
 
 pub mod attribute;
+pub mod canonical_address;
 pub mod crc32;
 pub mod fingerprint;
 pub mod framing;

@@ -23,16 +23,17 @@ use Rattle.stun_types.specs.Integrity.{deciding, verified_algorithm, verified_at
 use Rattle.stun_types.specs.Message.{refusal}
 use Rattle.stun_types.specs.Walk.{Member}
 use Rattle.stun_types.specs.XorMappedAddress.{XoredAddress}
+use Rattle.stun_extra.specs.Binding.{is_binding}
+use Rattle.stun_extra.specs.CanonicalAddress.{is_same_address}
 use Rattle.stun_extra.specs.Fingerprint.{fingerprint_in}
-use Rattle.stun_extra.specs.Unknown.{unknown_types}
+use Rattle.stun_extra.specs.Unknown.{is_empty, unknown_types}
 use Rattle.stun_extra.specs.declared.fingerprint.Fingerprint.{Fingerprint}
 use Rattle.stun_extra.specs.declared.fingerprint.Fingerprint.TheVariants.{Right, Wrong}
 use Rattle.stun_extra.specs.declared.fingerprint.Fingerprint.TheVariants.{Misplaced, Absent}
-use Rattle.stun_ice.specs.Addresses.{is_same_address}
 use Rattle.stun_ice.specs.Agent.{Agent, SentCheck}
 use Rattle.stun_ice.specs.Checks.{Accepts, by_name, by_priority, by_role, by_signature}
 use Rattle.stun_ice.specs.Checks.{is_nominated, verdict_of}
-use Rattle.stun_ice.specs.Parts.{UNDERSTOOD, error_in, is_binding, is_empty, mapped_address_in}
+use Rattle.stun_ice.specs.Parts.{UNDERSTOOD, error_in, mapped_address_in}
 use Rattle.stun_ice.specs.Parts.{priority_in, rival, username_in}
 use Rattle.stun_ice.specs.Received.{by_class, by_fingerprint, by_response, judgement_of}
 use Rattle.stun_ice.specs.Received.{Given, given, given_of, no_message, of_indication}

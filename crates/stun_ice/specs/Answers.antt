@@ -2,15 +2,13 @@
 -- Each is an answer of this agent: signed under its own password, and with FINGERPRINT.
 use Rattle.std.specs.Prelude.{ℕ, List, Option, Some, None, codes}
 use Rattle.std.specs.declared.net.socket_addr.SocketAddr.{SocketAddr}
-use Rattle.stun_base.specs.Attributes.{ERROR_CODE}
 use Rattle.stun_base.specs.declared.keys.algorithm.IntegrityAlgorithm.{IntegrityAlgorithm}
 use Rattle.stun_base.specs.declared.wire.message_type.MessageClass.TheVariants.{Error, Success}
-use Rattle.stun_types.specs.Attribute.{TypedValue}
-use Rattle.stun_types.specs.ErrorCode.{error_value}
 use Rattle.stun_types.specs.Writing.{empty_answer, with_attribute, with_integrity}
+use Rattle.stun_extra.specs.CanonicalAddress.{mapped_address}
+use Rattle.stun_extra.specs.Errors.{error_code_attribute}
 use Rattle.stun_extra.specs.Fingerprint.{with_fingerprint}
 use Rattle.stun_extra.specs.Unknown.{refusing_answer}
-use Rattle.stun_ice.specs.Addresses.{mapped_address}
 use Rattle.stun_ice.specs.Agent.{Agent}
 use Rattle.stun_ice.specs.Parts.{UNDERSTOOD}
 use Rattle.stun_ice.specs.declared.checker.judging.Verdict.{Verdict}
@@ -28,15 +26,10 @@ with_signature a (Some algorithm) page = with_integrity page algorithm a.passwor
 abbrev pub with_end : Agent → Option IntegrityAlgorithm → List ℕ → List ℕ
 with_end a signature page = with_fingerprint (with_signature a signature page)
 
--- ERROR-CODE with a code and a reason phrase
-abbrev pub error_attribute : ℕ → List ℕ → TypedValue
-error_attribute code reason =
-    record { kind = ERROR_CODE; value = error_value (record { code = code; reason = reason }) }
-
 -- an error response to a request, with ERROR-CODE alone
 abbrev pub error_page : List ℕ → ℕ → List ℕ → List ℕ
 error_page request code reason =
-    with_attribute (empty_answer Error request) (error_attribute code reason)
+    with_attribute (empty_answer Error request) (error_code_attribute code reason)
 
 -- a success response to a request, with XOR-MAPPED-ADDRESS alone
 abbrev pub mapped_page : SocketAddr → List ℕ → List ℕ

@@ -10,10 +10,10 @@ use Rattle.stun_base.specs.declared.wire.message_type.MessageClass.TheVariants.{
 use Rattle.stun_types.specs.Integrity.{deciding, verified_algorithm}
 use Rattle.stun_types.specs.Message.{refusal}
 use Rattle.stun_extra.specs.Fingerprint.{fingerprint_in}
-use Rattle.stun_extra.specs.Unknown.{unknown_types}
+use Rattle.stun_extra.specs.Unknown.{is_empty, unknown_types}
 use Rattle.stun_extra.specs.declared.fingerprint.Fingerprint.TheVariants.{Right}
 use Rattle.stun_ice.specs.Agent.{Agent}
-use Rattle.stun_ice.specs.Parts.{UNDERSTOOD, has_use_candidate, is_empty, priority_in, rival}
+use Rattle.stun_ice.specs.Parts.{UNDERSTOOD, has_use_candidate, priority_in, rival}
 use Rattle.stun_ice.specs.Parts.{username_in}
 use Rattle.stun_ice.specs.Roles.{is_same_role, role_after_check}
 use Rattle.stun_ice.specs.declared.checker.judging.Acceptance.{Acceptance}

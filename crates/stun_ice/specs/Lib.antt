@@ -2,8 +2,6 @@
 
 -- the two roles, and how a conflict ends (RFC 8445, sections 7.2.5.1 and 7.3.1.1)
 pub mod Roles
--- addresses, whose two spellings of IPv4 are one
-pub mod Addresses
 -- an agent, and the checks that it sends (sections 5.3 and 7.2)
 pub mod Agent
 -- the codes of error responses

@@ -1,10 +1,8 @@
 -- What a check says (RFC 8445, section 7.1), and its answer. Of attributes of one type the first
 -- visible one counts, and a malformed one counts as absent.
-use Rattle.std.specs.Prelude.{ℕ, List, [], ◌∷◌, Bool, true, false, ◌==◌, Option}
+use Rattle.std.specs.Prelude.{ℕ, List, [], ◌∷◌, Bool, Option}
 use Rattle.std.specs.Option.{is_some, option_and_then, option_map}
 use Rattle.stun_base.specs.Attributes.{ERROR_CODE, USERNAME, XOR_MAPPED_ADDRESS}
-use Rattle.stun_base.specs.Header.{type_field}
-use Rattle.stun_base.specs.MessageType.{method_of}
 use Rattle.stun_base.specs.declared.wire.attribute_type.AttributeType.{AttributeType}
 use Rattle.stun_types.specs.ErrorCode.{CodeAndReason, error_of}
 use Rattle.stun_types.specs.Integrity.{first_of}
@@ -23,14 +21,6 @@ abbrev pub UNDERSTOOD : List AttributeType
 UNDERSTOOD =
     types_of (0x0006 ∷ 0x0024 ∷ 0x0008 ∷ 0x0025 ∷ 0x0020 ∷ 0x0009 ∷ 0x000A ∷ 0x001C ∷ 0x0001 ∷ 0x0014
     ∷ 0x0015 ∷ 0x001D ∷ 0x001E ∷ [])
-
-abbrev pub is_empty : List AttributeType → Bool
-is_empty [] = true
-is_empty (kind ∷ kinds) = false
-
--- the method of a Binding message (RFC 8489, section 18.2)
-abbrev pub is_binding : List ℕ → Bool
-is_binding bytes = method_of (type_field bytes) == 1
 
 -- the bytes of USERNAME
 abbrev pub username_in : List ℕ → Option (List ℕ)

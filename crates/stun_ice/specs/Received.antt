@@ -10,15 +10,16 @@ use Rattle.stun_base.specs.declared.wire.message_type.MessageClass.TheVariants.{
 use Rattle.stun_base.specs.declared.wire.message_type.MessageClass.TheVariants.{Indication}
 use Rattle.stun_base.specs.declared.wire.message_type.MessageClass.TheVariants.{Success, Error}
 use Rattle.stun_types.specs.Message.{refusal}
+use Rattle.stun_extra.specs.Binding.{is_binding}
 use Rattle.stun_extra.specs.Fingerprint.{fingerprint_in}
-use Rattle.stun_extra.specs.Unknown.{unknown_types}
+use Rattle.stun_extra.specs.Unknown.{is_empty, unknown_types}
 use Rattle.stun_extra.specs.declared.fingerprint.Fingerprint.{Fingerprint}
 use Rattle.stun_extra.specs.declared.fingerprint.Fingerprint.TheVariants.{Right, Wrong}
 use Rattle.stun_extra.specs.declared.fingerprint.Fingerprint.TheVariants.{Misplaced, Absent}
 use Rattle.stun_ice.specs.Agent.{Agent, SentCheck}
 use Rattle.stun_ice.specs.Answers.{answer_of}
 use Rattle.stun_ice.specs.Checks.{judged_of, role_of, verdict_of}
-use Rattle.stun_ice.specs.Parts.{UNDERSTOOD, is_binding, is_empty}
+use Rattle.stun_ice.specs.Parts.{UNDERSTOOD}
 use Rattle.stun_ice.specs.Responses.{is_answered, is_signed, of_path}
 use Rattle.stun_ice.specs.Roles.{opposite}
 use Rattle.stun_ice.specs.declared.checker.receiving.Judgement.{Judgement}

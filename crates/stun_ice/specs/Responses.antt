@@ -15,10 +15,10 @@ use Rattle.stun_types.specs.ErrorCode.{CodeAndReason}
 use Rattle.stun_types.specs.Integrity.{verified_algorithm}
 use Rattle.stun_types.specs.Message.{refusal}
 use Rattle.stun_types.specs.XorMappedAddress.{XoredAddress}
+use Rattle.stun_extra.specs.CanonicalAddress.{is_same_address}
 use Rattle.stun_extra.specs.Fingerprint.{fingerprint_in}
 use Rattle.stun_extra.specs.Unknown.{unknown_types}
 use Rattle.stun_extra.specs.declared.fingerprint.Fingerprint.TheVariants.{Right}
-use Rattle.stun_ice.specs.Addresses.{is_same_address}
 use Rattle.stun_ice.specs.Agent.{Agent, SentCheck}
 use Rattle.stun_ice.specs.Parts.{UNDERSTOOD, error_in, mapped_address_in}
 use Rattle.stun_ice.specs.Roles.{is_same_role}

@@ -2,7 +2,6 @@
 //! and 7.3).
 #![tactic(auto)]
 
-mod address;
 pub mod check;
 pub mod checker;
 pub mod laws;

@@ -5,10 +5,11 @@ ghost use Rattle.std.specs.Option.{is_some, option_copied};
 ghost use Rattle.std.specs.Prelude.{◌≡◌};
 ghost use Rattle.stun_base.specs.Attributes.{USERNAME};
 ghost use Rattle.stun_extra.specs.AttributeTypes.{USE_CANDIDATE as USE_CANDIDATE_TYPE};
-ghost use Rattle.stun_extra.specs.Unknown.{unknown_types};
+ghost use Rattle.stun_extra.specs.Binding.{is_binding};
+ghost use Rattle.stun_extra.specs.Unknown.{is_empty, unknown_types};
 ghost use Rattle.stun_types.specs.Integrity.{first_of};
 ghost use Rattle.stun_types.specs.Visible.{visible};
-ghost use Rattle.stun_ice.specs.Parts.{has_use_candidate, is_binding, is_empty, mapped_address_in};
+ghost use Rattle.stun_ice.specs.Parts.{has_use_candidate, mapped_address_in};
 ghost use Rattle.stun_ice.specs.Parts.{UNDERSTOOD as UNDERSTOOD_TYPES, priority_in, rival};
 ghost use Rattle.stun_ice.specs.Parts.{username_in};
 

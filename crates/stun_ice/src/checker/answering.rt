@@ -9,13 +9,13 @@ ghost use Rattle.stun_ice.specs.Answers.{refused_answer, success_answer, with_en
 ghost use Rattle.stun_ice.specs.Answers.{with_signature};
 ghost use Rattle.stun_ice.specs.Parts.{UNDERSTOOD as UNDERSTOOD_TYPES};
 
-use crate::address::mapped_address;
 use crate::checker::Checker;
 use crate::checker::judging::Verdict;
 use crate::parts::UNDERSTOOD;
 use crate::received::Refusal;
 use std::alloc::Allocator;
 use std::net::SocketAddr;
+use stun_extra::canonical_address::mapped_address;
 use stun_extra::fingerprint::finish_with_fingerprint;
 use stun_extra::unknown::answer_unknown;
 use stun_types::attribute::{AttributeType, ErrorCode};

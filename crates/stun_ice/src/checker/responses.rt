@@ -8,13 +8,13 @@ ghost use Rattle.stun_ice.specs.Parts.{error_in};
 ghost use Rattle.stun_ice.specs.Responses.{of_error, of_path, of_response, of_success, of_unknown};
 ghost use Rattle.stun_ice.specs.Responses.{is_answered, is_signed};
 
-use crate::address::is_same_address;
 use crate::check::Check;
 use crate::checker::Checker;
 use crate::parts::{UNDERSTOOD, mapped_address_in};
 use crate::received::{Failure, Mapped, Outcome};
 use std::alloc::Allocator;
 use std::net::SocketAddr;
+use stun_extra::canonical_address::is_same_address;
 use stun_extra::unknown::unknown_types;
 use stun_types::attribute::ErrorCode;
 use stun_types::message::{IntegrityAlgorithm, Message, MessageClass};

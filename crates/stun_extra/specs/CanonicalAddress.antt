@@ -1,4 +1,4 @@
--- Addresses, whose two spellings of IPv4 are one.
+-- Socket addresses, whose two spellings of IPv4 are one (RFC 4291, section 2.5.5.2).
 use Rattle.std.specs.Prelude.{ℕ, List, [], ◌∷◌, ◌++◌, Bool, ◌&&◌, ◌==◌, take}
 use Rattle.std.specs.Prelude.{if◌then◌else◌}
 use Rattle.std.specs.Net.Addr.{ipv4_octets, ipv6_octets, ipv6_segments, low_octets}
@@ -40,7 +40,7 @@ xored_canonical (V6 ip) port id =
     else
     record { family = 2; port = xor_port port; octets = xor_bytes (ipv6_octets ip) (xor_key id) }
 
--- the address that a check came from
+-- XOR-MAPPED-ADDRESS with the address that a request came from (RFC 8489, section 14.2)
 abbrev pub mapped_address : SocketAddr → List ℕ → TypedValue
 mapped_address from request = record {
   kind = XOR_MAPPED_ADDRESS;

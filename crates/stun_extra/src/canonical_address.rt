@@ -1,0 +1,46 @@
+//! Socket addresses, whose two spellings of IPv4 are one (RFC 4291, section 2.5.5.2): `a.b.c.d` and
+//! `::ffff:a.b.c.d` are the same address.
+ghost use Rattle.std.specs.Net.Socket.{socket_ip, socket_port};
+ghost use Rattle.std.specs.Prelude.{◌≡◌};
+ghost use Rattle.stun_extra.specs.CanonicalAddress.{address_octets, is_same_address};
+ghost use Rattle.stun_extra.specs.CanonicalAddress.{xored_canonical};
+
+use std::net::{IpAddr, Ipv4Addr, SocketAddr};
+use stun_base::transaction_id::TransactionId;
+use stun_types::attribute::XorMappedAddress;
+
+/// Returns the sixteen octets of an address: those of an IPv4 address as IPv6 maps it.
+pub fn address_octets(ip: IpAddr) -> [u8; 16]
+    ensures { result ≡ address_octets ip }
+{
+    match ip {
+        IpAddr::V4(ip) => mapped_octets(ip),
+        IpAddr::V6(ip) => ip.octets(),
+    }
+}
+
+/// Returns the octets of `::ffff:a.b.c.d`.
+fn mapped_octets(ip: Ipv4Addr) -> [u8; 16]
+    ensures { result ≡ address_octets (IpAddr.V4 ip) }
+{
+    let [a, b, c, d] = ip.octets();
+    [0, 0, 0, 0, 0, 0, 0, 0, 0, 0, 255, 255, a, b, c, d]
+}
+
+/// Returns `true` if two socket addresses have the same address and the same port. The flow label
+/// and the scope of an IPv6 address are not compared.
+pub fn is_same_address(one: SocketAddr, other: SocketAddr) -> bool
+    ensures { result ≡ is_same_address one other }
+{
+    one.port() == other.port() && address_octets(one.ip()) == address_octets(other.ip())
+}
+
+/// Returns XOR-MAPPED-ADDRESS with the address that a request came from, for the response to the
+/// request with this transaction ID (RFC 8489, section 14.2). An IPv4 address is written as IPv4 in
+/// either spelling.
+pub fn mapped_address(from: SocketAddr, id: TransactionId) -> XorMappedAddress
+    ensures { result ≡ xored_canonical (socket_ip from) (socket_port from) id }
+{
+    let ip = from.ip().to_canonical();
+    XorMappedAddress::new(SocketAddr::new(ip, from.port()), id)
+}

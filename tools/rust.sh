@@ -4,9 +4,11 @@
 # crates from vendor/ if that is there, as in the release of the sources, or else those of Debian if
 # they are installed (or can be, by root): then it needs no network. --build exports and builds, and
 # tests nothing; --export only exports, and installs nothing; --can only tests, by its status, whether
-# all that it needs is installed, the crates included.
+# all that it needs is installed, the crates included. Nothing but the test of the feature `asm` needs
+# a C compiler.
 set -eu
 cd "$(dirname "$0")/.."
+. tools/compiler.sh
 out=target/export
 packages="librust-getrandom-dev librust-md-5-dev librust-sha1-dev librust-sha2-dev librust-tracing-dev"
 
@@ -63,7 +65,7 @@ python3 tests/export/same_tokens.py "$out"
 cd "$out"
 export RUSTFLAGS="-D warnings" RUSTDOCFLAGS="-D warnings"
 if cargo clippy --version > /dev/null 2>&1; then
-    cargo clippy --quiet --workspace --all-targets --all-features
+    cargo clippy --quiet --workspace --all-targets --features tracing
     cargo clippy --quiet --no-default-features
     python3 ../../tests/export/argued.py .
 else
@@ -71,7 +73,13 @@ else
 fi
 cargo doc --quiet --no-deps
 # The tests of the calls for C are in C (rust_c.sh).
-cargo test --quiet --workspace --exclude seatcrane-stun-c --all-features
+cargo test --quiet --workspace --exclude seatcrane-stun-c --features tracing
+# The feature `asm` has no code of the crate, so the tests of digests are enough.
+if there "${CC-}" cc; then
+    cargo test --quiet --features asm --test rfc5769 --test long_term
+else
+    echo "No C compiler is there: the feature asm is left out." >&2
+fi
 cargo build --quiet --package seatcrane-checks
 target/debug/transcripts ../../tests/transcripts/*.txt
 python3 ../../tests/programs/tool/check.py --exported target/debug/stun_tool

@@ -22,7 +22,7 @@ LINTS = ["unwrap_used", "expect_used", "panic", "unreachable", "todo", "unimplem
 def places(out):
     """The file and the line of each place, and its lint."""
     command = ["cargo", "clippy", "--offline", "--quiet", "--package", "seatcrane-stun", "--lib",
-               "--all-features", "--message-format=json", "--",
+               "--features", "tracing", "--message-format=json", "--",
                *(word for lint in LINTS for word in ("-W", f"clippy::{lint}"))]
     # (clippy tells nothing of what it looked at before)
     (out / "src/lib.rs").touch()

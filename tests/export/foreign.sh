@@ -40,7 +40,7 @@ passes() {
     rm -rf "$data" && cp -r tests/transcripts "$data"
     case $1 in i686 | armv7) sed -i '/^attribute takes 18446744073709551615 /d' "$data"/*.txt ;; esac
     cd target/export
-    cargo test --quiet --workspace --exclude seatcrane-stun-c --all-features --lib --tests \
+    cargo test --quiet --workspace --exclude seatcrane-stun-c --features tracing --lib --tests \
         --target "$2"
     cargo build --quiet --package seatcrane-checks --target "$2"
     $qemu "$CARGO_TARGET_DIR/$2/debug/transcripts" "$data"/*.txt

@@ -17,7 +17,7 @@ export LD_LIBRARY_PATH="$libraries${LD_LIBRARY_PATH:+:$LD_LIBRARY_PATH}"
 "$RUSTC" --version | grep -q "^rustc $least\."
 cd target/export
 # Warnings are those of a newer compiler (rust.sh), and tests of pages are run by that.
-cargo test --quiet --workspace --exclude seatcrane-stun-c --all-features --lib --bins --tests \
+cargo test --quiet --workspace --exclude seatcrane-stun-c --features tracing --lib --bins --tests \
     --examples >"$CARGO_TARGET_DIR.log" 2>&1 || { cat "$CARGO_TARGET_DIR.log" >&2; exit 1; }
 cargo build --quiet --no-default-features
 cargo build --quiet --package seatcrane-stun-c --package seatcrane-checks

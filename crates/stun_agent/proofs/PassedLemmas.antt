@@ -1,5 +1,5 @@
--- Due timeouts pass up to the request that is found, if it has room, and in its part of the requests
--- alone.
+-- Due timeouts pass up to the request that is found, if it has room, and in its part of the
+-- requests alone.
 use Rattle.std.proofs.Common.{ℕ, ◌≡◌, ◌<◌, ◌≤◌, arith, Bool, true, false, not}
 use Rattle.std.proofs.Common.{◌&&◌, cond, length}
 use Rattle.std.proofs.Common.{List, [], ◌∷◌, ◌++◌, subst, ap, ap₂, sym, refl, ◌∙◌}
@@ -210,7 +210,8 @@ module _ (transport : TransportType) (now : ℕ) (room : Option ℕ) where
       where
         by : (found : Option (ℕ × Transaction)) → next_sent transport now es ≡ found
             → ◌≡◌ {A = Option (ℕ × ℕ)} (Some s) (option_map id_and_length found)
-            → new ≡ after_slots transport now (option_map (λ e. e.0) (next_sent transport now es)) es
+            → new
+            ≡ after_slots transport now (option_map (λ e. e.0) (next_sent transport now es)) es
         by None is sent = cc
         by (Some e) is sent =
             let has : has_room room (length e.1.bytes) ≡ true =
@@ -239,7 +240,8 @@ module _ (transport : TransportType) (now : ℕ) (room : Option ℕ) where
             (λ (x : ℕ × Transaction). is_due transport now x.1 && repeats x.1.sending) xs e before
             some in
             let passes = sym (passes_first transport now xs ys e.0
-            (all_weaker _ _ (λ y from. let le : m ≤ y.0 = from in omega (arith, less, le)) ys later)) in
+            (all_weaker _ _ (λ y from. let le : m ≤ y.0 = from in omega (arith, less, le)) ys
+            later)) in
             ap (λ l. l ++ ys) (is ∙ ap (λ o. within o xs) some)
             ∙ choice-append (has_room room (length e.1.bytes)) _ _ xs ys passes
             ∙ sym (ap (λ o. within o (xs ++ ys)) (next-append xs ys (Some e) some))
@@ -282,7 +284,8 @@ module _ (transport : TransportType) (now : ℕ) (room : Option ℕ) where
                 (is-second ∙ ap (λ o. within o ys) is
                 ∙ ap (λ b. cond b (after_slots transport now (Some e.0) ys) ys) lacks)
                 ∙ sym (ap (λ o. within o (xs ++ ys)) (next-second (Some e) is)
-                ∙ ap (λ b. cond b (after_slots transport now (Some e.0) (xs ++ ys)) (xs ++ ys)) lacks)
+                ∙ ap (λ b. cond b (after_slots transport now (Some e.0) (xs ++ ys)) (xs ++ ys))
+                lacks)
 
         -- it has room, so all that are due in the first part have passed
         pub sent_in_second : has_room room s.1 ≡ true → (passed : Transactions)

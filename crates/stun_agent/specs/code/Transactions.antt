@@ -39,7 +39,8 @@ abbrev pub after_slots_within : TransportType → ℕ → Option ℕ → Option 
     → Transactions → Transactions
 after_slots_within transport now room found all =
     option_map_or
-    (λ e. if has_room room (length e.1.bytes) then after_slots transport now (Some e.0) all else all)
+    (λ e. if has_room room (length e.1.bytes) then after_slots transport now (Some e.0) all
+    else all)
     found all
 
 -- what is returned of one that ends: its id, and whether it was still sent again

@@ -1,18 +1,18 @@
--- Where a link tells of none that is due, nothing changes. Else timeouts pass in the first half, and
--- in the second one if none of the first is sent.
+-- Where a link tells of none that is due, nothing changes. Else the search goes to the first half,
+-- and to the second one if it finds none there. All that are due in the first half then pass, if
+-- what it found has room.
 use Rattle.std.proofs.Common.{ℕ, length, arith, ◌≡◌, true, false, [], ◌∷◌, ap, sym, subst, ◌∙◌}
 use Rattle.std.specs.Prelude.{◌&&◌, Some, None}
 use Rattle.std.specs.Option.{option_map, option_map_or}
 use Rattle.stun_agent.specs.Transactions.{Transaction, is_due, repeats}
 use Rattle.stun_agent.specs.code.Awaited.{some_due}
+use Rattle.stun_agent.specs.code.Transactions.{after_slots_within, has_room, length_sent}
 use Rattle.stun_agent.specs.code.Tree.{items, half_items, fork_items, middle}
 use Rattle.stun_agent.specs.code.Tree.{IsOrdered, IsTimed, IsPlaced}
 use Rattle.stun_agent.proofs.FoundLemmas.{found_first, found_second}
-use Rattle.stun_agent.specs.code.Transactions.{after_slots_within, has_room, length_sent}
-use Rattle.stun_agent.proofs.PassedLemmas.{none_due-next, id_and_length, leaf_searched, placed_choice}
-use Rattle.stun_agent.proofs.PassedLemmas.{due_one}
-use Rattle.stun_agent.proofs.PassedLemmas.{found_in_first, found_in_none, refused_in_second}
-use Rattle.stun_agent.proofs.PassedLemmas.{sent_in_second}
+use Rattle.stun_agent.proofs.PassedLemmas.{none_due-next, due_one, id_and_length, leaf_searched}
+use Rattle.stun_agent.proofs.PassedLemmas.{placed_choice, found_in_first, found_in_none}
+use Rattle.stun_agent.proofs.PassedLemmas.{refused_in_second, sent_in_second}
 use Rattle.stun_agent.proofs.TreeLemmas.{placed, placed_half, middle_within, are_below, are_from}
 use Rattle.stun_agent.proofs.state.tree.change.+pass_slots.Goals as goal
 
@@ -71,160 +71,182 @@ pass_slots-returns-else-not-is_due-2-clause-after g t c low high ordered =
 
 pub pass_slots_in-returns-in-Some-clause-sent : goal.pass_slots_in-returns-in-Some-clause-sent
 pass_slots_in-returns-in-Some-clause-sent g t c =
+    let half = c.args.half.now in
     found_first id_and_length
-    (λ e. is_due c.args.transport c.args.now e.1 && repeats e.1.sending) (items c.args.half.now.left) (items c.args.half.now.right)
-    c.in-Some.found c.in-Some.ensures.sent
+    (λ e. is_due c.args.transport c.args.now e.1 && repeats e.1.sending) (items half.left)
+    (items half.right) c.in-Some.found c.in-Some.ensures.sent
 
 pub pass_slots_in-returns-in-Some-clause-after : goal.pass_slots_in-returns-in-Some-clause-after
 pass_slots_in-returns-in-Some-clause-after g t c low high le ordered =
+    let half = c.args.half.now in
     let mid = middle_within low high le in
-    found_in_first c.args.transport c.args.now c.args.room (middle low high) (items c.args.half.now.left) (items c.args.half.now.right)
-    (are_below low (middle low high) (items c.args.half.now.left)
-    (placed low (middle low high) c.args.half.now.left mid.0 ordered.0)) (are_from (middle low high) high (items c.args.half.now.right)
-    (placed (middle low high) high c.args.half.now.right mid.1 ordered.1))
-    c.in-Some.found c.in-Some.ensures.sent _ (c.in-Some.ensures.after low (middle low high) ordered.0)
+    found_in_first c.args.transport c.args.now c.args.room (middle low high) (items half.left)
+    (items half.right)
+    (are_below low (middle low high) (items half.left)
+    (placed low (middle low high) half.left mid.0 ordered.0))
+    (are_from (middle low high) high (items half.right)
+    (placed (middle low high) high half.right mid.1 ordered.1)) c.in-Some.found
+    c.in-Some.ensures.sent _ (c.in-Some.ensures.after low (middle low high) ordered.0)
 
 pub pass_slots_in-returns-in_err-id-clause-sent : goal.pass_slots_in-returns-in_err-id-clause-sent
 pass_slots_in-returns-in_err-id-clause-sent g t c =
+    let half = c.args.half.now in
     c.from_residual.ensures
     ∙ found_second id_and_length
-    (λ e. is_due c.args.transport c.args.now e.1 && repeats e.1.sending) (items c.args.half.now.left) (items c.args.half.now.right)
-    None c.in_default.ensures.sent c.in_err-id.ensures.sent
+    (λ e. is_due c.args.transport c.args.now e.1 && repeats e.1.sending) (items half.left)
+    (items half.right) None c.in_default.ensures.sent
+    c.in_err-id.ensures.sent
 
-pub pass_slots_in-returns-in_err-id-clause-after : goal.pass_slots_in-returns-in_err-id-clause-after
+pub pass_slots_in-returns-in_err-id-clause-after :
+    goal.pass_slots_in-returns-in_err-id-clause-after
 pass_slots_in-returns-in_err-id-clause-after g t c low high le ordered =
+    let half = c.args.half.now in
     let mid = middle_within low high le in
-    found_in_none c.args.transport c.args.now c.args.room (middle low high) (items c.args.half.now.left)
-    (items c.args.half.now.right)
-    (are_below low (middle low high) (items c.args.half.now.left)
-    (placed low (middle low high) c.args.half.now.left mid.0 ordered.0))
-    (are_from (middle low high) high (items c.args.half.now.right)
-    (placed (middle low high) high c.args.half.now.right mid.1 ordered.1))
-    c.in_default.ensures.sent _ _
-    (c.in_default.ensures.after low (middle low high) ordered.0)
+    found_in_none c.args.transport c.args.now c.args.room (middle low high) (items half.left)
+    (items half.right)
+    (are_below low (middle low high) (items half.left)
+    (placed low (middle low high) half.left mid.0 ordered.0))
+    (are_from (middle low high) high (items half.right)
+    (placed (middle low high) high half.right mid.1 ordered.1))
+    c.in_default.ensures.sent _ _ (c.in_default.ensures.after low (middle low high) ordered.0)
     (c.in_err-id.ensures.after (middle low high) high ordered.1)
     c.in_err-id.ensures.sent
 
 pub pass_slots_in-returns-then-not-fits-clause-sent :
     goal.pass_slots_in-returns-then-not-fits-clause-sent
 pass_slots_in-returns-then-not-fits-clause-sent g t c =
+    let half = c.args.half.now in
     found_second id_and_length
-    (λ e. is_due c.args.transport c.args.now e.1 && repeats e.1.sending) (items c.args.half.now.left) (items c.args.half.now.right)
-    (Some (c.in_ok-id.id, c.in_ok-id.length)) c.in_default.ensures.sent c.in_ok-id.ensures.sent
+    (λ e. is_due c.args.transport c.args.now e.1 && repeats e.1.sending) (items half.left)
+    (items half.right) (Some (c.in_ok-id.id, c.in_ok-id.length))
+    c.in_default.ensures.sent c.in_ok-id.ensures.sent
 
 pub pass_slots_in-returns-then-not-fits-clause-after :
     goal.pass_slots_in-returns-then-not-fits-clause-after
 pass_slots_in-returns-then-not-fits-clause-after g t c low high le ordered =
+    let half = c.args.half.now in
     let mid = middle_within low high le in
-    refused_in_second c.args.transport c.args.now c.args.room (middle low high) (items c.args.half.now.left)
-    (items c.args.half.now.right)
-    (are_below low (middle low high) (items c.args.half.now.left)
-    (placed low (middle low high) c.args.half.now.left mid.0 ordered.0))
-    (are_from (middle low high) high (items c.args.half.now.right)
-    (placed (middle low high) high c.args.half.now.right mid.1 ordered.1))
-    c.in_default.ensures.sent _ _
-    (c.in_default.ensures.after low (middle low high) ordered.0)
+    refused_in_second c.args.transport c.args.now c.args.room (middle low high) (items half.left)
+    (items half.right)
+    (are_below low (middle low high) (items half.left)
+    (placed low (middle low high) half.left mid.0 ordered.0))
+    (are_from (middle low high) high (items half.right)
+    (placed (middle low high) high half.right mid.1 ordered.1))
+    c.in_default.ensures.sent _ _ (c.in_default.ensures.after low (middle low high) ordered.0)
     (c.in_ok-id.ensures.after (middle low high) high ordered.1)
     (c.in_ok-id.id, c.in_ok-id.length) c.in_ok-id.ensures.sent
     (sym c.fits.ensures ∙ c.if-not-fits.true)
 
 pub pass_slots_in-returns-clause-sent : goal.pass_slots_in-returns-clause-sent
 pass_slots_in-returns-clause-sent g t c =
+    let half = c.args.half.now in
     found_second id_and_length
-    (λ e. is_due c.args.transport c.args.now e.1 && repeats e.1.sending) (items c.args.half.now.left) (items c.args.half.now.right)
-    (Some (c.in_ok-id.id, c.in_ok-id.length)) c.in_default.ensures.sent c.in_ok-id.ensures.sent
+    (λ e. is_due c.args.transport c.args.now e.1 && repeats e.1.sending) (items half.left)
+    (items half.right) (Some (c.in_ok-id.id, c.in_ok-id.length))
+    c.in_default.ensures.sent c.in_ok-id.ensures.sent
 
 pub pass_slots_in-returns-clause-after : goal.pass_slots_in-returns-clause-after
 pass_slots_in-returns-clause-after g t c low high le ordered =
+    let half = c.args.half.now in
     let mid = middle_within low high le in
-    sent_in_second c.args.transport c.args.now c.args.room (middle low high) (items c.args.half.now.left)
-    (items c.args.half.now.right)
-    (are_below low (middle low high) (items c.args.half.now.left)
-    (placed low (middle low high) c.args.half.now.left mid.0 ordered.0))
-    (are_from (middle low high) high (items c.args.half.now.right)
-    (placed (middle low high) high c.args.half.now.right mid.1 ordered.1))
-    c.in_default.ensures.sent _ _
-    (c.in_default.ensures.after low (middle low high) ordered.0)
+    sent_in_second c.args.transport c.args.now c.args.room (middle low high) (items half.left)
+    (items half.right)
+    (are_below low (middle low high) (items half.left)
+    (placed low (middle low high) half.left mid.0 ordered.0))
+    (are_from (middle low high) high (items half.right)
+    (placed (middle low high) high half.right mid.1 ordered.1))
+    c.in_default.ensures.sent _ _ (c.in_default.ensures.after low (middle low high) ordered.0)
     (c.in_ok-id.ensures.after (middle low high) high ordered.1)
     (c.in_ok-id.id, c.in_ok-id.length) c.in_ok-id.ensures.sent
     (sym c.fits.ensures ∙ c.if-not-fits.false) _ c.pass_all.ensures.after
 
 pub pass_slots_of-returns-in-Some-clause-sent : goal.pass_slots_of-returns-in-Some-clause-sent
 pass_slots_of-returns-in-Some-clause-sent g t c =
+    let fork = c.args.fork.now in
     found_first id_and_length
-    (λ e. is_due c.args.transport c.args.now e.1 && repeats e.1.sending) (half_items c.args.fork.now.left) (half_items c.args.fork.now.right)
-    c.in-Some.found c.in-Some.ensures.sent
+    (λ e. is_due c.args.transport c.args.now e.1 && repeats e.1.sending) (half_items fork.left)
+    (half_items fork.right) c.in-Some.found c.in-Some.ensures.sent
 
 pub pass_slots_of-returns-in-Some-clause-after : goal.pass_slots_of-returns-in-Some-clause-after
 pass_slots_of-returns-in-Some-clause-after g t c low high le ordered =
+    let fork = c.args.fork.now in
     let mid = middle_within low high le in
-    found_in_first c.args.transport c.args.now c.args.room (middle low high) (half_items c.args.fork.now.left) (half_items c.args.fork.now.right)
-    (are_below low (middle low high) (half_items c.args.fork.now.left)
-    (placed_half low (middle low high) c.args.fork.now.left mid.0 ordered.0)) (are_from (middle low high) high (half_items c.args.fork.now.right)
-    (placed_half (middle low high) high c.args.fork.now.right mid.1 ordered.1))
-    c.in-Some.found c.in-Some.ensures.sent _ (c.in-Some.ensures.after low (middle low high) mid.0 ordered.0)
+    found_in_first c.args.transport c.args.now c.args.room (middle low high) (half_items fork.left)
+    (half_items fork.right)
+    (are_below low (middle low high) (half_items fork.left)
+    (placed_half low (middle low high) fork.left mid.0 ordered.0))
+    (are_from (middle low high) high (half_items fork.right)
+    (placed_half (middle low high) high fork.right mid.1 ordered.1)) c.in-Some.found
+    c.in-Some.ensures.sent _ (c.in-Some.ensures.after low (middle low high) mid.0 ordered.0)
 
 pub pass_slots_of-returns-in_err-id-clause-sent : goal.pass_slots_of-returns-in_err-id-clause-sent
 pass_slots_of-returns-in_err-id-clause-sent g t c =
+    let fork = c.args.fork.now in
     c.from_residual.ensures
     ∙ found_second id_and_length
-    (λ e. is_due c.args.transport c.args.now e.1 && repeats e.1.sending) (half_items c.args.fork.now.left) (half_items c.args.fork.now.right)
-    None c.in_default.ensures.sent c.in_err-id.ensures.sent
+    (λ e. is_due c.args.transport c.args.now e.1 && repeats e.1.sending) (half_items fork.left)
+    (half_items fork.right) None c.in_default.ensures.sent
+    c.in_err-id.ensures.sent
 
-pub pass_slots_of-returns-in_err-id-clause-after : goal.pass_slots_of-returns-in_err-id-clause-after
+pub pass_slots_of-returns-in_err-id-clause-after :
+    goal.pass_slots_of-returns-in_err-id-clause-after
 pass_slots_of-returns-in_err-id-clause-after g t c low high le ordered =
+    let fork = c.args.fork.now in
     let mid = middle_within low high le in
-    found_in_none c.args.transport c.args.now c.args.room (middle low high) (half_items c.args.fork.now.left)
-    (half_items c.args.fork.now.right)
-    (are_below low (middle low high) (half_items c.args.fork.now.left)
-    (placed_half low (middle low high) c.args.fork.now.left mid.0 ordered.0))
-    (are_from (middle low high) high (half_items c.args.fork.now.right)
-    (placed_half (middle low high) high c.args.fork.now.right mid.1 ordered.1))
-    c.in_default.ensures.sent _ _
-    (c.in_default.ensures.after low (middle low high) mid.0 ordered.0)
+    found_in_none c.args.transport c.args.now c.args.room (middle low high) (half_items fork.left)
+    (half_items fork.right)
+    (are_below low (middle low high) (half_items fork.left)
+    (placed_half low (middle low high) fork.left mid.0 ordered.0))
+    (are_from (middle low high) high (half_items fork.right)
+    (placed_half (middle low high) high fork.right mid.1 ordered.1))
+    c.in_default.ensures.sent _ _ (c.in_default.ensures.after low (middle low high) mid.0 ordered.0)
     (c.in_err-id.ensures.after (middle low high) high mid.1 ordered.1)
     c.in_err-id.ensures.sent
 
 pub pass_slots_of-returns-then-not-fits-clause-sent :
     goal.pass_slots_of-returns-then-not-fits-clause-sent
 pass_slots_of-returns-then-not-fits-clause-sent g t c =
+    let fork = c.args.fork.now in
     found_second id_and_length
-    (λ e. is_due c.args.transport c.args.now e.1 && repeats e.1.sending) (half_items c.args.fork.now.left) (half_items c.args.fork.now.right)
-    (Some (c.in_ok-id.id, c.in_ok-id.length)) c.in_default.ensures.sent c.in_ok-id.ensures.sent
+    (λ e. is_due c.args.transport c.args.now e.1 && repeats e.1.sending) (half_items fork.left)
+    (half_items fork.right) (Some (c.in_ok-id.id, c.in_ok-id.length))
+    c.in_default.ensures.sent c.in_ok-id.ensures.sent
 
 pub pass_slots_of-returns-then-not-fits-clause-after :
     goal.pass_slots_of-returns-then-not-fits-clause-after
 pass_slots_of-returns-then-not-fits-clause-after g t c low high le ordered =
+    let fork = c.args.fork.now in
     let mid = middle_within low high le in
-    refused_in_second c.args.transport c.args.now c.args.room (middle low high) (half_items c.args.fork.now.left)
-    (half_items c.args.fork.now.right)
-    (are_below low (middle low high) (half_items c.args.fork.now.left)
-    (placed_half low (middle low high) c.args.fork.now.left mid.0 ordered.0))
-    (are_from (middle low high) high (half_items c.args.fork.now.right)
-    (placed_half (middle low high) high c.args.fork.now.right mid.1 ordered.1))
-    c.in_default.ensures.sent _ _
-    (c.in_default.ensures.after low (middle low high) mid.0 ordered.0)
+    refused_in_second c.args.transport c.args.now c.args.room (middle low high)
+    (half_items fork.left) (half_items fork.right)
+    (are_below low (middle low high) (half_items fork.left)
+    (placed_half low (middle low high) fork.left mid.0 ordered.0))
+    (are_from (middle low high) high (half_items fork.right)
+    (placed_half (middle low high) high fork.right mid.1 ordered.1))
+    c.in_default.ensures.sent _ _ (c.in_default.ensures.after low (middle low high) mid.0 ordered.0)
     (c.in_ok-id.ensures.after (middle low high) high mid.1 ordered.1)
     (c.in_ok-id.id, c.in_ok-id.length) c.in_ok-id.ensures.sent
     (sym c.fits.ensures ∙ c.if-not-fits.true)
 
 pub pass_slots_of-returns-clause-sent : goal.pass_slots_of-returns-clause-sent
 pass_slots_of-returns-clause-sent g t c =
+    let fork = c.args.fork.now in
     found_second id_and_length
-    (λ e. is_due c.args.transport c.args.now e.1 && repeats e.1.sending) (half_items c.args.fork.now.left) (half_items c.args.fork.now.right)
-    (Some (c.in_ok-id.id, c.in_ok-id.length)) c.in_default.ensures.sent c.in_ok-id.ensures.sent
+    (λ e. is_due c.args.transport c.args.now e.1 && repeats e.1.sending) (half_items fork.left)
+    (half_items fork.right) (Some (c.in_ok-id.id, c.in_ok-id.length))
+    c.in_default.ensures.sent c.in_ok-id.ensures.sent
 
 pub pass_slots_of-returns-clause-after : goal.pass_slots_of-returns-clause-after
 pass_slots_of-returns-clause-after g t c low high le ordered =
+    let fork = c.args.fork.now in
     let mid = middle_within low high le in
-    sent_in_second c.args.transport c.args.now c.args.room (middle low high) (half_items c.args.fork.now.left)
-    (half_items c.args.fork.now.right)
-    (are_below low (middle low high) (half_items c.args.fork.now.left)
-    (placed_half low (middle low high) c.args.fork.now.left mid.0 ordered.0))
-    (are_from (middle low high) high (half_items c.args.fork.now.right)
-    (placed_half (middle low high) high c.args.fork.now.right mid.1 ordered.1))
-    c.in_default.ensures.sent _ _
-    (c.in_default.ensures.after low (middle low high) mid.0 ordered.0)
+    sent_in_second c.args.transport c.args.now c.args.room (middle low high) (half_items fork.left)
+    (half_items fork.right)
+    (are_below low (middle low high) (half_items fork.left)
+    (placed_half low (middle low high) fork.left mid.0 ordered.0))
+    (are_from (middle low high) high (half_items fork.right)
+    (placed_half (middle low high) high fork.right mid.1 ordered.1))
+    c.in_default.ensures.sent _ _ (c.in_default.ensures.after low (middle low high) mid.0 ordered.0)
     (c.in_ok-id.ensures.after (middle low high) high mid.1 ordered.1)
     (c.in_ok-id.id, c.in_ok-id.length) c.in_ok-id.ensures.sent
     (sym c.fits.ensures ∙ c.if-not-fits.false) _ c.pass_all_in.ensures.after

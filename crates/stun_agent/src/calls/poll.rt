@@ -60,8 +60,8 @@ impl<A: Allocator + Copy> StunAgent<A> {
     /// Like `poll`, but also returns the number of requests that it read.
     ///
     /// That number is at most the number of requests that are canceled or whose next deadline is
-    /// at or before `now`, and at most one. A read gives the transaction ID of a request. Which part
-    /// of the requests has the earliest deadline can be looked at without a read.
+    /// at or before `now`, and at most one. A read gives the transaction ID of a request. Which
+    /// part of the requests has the earliest deadline can be looked at without a read.
     ///
     /// The count takes no memory, and no program can read it.
     ///

@@ -67,9 +67,9 @@ impl<A: Allocator + Copy> StunAgent<A> {
     /// `forget_validated_peer`. So limit the number of addresses whose messages you pass to the
     /// agent, or forget those that you no longer need.
     ///
-    /// The call allocates only if it accepts the message and its source is not a validated peer
-    /// yet. If that allocation fails, the agent is unchanged, and the request that a response
-    /// answers stays outstanding.
+    /// The call asks the agent's allocator for memory only if it accepts the message and its source
+    /// is not a validated peer yet. If that allocation fails, the agent is unchanged, and the
+    /// request that a response answers stays outstanding.
     ///
     /// # Security
     ///

@@ -45,8 +45,8 @@ impl Awaited {
         }
     }
 
-    /// Creates the value for a request whose slot is at this time: it is sent again then, unless its
-    /// retransmissions are canceled.
+    /// Creates the value for a request whose slot is at this time. It is sent again then, unless
+    /// its retransmissions are canceled.
     pub(crate) fn slot_at(slot: Instant) -> Self
         ensures { result ≡ slot_at slot }
     {

@@ -12,7 +12,7 @@ use crate::calls::poll::reads::{Reads, Uncounted};
 use crate::error::NoRoom;
 use crate::state::search;
 use crate::state::transaction::{Change, Transaction};
-use crate::state::tree::change::{change, pass_slots};
+use crate::state::tree::change::{change, fits, pass_all, pass_slots};
 use crate::state::tree::insert::insert;
 use crate::state::tree::remove::remove;
 use crate::state::tree::{IDS, Leaf, Link, lookups};
@@ -172,29 +172,15 @@ impl<A: Allocator + Copy> Outstanding<A> {
             (λ e. r < length e.1.bytes))) }
         ensures same { OnErr result (self.new ≡ self.old) }
     {
-        self.check_room(now, room, leave)?;
-        Ok(pass_slots(&mut self.root, self.transport, now, leave))
-    }
-
-    /// Fails if `pass_due_slots` would send more bytes than there is room for.
-    fn check_room(&self, now: Instant, room: Option<usize>, leave: Uncounted) -> Result<(), NoRoom>
-        ensures ok { OnOk result (IfSome room (λ r.
-            IfSome (next_sent self.now.transport now self.now.requests)
-            (λ e. length e.1.bytes ≤ r))) }
-        ensures err { OnErr result (IsSomeAnd room (λ r. IsSomeAnd
-            (next_sent self.now.transport now self.now.requests)
-            (λ e. r < length e.1.bytes))) }
-    {
-        let Some(room) = room else {
-            return Ok(());
+        let sent = pass_slots(&mut self.root, self.transport, now, room, leave);
+        let Some((id, length)) = sent else {
+            pass_all(&mut self.root, self.transport, now, leave);
+            return Ok(None);
         };
-        let Some(next) = self.next_sent(now, leave) else {
-            return Ok(());
-        };
-        if room < next.bytes().len() {
+        if !fits(room, length) {
             return Err(NoRoom);
         }
-        Ok(())
+        Ok(Some((id, length)))
     }
 
     /// Returns the request that `pass_due_slots` would send again.

@@ -1,10 +1,11 @@
 //! Changes requests in a tree: one that its user changes, and those whose slots are due.
-ghost use Rattle.std.specs.Prelude.{◌≡◌, ◌≤◌, ◌+◌, ℕ, length, true};
+ghost use Rattle.std.specs.Prelude.{◌≡◌, ◌≤◌, ◌+◌, ℕ, length, true, None};
 ghost use Rattle.std.specs.Option.{option_map};
 ghost use Rattle.stun_agent.specs.Transactions.{with_change_at, next_sent, is_due, after_slot};
 ghost use Rattle.stun_agent.specs.Transactions.{after_slots};
 ghost use Rattle.stun_agent.specs.code.Awaited.{awaited_by, awaited_of};
-ghost use Rattle.stun_agent.specs.code.Transactions.{changed_transaction, length_sent};
+ghost use Rattle.stun_agent.specs.code.Transactions.{changed_transaction, length_sent, has_room};
+ghost use Rattle.stun_agent.specs.code.Transactions.{after_slot_within, after_slots_within};
 ghost use Rattle.stun_agent.specs.code.Tree.{items, half_items, fork_items, IsOrdered};
 ghost use Rattle.stun_agent.specs.code.Tree.{IsOrderedHalf, IsOrderedFork, IsTimed, IsTimedHalf};
 ghost use Rattle.stun_agent.specs.code.Tree.{IsTimedFork};
@@ -109,42 +110,69 @@ impl<A: Allocator> Leaf<A> {
         self.request.awaited_by(transport)
     }
 
-    /// Passes the slot that is due, and sets what the request then awaits. If the request is still
-    /// retransmitted, returns its ID and the number of its bytes.
-    fn pass_slot(
-        &mut self,
-        awaited: &mut Awaited,
-        transport: TransportType,
-        now: Instant,
-    ) -> Option<(TransactionId, usize)>
+    /// Passes the slot that is due, and sets what the request then awaits.
+    fn pass_slot(&mut self, awaited: &mut Awaited, transport: TransportType, now: Instant)
         requires { is_due transport now self.old.1 ≡ true }
-        ensures sent { result ≡ option_map (λ length. (self.old.0, length))
-            (length_sent self.old.1) }
         ensures after { self.new ≡ (self.old.0, after_slot now self.old.1) }
         ensures awaited { awaited.new ≡ awaited_by transport self.new.1 }
     {
         self.request.take_slot(now);
         *awaited = self.request.awaited_by(transport);
+    }
+
+    /// Returns the ID and the number of bytes of the request, if it is still retransmitted. If its
+    /// bytes fit into the room, passes its slot, which is due, and sets what it then awaits.
+    fn send_within(
+        &mut self,
+        awaited: &mut Awaited,
+        transport: TransportType,
+        now: Instant,
+        room: Option<usize>,
+    ) -> Option<(TransactionId, usize)>
+        requires due { is_due transport now self.old.1 ≡ true }
+        requires timed { awaited.old ≡ awaited_by transport self.old.1 }
+        ensures sent { result ≡ option_map (λ length. (self.old.0, length))
+            (length_sent self.old.1) }
+        ensures after { self.new
+            ≡ (self.old.0, after_slot_within now room (length_sent self.old.1) self.old.1) }
+        ensures awaited { awaited.new ≡ awaited_by transport self.new.1 }
+    {
         let length = self.request.length_sent()?;
+        if fits(room, length) {
+            self.pass_slot(awaited, transport, now);
+        }
         Some((self.id, length))
     }
 }
 
-/// Advances requests whose slot is due, in order of their IDs, up to and including the first one to
-/// retransmit. Returns the ID and the number of bytes of that request.
+/// Returns whether so many bytes fit into the room, if the room is limited.
+pub(crate) fn fits(room: Option<usize>, length: usize) -> bool
+    ensures { result ≡ has_room room length }
+{
+    match room {
+        Some(room) => length <= room,
+        None => true,
+    }
+}
+
+/// Finds the first request to retransmit among those whose slot is due, in order of their IDs, and
+/// returns its ID and the number of its bytes. If they fit into the room, passes its slot and those
+/// of the requests before it, which are silent. Otherwise, and if no request is to be
+/// retransmitted, nothing changes.
 #[cycle(pass_slots)]
 pub(crate) fn pass_slots<A: Allocator>(
     link: &mut Link<A>,
     transport: TransportType,
     now: Instant,
+    room: Option<usize>,
     leave: Uncounted,
 ) -> Option<(TransactionId, usize)>
     requires { IsTimed transport link.old }
     ensures sent { result ≡ option_map (λ e. (e.0, length e.1.bytes))
         (next_sent transport now (items link.old)) }
     ensures after { (low high : ℕ) → IsOrdered low high link.old
-        → items link.new ≡ after_slots transport now
-        (option_map (λ e. e.0) (next_sent transport now (items link.old))) (items link.old) }
+        → items link.new ≡ after_slots_within transport now room
+        (next_sent transport now (items link.old)) (items link.old) }
     ensures ordered { (low high : ℕ) → IsOrdered low high link.old → IsOrdered low high link.new }
     ensures timed { IsTimed transport link.new }
 {
@@ -154,13 +182,13 @@ pub(crate) fn pass_slots<A: Allocator>(
             if !awaited.is_due(now) {
                 return None;
             }
-            leaf.pass_slot(awaited, transport, now)
+            leaf.send_within(awaited, transport, now, room)
         }
         Link::Fork(awaited, fork) => {
             if !awaited.is_due(now) {
                 return None;
             }
-            pass_slots_below(fork, awaited, transport, now, leave)
+            pass_slots_below(fork, awaited, transport, now, room, leave)
         }
     }
 }
@@ -172,26 +200,53 @@ fn pass_slots_below<A: Allocator>(
     awaited: &mut Awaited,
     transport: TransportType,
     now: Instant,
+    room: Option<usize>,
     leave: Uncounted,
 ) -> Option<(TransactionId, usize)>
     requires { IsTimedFork transport fork.old }
     ensures sent { result ≡ option_map (λ e. (e.0, length e.1.bytes))
         (next_sent transport now (fork_items fork.old)) }
     ensures after { (low high : ℕ) → low ≤ high → IsOrderedFork low high fork.old
-        → fork_items fork.new ≡ after_slots transport now
-        (option_map (λ e. e.0) (next_sent transport now (fork_items fork.old)))
-        (fork_items fork.old) }
+        → fork_items fork.new ≡ after_slots_within transport now room
+        (next_sent transport now (fork_items fork.old)) (fork_items fork.old) }
     ensures ordered { (low high : ℕ) → IsOrderedFork low high fork.old
         → IsOrderedFork low high fork.new }
     ensures timed { IsTimedFork transport fork.new }
     ensures awaited { awaited.new ≡ awaited_of transport (fork_items fork.new) }
 {
-    let sent = match pass_slots_in(&mut fork.left, transport, now, leave) {
-        Some(sent) => Some(sent),
-        None => pass_slots_in(&mut fork.right, transport, now, leave),
-    };
+    let found = pass_slots_of(fork, transport, now, room, leave);
     *awaited = fork.awaited();
-    sent
+    found
+}
+
+/// Like `pass_slots`, but for the requests below a fork.
+#[cycle(pass_slots)]
+fn pass_slots_of<A: Allocator>(
+    fork: &mut Fork<A>,
+    transport: TransportType,
+    now: Instant,
+    room: Option<usize>,
+    leave: Uncounted,
+) -> Option<(TransactionId, usize)>
+    requires { IsTimedFork transport fork.old }
+    ensures sent { result ≡ option_map (λ e. (e.0, length e.1.bytes))
+        (next_sent transport now (fork_items fork.old)) }
+    ensures after { (low high : ℕ) → low ≤ high → IsOrderedFork low high fork.old
+        → fork_items fork.new ≡ after_slots_within transport now room
+        (next_sent transport now (fork_items fork.old)) (fork_items fork.old) }
+    ensures ordered { (low high : ℕ) → IsOrderedFork low high fork.old
+        → IsOrderedFork low high fork.new }
+    ensures timed { IsTimedFork transport fork.new }
+{
+    if let Some(found) = pass_slots_in(&mut fork.left, transport, now, room, leave) {
+        return Some(found);
+    }
+    let (id, length) = pass_slots_in(&mut fork.right, transport, now, room, leave)?;
+    if !fits(room, length) {
+        return Some((id, length));
+    }
+    pass_all_in(&mut fork.left, transport, now, leave);
+    Some((id, length))
 }
 
 /// Like `pass_slots`, but for the requests below a half of a fork.
@@ -200,21 +255,92 @@ fn pass_slots_in<A: Allocator>(
     half: &mut Half<A>,
     transport: TransportType,
     now: Instant,
+    room: Option<usize>,
     leave: Uncounted,
 ) -> Option<(TransactionId, usize)>
     requires { IsTimedHalf transport half.old }
     ensures sent { result ≡ option_map (λ e. (e.0, length e.1.bytes))
         (next_sent transport now (half_items half.old)) }
     ensures after { (low high : ℕ) → low ≤ high → IsOrderedHalf low high half.old
-        → half_items half.new ≡ after_slots transport now
-        (option_map (λ e. e.0) (next_sent transport now (half_items half.old)))
-        (half_items half.old) }
+        → half_items half.new ≡ after_slots_within transport now room
+        (next_sent transport now (half_items half.old)) (half_items half.old) }
     ensures ordered { (low high : ℕ) → IsOrderedHalf low high half.old
         → IsOrderedHalf low high half.new }
     ensures timed { IsTimedHalf transport half.new }
 {
-    match pass_slots(&mut half.left, transport, now, leave) {
-        Some(sent) => Some(sent),
-        None => pass_slots(&mut half.right, transport, now, leave),
+    if let Some(found) = pass_slots(&mut half.left, transport, now, room, leave) {
+        return Some(found);
     }
+    let (id, length) = pass_slots(&mut half.right, transport, now, room, leave)?;
+    if !fits(room, length) {
+        return Some((id, length));
+    }
+    pass_all(&mut half.left, transport, now, leave);
+    Some((id, length))
+}
+
+/// Passes every slot that is due.
+#[cycle(pass_all)]
+pub(crate) fn pass_all<A: Allocator>(
+    link: &mut Link<A>,
+    transport: TransportType,
+    now: Instant,
+    leave: Uncounted,
+)
+    requires { IsTimed transport link.old }
+    ensures after { items link.new ≡ after_slots transport now None (items link.old) }
+    ensures ordered { (low high : ℕ) → IsOrdered low high link.old → IsOrdered low high link.new }
+    ensures timed { IsTimed transport link.new }
+{
+    match link {
+        Link::Empty => {}
+        Link::Leaf(awaited, leaf) => {
+            if awaited.is_due(now) {
+                leaf.pass_slot(awaited, transport, now);
+            }
+        }
+        Link::Fork(awaited, fork) => {
+            if awaited.is_due(now) {
+                *awaited = pass_all_below(fork, transport, now, leave);
+            }
+        }
+    }
+}
+
+/// Like `pass_all`, but for the requests below a fork. Returns what they then await.
+#[cycle(pass_all)]
+fn pass_all_below<A: Allocator>(
+    fork: &mut Fork<A>,
+    transport: TransportType,
+    now: Instant,
+    leave: Uncounted,
+) -> Awaited
+    requires { IsTimedFork transport fork.old }
+    ensures after { fork_items fork.new ≡ after_slots transport now None (fork_items fork.old) }
+    ensures ordered { (low high : ℕ) → IsOrderedFork low high fork.old
+        → IsOrderedFork low high fork.new }
+    ensures timed { IsTimedFork transport fork.new }
+    ensures awaited { result ≡ awaited_of transport (fork_items fork.new) }
+{
+    pass_all_in(&mut fork.left, transport, now, leave);
+    pass_all_in(&mut fork.right, transport, now, leave);
+    fork.awaited()
+}
+
+/// Like `pass_all`, but for the requests below a half of a fork.
+#[cycle(pass_all)]
+fn pass_all_in<A: Allocator>(
+    half: &mut Half<A>,
+    transport: TransportType,
+    now: Instant,
+    leave: Uncounted,
+)
+    requires { IsTimedHalf transport half.old }
+    ensures after { half_items half.new ≡ after_slots transport now None (half_items half.old) }
+    ensures ordered { (low high : ℕ) → IsOrderedHalf low high half.old
+        → IsOrderedHalf low high half.new }
+    ensures timed { IsTimedHalf transport half.new }
+{
+    pass_all(&mut half.left, transport, now, leave);
+    pass_all(&mut half.right, transport, now, leave);
 }

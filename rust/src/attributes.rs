@@ -14,6 +14,8 @@ use crate::exported::stun_types::attribute::{
 };
 use crate::exported::stun_types::message::{StunParseError, StunWriteError};
 use crate::exported::stun_types::prelude::MessageWrite;
+use crate::family::family_attribute;
+use crate::flag::flag_attribute;
 use crate::newtype::forward_attribute;
 use crate::number::number_attribute;
 use crate::text::text_attribute;
@@ -168,8 +170,27 @@ table! {
     PRIORITY, "PRIORITY (RFC 8445, section 16.1)":
         number_attribute(Priority, number, priority: u32, "the priority");
 
+    /// USE-CANDIDATE (RFC 8445, section 16.1): the controlling agent nominates the candidate pair
+    /// of this check. It has no value.
+    ///
+    /// # Examples
+    ///
+    /// ```
+    /// use seatcrane_stun::extra::attribute::UseCandidate;
+    /// use seatcrane_stun::types::message::*;
+    /// use seatcrane_stun::types::prelude::*;
+    ///
+    /// # let id = TransactionId::from(*b"any 12 bytes");
+    /// let mut check = Message::builder_request_with_id(BINDING, id, MessageWriteVec::new());
+    /// check.add_attribute(&UseCandidate)?; // nominates the pair
+    /// let check = check.finish();
+    ///
+    /// let check = Message::from_bytes(&check).unwrap();
+    /// assert!(check.attribute::<UseCandidate>().is_ok());
+    /// # Ok::<(), StunWriteError>(())
+    /// ```
     USE_CANDIDATE, "USE-CANDIDATE (RFC 8445, section 16.1)":
-        own_attribute(UseCandidate);
+        flag_attribute(UseCandidate);
 
     /// ICE-CONTROLLED (RFC 8445, section 16.1): the sender is in the controlled role. The
     /// tie-breaker, a random number of 64 bits, resolves a role conflict.
@@ -319,8 +340,30 @@ table! {
     XOR_RELAYED_ADDRESS, "XOR-RELAYED-ADDRESS (RFC 8656, section 18.5)":
         hidden_address(XorRelayedAddress, further);
 
+    /// REQUESTED-ADDRESS-FAMILY (RFC 8656, section 18.6): the family of the address that a client
+    /// asks a server to allocate.
+    ///
+    /// # Examples
+    ///
+    /// ```
+    /// use seatcrane_stun::extra::attribute::{AddressFamily, RequestedAddressFamily};
+    /// use seatcrane_stun::extra::turn::TurnMethod;
+    /// use seatcrane_stun::types::message::*;
+    /// use seatcrane_stun::types::prelude::*;
+    ///
+    /// # let id = TransactionId::from(*b"any 12 bytes");
+    /// let method = TurnMethod::Allocate.method();
+    /// let mut message = Message::builder_request_with_id(method, id, MessageWriteVec::new());
+    /// message.add_attribute(&RequestedAddressFamily::new(AddressFamily::Ipv6))?;
+    /// let bytes = message.finish();
+    ///
+    /// let message = Message::from_bytes(&bytes).unwrap();
+    /// let family = message.attribute::<RequestedAddressFamily>().unwrap().family();
+    /// assert_eq!(family, AddressFamily::Ipv6);
+    /// # Ok::<(), StunWriteError>(())
+    /// ```
     REQUESTED_ADDRESS_FAMILY, "REQUESTED-ADDRESS-FAMILY (RFC 8656, section 18.6)":
-        own_attribute(RequestedAddressFamily);
+        family_attribute(RequestedAddressFamily);
 
     EVEN_PORT, "EVEN-PORT (RFC 8656, section 18.7)":
         own_attribute(EvenPort);
@@ -328,14 +371,21 @@ table! {
     REQUESTED_TRANSPORT, "REQUESTED-TRANSPORT (RFC 8656, section 18.8)":
         own_attribute(RequestedTransport);
 
+    /// DONT-FRAGMENT (RFC 8656, section 18.9): asks the server to set the DF bit in the datagrams
+    /// that it sends to the peer. It has no value.
     DONT_FRAGMENT, "DONT-FRAGMENT (RFC 8656, section 18.9)":
-        own_attribute(DontFragment);
+        flag_attribute(DontFragment);
 
     RESERVATION_TOKEN, "RESERVATION-TOKEN (RFC 8656, section 18.10)":
         own_attribute(ReservationToken);
 
+    /// ADDITIONAL-ADDRESS-FAMILY (RFC 8656, section 18.11): in an Allocate request, the family of a
+    /// second relayed address, beside one of IPv4.
+    ///
+    /// Only IPv6 is allowed. A server answers IPv4 with the error 400 (section 7.2), so IPv4 can be
+    /// parsed here.
     ADDITIONAL_ADDRESS_FAMILY, "ADDITIONAL-ADDRESS-FAMILY (RFC 8656, section 18.11)":
-        own_attribute(AdditionalAddressFamily);
+        family_attribute(AdditionalAddressFamily);
 
     ADDRESS_ERROR_CODE, "ADDRESS-ERROR-CODE (RFC 8656, section 18.12)":
         own_attribute(AddressErrorCode);

@@ -42,6 +42,8 @@ mod credentials;
 mod exported;
 pub mod endpoint;
 pub mod extra;
+mod family;
+mod flag;
 mod instant;
 #[allow(dead_code, unused_imports)]
 #[allow(clippy::missing_errors_doc, reason = "each error is that an allocation failed")]

@@ -1,11 +1,15 @@
 //! Types of this crate's front around attributes of the core.
 
-/// Implements the traits of attributes for a tuple struct around an attribute of the core.
+/// Implements the traits of attributes for a tuple struct around an attribute of the core. For
+/// another struct, it takes how to make the attribute of the core from the struct, and the reverse.
 macro_rules! forward_attribute {
     ($name:ident, $proved:ty) => {
         forward_attribute!($name, $proved, $name, 'a);
     };
     ($name:ident, $proved:ty, $type:ty, $life:lifetime) => {
+        forward_attribute!(@ $type, $proved, $life, it => it.0, $name);
+    };
+    (@ $type:ty, $proved:ty, $life:lifetime, $it:ident => $inner:expr, $wrap:expr) => {
         impl<$life> AttributeStaticType for $type {
             const TYPE: AttributeType = <$proved>::TYPE;
 
@@ -16,21 +20,24 @@ macro_rules! forward_attribute {
 
         impl<$life> Attribute for $type {
             fn get_type(&self) -> AttributeType {
-                self.0.get_type()
+                let $it = self;
+                $inner.get_type()
             }
 
             fn length(&self) -> usize {
-                self.0.length()
+                let $it = self;
+                $inner.length()
             }
 
             fn write_into<W: MessageWrite>(&self, writer: &mut W) {
-                self.0.write_into(writer);
+                let $it = self;
+                $inner.write_into(writer);
             }
         }
 
         impl<$life> AttributeFromRaw<$life> for $type {
             fn from_raw(raw: RawAttribute<$life>) -> Result<Self, StunParseError> {
-                <$proved>::from_raw(raw).map($name)
+                <$proved>::from_raw(raw).map($wrap)
             }
         }
     };

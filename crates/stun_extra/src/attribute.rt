@@ -7,17 +7,18 @@
 //! below. The others have a file each.
 ghost use Rattle.std.specs.Prelude.{◌≡◌, ◌≤◌, length};
 ghost use Rattle.std.specs.Net.Socket.{IsPlainSocket, socket_ip, socket_port};
-ghost use Rattle.stun_extra.specs.AttributeTypes.{ACCESS_TOKEN, ALTERNATE_DOMAIN};
-ghost use Rattle.stun_extra.specs.AttributeTypes.{ALTERNATE_SERVER, CONNECTION_ID, DATA, ECN_CHECK};
+ghost use Rattle.stun_extra.specs.AttributeTypes.{ACCESS_TOKEN, ADDITIONAL_ADDRESS_FAMILY};
+ghost use Rattle.stun_extra.specs.AttributeTypes.{ALTERNATE_DOMAIN, ALTERNATE_SERVER};
+ghost use Rattle.stun_extra.specs.AttributeTypes.{CONNECTION_ID, DATA, DONT_FRAGMENT, ECN_CHECK};
 ghost use Rattle.stun_extra.specs.AttributeTypes.{ICE_CONTROLLED, ICE_CONTROLLING, LIFETIME};
 ghost use Rattle.stun_extra.specs.AttributeTypes.{MAPPED_ADDRESS, MOBILITY_TICKET, OTHER_ADDRESS};
-ghost use Rattle.stun_extra.specs.AttributeTypes.{PADDING, PRIORITY, RESPONSE_ORIGIN, SOFTWARE};
-ghost use Rattle.stun_extra.specs.AttributeTypes.{THIRD_PARTY_AUTHORIZATION, XOR_PEER_ADDRESS};
-ghost use Rattle.stun_extra.specs.AttributeTypes.{XOR_RELAYED_ADDRESS};
+ghost use Rattle.stun_extra.specs.AttributeTypes.{PADDING, PRIORITY, REQUESTED_ADDRESS_FAMILY};
+ghost use Rattle.stun_extra.specs.AttributeTypes.{RESPONSE_ORIGIN, SOFTWARE};
+ghost use Rattle.stun_extra.specs.AttributeTypes.{THIRD_PARTY_AUTHORIZATION, USE_CANDIDATE};
+ghost use Rattle.stun_extra.specs.AttributeTypes.{XOR_PEER_ADDRESS, XOR_RELAYED_ADDRESS};
 ghost use Rattle.stun_extra.specs.Values.{DOMAIN_LIMIT};
 ghost use Rattle.stun_types.specs.Limits.{TEXT_LIMIT};
 
-mod additional_address_family;
 mod address;
 mod address_error_code;
 mod address_family;
@@ -25,34 +26,30 @@ mod algorithm_list;
 mod bytes;
 mod change_request;
 mod channel_number;
-mod dont_fragment;
 mod even_port;
+mod flag;
 mod icmp;
 mod number;
-mod requested_address_family;
 mod requested_transport;
 mod reservation_token;
 mod response_port;
 mod text;
 mod tie_breaker;
 mod transmit_counter;
-mod use_candidate;
 mod value;
 mod xored;
 
-pub use additional_address_family::AdditionalAddressFamily;
 pub use address::PlainAddress;
 pub use address_error_code::AddressErrorCode;
-pub use address_family::AddressFamily;
+pub use address_family::{AddressFamily, Family};
 pub use algorithm_list::{AlgorithmEntries, AlgorithmEntry, AlgorithmList};
 pub use bytes::Bytes;
 pub use change_request::ChangeRequest;
 pub use channel_number::ChannelNumber;
-pub use dont_fragment::DontFragment;
 pub use even_port::EvenPort;
+pub use flag::Flag;
 pub use icmp::Icmp;
 pub use number::Number;
-pub use requested_address_family::RequestedAddressFamily;
 pub use requested_transport::RequestedTransport;
 pub use reservation_token::ReservationToken;
 pub use response_port::ResponsePort;
@@ -63,7 +60,6 @@ use stun_types::prelude::*;
 pub use text::Text;
 pub use tie_breaker::TieBreaker;
 pub use transmit_counter::TransactionTransmitCounter;
-pub use use_candidate::UseCandidate;
 pub use xored::XorAddress;
 
 /// The largest number of bytes of an ALTERNATE-DOMAIN (RFC 8489, section 14.16).
@@ -191,6 +187,22 @@ impl AttributeStaticType for Priority {
     }
 }
 
+/// USE-CANDIDATE (RFC 8445, section 16.1): the controlling agent nominates the candidate pair of
+/// this check. It has no value.
+pub type UseCandidate = Flag<0x0025>;
+
+impl AttributeStaticType for UseCandidate {
+    const TYPE: AttributeType = AttributeType(0x0025);
+
+    ghost static_kind = { USE_CANDIDATE };
+
+    fn static_type() -> AttributeType
+        ensures { result.0 ≡ USE_CANDIDATE }
+    {
+        Self::TYPE
+    }
+}
+
 /// ICE-CONTROLLED (RFC 8445, section 16.1): the sender is in the controlled role. The tie-breaker,
 /// a random number of 64 bits, resolves a role conflict.
 pub type IceControlled = TieBreaker<0x8029>;
@@ -299,6 +311,57 @@ impl AttributeStaticType for XorRelayedAddress {
 
     fn static_type() -> AttributeType
         ensures { result.0 ≡ XOR_RELAYED_ADDRESS }
+    {
+        Self::TYPE
+    }
+}
+
+/// REQUESTED-ADDRESS-FAMILY (RFC 8656, section 18.6): the family of the address that a client asks
+/// a server to allocate.
+pub type RequestedAddressFamily = Family<0x0017>;
+
+impl AttributeStaticType for RequestedAddressFamily {
+    const TYPE: AttributeType = AttributeType(0x0017);
+
+    ghost static_kind = { REQUESTED_ADDRESS_FAMILY };
+
+    fn static_type() -> AttributeType
+        ensures { result.0 ≡ REQUESTED_ADDRESS_FAMILY }
+    {
+        Self::TYPE
+    }
+}
+
+/// DONT-FRAGMENT (RFC 8656, section 18.9): asks the server to set the DF bit in the datagrams that
+/// it sends to the peer. It has no value.
+pub type DontFragment = Flag<0x001A>;
+
+impl AttributeStaticType for DontFragment {
+    const TYPE: AttributeType = AttributeType(0x001A);
+
+    ghost static_kind = { DONT_FRAGMENT };
+
+    fn static_type() -> AttributeType
+        ensures { result.0 ≡ DONT_FRAGMENT }
+    {
+        Self::TYPE
+    }
+}
+
+/// ADDITIONAL-ADDRESS-FAMILY (RFC 8656, section 18.11): in an Allocate request, the family of a
+/// second relayed address, beside one of IPv4.
+///
+/// Only IPv6 is allowed. A server answers IPv4 with the error 400 (section 7.2), so IPv4 can be
+/// parsed here.
+pub type AdditionalAddressFamily = Family<0x8000>;
+
+impl AttributeStaticType for AdditionalAddressFamily {
+    const TYPE: AttributeType = AttributeType(0x8000);
+
+    ghost static_kind = { ADDITIONAL_ADDRESS_FAMILY };
+
+    fn static_type() -> AttributeType
+        ensures { result.0 ≡ ADDITIONAL_ADDRESS_FAMILY }
     {
         Self::TYPE
     }

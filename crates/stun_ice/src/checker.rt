@@ -336,7 +336,7 @@ fn add_nomination<A: Allocator>(
     ensures header { OnOk result (20 ≤ length page.new.bytes) }
 {
     if nominates {
-        page.add_attribute(&UseCandidate)
+        page.add_attribute(&UseCandidate::new())
     } else {
         Ok(())
     }

@@ -1,15 +1,15 @@
-//! The family of an address, in the attributes of TURN that name one (RFC 8656, sections 18.6 and
-//! 18.11).
+//! Attributes whose value is the family of an address (RFC 8656, sections 18.6 and 18.11).
 ghost use Rattle.std.specs.Prelude.{◌≡◌};
-ghost use Rattle.stun_types.specs.Reading.{attribute_answer};
-ghost use Rattle.stun_extra.specs.Turn.{family_number, family_of, family_value, numbered_family};
+ghost use Rattle.stun_extra.specs.Turn.{family_number, family_of, family_of-written, family_value};
+ghost use Rattle.stun_extra.specs.Turn.{numbered_family};
 
+use std::marker::Model;
 use stun_base::error::StunParseError;
 use stun_types::attribute::{AttributeType, RawAttribute};
 use stun_types::prelude::*;
 
 /// The number of bytes of a value: the family, and three that are reserved.
-pub(super) const LENGTH: usize = 4;
+const LENGTH: usize = 4;
 
 /// The family of an address (RFC 8489, section 14.1).
 #[derive(Clone, Copy, Debug, PartialEq, Eq)]
@@ -43,27 +43,73 @@ impl AddressFamily {
     }
 }
 
-/// Returns the bytes of a value: the number of the family, and three reserved bytes.
-pub(super) fn family_bytes(family: AddressFamily) -> [u8; 4]
-    ensures { result ≡ family_value family }
-{
-    [family.number(), 0, 0, 0]
+/// An attribute of type `KIND` whose value is the family of an address.
+///
+/// Contracts: the value is the family.
+#[derive(Clone, Copy, Debug, PartialEq, Eq)]
+pub struct Family<const KIND: u16> {
+    family: AddressFamily,
 }
 
-/// Parses the family in an attribute with this type. Fails with `InvalidAttributeData` if the
-/// attribute has another type, if its value does not have 4 bytes, or if its first byte is not the
-/// number of a family. The reserved bytes are ignored.
-pub(super) fn read_family(
-    raw: &RawAttribute<'_>,
-    kind: AttributeType,
-) -> Result<AddressFamily, StunParseError>
-    ensures { result ≡ attribute_answer (family_of kind.0 raw.now) }
-{
-    if raw.get_type() != kind || raw.length() != LENGTH {
-        return Err(StunParseError::InvalidAttributeData);
+impl<const KIND: u16> Model for Family<KIND> {
+    ghost use Rattle.stun_extra.specs.declared.attribute.address_family.AddressFamily.{AddressFamily};
+
+    ghost Value = { AddressFamily };
+
+    ghost view = { λ attribute. attribute.family };
+
+    ghost inverse = { λ family. record { family = family } };
+}
+
+impl<const KIND: u16> Family<KIND> {
+    /// Creates the attribute from a family.
+    pub fn new(family: AddressFamily) -> Self
+        ensures { result ≡ family }
+    {
+        Family { family }
     }
-    match AddressFamily::from_number(raw.value()[0]) {
-        Some(family) => Ok(family),
-        None => Err(StunParseError::InvalidAttributeData),
+
+    /// Returns the family.
+    pub fn family(&self) -> AddressFamily
+        ensures { result ≡ self.now }
+    {
+        self.family
+    }
+}
+
+impl<const KIND: u16> Attribute for Family<KIND> {
+    ghost kind = { λ _. KIND };
+
+    ghost value = { family_value };
+
+    ghost is_well_formed = { λ _. Unit {0} };
+
+    fn get_type(&self) -> AttributeType {
+        AttributeType(KIND)
+    }
+
+    fn length(&self) -> usize {
+        LENGTH
+    }
+
+    fn write_into<W: MessageWrite>(&self, writer: &mut W) {
+        let value = [self.family.number(), 0, 0, 0];
+        RawAttribute::new(AttributeType(KIND), &value).write_into(writer);
+    }
+}
+
+impl<'a, const KIND: u16> AttributeFromRaw<'a> for Family<KIND> {
+    ghost reading = { family_of KIND };
+
+    ghost reads_back = { family_of-written KIND };
+
+    fn from_raw(raw: RawAttribute<'a>) -> Result<Self, StunParseError> {
+        if raw.get_type() != AttributeType(KIND) || raw.length() != LENGTH {
+            return Err(StunParseError::InvalidAttributeData);
+        }
+        match AddressFamily::from_number(raw.value()[0]) {
+            Some(family) => Ok(Family { family }),
+            None => Err(StunParseError::InvalidAttributeData),
+        }
     }
 }

@@ -2,23 +2,9 @@
 ghost use Rattle.std.specs.Prelude.{◌≡◌, ◌≤◌, ◌+◌, ◌++◌};
 ghost use Rattle.byteorder.specs.Endian.{big_bytes};
 ghost use Rattle.stun_types.specs.Limits.{max_length};
-ghost use Rattle.stun_types.specs.Reading.{attribute_answer};
-ghost use Rattle.stun_extra.specs.Values.{flag_of};
 
-use stun_base::error::StunParseError;
-use stun_types::attribute::{AttributeType, RawAttribute};
+use stun_types::attribute::AttributeType;
 use stun_types::prelude::*;
-
-/// Parses a raw attribute with this type that has no value. Fails with `InvalidAttributeData` if
-/// the attribute has another type or its value is not empty.
-pub(super) fn read_flag(raw: &RawAttribute<'_>, kind: AttributeType) -> Result<(), StunParseError>
-    ensures { result ≡ attribute_answer (flag_of kind.0 raw.now) }
-{
-    if raw.get_type() != kind || raw.length() != 0 {
-        return Err(StunParseError::InvalidAttributeData);
-    }
-    Ok(())
-}
 
 /// Appends the type of an attribute and the length of its value, 4 bytes.
 pub(super) fn append_header<W: MessageWrite>(

@@ -3,12 +3,13 @@ ghost use Rattle.std.specs.BTreeMap.{is_at};
 ghost use Rattle.std.specs.Map.{remove_entry};
 ghost use Rattle.std.specs.Option.{is_some, option_copied, option_map};
 ghost use Rattle.std.specs.Ordering.{nat_cmp};
-ghost use Rattle.std.specs.Prelude.{◌≡◌, ◌≤◌, ℕ, IfErr, IfOk, IfSome, IsOkUnless, OnErr, OnOk, None};
-ghost use Rattle.std.specs.Prelude.{Some, length, true, false};
+ghost use Rattle.std.specs.Prelude.{◌≡◌, ◌≤◌, ℕ, IfErr, IfOk, IfSome, IsOkUnless, OnErr, OnOk};
+ghost use Rattle.std.specs.Prelude.{None, Some, length, true, false};
 ghost use Rattle.stun_client.specs.Calls.{Renews, Sends, Starts};
 ghost use Rattle.stun_client.specs.Requests.{IsMoved, IsOver, IsSole, IsWithout, after_end};
-ghost use Rattle.stun_client.specs.Requests.{after_replacing, answered, at, is_answer, new_requests};
-ghost use Rattle.stun_client.specs.Requests.{renewal_refusal, renewal_refusal_of, start_refusal};
+ghost use Rattle.stun_client.specs.Requests.{after_replacing, answered, at, is_answer};
+ghost use Rattle.stun_client.specs.Requests.{new_requests, renewal_refusal, renewal_refusal_of};
+ghost use Rattle.stun_client.specs.Requests.{start_refusal};
 ghost use Rattle.stun_client.specs.code.Requests.{Puts, parts_renewed};
 
 use crate::challenge::Challenge;

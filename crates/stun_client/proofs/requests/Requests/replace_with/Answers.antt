@@ -10,7 +10,8 @@ use Rattle.stun_client.proofs.requests.Requests.replace_with.Goals as goal
 pub invariant_of-self-2 : goal.invariant_of-self-2
 invariant_of-self-2 g c =
     kept_renewed _ _ c.args.id c.args.new_id c.args.renewed c.self.inside.asked.entries _ _
-    (if_ok c.put_with.result (sym c.if-is_err.false ∙ c.is_err.ensures.value) c.put_with.ensures.puts.with)
+    (if_ok c.put_with.result (sym c.if-is_err.false ∙ c.is_err.ensures.value)
+    c.put_with.ensures.puts.with)
     c.take.ensures.without
     (subst (λ (s : RequestsSeen). Some (
       c.args.renewed.number,

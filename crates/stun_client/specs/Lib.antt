@@ -27,5 +27,7 @@ pub mod Addresses
 pub mod Clients
 -- the transaction IDs of a client
 pub mod Ids
+-- the clauses that several calls share
+pub mod Calls
 -- what no clause of a public call cites: views of the code's own structs
 pub mod code

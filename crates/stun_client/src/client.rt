@@ -1,16 +1,14 @@
 //! A client of one server: its outstanding requests, and what a datagram comes to.
-ghost use Rattle.std.specs.Fn.{FnOnceReturnsAtMut};
-ghost use Rattle.std.specs.Option.{IfSome, option_copied, option_map};
-ghost use Rattle.std.specs.Prelude.{◌≡◌, ◌≤◌, ◌⊎◌, ℕ, true, false, Err, IfOk, IsOk, IsOkUnless};
-ghost use Rattle.std.specs.Prelude.{MatchOption, OnErr, OnOk, Some};
+ghost use Rattle.std.specs.Option.{IfSome, option_copied};
+ghost use Rattle.std.specs.Prelude.{◌≡◌, ◌≤◌, IfOk, IsOk, Some, true, false};
 ghost use Rattle.stun_base.specs.MessageType.{class_in};
 ghost use Rattle.stun_client.specs.Addresses.{is_same_address};
-ghost use Rattle.stun_client.specs.Clients.{after_cancelling, after_ending, after_renewing};
-ghost use Rattle.stun_client.specs.Clients.{after_starting, after_timing_out, by_asked, by_class};
-ghost use Rattle.stun_client.specs.Clients.{confirming, heard, heard_of, needs_memory_for, not_ours};
+ghost use Rattle.stun_client.specs.Calls.{EndsRequest, RenewsRequest, Sends, StartsRequest};
+ghost use Rattle.stun_client.specs.Clients.{after_cancelling, after_ending, after_timing_out};
+ghost use Rattle.stun_client.specs.Clients.{by_asked, by_class, confirming, heard, heard_of};
+ghost use Rattle.stun_client.specs.Clients.{needs_memory_for, not_ours};
 ghost use Rattle.stun_client.specs.Judging.{identity_of, needs_memory};
-ghost use Rattle.stun_client.specs.Requests.{IsOver, IsSole, answered, at, new_requests};
-ghost use Rattle.stun_client.specs.Requests.{renewal_refusal, start_refusal};
+ghost use Rattle.stun_client.specs.Requests.{IsSole, answered, at, new_requests};
 ghost use Rattle.stun_client.specs.Standing.{new_standing};
 
 use crate::address::is_same_address;
@@ -197,13 +195,7 @@ impl<A: Allocator + Copy> Client<A> {
     /// Fails with `IdTaken`, `NoNumber` or `OutOfMemory` (see `Requests::start`). Nothing has
     /// changed then.
     pub fn start(&mut self, method: Method, id: TransactionId) -> Result<u64, RequestRefusal>
-        ensures refused { MatchOption (start_refusal self.old.requests id)
-            (IsOkUnless result RequestRefusal.OutOfMemory) (λ refusal. result ≡ Err refusal) }
-        ensures number { IfOk result (λ number. number ≡ self.old.requests.next) }
-        ensures after { OnOk result (self.new ≡ after_starting self.old method id) }
-        ensures same { OnErr result (self.new ≡ self.old) }
-        ensures over { (number : ℕ) → IsOver number self.old.requests
-            → IsOver number self.new.requests }
+        ensures { StartsRequest self.old self.new method id result }
     {
         self.start_with(method, id, &mut (), |_sender| true)
     }
@@ -219,17 +211,8 @@ impl<A: Allocator + Copy> Client<A> {
         send: F,
     ) -> Result<u64, RequestRefusal>
         requires { F.IsAlwaysCallable send }
-        ensures refused { MatchOption (start_refusal self.old.requests id)
-            (IsOkUnless result RequestRefusal.OutOfMemory) (λ refusal. result ≡ Err refusal) }
-        ensures number { IfOk result (λ number. number ≡ self.old.requests.next) }
-        ensures after { OnOk result (self.new ≡ after_starting self.old method id) }
-        ensures same { OnErr result (self.new ≡ self.old) }
-        ensures over { (number : ℕ) → IsOver number self.old.requests
-            → IsOver number self.new.requests }
-        ensures sent { OnOk result
-            (FnOnceReturnsAtMut F.FnOnce send sender.old true sender.new) }
-        ensures unsent { OnErr result ((sender.new ≡ sender.old)
-            ⊎ FnOnceReturnsAtMut F.FnOnce send sender.old false sender.new) }
+        ensures starts { StartsRequest self.old self.new method id result }
+        ensures sends { Sends F.FnOnce send sender.old sender.new result }
     {
         if let Some(refusal) = self.requests.start_refusal(id) {
             return Err(refusal);
@@ -252,12 +235,7 @@ impl<A: Allocator + Copy> Client<A> {
         new_id: TransactionId,
         challenge: Option<Challenge<A>>,
     ) -> Result<(), RequestRefusal>
-        ensures refused { MatchOption (renewal_refusal self.old.requests id new_id)
-            (IsOkUnless result RequestRefusal.OutOfMemory) (λ refusal. result ≡ Err refusal) }
-        ensures after { OnOk result (self.new ≡ after_renewing self.old id new_id challenge) }
-        ensures same { OnErr result (self.new ≡ self.old) }
-        ensures over { (number : ℕ) → IsOver number self.old.requests
-            → IsOver number self.new.requests }
+        ensures { RenewsRequest self.old self.new id new_id challenge result }
     {
         self.renew_with(id, new_id, challenge, &mut (), |_sender| true)
     }
@@ -274,16 +252,8 @@ impl<A: Allocator + Copy> Client<A> {
         send: F,
     ) -> Result<(), RequestRefusal>
         requires { F.IsAlwaysCallable send }
-        ensures refused { MatchOption (renewal_refusal self.old.requests id new_id)
-            (IsOkUnless result RequestRefusal.OutOfMemory) (λ refusal. result ≡ Err refusal) }
-        ensures after { OnOk result (self.new ≡ after_renewing self.old id new_id challenge) }
-        ensures same { OnErr result (self.new ≡ self.old) }
-        ensures over { (number : ℕ) → IsOver number self.old.requests
-            → IsOver number self.new.requests }
-        ensures sent { OnOk result
-            (FnOnceReturnsAtMut F.FnOnce send sender.old true sender.new) }
-        ensures unsent { OnErr result ((sender.new ≡ sender.old)
-            ⊎ FnOnceReturnsAtMut F.FnOnce send sender.old false sender.new) }
+        ensures renews { RenewsRequest self.old self.new id new_id challenge result }
+        ensures sends { Sends F.FnOnce send sender.old sender.new result }
     {
         if let Some(refusal) = self.requests.renewal_refusal(id, new_id) {
             return Err(refusal);
@@ -305,11 +275,7 @@ impl<A: Allocator + Copy> Client<A> {
     /// Ends a request by a response that is believed, and returns its number. A success confirms the
     /// challenge that the request was signed for. Returns `None` if the request has ended already.
     pub fn end(&mut self, id: TransactionId, is_success: bool) -> Option<u64>
-        ensures ended { result ≡ option_map (λ a. a.number) (at id self.old.requests.asked) }
-        ensures after { self.new ≡ after_ending self.old is_success id }
-        ensures once { IfSome result (λ number. IsOver number self.new.requests) }
-        ensures over { (number : ℕ) → IsOver number self.old.requests
-            → IsOver number self.new.requests }
+        ensures { EndsRequest self.old self.new (after_ending self.old is_success id) id result }
     {
         let asked = self.requests.end(id)?;
         confirm_if(&mut self.standing, is_success, asked.signed_for());
@@ -320,11 +286,7 @@ impl<A: Allocator + Copy> Client<A> {
     /// forged, so new requests are signed for the one that was confirmed last, or not at all.
     /// Returns `None` if the request has ended already.
     pub fn time_out(&mut self, id: TransactionId) -> Option<u64>
-        ensures ended { result ≡ option_map (λ a. a.number) (at id self.old.requests.asked) }
-        ensures after { self.new ≡ after_timing_out self.old id }
-        ensures once { IfSome result (λ number. IsOver number self.new.requests) }
-        ensures over { (number : ℕ) → IsOver number self.old.requests
-            → IsOver number self.new.requests }
+        ensures { EndsRequest self.old self.new (after_timing_out self.old id) id result }
     {
         let asked = self.requests.end(id)?;
         self.standing.step_back(asked.signed_for());
@@ -334,11 +296,7 @@ impl<A: Allocator + Copy> Client<A> {
     /// Ends a request without a response, and returns its number. Returns `None` if the request has
     /// ended already.
     pub fn cancel(&mut self, id: TransactionId) -> Option<u64>
-        ensures ended { result ≡ option_map (λ a. a.number) (at id self.old.requests.asked) }
-        ensures after { self.new ≡ after_cancelling self.old id }
-        ensures once { IfSome result (λ number. IsOver number self.new.requests) }
-        ensures over { (number : ℕ) → IsOver number self.old.requests
-            → IsOver number self.new.requests }
+        ensures { EndsRequest self.old self.new (after_cancelling self.old id) id result }
     {
         let asked = self.requests.end(id)?;
         Some(asked.number())

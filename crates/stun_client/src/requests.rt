@@ -1,17 +1,16 @@
 //! The outstanding requests of a client, each under the transaction ID that it has now.
-ghost use Rattle.std.specs.BTreeMap.{insert_entry, is_at};
-ghost use Rattle.std.specs.Fn.{FnOnceReturnsAtMut};
+ghost use Rattle.std.specs.BTreeMap.{is_at};
 ghost use Rattle.std.specs.Map.{remove_entry};
 ghost use Rattle.std.specs.Option.{is_some, option_copied, option_map};
 ghost use Rattle.std.specs.Ordering.{nat_cmp};
-ghost use Rattle.std.specs.Prelude.{◌≡◌, ◌≤◌, ◌⊎◌, ℕ, IfErr, IfOk, IsOkUnless, MatchOption, OnErr};
-ghost use Rattle.std.specs.Prelude.{OnOk, Err, None, Some, IfSome, length, true, false};
-ghost use Rattle.stun_client.specs.Requests.{IsOver, after_end, after_renewal};
-ghost use Rattle.stun_client.specs.Requests.{after_replacing, after_start, answered, at, is_answer};
-ghost use Rattle.stun_client.specs.Requests.{new_requests, renewal_refusal};
-ghost use Rattle.stun_client.specs.Requests.{IsMoved, IsSole, IsWith, IsWithout, asked_first};
-ghost use Rattle.stun_client.specs.Requests.{renewal_refusal_of, renewed, start_refusal};
-ghost use Rattle.stun_client.specs.code.Requests.{parts_renewed};
+ghost use Rattle.std.specs.Prelude.{◌≡◌, ◌≤◌, ℕ, IfErr, IfOk, IfSome, IsOkUnless, OnErr, OnOk};
+ghost use Rattle.std.specs.Prelude.{None, Some, length, true, false};
+ghost use Rattle.stun_client.specs.Calls.{Renews, Sends, Starts};
+ghost use Rattle.stun_client.specs.Requests.{IsMoved, IsOver, IsSole, IsWithout, after_end};
+ghost use Rattle.stun_client.specs.Requests.{after_replacing, answered, at, is_answer};
+ghost use Rattle.stun_client.specs.Requests.{new_requests, renewal_refusal, renewal_refusal_of};
+ghost use Rattle.stun_client.specs.Requests.{start_refusal};
+ghost use Rattle.stun_client.specs.code.Requests.{Puts, parts_renewed};
 
 use crate::challenge::Challenge;
 use std::alloc::{AllocError, Allocator, Global};
@@ -169,14 +168,8 @@ impl<A: Allocator + Copy> Requests<A> {
         id: TransactionId,
         signed_for: Option<Challenge<A>>,
     ) -> Result<u64, RequestRefusal>
-        ensures refused { MatchOption (start_refusal self.old id)
-            (IsOkUnless result RequestRefusal.OutOfMemory) (λ refusal. result ≡ Err refusal) }
-        ensures number { IfOk result (λ number. number ≡ self.old.next) }
-        ensures after { OnOk result (self.new ≡ after_start self.old method id signed_for) }
-        ensures same { OnErr result (self.new ≡ self.old) }
-        ensures with { OnOk result (IsWith id (asked_first self.old method signed_for)
-            self.old.asked self.new.asked) }
-        ensures over { (number : ℕ) → IsOver number self.old → IsOver number self.new }
+        ensures { Starts self.old self.new method id signed_for (start_refusal self.old id)
+            result }
     {
         self.start_with(method, id, signed_for, &mut (), |_sender| true)
     }
@@ -200,18 +193,9 @@ impl<A: Allocator + Copy> Requests<A> {
         send: F,
     ) -> Result<u64, RequestRefusal>
         requires { F.IsAlwaysCallable send }
-        ensures refused { MatchOption (start_refusal self.old id)
-            (IsOkUnless result RequestRefusal.OutOfMemory) (λ refusal. result ≡ Err refusal) }
-        ensures number { IfOk result (λ number. number ≡ self.old.next) }
-        ensures after { OnOk result (self.new ≡ after_start self.old method id signed_for) }
-        ensures same { OnErr result (self.new ≡ self.old) }
-        ensures with { OnOk result (IsWith id (asked_first self.old method signed_for)
-            self.old.asked self.new.asked) }
-        ensures over { (number : ℕ) → IsOver number self.old → IsOver number self.new }
-        ensures sent { OnOk result
-            (FnOnceReturnsAtMut F.FnOnce send sender.old true sender.new) }
-        ensures unsent { OnErr result ((sender.new ≡ sender.old)
-            ⊎ FnOnceReturnsAtMut F.FnOnce send sender.old false sender.new) }
+        ensures starts { Starts self.old self.new method id signed_for
+            (start_refusal self.old id) result }
+        ensures sends { Sends F.FnOnce send sender.old sender.new result }
     {
         match self.start_refusal(id) {
             Some(refusal) => Err(refusal),
@@ -243,17 +227,8 @@ impl<A: Allocator + Copy> Requests<A> {
     ) -> Result<u64, RequestRefusal>
         requires free { start_refusal self.old id ≡ None }
         requires callable { F.IsAlwaysCallable send }
-        ensures refused { IsOkUnless result RequestRefusal.OutOfMemory }
-        ensures number { IfOk result (λ number. number ≡ self.old.next) }
-        ensures after { OnOk result (self.new ≡ after_start self.old method id signed_for) }
-        ensures same { OnErr result (self.new ≡ self.old) }
-        ensures with { OnOk result (IsWith id (asked_first self.old method signed_for)
-            self.old.asked self.new.asked) }
-        ensures over { (number : ℕ) → IsOver number self.old → IsOver number self.new }
-        ensures sent { OnOk result
-            (FnOnceReturnsAtMut F.FnOnce send sender.old true sender.new) }
-        ensures unsent { OnErr result ((sender.new ≡ sender.old)
-            ⊎ FnOnceReturnsAtMut F.FnOnce send sender.old false sender.new) }
+        ensures starts { Starts self.old self.new method id signed_for None result }
+        ensures sends { Sends F.FnOnce send sender.old sender.new result }
     {
         let number = self.next;
         let asked = Asked {
@@ -285,13 +260,7 @@ impl<A: Allocator + Copy> Requests<A> {
         new_id: TransactionId,
         signed_for: Option<Challenge<A>>,
     ) -> Result<(), RequestRefusal>
-        ensures refused { MatchOption (renewal_refusal self.old id new_id)
-            (IsOkUnless result RequestRefusal.OutOfMemory) (λ refusal. result ≡ Err refusal) }
-        ensures after { OnOk result (self.new ≡ after_renewal self.old id new_id signed_for) }
-        ensures same { OnErr result (self.new ≡ self.old) }
-        ensures moved { OnOk result (IfSome (at id self.old.asked)
-            (λ a. IsMoved id new_id (renewed a signed_for) self.old.asked self.new.asked)) }
-        ensures over { (number : ℕ) → IsOver number self.old → IsOver number self.new }
+        ensures { Renews self.old self.new id new_id signed_for result }
     {
         self.renew_with(id, new_id, signed_for, &mut (), |_sender| true)
     }
@@ -317,17 +286,8 @@ impl<A: Allocator + Copy> Requests<A> {
         send: F,
     ) -> Result<(), RequestRefusal>
         requires { F.IsAlwaysCallable send }
-        ensures refused { MatchOption (renewal_refusal self.old id new_id)
-            (IsOkUnless result RequestRefusal.OutOfMemory) (λ refusal. result ≡ Err refusal) }
-        ensures after { OnOk result (self.new ≡ after_renewal self.old id new_id signed_for) }
-        ensures same { OnErr result (self.new ≡ self.old) }
-        ensures moved { OnOk result (IfSome (at id self.old.asked)
-            (λ a. IsMoved id new_id (renewed a signed_for) self.old.asked self.new.asked)) }
-        ensures over { (number : ℕ) → IsOver number self.old → IsOver number self.new }
-        ensures sent { OnOk result
-            (FnOnceReturnsAtMut F.FnOnce send sender.old true sender.new) }
-        ensures unsent { OnErr result ((sender.new ≡ sender.old)
-            ⊎ FnOnceReturnsAtMut F.FnOnce send sender.old false sender.new) }
+        ensures renews { Renews self.old self.new id new_id signed_for result }
+        ensures sends { Sends F.FnOnce send sender.old sender.new result }
     {
         match self.renewal_of(id, new_id) {
             Ok((number, method, challenges)) => {
@@ -423,10 +383,7 @@ impl<A: Allocator + Copy> Requests<A> {
         ensures moved { OnOk result
             (IsMoved id new_id renewed self.old.asked self.new.asked) }
         ensures over { (number : ℕ) → IsOver number self.old → IsOver number self.new }
-        ensures sent { OnOk result
-            (FnOnceReturnsAtMut F.FnOnce send sender.old true sender.new) }
-        ensures unsent { OnErr result ((sender.new ≡ sender.old)
-            ⊎ FnOnceReturnsAtMut F.FnOnce send sender.old false sender.new) }
+        ensures sends { Sends F.FnOnce send sender.old sender.new result }
     {
         if put_with(&mut self.asked, new_id, renewed, sender, send).is_err() {
             return Err(RequestRefusal::OutOfMemory);
@@ -466,12 +423,8 @@ fn put_with<A: Allocator + Copy, S, F: FnOnce(&mut S) -> bool>(
 ) -> Result<(), AllocError>
     requires free { at id all.old.entries ≡ None }
     requires callable { F.IsAlwaysCallable send }
-    ensures entries { OnOk result (all.new.entries ≡ insert_entry nat_cmp all.old.entries id asked) }
-    ensures with { OnOk result (IsWith id asked all.old.entries all.new.entries) }
-    ensures same { OnErr result (all.new.entries ≡ all.old.entries) }
-    ensures sent { OnOk result (FnOnceReturnsAtMut F.FnOnce send sender.old true sender.new) }
-    ensures unsent { OnErr result ((sender.new ≡ sender.old)
-        ⊎ FnOnceReturnsAtMut F.FnOnce send sender.old false sender.new) }
+    ensures puts { Puts all.old.entries all.new.entries id asked result }
+    ensures sends { Sends F.FnOnce send sender.old sender.new result }
 {
     put(all, id, asked)?;
     if send(sender) {
@@ -488,9 +441,7 @@ fn put<A: Allocator + Copy>(
     id: TransactionId,
     asked: Asked<A>,
 ) -> Result<(), AllocError>
-    ensures entries { OnOk result (all.new.entries ≡ insert_entry nat_cmp all.old.entries id asked) }
-    ensures with { OnOk result (IsWith id asked all.old.entries all.new.entries) }
-    ensures same { OnErr result (all.new.entries ≡ all.old.entries) }
+    ensures { Puts all.old.entries all.new.entries id asked result }
 {
     match all.insert(id, asked) {
         Ok(_before) => Ok(()),

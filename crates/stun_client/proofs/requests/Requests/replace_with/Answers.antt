@@ -10,7 +10,8 @@ use Rattle.stun_client.proofs.requests.Requests.replace_with.Goals as goal
 pub invariant_of-self-2 : goal.invariant_of-self-2
 invariant_of-self-2 g c =
     kept_renewed _ _ c.args.id c.args.new_id c.args.renewed c.self.inside.asked.entries _ _
-    (if_ok c.put_with.result (sym c.if-is_err.false ∙ c.is_err.ensures.value) c.put_with.ensures.with)
+    (if_ok c.put_with.result (sym c.if-is_err.false ∙ c.is_err.ensures.value)
+    c.put_with.ensures.puts.with)
     c.take.ensures.without
     (subst (λ (s : RequestsSeen). Some (
       c.args.renewed.number,
@@ -27,6 +28,9 @@ put_with-requires-clause-free g c =
     subst (λ (s : RequestsSeen). at c.args.new_id s.asked ≡ None) (sym c.self.view_is)
     (renewal_is_free c.args.self.now c.args.id c.args.new_id c.requires.free)
 
-pub returns-clause-sent : goal.returns-clause-sent
-returns-clause-sent g c =
-    if_ok c.put_with.result (sym c.if-is_err.false ∙ c.is_err.ensures.value) c.put_with.ensures.sent
+pub returns-clause-sends : goal.returns-clause-sends
+returns-clause-sends g c = record {
+  sent = if_ok c.put_with.result (sym c.if-is_err.false ∙ c.is_err.ensures.value)
+      c.put_with.ensures.sends.sent;
+  unsent = tt;
+}

@@ -10,6 +10,9 @@ put_with-requires-clause-free g c =
     subst (λ (s : RequestsSeen). at c.args.id s.asked ≡ None) (sym c.self.view_is)
     (start_is_free c.args.self.now c.args.id c.requires.free)
 
-pub returns-clause-sent : goal.returns-clause-sent
-returns-clause-sent g c =
-    if_ok c.put_with.result (sym c.if-is_err.false ∙ c.is_err.ensures.value) c.put_with.ensures.sent
+pub returns-clause-sends : goal.returns-clause-sends
+returns-clause-sends g c = record {
+  sent = if_ok c.put_with.result (sym c.if-is_err.false ∙ c.is_err.ensures.value)
+      c.put_with.ensures.sends.sent;
+  unsent = tt;
+}

@@ -4,7 +4,7 @@ ghost use Rattle.std.specs.Option.{IfSome, option_copied, option_map};
 ghost use Rattle.std.specs.Prelude.{◌≡◌, ◌≤◌, ◌⊎◌, ℕ, true, false, Err, IfOk, IsOk, IsOkUnless};
 ghost use Rattle.std.specs.Prelude.{MatchOption, OnErr, OnOk, Some};
 ghost use Rattle.stun_base.specs.MessageType.{class_in};
-ghost use Rattle.stun_client.specs.Addresses.{is_same_address};
+ghost use Rattle.stun_extra.specs.CanonicalAddress.{is_same_address};
 ghost use Rattle.stun_client.specs.Clients.{after_cancelling, after_ending, after_renewing};
 ghost use Rattle.stun_client.specs.Clients.{after_starting, after_timing_out, by_asked, by_class};
 ghost use Rattle.stun_client.specs.Clients.{confirming, heard, heard_of, needs_memory_for, not_ours};
@@ -13,7 +13,6 @@ ghost use Rattle.stun_client.specs.Requests.{IsOver, IsSole, answered, at, new_r
 ghost use Rattle.stun_client.specs.Requests.{renewal_refusal, start_refusal};
 ghost use Rattle.stun_client.specs.Standing.{new_standing};
 
-use crate::address::is_same_address;
 use crate::challenge::Challenge;
 use crate::credentials::Credentials;
 use crate::judged::Judged;
@@ -22,6 +21,7 @@ use crate::standing::Standing;
 use std::alloc::{AllocError, Allocator, Global};
 use std::marker::Model;
 use std::net::SocketAddr;
+use stun_extra::canonical_address::is_same_address;
 use stun_types::message::{Message, MessageClass, Method, TransactionId};
 
 /// What a datagram is to a client.

@@ -11,7 +11,7 @@ use Rattle.stun_base.specs.declared.wire.message_type.MessageClass.TheVariants.{
 use Rattle.stun_base.specs.declared.wire.message_type.MessageClass.TheVariants.{Indication}
 use Rattle.stun_base.specs.declared.wire.message_type.MessageClass.TheVariants.{Success, Error}
 use Rattle.stun_types.specs.Message.{refusal}
-use Rattle.stun_client.specs.Addresses.{is_same_address}
+use Rattle.stun_extra.specs.CanonicalAddress.{is_same_address}
 use Rattle.stun_client.specs.Clients.{EndpointClient, IsAnswer, by_asked, by_class, heard, not_ours}
 use Rattle.stun_client.specs.Clients.{responded}
 use Rattle.stun_client.specs.Judging.{believed}

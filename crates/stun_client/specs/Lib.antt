@@ -21,8 +21,6 @@ pub mod Signing
 pub mod Outcomes
 -- the outstanding requests, each under its transaction ID
 pub mod Requests
--- addresses, whose two spellings of IPv4 are one
-pub mod Addresses
 -- a client, what a datagram comes to, and what each call makes of it
 pub mod Clients
 -- the transaction IDs of a client

@@ -2,7 +2,7 @@
 ghost use Rattle.std.specs.Option.{IfSome, option_copied};
 ghost use Rattle.std.specs.Prelude.{◌≡◌, ◌≤◌, IfOk, IsOk, Some, true, false};
 ghost use Rattle.stun_base.specs.MessageType.{class_in};
-ghost use Rattle.stun_client.specs.Addresses.{is_same_address};
+ghost use Rattle.stun_extra.specs.CanonicalAddress.{is_same_address};
 ghost use Rattle.stun_client.specs.Calls.{EndsRequest, RenewsRequest, Sends, StartsRequest};
 ghost use Rattle.stun_client.specs.Clients.{after_cancelling, after_ending, after_timing_out};
 ghost use Rattle.stun_client.specs.Clients.{by_asked, by_class, confirming, heard, heard_of};
@@ -11,7 +11,6 @@ ghost use Rattle.stun_client.specs.Judging.{identity_of, needs_memory};
 ghost use Rattle.stun_client.specs.Requests.{IsSole, answered, at, new_requests};
 ghost use Rattle.stun_client.specs.Standing.{new_standing};
 
-use crate::address::is_same_address;
 use crate::challenge::Challenge;
 use crate::credentials::Credentials;
 use crate::judged::Judged;
@@ -20,6 +19,7 @@ use crate::standing::Standing;
 use std::alloc::{AllocError, Allocator, Global};
 use std::marker::Model;
 use std::net::SocketAddr;
+use stun_extra::canonical_address::is_same_address;
 use stun_types::message::{Message, MessageClass, Method, TransactionId};
 
 /// What a datagram is to a client.

@@ -4,7 +4,6 @@
 #![tactic(auto)]
 
 mod addition;
-mod address;
 pub mod challenge;
 pub mod client;
 pub mod credentials;

@@ -21,7 +21,7 @@ use Rattle.stun_agent.specs.declared.agent.StunAgentPollRet.{StunAgentPollRet}
 use Rattle.stun_agent.specs.declared.agent.StunAgentPollRet.TheVariants.{TransactionTimedOut}
 use Rattle.stun_agent.specs.declared.agent.StunAgentPollRet.TheVariants.{TransactionCancelled}
 use Rattle.stun_agent.specs.declared.agent.StunAgentPollRet.TheVariants.{WaitUntil as AgentWaits}
-use Rattle.stun_client.specs.Addresses.{is_same_address}
+use Rattle.stun_extra.specs.CanonicalAddress.{is_same_address}
 use Rattle.stun_client.specs.Challenges.{Answered}
 use Rattle.stun_client.specs.Challenging.{code_in}
 use Rattle.stun_client.specs.Clients.{EndpointClient, Given, by_asked, by_class, heard, indicated, not_ours}

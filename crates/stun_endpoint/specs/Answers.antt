@@ -1,27 +1,19 @@
 -- The responses of a server, byte by byte (RFC 8489, sections 6.3.1, 9.2.4 and 14.8).
-use Rattle.std.specs.Prelude.{◌≡◌, ℕ, List, [], ◌∷◌, Bool, true, false, take}
+use Rattle.std.specs.Prelude.{◌≡◌, ℕ, List, [], ◌∷◌, Bool, true, false}
 use Rattle.std.specs.Prelude.{if◌then◌else◌, Option, Some, None}
-use Rattle.std.specs.Net.Addr.{ipv4_octets, ipv6_octets, ipv6_segments, low_octets}
-use Rattle.std.specs.Net.Socket.{socket_ip, socket_port}
-use Rattle.std.specs.Str.{bytes_eq}
-use Rattle.std.specs.declared.net.ip_addr.IpAddr.{IpAddr}
-use Rattle.std.specs.declared.net.ip_addr.IpAddr.TheVariants.{V4, V6}
 use Rattle.std.specs.declared.net.socket_addr.SocketAddr.{SocketAddr}
-use Rattle.stun_base.specs.Attributes.{ERROR_CODE, XOR_MAPPED_ADDRESS}
-use Rattle.stun_base.specs.Header.{transaction_id_field}
 use Rattle.stun_base.specs.declared.keys.algorithm.IntegrityAlgorithm.{IntegrityAlgorithm}
 use Rattle.stun_base.specs.declared.keys.algorithm.IntegrityAlgorithm.TheVariants.{Sha256}
 use Rattle.stun_base.specs.declared.wire.message_type.MessageClass.TheVariants.{Error, Success}
 use Rattle.stun_types.specs.Attribute.{TypedValue}
-use Rattle.stun_types.specs.ErrorCode.{error_value}
 use Rattle.stun_types.specs.Integrity.{verified_by}
 use Rattle.stun_types.specs.Writing.{empty_answer, with_attribute, with_integrity}
-use Rattle.stun_types.specs.XorMappedAddress.{XoredAddress, xor_bytes, xor_key, xor_port}
-use Rattle.stun_types.specs.XorMappedAddress.{xored_value}
 use Rattle.stun_auth.specs.AddedAttribute as added
 use Rattle.stun_auth.specs.Algorithms.{algorithms_of, contains}
 use Rattle.stun_auth.specs.declared.algorithm_set.AlgorithmSet.{AlgorithmSet}
 use Rattle.stun_extra.specs.AttributeTypes.{SOFTWARE}
+use Rattle.stun_extra.specs.CanonicalAddress.{mapped_address}
+use Rattle.stun_extra.specs.Errors.{error_code_attribute}
 use Rattle.stun_extra.specs.Fingerprint.{fingerprint_in, with_fingerprint}
 use Rattle.stun_extra.specs.declared.fingerprint.Fingerprint.{Fingerprint}
 use Rattle.stun_extra.specs.declared.fingerprint.Fingerprint.TheVariants.{Right, Wrong}
@@ -80,15 +72,10 @@ VerifiesBy (Some by) response =
 
 -- ---- responses
 
--- ERROR-CODE with a code and a reason phrase
-abbrev pub error_attribute : ℕ → List ℕ → TypedValue
-error_attribute code reason =
-    record { kind = ERROR_CODE; value = error_value (record { code = code; reason = reason }) }
-
 -- an error response to a request, with ERROR-CODE alone
 unfoldable pub error_page : List ℕ → ℕ → List ℕ → List ℕ
 error_page request code reason =
-    with_attribute (empty_answer Error request) (error_attribute code reason)
+    with_attribute (empty_answer Error request) (error_code_attribute code reason)
 
 -- a message with attributes, one after another
 abbrev pub with_attributes : List ℕ → List TypedValue → List ℕ
@@ -107,29 +94,6 @@ abbrev pub challenge_page : Settings → List ℕ → List ℕ → ℕ → List 
 challenge_page s nonce request code reason =
     with_attributes (error_page request code reason)
     (added.nonce nonce ∷ added.realm s.realm ∷ offered s.algorithms)
-
--- whether segments are those of ::ffff:a.b.c.d
-abbrev pub is_mapped : List ℕ → Bool
-is_mapped segments = bytes_eq (take 6 segments) (0 ∷ 0 ∷ 0 ∷ 0 ∷ 0 ∷ 0xffff ∷ [])
-
--- an address as XOR-MAPPED-ADDRESS says it: an IPv4 address in either spelling is IPv4
-abbrev pub xored_canonical : IpAddr → ℕ → ℕ → XoredAddress
-xored_canonical (V4 ip) port id =
-    record { family = 1; port = xor_port port; octets = xor_bytes (ipv4_octets ip) (xor_key id) }
-xored_canonical (V6 ip) port id =
-    if is_mapped (ipv6_segments ip)
-    then
-    record { family = 1; port = xor_port port; octets = xor_bytes (low_octets ip) (xor_key id) }
-    else
-    record { family = 2; port = xor_port port; octets = xor_bytes (ipv6_octets ip) (xor_key id) }
-
--- the address that a request came from
-abbrev pub mapped_address : SocketAddr → List ℕ → TypedValue
-mapped_address from request = record {
-  kind = XOR_MAPPED_ADDRESS;
-  value = xored_value (xored_canonical (socket_ip from) (socket_port from)
-      (transaction_id_field request));
-}
 
 -- a success response to a Binding request, with XOR-MAPPED-ADDRESS alone
 unfoldable pub binding_page : SocketAddr → List ℕ → List ℕ

@@ -1,10 +1,7 @@
 -- The nonce of an address in an epoch. It is a function of the secret, the address and the epoch, so
 -- a server stores no nonce (RFC 8489, section 9.2).
 use Rattle.std.specs.Prelude.{ℕ, ◌/◌, List, [], ◌∷◌, ◌++◌, take}
-use Rattle.std.specs.Net.Addr.{ipv4_octets, ipv6_octets}
 use Rattle.std.specs.Net.Socket.{socket_ip, socket_port}
-use Rattle.std.specs.declared.net.ip_addr.IpAddr.{IpAddr}
-use Rattle.std.specs.declared.net.ip_addr.IpAddr.TheVariants.{V4, V6}
 use Rattle.std.specs.declared.net.socket_addr.SocketAddr.{SocketAddr}
 use Rattle.byteorder.specs.Endian.{big_bytes}
 use Rattle.sha1.specs.Sha1.{sha1}
@@ -13,14 +10,8 @@ use Rattle.stun_auth.specs.declared.algorithm_set.AlgorithmSet.{AlgorithmSet}
 use Rattle.stun_auth.specs.declared.algorithm_set.AlgorithmSet.TheVariants.{OnlySha1}
 use Rattle.stun_auth.specs.declared.algorithm_set.AlgorithmSet.TheVariants.{OnlySha256, Both}
 use Rattle.stun_auth.specs.Nonces.{nonce_of}
+use Rattle.stun_extra.specs.CanonicalAddress.{address_octets}
 use Rattle.stun_endpoint.specs.Settings.{Settings}
-
--- sixteen octets of an address. Those of IPv4 are those of the IPv6 address ::ffff:a.b.c.d, so that
--- both spellings of an IPv4 address have one nonce
-abbrev pub address_octets : IpAddr → List ℕ
-address_octets (V4 ip) =
-    0 ∷ 0 ∷ 0 ∷ 0 ∷ 0 ∷ 0 ∷ 0 ∷ 0 ∷ 0 ∷ 0 ∷ 255 ∷ 255 ∷ [] ++ ipv4_octets ip
-address_octets (V6 ip) = ipv6_octets ip
 
 -- a number for the supported algorithms
 abbrev pub algorithms_number : AlgorithmSet → ℕ
@@ -28,9 +19,10 @@ algorithms_number OnlySha1 = 1
 algorithms_number OnlySha256 = 2
 algorithms_number Both = 3
 
--- what is hashed: the address, the port in 2 bytes, the epoch in 8, and the algorithms. A client
--- whose list is of other settings then has another nonce too, and is answered with a 438: the
--- security bits of a nonce do not tell HMAC-SHA256 alone from both
+-- what is hashed: the address, whose octets are the same in both spellings of IPv4, the port in 2
+-- bytes, the epoch in 8, and the algorithms. A client whose list is of other settings then has
+-- another nonce too, and is answered with a 438: the security bits of a nonce do not tell
+-- HMAC-SHA256 alone from both
 abbrev pub nonce_text : AlgorithmSet → SocketAddr → ℕ → List ℕ
 nonce_text algorithms from epoch =
     address_octets (socket_ip from) ++ big_bytes 2 (socket_port from) ++ big_bytes 8 epoch

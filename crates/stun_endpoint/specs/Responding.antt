@@ -1,6 +1,6 @@
 -- How a server responds, whatever its credentials are: why it drops a datagram, what it understands,
 -- and the responses that it writes by itself (RFC 8489, sections 6.3 and 14.8).
-use Rattle.std.specs.Prelude.{ℕ, List, [], ◌∷◌, Bool, true, false, ◌==◌, ◌&&◌}
+use Rattle.std.specs.Prelude.{ℕ, List, Bool, true, false, ◌&&◌}
 use Rattle.std.specs.Prelude.{if◌then◌else◌, Option, Some, None}
 use Rattle.std.specs.Option.{is_none, is_some}
 use Rattle.std.specs.declared.net.socket_addr.SocketAddr.{SocketAddr}
@@ -8,7 +8,9 @@ use Rattle.stun_base.specs.Header.{header_refusal, transaction_id_field, type_fi
 use Rattle.stun_base.specs.MessageType.{class_in, is_request, method_of}
 use Rattle.stun_base.specs.declared.wire.attribute_type.AttributeType.{AttributeType}
 use Rattle.stun_types.specs.Message.{refusal}
+pub use Rattle.stun_extra.specs.Binding.{is_binding}
 use Rattle.stun_extra.specs.Fingerprint.{fingerprint_in}
+pub use Rattle.stun_extra.specs.Unknown.{is_empty}
 use Rattle.stun_extra.specs.Unknown.{refusing_answer, unknown_types}
 use Rattle.stun_extra.specs.declared.fingerprint.Fingerprint.{Fingerprint}
 use Rattle.stun_extra.specs.declared.fingerprint.Fingerprint.TheVariants.{Right, Wrong}
@@ -69,14 +71,6 @@ pub record Responding : Type 0 where
   pub software : Option (List ℕ)
   -- whether a Binding request gets its answer without the caller
   pub answers_binding : Bool
-
-abbrev pub is_empty : List AttributeType → Bool
-is_empty [] = true
-is_empty (kind ∷ kinds) = false
-
--- the method of a Binding request (section 3)
-abbrev pub is_binding : List ℕ → Bool
-is_binding bytes = method_of (type_field bytes) == 1
 
 -- the end of each response to a request, which is signed by this, or by nothing
 abbrev pub ending_by : Responding → Option Signature → List ℕ → Ending

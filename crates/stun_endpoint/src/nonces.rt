@@ -1,30 +1,13 @@
 //! The sixteen numbers that the nonce of an address is made of.
 
 ghost use Rattle.std.specs.Prelude.{◌≡◌, take};
-ghost use Rattle.stun_endpoint.specs.Nonces.{address_octets, algorithms_number, words_of};
+ghost use Rattle.stun_endpoint.specs.Nonces.{algorithms_number, words_of};
 ghost use Rattle.stun_endpoint.specs.Realm.{algorithms_for};
 
 use std::alloc::Allocator;
-use std::net::{IpAddr, Ipv4Addr, SocketAddr};
+use std::net::SocketAddr;
 use stun_base::prepared_key::PreparedKey;
-
-/// Returns sixteen octets of an address: those of an IPv4 address as IPv6 maps it.
-fn address_octets(ip: IpAddr) -> [u8; 16]
-    ensures { result ≡ address_octets ip }
-{
-    match ip {
-        IpAddr::V4(ip) => mapped_octets(ip),
-        IpAddr::V6(ip) => ip.octets(),
-    }
-}
-
-/// Returns the octets of `::ffff:a.b.c.d`.
-fn mapped_octets(ip: Ipv4Addr) -> [u8; 16]
-    ensures { result ≡ address_octets (IpAddr.V4 ip) }
-{
-    let [a, b, c, d] = ip.octets();
-    [0, 0, 0, 0, 0, 0, 0, 0, 0, 0, 255, 255, a, b, c, d]
-}
+use stun_extra::canonical_address::address_octets;
 
 /// Returns a number for the supported algorithms.
 fn algorithms_number(hmac_sha1: bool, hmac_sha256: bool) -> u8

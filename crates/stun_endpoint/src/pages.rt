@@ -1,17 +1,17 @@
 //! Responses before they are ended: an error response with ERROR-CODE, and a success response with
 //! the address that a request came from (RFC 8489, sections 14.2 and 14.8).
 
-ghost use Rattle.std.specs.Net.Socket.{socket_ip, socket_port};
 ghost use Rattle.std.specs.Prelude.{◌≡◌, ◌≤◌, IfOk, length};
 ghost use Rattle.stun_base.specs.declared.wire.message_type.MessageClass.TheVariants.{Success};
-ghost use Rattle.stun_endpoint.specs.Answers.{binding_page, error_page, mapped_address};
-ghost use Rattle.stun_endpoint.specs.Answers.{xored_canonical};
+ghost use Rattle.stun_endpoint.specs.Answers.{binding_page, error_page};
+ghost use Rattle.stun_extra.specs.CanonicalAddress.{mapped_address};
 ghost use Rattle.stun_types.specs.Writing.{IsOpen, empty_answer, with_attribute};
 
 use std::alloc::{AllocError, Allocator};
 use std::net::SocketAddr;
-use stun_types::attribute::{ErrorCode, XorMappedAddress};
-use stun_types::message::{Message, MessageWriteVec, StunWriteError, TransactionId};
+use stun_extra::canonical_address::mapped_address;
+use stun_types::attribute::ErrorCode;
+use stun_types::message::{Message, MessageWriteVec, StunWriteError};
 use stun_types::prelude::*;
 
 /// Begins an error response with ERROR-CODE alone.
@@ -79,12 +79,4 @@ fn try_mapped_page<A: Allocator + Copy>(
     let mut page = Message::builder_success(request, MessageWriteVec::new(alloc))?;
     page.add_attribute(&mapped_address(from, request.transaction_id()))?;
     Ok(page)
-}
-
-/// XOR-MAPPED-ADDRESS of an address. An IPv4 address in either spelling is IPv4.
-fn mapped_address(from: SocketAddr, id: TransactionId) -> XorMappedAddress
-    ensures { result ≡ xored_canonical (socket_ip from) (socket_port from) id }
-{
-    let ip = from.ip().to_canonical();
-    XorMappedAddress::new(SocketAddr::new(ip, from.port()), id)
 }

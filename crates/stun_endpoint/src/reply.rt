@@ -11,11 +11,12 @@ ghost use Rattle.stun_types.specs.ErrorCode.{error_refusal};
 ghost use Rattle.stun_types.specs.Message.{IsMessage};
 ghost use Rattle.stun_types.specs.Walk.{walk};
 ghost use Rattle.stun_types.specs.Writing.{IsOpen, RefusedBy, empty_message, with_attribute};
-ghost use Rattle.stun_endpoint.specs.Answers.{VerifiesBy, error_attribute, with_end};
+ghost use Rattle.stun_endpoint.specs.Answers.{VerifiesBy, with_end};
 ghost use Rattle.stun_endpoint.specs.Answers.{Signature as SignatureSeen, with_signature};
 ghost use Rattle.stun_endpoint.specs.Answers.{with_software};
 ghost use Rattle.stun_endpoint.specs.Ended.{finish_refusal, refused_signature};
 ghost use Rattle.stun_endpoint.specs.Ended.{refused_software};
+ghost use Rattle.stun_extra.specs.Errors.{error_code_attribute};
 
 use std::alloc::{AllocError, Allocator, Global};
 use std::fmt;
@@ -216,7 +217,7 @@ impl<A: Allocator + Copy> Reply<A> {
             (IsOkUnless result StunWriteError.OutOfMemory) (λ why. result ≡ Err why) }
         ensures bytes { IfOk result (λ page. page.bytes
             ≡ with_attribute (empty_message MessageClass.Error self.now.method self.now.id)
-            (error_attribute code reason.now)) }
+            (error_code_attribute code reason.now)) }
         ensures open { IfOk result (λ page. IsOpen page.bytes) }
     {
         let error = ErrorCode::builder(code).reason(reason).build()?;

@@ -294,8 +294,8 @@ def compare_registry(types):
         name = LONGER.get(name, name)
         entry = f'0x{kind.number:04X} => entry("{name}", ..)'
         near = [one for one in found if one[0] == kind.number or one[1] == name]
-        wrong.extend(f"{place}: 0x{number:04X} is {other} there, but by {kind.place} it is {entry}: "
-                     "make them alike" for number, other, place in near
+        wrong.extend(f"{place}: 0x{number:04X} is {other} there, but by {kind.place} it is {entry}:"
+                     " make them alike" for number, other, place in near
                      if (number, other) != (kind.number, name))
         if not near:
             wrong.append(f"{REGISTRY}: nothing is there for {kind.place}: add {entry}")

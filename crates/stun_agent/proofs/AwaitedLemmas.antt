@@ -164,7 +164,7 @@ first_joined : (a b : Awaited)
     → first_awaited (joined a b) ≡ lesser (first_awaited a) (first_awaited b)
 first_joined a b = lesser_of_four a.slot b.slot a.end b.end
 
--- that of one, unless it is cancelled
+-- that of one, unless it is canceled
 first_one : (transport : TransportType) (t : Transaction)
     → first_awaited (awaited_by transport t)
     ≡ cond (is_cancelled t.sending) None (Some (awaited_moment transport t))

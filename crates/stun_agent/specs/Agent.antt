@@ -179,7 +179,7 @@ abbrev pub after_message : Option ℕ → List ℕ → SocketAddr → Agent → 
 after_message moment bytes from agent = after_class (class_in bytes) moment bytes from agent
 
 -- ---- ends
--- how a transaction ends without a response: as cancelled, if its user has stopped it or its
+-- how a transaction ends without a response: as canceled, if its user has stopped it or its
 -- retransmissions
 abbrev pub end_of : ℕ × Transaction → StunAgentPollRet
 end_of e = if repeats e.1.sending then TransactionTimedOut e.0 else TransactionCancelled e.0

@@ -89,7 +89,7 @@ takes_request Success id bytes from agent =
 takes_request Error id bytes from agent =
     is_id id (transaction_id_field bytes) && is_some (answered_request bytes from agent)
 
--- a call ends the transaction: by a response that comes, or by a poll, as timed out or cancelled
+-- a call ends the transaction: by a response that comes, or by a poll, as timed out or canceled
 abbrev pub ends : ℕ → AgentCall → Agent → Bool
 ends id (receive moment bytes from) agent = takes_request (class_in bytes) id bytes from agent
 ends id (poll now) agent = option_map_or (λ e. is_id id e.0) (ended_by_poll now agent) false

@@ -3,7 +3,7 @@ use Rattle.std.specs.Prelude.{ℕ, ◌≡◌, ◌<◌, Bool, ◌||◌, nat_le, c
 use Rattle.stun_base.specs.declared.wire.transport.TransportType.{TransportType}
 use Rattle.stun_agent.specs.Transactions.{Transaction, Transactions, awaited_moment, is_cancelled}
 
--- a transaction that is cancelled, or awaits at most this moment
+-- a transaction that is canceled, or awaits at most this moment
 abbrev pub is_early : TransportType → ℕ → Transaction → Bool
 is_early transport now t = is_cancelled t.sending || nat_le (awaited_moment transport t) now
 

@@ -106,7 +106,7 @@ indication_received bytes = record no_tally { indications_received = 1; bytes_re
 abbrev pub request_timed_out : Tally
 request_timed_out = record no_tally { timed_out = 1 }
 
--- a request was cancelled, and ended
+-- a request was canceled, and ended
 abbrev pub request_cancelled : Tally
 request_cancelled = record no_tally { cancelled = 1 }
 

@@ -43,7 +43,7 @@ is_cancelled Repeats = false
 is_cancelled Silent = false
 is_cancelled Cancelled = true
 
--- it is sent no more, and what was cancelled stays so
+-- it is sent no more, and what was canceled stays so
 abbrev pub after_silence : Sending → Sending
 after_silence Repeats = Silent
 after_silence Silent = Silent
@@ -160,7 +160,7 @@ abbrev pub wake_up : TransportType → ℕ → Transactions → ℕ
 wake_up transport now all =
     max now (fold min (moment_after now an_hour) (map (λ e. awaited_moment transport e.1) all))
 
--- the moments that those which are not cancelled await
+-- the moments that those which are not canceled await
 abbrev pub awaited_moments : TransportType → Transactions → List ℕ
 awaited_moments transport all =
     map (λ e. awaited_moment transport e.1) (filter (λ e. not (is_cancelled e.1.sending)) all)

@@ -7,7 +7,7 @@ use Rattle.stun_agent.specs.Transactions.{Transaction, Transactions, awaited_mom
 use Rattle.stun_agent.specs.Transactions.{is_cancelled, sooner}
 
 -- the earliest moments that some transactions await, by what is to happen then: one with timeouts
--- left is to be sent again, another is to end, and a cancelled one is to end at once
+-- left is to be sent again, another is to end, and a canceled one is to end at once
 pub record Awaited : Type 0 where
   pub slot : Option ℕ
   pub end : Option ℕ
@@ -25,7 +25,7 @@ slot_at moment = record { slot = Some moment; end = None; cancelled = false }
 abbrev pub end_at : ℕ → Awaited
 end_at moment = record { slot = None; end = Some moment; cancelled = false }
 
--- a cancelled one
+-- a canceled one
 abbrev pub cancelled_one : Awaited
 cancelled_one = record { slot = None; end = None; cancelled = true }
 
@@ -66,6 +66,6 @@ some_due now awaited = has_come now awaited.slot
 abbrev pub some_over : ℕ → Awaited → Bool
 some_over now awaited = awaited.cancelled || has_come now awaited.end
 
--- the earliest moment of one that is not cancelled
+-- the earliest moment of one that is not canceled
 abbrev pub first_awaited : Awaited → Option ℕ
 first_awaited awaited = lesser awaited.slot awaited.end

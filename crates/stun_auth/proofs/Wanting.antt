@@ -354,6 +354,26 @@ followed xs ys page p end reserved left value result next first h =
     (λ is. is ∙ ap (λ (r : Result Page StunWriteError). after r next) first.outcome)
     (wants_later xs ys page p reserved left first.outcome first.kept) h
 
+-- the same of what follows for an equal value
+pub followed_as : {X : Type 0} (x y : X) (ys : X → List Addition)
+    (next : X → Page → Result Page StunWriteError) (xs : List Addition) (page p end : Page)
+    (reserved left : ℕ) (value : Unit {0}) (result : Result (Unit {0}) StunWriteError) → x ≡ y
+    → IsAdded xs page reserved (Ok value) p left
+    → UnlessMemory result (outcome_of result end ≡ next x p) (WantsMemory (ys x) p left)
+    → UnlessMemory result (outcome_of result end ≡ after (added_all xs page) (next y))
+    (WantsMemory (xs ++ ys y) page reserved)
+followed_as x y ys next xs page p end reserved left value result is first h =
+    followed xs (ys y) page p end reserved left value result (next y) first
+    (subst (λ z. UnlessMemory result (outcome_of result end ≡ next z p)
+    (WantsMemory (ys z) p left)) is h)
+
+-- what is added for a value is added for an equal one
+pub added_as : {X : Type 0} (ys : X → List Addition) (x y : X) (page now : Page)
+    (reserved left : ℕ) (result : Result (Unit {0}) StunWriteError) → x ≡ y
+    → IsAdded (ys x) page reserved result now left → IsAdded (ys y) page reserved result now left
+added_as ys x y page now reserved left result is h =
+    subst (λ z. IsAdded (ys z) page reserved result now left) is h
+
 -- a list of algorithms is added with the choice from it
 pub choice_of_list : (list : List PasswordAlgorithmValue) (algorithm : IntegrityAlgorithm)
     → 1 ≤ length list

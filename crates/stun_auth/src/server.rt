@@ -218,7 +218,7 @@ impl<A: Allocator + Copy> LongTermServerAuth<A> {
             ≡ client_at self.now address }
     {
         match self.places.get(address) {
-            Some(place) => match &place.client {
+            Some(place) => match place.client() {
                 Some(client) => Some((client.name.as_str(), client.algorithm)),
                 None => None,
             },
@@ -326,6 +326,10 @@ impl<A: Allocator + Copy> LongTermServerAuth<A> {
     /// Forgets the client of an address, but not its nonce and its offer. Messages to this address
     /// get no signature until a client is validated there again. It does not allocate.
     ///
+    /// The memory of the user's name stays with the record, as many bytes as the name has, until
+    /// another user is validated there or the record is forgotten. So a request of the same user at
+    /// the same address needs no memory for the name.
+    ///
     /// Call it after every response. As long as an address has a client, its record never expires,
     /// and its 401 and 438 responses have no list of algorithms, so that a client that starts
     /// afresh at the same address cannot authenticate.
@@ -335,7 +339,7 @@ impl<A: Allocator + Copy> LongTermServerAuth<A> {
               (with_client None);
         } }
     {
-        self.places.set_client(address, None);
+        self.places.remove_client(address);
     }
 
     /// Removes the record of an address: its nonce and when that expires, its offer, and its

@@ -1,5 +1,5 @@
 -- A place as the struct of the code keeps it.
-use Rattle.std.specs.Prelude.{◌≡◌, ℕ, List, map, true, false, Option, Some, None}
+use Rattle.std.specs.Prelude.{◌≡◌, ℕ, List, map, true, false, if◌then◌else◌, Option, Some, None}
 use Rattle.std.specs.Option.{option_map, option_or, IsSome}
 use Rattle.std.specs.Ordering.{is_gt}
 use Rattle.std.specs.BTreeMap.Range.{is_from_start}
@@ -21,7 +21,7 @@ place_seen p = record {
   nonce = string_bytes p.nonce.text;
   expires = p.expires;
   offered = p.offered;
-  client = option_map client_seen p.client;
+  client = if p.is_removed then None else option_map client_seen p.last_user;
 }
 
 -- a place with a new nonce, and with a new client if there is one

@@ -2,7 +2,7 @@
 //! the client.
 
 ghost use Rattle.std.specs.Prelude.{◌≡◌, ◌↔◌, IfOk, IfSome, IsTrue, false, Option, None, Some};
-ghost use Rattle.std.specs.Prelude.{OnOk, OnErr, if◌then◌else◌};
+ghost use Rattle.std.specs.Prelude.{IsOk, OnOk, OnErr, if◌then◌else◌};
 ghost use Rattle.std.specs.Option.{option_map, option_map_or, option_copied};
 ghost use Rattle.std.specs.FinMap as map;
 ghost use Rattle.std.specs.String.{string_bytes};
@@ -44,20 +44,51 @@ impl<A: Allocator> ValidatedUser<A> {
         let name = String::from_str(alloc, name)?;
         Ok(ValidatedUser { name, algorithm })
     }
+
+    /// A client of this name. It takes the name of the user who was removed if that is the same,
+    /// and copies it otherwise.
+    pub(crate) fn in_place_of(
+        removed: Option<Self>,
+        alloc: A,
+        name: &str,
+        algorithm: IntegrityAlgorithm,
+    ) -> Result<Self, AllocError>
+        ensures client { IfOk result (λ client. client_seen client
+            ≡ record { name = name.now; algorithm = algorithm }) }
+        ensures needless { option_map (λ user. string_bytes user.name) removed ≡ Some name.now
+            → IsOk result }
+    {
+        match removed {
+            Some(user) => {
+                if user.name.as_str() == name {
+                    return Ok(ValidatedUser {
+                        name: user.name,
+                        algorithm,
+                    });
+                }
+            }
+            None => {}
+        }
+        ValidatedUser::new(alloc, name, algorithm)
+    }
 }
 
 /// What is kept for an address.
+///
+/// A client who was removed counts as none. The name is kept, so that a client who returns needs no
+/// memory.
 #[derive(Drop)]
 pub(crate) struct Place<A: Allocator> {
     pub(crate) nonce: LimitedText<A>,
     pub(crate) expires: Instant,
     pub(crate) offered: Option<AlgorithmSet>,
-    pub(crate) client: Option<ValidatedUser<A>>,
+    last_user: Option<ValidatedUser<A>>,
+    is_removed: bool,
 }
 
 impl<A: Allocator> Place<A> {
     ghost use Rattle.stun_auth.specs.Forgetting.{is_forgotten};
-    ghost use Rattle.stun_auth.specs.Places.{with_offer};
+    ghost use Rattle.stun_auth.specs.Places.{with_client, with_offer};
     ghost use Rattle.stun_auth.specs.code.Places.{place_seen, client_seen, renewed_with};
 
     /// The place of an address that had none.
@@ -69,7 +100,21 @@ impl<A: Allocator> Place<A> {
             nonce,
             expires,
             offered: None,
-            client,
+            last_user: client,
+            is_removed: false,
+        }
+    }
+
+    /// Its client: the user who was validated last, unless that user was removed since.
+    pub(crate) fn client(&self) -> Option<&ValidatedUser<A>>
+        ensures { option_map client_seen (option_copied result) ≡ (place_seen self.now).client }
+    {
+        if self.is_removed {
+            return None;
+        }
+        match &self.last_user {
+            Some(client) => Some(client),
+            None => None,
         }
     }
 
@@ -78,7 +123,7 @@ impl<A: Allocator> Place<A> {
         ensures { IsTrue result ↔ ((place_seen self.now).client
             ≡ Some (record { name = name.now; algorithm = algorithm })) }
     {
-        match &self.client {
+        match self.client() {
             Some(client) => client.algorithm == algorithm && client.name.as_str() == name,
             None => false,
         }
@@ -88,14 +133,14 @@ impl<A: Allocator> Place<A> {
     fn is_forgotten(&self, now: Instant) -> bool
         ensures { result ≡ is_forgotten now (place_seen self.now) }
     {
-        self.client.is_none() && self.expires < now
+        self.client().is_none() && self.expires < now
     }
 
     /// Keeps what was offered, unless there is a client.
     fn offer(&mut self, supported: AlgorithmSet)
         ensures { place_seen self.new ≡ with_offer supported (place_seen self.old) }
     {
-        if self.client.is_none() {
+        if self.client().is_none() {
             self.offered = Some(supported);
         }
     }
@@ -108,8 +153,36 @@ impl<A: Allocator> Place<A> {
         self.nonce = nonce;
         self.expires = expires;
         if client.is_some() {
-            self.client = client;
+            self.set_client(client);
         }
+    }
+
+    /// Makes a user the client, or nobody.
+    fn set_client(&mut self, client: Option<ValidatedUser<A>>)
+        ensures { place_seen self.new
+            ≡ with_client (option_map client_seen client) (place_seen self.old) }
+    {
+        self.last_user = client;
+        self.is_removed = false;
+    }
+
+    /// Removes the client, whose name stays.
+    fn remove_client(&mut self)
+        ensures state { place_seen self.new ≡ with_client None (place_seen self.old) }
+        ensures kept { self.new.last_user ≡ self.old.last_user }
+    {
+        self.is_removed = true;
+    }
+
+    /// Takes out the user who was removed, if any.
+    fn take_removed(&mut self) -> Option<ValidatedUser<A>>
+        ensures state { place_seen self.new ≡ place_seen self.old }
+        ensures removed { result ≡ (if self.old.is_removed then self.old.last_user else None) }
+    {
+        if self.is_removed {
+            return self.last_user.take();
+        }
+        None
     }
 }
 
@@ -166,17 +239,40 @@ impl<A: Allocator + Copy> Places<A> {
         self.by_address.get(&address)
     }
 
-    /// Sets the client of an address that has a nonce.
+    /// Makes a user the client of an address that has a nonce, or nobody.
     pub(crate) fn set_client(&mut self, address: SocketAddr, client: Option<ValidatedUser<A>>)
         ensures { self.new ≡ with_change self.old address
             (with_client (option_map client_seen client)) }
     {
         match self.by_address.get_mut(&address) {
             Some(place) => {
-                place.client = client;
+                place.set_client(client);
                 return;
             }
             None => return,
+        }
+    }
+
+    /// Removes the client of an address, and keeps the name until another user is validated there.
+    pub(crate) fn remove_client(&mut self, address: SocketAddr)
+        ensures { self.new ≡ with_change self.old address (with_client None) }
+    {
+        match self.by_address.get_mut(&address) {
+            Some(place) => {
+                place.remove_client();
+                return;
+            }
+            None => return,
+        }
+    }
+
+    /// Takes out the user who was removed at an address, if any.
+    pub(crate) fn take_removed(&mut self, address: SocketAddr) -> Option<ValidatedUser<A>>
+        ensures { self.new ≡ self.old }
+    {
+        match self.by_address.get_mut(&address) {
+            Some(place) => return place.take_removed(),
+            None => return None,
         }
     }
 

@@ -2,7 +2,7 @@
 
 ghost use Rattle.std.specs.Prelude.{◌≡◌, ◌≤◌, ◌<◌, ◌+◌, ◌-◌, ◌^◌, length, min};
 ghost use Rattle.std.specs.Prelude.{not, true, Some, IfOk, IsOk, OnOk, OnErr, Ok};
-ghost use Rattle.std.specs.Option.{IfSome, option_map};
+ghost use Rattle.std.specs.Option.{IfSome, option_copied, option_map};
 ghost use Rattle.stun_base.specs.Header.{BeginsWithHeader};
 ghost use Rattle.stun_base.specs.MessageType.{class_in, is_response as is_response_class};
 ghost use Rattle.stun_types.specs.Limits.{TEXT_LIMIT};
@@ -200,7 +200,7 @@ impl<A: Allocator + Copy> LongTermServerAuth<A> {
             (W.reserved writer.old)) }
     {
         self.add_attributes(writer, place, is_response)?;
-        match &place.client {
+        match place.client() {
             Some(client) => self.add_digest(writer, client),
             None => Ok(()),
         }
@@ -222,9 +222,9 @@ impl<A: Allocator + Copy> LongTermServerAuth<A> {
     {
         if is_response {
             self.add_nonce_and_realm(writer, place.nonce.as_str())?;
-            self.add_algorithms(writer, &place.client, true)
+            self.add_algorithms(writer, place.client(), true)
         } else {
-            self.add_algorithms(writer, &place.client, false)
+            self.add_algorithms(writer, place.client(), false)
         }
     }
 
@@ -233,13 +233,13 @@ impl<A: Allocator + Copy> LongTermServerAuth<A> {
     fn add_algorithms<W: MessageWrite>(
         &self,
         writer: &mut W,
-        client: &Option<ValidatedUser<A>>,
+        client: Option<&ValidatedUser<A>>,
         is_response: bool,
     ) -> Result<(), StunWriteError>
         requires { 20 ≤ length (W.bytes writer.old) }
         ensures header { 20 ≤ length (W.bytes writer.new) }
         ensures added { IsAdded (algorithms_for is_response self.now.registered
-            (option_map client_seen client.now))
+            (option_map client_seen (option_copied client.entry)))
             (page_in W.bytes W.room writer.old) (W.reserved writer.old) result
             (page_in W.bytes W.room writer.new) (W.reserved writer.new) }
     {
@@ -308,8 +308,8 @@ impl<A: Allocator + Copy> LongTermServerAuth<A> {
             (Some (place_seen place.now))) (2 ^ 64 - 1) }
     {
         self.challenge_bytes(place.nonce.as_str(), is_response)
-            .saturating_add(self.algorithms_bytes(&place.client, is_response))
-            .saturating_add(protection_bytes(&place.client))
+            .saturating_add(self.algorithms_bytes(place.client(), is_response))
+            .saturating_add(protection_bytes(place.client()))
     }
 
     /// How many bytes nonce and realm take, at most 2^64 - 1.
@@ -324,9 +324,9 @@ impl<A: Allocator + Copy> LongTermServerAuth<A> {
     }
 
     /// How many bytes the attributes after nonce and realm take.
-    fn algorithms_bytes(&self, client: &Option<ValidatedUser<A>>, is_response: bool) -> usize
+    fn algorithms_bytes(&self, client: Option<&ValidatedUser<A>>, is_response: bool) -> usize
         ensures { result ≡ growth (algorithms_for is_response self.now.registered
-            (option_map client_seen client.now)) }
+            (option_map client_seen (option_copied client.entry))) }
     {
         match client {
             Some(client) => named_algorithm_bytes(client.algorithm),
@@ -374,8 +374,8 @@ fn named_algorithm_bytes(algorithm: IntegrityAlgorithm) -> usize
 }
 
 /// How many bytes the integrity attribute to a client takes.
-fn protection_bytes<A: Allocator>(client: &Option<ValidatedUser<A>>) -> usize
-    ensures { result ≡ protection_growth (option_map client_seen client.now) }
+fn protection_bytes<A: Allocator>(client: Option<&ValidatedUser<A>>) -> usize
+    ensures { result ≡ protection_growth (option_map client_seen (option_copied client.entry)) }
 {
     match client {
         Some(client) => integrity_bytes(client.algorithm),

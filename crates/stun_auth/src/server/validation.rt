@@ -20,17 +20,19 @@ ghost use Rattle.stun_auth.specs.code.Judging.{place_with, places_left, renewal_
 ghost use Rattle.stun_auth.specs.code.ReadingSeen.{reading_seen};
 
 use crate::algorithm_set::AlgorithmSet;
+use crate::feature::Feature;
 use crate::limited_text::LimitedText;
 use crate::message::nonce::make_nonce;
 use crate::message::reading::MessageReading;
 use crate::server::LongTermServerAuth;
 use crate::server::accepted::Accepted;
 use crate::server::claim::JudgeableMessage;
-use crate::server::places::{Place, ValidatedUser};
+use crate::server::places::{Place, Places, ValidatedUser};
 use crate::server::reason::{
     LongTermServerAuthError, LongTermServerAuthErrorReason, LongTermServerValidation,
     VerdictRefusal, refused,
 };
+use crate::server::registry::Registry;
 use crate::server::verdict::verdict;
 use rand_core::Rng;
 use std::alloc::{AllocError, Allocator};
@@ -260,7 +262,7 @@ impl<A: Allocator + Copy> LongTermServerAuth<A> {
         let Ok(renewal) = self.renewal(place, now, rng) else {
             return Err(LongTermServerAuthErrorReason::OutOfMemory);
         };
-        let Ok(judged) = self.judge_at(&message, place, &renewal) else {
+        let Ok(judged) = self.judge_at(&message, from, &renewal) else {
             return Err(LongTermServerAuthErrorReason::OutOfMemory);
         };
         self.commit(from, renewal, judged)
@@ -279,7 +281,7 @@ impl<A: Allocator + Copy> LongTermServerAuth<A> {
         let Some(place) = self.places.get(from) else {
             return Err(LongTermServerAuthErrorReason::IntegrityFailed);
         };
-        let Some(client) = &place.client else {
+        let Some(client) = place.client() else {
             return Err(LongTermServerAuthErrorReason::IntegrityFailed);
         };
         let Some(key) = self.registry.key(client.name.as_str(), client.algorithm) else {
@@ -320,34 +322,33 @@ impl<A: Allocator + Copy> LongTermServerAuth<A> {
     }
 
     /// Judges a message under the address's record, or under the new nonce if one was made. It
-    /// allocates only for another client's name.
+    /// allocates only for the name of a client who is neither kept nor the one who was removed.
     fn judge_at(
-        &self,
+        &mut self,
         message: &JudgeableMessage<'_, '_, '_>,
-        place: Option<&Place<A>>,
+        from: SocketAddr,
         renewal: &Option<Renewal<A>>,
     ) -> Result<Judgement<A>, AllocError>
-        ensures judged { IfOk result (IsJudged self.now.registered self.now.feature
+        ensures judged { IfOk result (IsJudged self.old.registered self.old.feature
             (reading_seen message.now.reading.now)
-            (place_with (option_map place_seen (option_copied place.entry))
-            (option_map renewal_seen renewal.now))) }
-        ensures needless { ChangesNoPlace self.now.registered self.now.feature
+            (place_with (map.get self.old.places from) (option_map renewal_seen renewal.now))) }
+        ensures state { self.new ≡ self.old }
+        ensures needless { ChangesNoPlace self.old.registered self.old.feature
             (reading_seen message.now.reading.now)
-            (place_with (option_map place_seen (option_copied place.entry))
-            (option_map renewal_seen renewal.now)) → IsOk result }
+            (place_with (map.get self.old.places from) (option_map renewal_seen renewal.now))
+            → IsOk result }
     {
-        let nonce = nonce_at(place, renewal);
-        let offered = offered_at(place);
-        match verdict(&self.registry, self.feature, message, nonce, offered) {
-            Err(refusal) => Ok(Judgement::Refused(refusal)),
-            Ok(accepted) => {
-                if is_known(place, &accepted) {
-                    return Ok(Judgement::Known(accepted.algorithm()));
-                }
-                let client = ValidatedUser::new(self.alloc, accepted.name(), accepted.algorithm())?;
-                Ok(Judgement::New(client))
-            }
-        }
+        let alloc = self.alloc;
+        let feature = self.feature;
+        judge_by(
+            &self.registry,
+            &mut self.places,
+            alloc,
+            feature,
+            message,
+            from,
+            renewal,
+        )
     }
 
     /// Keeps the new nonce if one was made, and a client who is not kept yet. Returns the answer.
@@ -387,4 +388,53 @@ impl<A: Allocator + Copy> LongTermServerAuth<A> {
             }
         }
     }
+}
+
+/// Judges a message with these users and places, as `judge_at` does.
+fn judge_by<A: Allocator + Copy>(
+    registry: &Registry<A>,
+    places: &mut Places<A>,
+    alloc: A,
+    feature: Feature,
+    message: &JudgeableMessage<'_, '_, '_>,
+    from: SocketAddr,
+    renewal: &Option<Renewal<A>>,
+) -> Result<Judgement<A>, AllocError>
+    ensures judged { IfOk result (IsJudged registry.now feature
+        (reading_seen message.now.reading.now)
+        (place_with (map.get places.old from) (option_map renewal_seen renewal.now))) }
+    ensures state { places.new ≡ places.old }
+    ensures needless { ChangesNoPlace registry.now feature
+        (reading_seen message.now.reading.now)
+        (place_with (map.get places.old from) (option_map renewal_seen renewal.now))
+        → IsOk result }
+{
+    let place = places.get(from);
+    let nonce = nonce_at(place, renewal);
+    let offered = offered_at(place);
+    match verdict(registry, feature, message, nonce, offered) {
+        Err(refusal) => Ok(Judgement::Refused(refusal)),
+        Ok(accepted) => {
+            if is_known(place, &accepted) {
+                return Ok(Judgement::Known(accepted.algorithm()));
+            }
+            let client = new_client(places, alloc, from, &accepted)?;
+            Ok(Judgement::New(client))
+        }
+    }
+}
+
+/// The user who is accepted, to be kept as the client of an address. It allocates unless this is
+/// the user who was removed there.
+fn new_client<A: Allocator + Copy>(
+    places: &mut Places<A>,
+    alloc: A,
+    from: SocketAddr,
+    accepted: &Accepted<'_, A>,
+) -> Result<ValidatedUser<A>, AllocError>
+    ensures client { IfOk result (λ client. client_seen client ≡ accepted.now.client) }
+    ensures state { places.new ≡ places.old }
+{
+    let removed = places.take_removed(from);
+    ValidatedUser::in_place_of(removed, alloc, accepted.name(), accepted.algorithm())
 }

@@ -1,10 +1,9 @@
 -- Nonce and realm are added, or refused, and then the algorithms.
 use Rattle.std.proofs.Common.{true, Err, ap, ◌∙◌, refl}
 use Rattle.std.proofs.lemmas.Result.{err_from_is_err_and}
-use Rattle.std.specs.Option.{option_map}
 use Rattle.stun_auth.specs.ServerSigning.{algorithms_for}
-use Rattle.stun_auth.specs.code.Places.{client_seen}
-use Rattle.stun_auth.proofs.Wanting.{refused_at_first, then_added}
+use Rattle.stun_auth.specs.code.Places.{place_seen}
+use Rattle.stun_auth.proofs.Wanting.{added_as, refused_at_first, then_added}
 use Rattle.stun_auth.proofs.server.LongTermServerAuth.add_attributes.Goals as goal
 
 pub returns-in_err-add_nonce_and_realm-clause-added :
@@ -12,7 +11,7 @@ pub returns-in_err-add_nonce_and_realm-clause-added :
 returns-in_err-add_nonce_and_realm-clause-added g c =
     let refused = err_from_is_err_and c.from_residual.result c.from_residual.ensures.1 in
     let users = c.args.self.now.registered in
-    let client = option_map client_seen c.args.place.now.client in
+    let client = (place_seen c.args.place.now).client in
     refused_at_first _ _ (algorithms_for true users client) _ _ _ _ _ _ _ _
     (refused.1 ∙ ap (λ reason. Err reason) refused.2)
     (rw (c.if-is_response.true, c.as_str.ensures.value) refl)
@@ -22,8 +21,9 @@ pub returns-in_ok-add_nonce_and_realm-clause-added :
     goal.returns-in_ok-add_nonce_and_realm-clause-added
 returns-in_ok-add_nonce_and_realm-clause-added g c =
     let users = c.args.self.now.registered in
-    let client = option_map client_seen c.args.place.now.client in
+    let client = (place_seen c.args.place.now).client in
     then_added _ _ (algorithms_for true users client) _ _ _ _ _ _ _ _
     (rw (c.if-is_response.true, c.as_str.ensures.value) refl)
     c.in_ok-add_nonce_and_realm.ensures.added
-    c.add_algorithms.ensures.added
+    (added_as (algorithms_for true users) _ client _ _ _ _ _ c.client.ensures
+    c.add_algorithms.ensures.added)

@@ -1,6 +1,7 @@
 -- Memory in which a message is signed is enough for all that is added to it.
-use Rattle.std.proofs.Common.{◌≡◌, ◌+◌, ◌-◌, ◌≤◌, ℕ, Bool, true, false, true≢false, List}
-use Rattle.std.proofs.Common.{[], ◌∷◌, ◌++◌, length, Option, Some, None, refl, sym, arith}
+use Rattle.std.proofs.Common.{◌≡◌, ◌⊎◌, ◌+◌, ◌-◌, ◌≤◌, ℕ, Bool, true, false, true≢false, List}
+use Rattle.std.proofs.Common.{[], ◌∷◌, ◌++◌, length, Option, Some, None, refl, subst, sym, arith}
+use Rattle.std.proofs.Common.{inl, inr}
 use Rattle.std.specs.Prelude.{IsOk, if◌then◌else◌, nat_lt}
 use Rattle.std.proofs.lemmas.List.Sums.{sum_by-cons}
 use Rattle.stun_base.specs.Algorithm.{digest_length}
@@ -24,9 +25,10 @@ use Rattle.stun_auth.specs.ServerSigning.{server_additions, server_growth}
 use Rattle.stun_auth.specs.Server.{Sight}
 use Rattle.stun_auth.proofs.AdditionLemmas.{growth-append}
 use Rattle.stun_auth.proofs.Growth.{server_wants_short, wants_short}
+use Rattle.stun_state.specs.code.Measured.{HoldsSigned}
 
 -- a server's message that the memory has room for
-pub server_short : (s : Sight) (response : Bool) (message : List ℕ) (memory : ℕ)
+server_short : (s : Sight) (response : Bool) (message : List ℕ) (memory : ℕ)
     → length message + server_growth s response ≤ memory
     → WantsMemory (server_additions s response) (page_of message) (memory - length message) → ⊥
 server_short s response message memory fits w =
@@ -49,7 +51,7 @@ client_grows false (authenticated c) =
       growth-append (identity c) (algorithm_choice c.algorithms c.algorithm ++ protection c),
     )
 
-pub client_short : (request : Bool) (state : ClientState) (message : List ℕ) (memory : ℕ)
+client_short : (request : Bool) (state : ClientState) (message : List ℕ) (memory : ℕ)
     → length message + growth (client_additions true state) ≤ memory
     → WantsMemory (client_additions request state) (page_of message) (memory - length message) → ⊥
 client_short request state message memory fits w =
@@ -121,8 +123,52 @@ unfolding added_one
 fits_room [] page ok = omega arith
 fits_room (x ∷ xs) page ok = fits_step x xs page (addition_refusal x page) refl (fits_room xs) ok
 
-pub any_length : (list : List Addition) (message : List ℕ)
+any_length : (list : List Addition) (message : List ℕ)
     → WantsMemory list (page_of message) (LENGTH_LIMIT - length message) → ⊥
 any_length list message w =
     let fits = fits_room w.first (page_of message) w.not_refused in
     omega (arith, fits, w.not_reserved)
+
+-- ---- memory of any size that is enough
+
+-- it has room for the signed message, or for the longest one
+enough : (memory size : ℕ) → HoldsSigned memory size
+    → (size ≤ memory) ⊎ (memory ≡ LENGTH_LIMIT)
+enough memory size holds = by (nat_lt memory LENGTH_LIMIT) refl
+  where
+    by : (b : Bool) → nat_lt memory LENGTH_LIMIT ≡ b → (size ≤ memory) ⊎ (memory ≡ LENGTH_LIMIT)
+    by true below = inl (holds.room (grind (arith, below)))
+    by false above =
+        let high = not_below memory LENGTH_LIMIT above in
+        inr (omega (arith, holds.limit, high))
+
+-- the message has room in it before anything is added
+pub fits_within : (message : List ℕ) (memory more : ℕ) → HoldsSigned memory (length message + more)
+    → length message ≤ LENGTH_LIMIT → length message ≤ memory
+fits_within message memory more holds short =
+    elim (enough memory (length message + more) holds) [
+      | inl fits ↦ omega (arith, fits)
+      | inr longest ↦ omega (arith, longest, short)
+    ]
+
+pub server_within : (s : Sight) (response : Bool) (message : List ℕ) (memory : ℕ)
+    → HoldsSigned memory (length message + server_growth s response)
+    → WantsMemory (server_additions s response) (page_of message) (memory - length message) → ⊥
+server_within s response message memory holds w =
+    elim (enough memory (length message + server_growth s response) holds) [
+      | inl fits ↦ server_short s response message memory fits w
+      | inr longest ↦ any_length (server_additions s response) message
+          (subst (λ n. WantsMemory (server_additions s response) (page_of message)
+          (n - length message)) longest w)
+    ]
+
+pub client_within : (request : Bool) (state : ClientState) (message : List ℕ) (memory : ℕ)
+    → HoldsSigned memory (length message + growth (client_additions true state))
+    → WantsMemory (client_additions request state) (page_of message) (memory - length message) → ⊥
+client_within request state message memory holds w =
+    elim (enough memory (length message + growth (client_additions true state)) holds) [
+      | inl fits ↦ client_short request state message memory fits w
+      | inr longest ↦ any_length (client_additions request state) message
+          (subst (λ n. WantsMemory (client_additions request state) (page_of message)
+          (n - length message)) longest w)
+    ]

@@ -20,6 +20,7 @@ ghost use Rattle.stun_state.specs.Client.{with_credentials, client_with_feature}
 ghost use Rattle.stun_state.specs.Codes.{algorithm_or_none, algorithms_numbered, feature_numbered};
 ghost use Rattle.stun_state.specs.Memory.{AsksAgain};
 ghost use Rattle.stun_state.specs.Signing.{client_signs, is_too_long, message_of, signed_by_client};
+ghost use Rattle.stun_state.specs.code.Measured.{HoldsSigned};
 
 use crate::codes::{algorithms_numbered, client_refusal, feature_numbered};
 use crate::signing::{SHORT, is_too_long, writer_of};
@@ -107,15 +108,15 @@ pub fn sign(
     let more = client.message_signature_bytes();
     let is_long = is_too_long(&message, more);
     if message.as_bytes().len().saturating_add(more) <= SHORT {
-        sign_short(client, buffer, length, is_long)
+        sign_within::<SHORT>(client, buffer, length, is_long)
     } else {
-        sign_long(client, buffer, length, is_long)
+        sign_within::<LENGTH_LIMIT>(client, buffer, length, is_long)
     }
 }
 
-/// Signs a message that then has at most `SHORT` bytes.
+/// Signs a message that then has at most `N` bytes, or any message if `N` is `LENGTH_LIMIT`.
 #[inline(never)]
-fn sign_short(
+fn sign_within<const N: usize>(
     client: &mut LongTermClientAuth<Global>,
     buffer: &mut [u8],
     count: usize,
@@ -126,37 +127,14 @@ fn sign_short(
     requires limit { length (take count buffer.old) ≤ length_limit }
     requires long { is_long ≡ is_too_long (take count buffer.old)
         (growth (client_additions true client.old.state)) }
-    requires short { length (take count buffer.old)
-        + growth (client_additions true client.old.state) ≤ 2048 }
+    requires memory { HoldsSigned N
+        (length (take count buffer.old) + growth (client_additions true client.old.state)) }
     ensures signed { WritesBytes (within_room
         (client_signs client.old.state (take count buffer.old)) (length buffer.old))
         buffer.old buffer.new result }
     ensures state { client.new ≡ client.old }
 {
-    let mut memory = [0; SHORT];
-    let signed = sign_in(client, &buffer[..count], is_long, &mut memory)?;
-    fill(buffer, signed)
-}
-
-/// Signs a message of any length.
-#[inline(never)]
-fn sign_long(
-    client: &mut LongTermClientAuth<Global>,
-    buffer: &mut [u8],
-    count: usize,
-    is_long: bool,
-) -> Result<usize, Refusal>
-    requires within { count ≤ length buffer.old }
-    requires message { IsMessage (take count buffer.old) }
-    requires limit { length (take count buffer.old) ≤ length_limit }
-    requires long { is_long ≡ is_too_long (take count buffer.old)
-        (growth (client_additions true client.old.state)) }
-    ensures signed { WritesBytes (within_room
-        (client_signs client.old.state (take count buffer.old)) (length buffer.old))
-        buffer.old buffer.new result }
-    ensures state { client.new ≡ client.old }
-{
-    let mut memory = [0; LENGTH_LIMIT];
+    let mut memory = [0; N];
     let signed = sign_in(client, &buffer[..count], is_long, &mut memory)?;
     fill(buffer, signed)
 }

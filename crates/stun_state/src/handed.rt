@@ -21,7 +21,7 @@ ghost use Rattle.stun_state.specs.Signing.{signed_for};
 use crate::handle::server::Server;
 use crate::server::{check_room, measure};
 use crate::signing::SHORT;
-use crate::users::{sign_long, sign_short, validate_message};
+use crate::users::{sign_within, validate_message};
 use std::alloc::Global;
 use stun_auth::auth::{LongTermServerAuth, LongTermServerUser, NamedUser};
 use stun_base::algorithm::IntegrityAlgorithm;
@@ -34,6 +34,7 @@ use stun_numbers::buffer::fill;
 use stun_numbers::message::base_message;
 use stun_numbers::refusal::Refusal;
 use stun_numbers::text::text;
+use stun_types::limits::LENGTH_LIMIT;
 use stun_types::message::Message;
 
 /// The secret of a user that a caller passes.
@@ -182,8 +183,8 @@ pub(crate) fn sign_with(
     let message = base_message(buffer, length)?;
     let measured = measure(server, &message, buffer.len(), to)?;
     if measured.whole <= SHORT {
-        sign_short(server, buffer, length, to, measured.is_long, user)
+        sign_within::<SHORT, _>(server, buffer, length, to, measured.is_long, user)
     } else {
-        sign_long(server, buffer, length, to, measured.is_long, user)
+        sign_within::<LENGTH_LIMIT, _>(server, buffer, length, to, measured.is_long, user)
     }
 }

@@ -26,7 +26,7 @@ ghost use Rattle.stun_state.specs.Server.{without_client, without_named};
 use crate::codes::{algorithms_numbered, feature_numbered};
 use crate::handle::server::Server;
 use crate::signing::{SHORT, is_response, is_too_long};
-use crate::users::{OwnUsers, sign_long, sign_short, validate_message};
+use crate::users::{OwnUsers, sign_within, validate_message};
 use std::alloc::Global;
 use std::net::SocketAddr;
 use std::time::Duration;
@@ -39,6 +39,7 @@ use stun_handles::text::copied;
 use stun_numbers::message::base_message;
 use stun_numbers::refusal::Refusal;
 use stun_numbers::text::text;
+use stun_types::limits::LENGTH_LIMIT;
 use stun_types::message::Message;
 
 /// The shortest lifetime of a nonce, in nanoseconds.
@@ -241,9 +242,9 @@ pub fn sign(
     let message = base_message(buffer, length)?;
     let measured = measure(server, &message, buffer.len(), to)?;
     if measured.whole <= SHORT {
-        sign_short(server, buffer, length, to, measured.is_long, &mut OwnUsers)
+        sign_within::<SHORT, _>(server, buffer, length, to, measured.is_long, &mut OwnUsers)
     } else {
-        sign_long(server, buffer, length, to, measured.is_long, &mut OwnUsers)
+        sign_within::<LENGTH_LIMIT, _>(server, buffer, length, to, measured.is_long, &mut OwnUsers)
     }
 }
 

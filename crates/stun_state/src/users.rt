@@ -19,11 +19,11 @@ ghost use Rattle.stun_base.specs.MessageType.{class_in, is_response};
 ghost use Rattle.stun_state.specs.Calls.{FitsMemory, Returns, SignsInBuffer};
 ghost use Rattle.stun_state.specs.Server.{server_validation_answer};
 ghost use Rattle.stun_state.specs.Signing.{message_of, server_signs};
-ghost use Rattle.stun_state.specs.code.Measured.{IsMeasured};
+ghost use Rattle.stun_state.specs.code.Measured.{HoldsSigned, IsMeasured};
 
 use crate::codes::server_refusal;
 use crate::server::validated_algorithm;
-use crate::signing::{SHORT, writer_of};
+use crate::signing::writer_of;
 use std::alloc::Global;
 use std::net::SocketAddr;
 use stun_auth::auth::{
@@ -35,7 +35,6 @@ use stun_base::instant::Instant;
 use stun_base::words::WordSource;
 use stun_numbers::buffer::put;
 use stun_numbers::refusal::Refusal;
-use stun_types::limits::LENGTH_LIMIT;
 use stun_types::message::Message;
 use stun_types::prelude::*;
 
@@ -179,9 +178,9 @@ pub(crate) fn validate_message<U: Users>(
     }
 }
 
-/// Signs a message that then has at most `SHORT` bytes.
+/// Signs a message that then has at most `N` bytes, or any message if `N` is `LENGTH_LIMIT`.
 #[inline(never)]
-pub(crate) fn sign_short<U: Users>(
+pub(crate) fn sign_within<const N: usize, U: Users>(
     server: &mut LongTermServerAuth<Global>,
     buffer: &mut [u8],
     count: usize,
@@ -193,42 +192,16 @@ pub(crate) fn sign_short<U: Users>(
         let response = is_response (class_in message) in
         let more = server_growth (sight (U.server_with users.old server.old) to) response in
         IsMeasured buffer.old count more is_long }
-    requires short { let message = take count buffer.old in
-        length message + server_growth (sight (U.server_with users.old server.old) to)
-        (is_response (class_in message)) ≤ 2048 }
+    requires memory { let message = take count buffer.old in
+        HoldsSigned N (length message + server_growth
+        (sight (U.server_with users.old server.old) to) (is_response (class_in message))) }
     ensures signed { SignsInBuffer (server_signs (U.server_with users.old server.old)
         (take count buffer.old) (length buffer.old) to) buffer.old buffer.new
         server.old server.new (U.server_left (after_signing (U.server_with users.old server.old) to
         (is_response (class_in (take count buffer.old)))) server.old) result }
     ensures users { users.new ≡ users.old }
 {
-    let mut memory = [0; SHORT];
-    let signed = sign_in(server, &buffer[..count], to, is_long, &mut memory, users)?;
-    put(buffer, signed);
-    Ok(signed.len())
-}
-
-/// Signs a message of any length.
-#[inline(never)]
-pub(crate) fn sign_long<U: Users>(
-    server: &mut LongTermServerAuth<Global>,
-    buffer: &mut [u8],
-    count: usize,
-    to: SocketAddr,
-    is_long: bool,
-    users: &mut U,
-) -> Result<usize, Refusal>
-    requires measured { let message = take count buffer.old in
-        let response = is_response (class_in message) in
-        let more = server_growth (sight (U.server_with users.old server.old) to) response in
-        IsMeasured buffer.old count more is_long }
-    ensures signed { SignsInBuffer (server_signs (U.server_with users.old server.old)
-        (take count buffer.old) (length buffer.old) to) buffer.old buffer.new
-        server.old server.new (U.server_left (after_signing (U.server_with users.old server.old) to
-        (is_response (class_in (take count buffer.old)))) server.old) result }
-    ensures users { users.new ≡ users.old }
-{
-    let mut memory = [0; LENGTH_LIMIT];
+    let mut memory = [0; N];
     let signed = sign_in(server, &buffer[..count], to, is_long, &mut memory, users)?;
     put(buffer, signed);
     Ok(signed.len())

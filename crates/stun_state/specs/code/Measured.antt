@@ -1,5 +1,5 @@
 -- What is known of a message that is to be signed in its buffer.
-use Rattle.std.specs.Prelude.{◌≡◌, ◌≤◌, ◌+◌, ℕ, Bool, List, length, take}
+use Rattle.std.specs.Prelude.{◌≡◌, ◌<◌, ◌≤◌, ◌+◌, ℕ, Bool, List, length, take}
 use Rattle.stun_types.specs.Limits.{LENGTH_LIMIT}
 use Rattle.stun_types.specs.Message.{IsMessage}
 use Rattle.stun_state.specs.Signing.{is_too_long}
@@ -12,3 +12,9 @@ pub record IsMeasured (buffer : List ℕ) (count more : ℕ) (is_long : Bool) : 
   pub limit : length (take count buffer) ≤ LENGTH_LIMIT
   pub room : length (take count buffer) + more ≤ length buffer
   pub long : is_long ≡ is_too_long (take count buffer) more
+
+-- memory of so many bytes is enough for a message that has `size` bytes after it is signed: it has
+-- as many, or as many as the longest message
+pub record HoldsSigned (memory size : ℕ) : Type 0 where
+  pub limit : memory ≤ LENGTH_LIMIT
+  pub room : memory < LENGTH_LIMIT → size ≤ memory

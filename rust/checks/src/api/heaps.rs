@@ -138,6 +138,30 @@ fn a_client_of_a_server_takes_its_name() {
     });
 }
 
+/// A client who was removed and returns takes no memory. The name stays with the record, and goes
+/// with it.
+#[test]
+fn a_client_who_returns_takes_nothing() {
+    crate::host::run(|rt: HostRuntime| -> Result<(), Fail> {
+        let heap = RefusingAllocator::new();
+        let mut server = offering_server(rt.alloc(), &heap)?;
+        let live = heap.live();
+        accept(&rt, rt.alloc(), &mut server)?;
+        assert_eq!(heap.live(), live + 1);
+        let allocations = heap.allocations();
+        for _ in 0..3 {
+            server.remove_client(address(1));
+            assert_eq!(server.client(address(1)), None);
+            accept(&rt, rt.alloc(), &mut server)?;
+            assert!(server.client(address(1)).is_some());
+        }
+        assert_eq!(heap.allocations(), allocations);
+        server.forget(address(1));
+        assert!(heap.live() < live);
+        Ok(())
+    });
+}
+
 /// A challenge that is kept takes the name, the realm and the nonce.
 #[test]
 fn a_challenge_takes_its_texts() {

@@ -1,15 +1,18 @@
 //! Writes the values of further attributes as text: those of STUN (RFC 8489, section 14), ICE (RFC
 //! 8445, section 16.1), TURN (RFC 8656, section 18) and NAT behavior discovery (RFC 5780, section
 //! 7). Each function returns `false`, and appends nothing, if the value is malformed.
+ghost use Rattle.std.specs.Prelude.{◌≡◌, false};
+ghost use Rattle.stun_cli.specs.Line.{has_line_feed};
 
 use crate::registry::attribute_name;
-use crate::value::{push_address, push_digits, push_quoted};
+use crate::value::{push_address, push_code, push_digits, push_quoted};
 use std::alloc::{AllocError, Allocator};
 use stun_cli::line::Line;
 use stun_extra::attribute::{
-    AddressFamily, AlternateDomain, ChangeRequest, ChannelNumber, EvenPort, IceControlled,
-    Lifetime, MappedAddress, Priority, RequestedAddressFamily, RequestedTransport,
-    ReservationToken, ResponsePort, Software, UseCandidate, XorPeerAddress,
+    AddressErrorCode, AddressFamily, AlternateDomain, ChangeRequest, ChannelNumber, EvenPort,
+    IceControlled, Icmp, Lifetime, MappedAddress, Priority, RequestedAddressFamily,
+    RequestedTransport, ReservationToken, ResponsePort, Software, TransactionTransmitCounter,
+    UseCandidate, XorPeerAddress,
 };
 use stun_extra::unknown::UnknownAttributes;
 use stun_types::attribute::RawAttribute;
@@ -155,10 +158,66 @@ pub fn push_family<A: Allocator + Copy>(
     let Ok(requested) = RequestedAddressFamily::from_raw(raw) else {
         return Ok(false);
     };
-    match requested.family() {
-        AddressFamily::Ipv4 => line.push_str("IPv4")?,
-        AddressFamily::Ipv6 => line.push_str("IPv6")?,
+    line.push_str(family_name(requested.family()))?;
+    Ok(true)
+}
+
+/// Returns the name of a family.
+fn family_name(family: AddressFamily) -> &'static str
+    ensures { has_line_feed result.now ≡ false }
+{
+    match family {
+        AddressFamily::Ipv4 => "IPv4",
+        AddressFamily::Ipv6 => "IPv6",
     }
+}
+
+/// Appends the family of an address that was not allocated, and the code and the phrase that say
+/// why.
+pub fn push_address_error<A: Allocator + Copy>(
+    line: &mut Line<A>,
+    value: &[u8],
+) -> Result<bool, AllocError> {
+    let raw = RawAttribute::new(AddressErrorCode::TYPE, value);
+    let Ok(error) = AddressErrorCode::from_raw(raw) else {
+        return Ok(false);
+    };
+    line.push_str(family_name(error.family()))?;
+    line.push(' ')?;
+    push_code(line, error.code(), error.reason())?;
+    Ok(true)
+}
+
+/// Appends the type, the code and the data of an ICMP message.
+pub fn push_icmp<A: Allocator + Copy>(
+    line: &mut Line<A>,
+    value: &[u8],
+) -> Result<bool, AllocError> {
+    let Ok(icmp) = Icmp::from_raw(RawAttribute::new(Icmp::TYPE, value)) else {
+        return Ok(false);
+    };
+    line.push_str("type ")?;
+    line.push_number(u64::from(icmp.icmp_type()))?;
+    line.push_str(", code ")?;
+    line.push_number(u64::from(icmp.code()))?;
+    line.push_str(", data ")?;
+    line.push_number(u64::from(icmp.error_data()))?;
+    Ok(true)
+}
+
+/// Appends how many times a request and its response were sent.
+pub fn push_transmissions<A: Allocator + Copy>(
+    line: &mut Line<A>,
+    value: &[u8],
+) -> Result<bool, AllocError> {
+    let raw = RawAttribute::new(TransactionTransmitCounter::TYPE, value);
+    let Ok(counter) = TransactionTransmitCounter::from_raw(raw) else {
+        return Ok(false);
+    };
+    line.push_str("requests ")?;
+    line.push_number(u64::from(counter.requests()))?;
+    line.push_str(", responses ")?;
+    line.push_number(u64::from(counter.responses()))?;
     Ok(true)
 }
 

@@ -44,6 +44,13 @@ pub enum Form {
     Transport,
     /// The token of a reserved port (RFC 8656, section 18.10).
     Token,
+    /// The family of an address that was not allocated, a code and a phrase (RFC 8656, section
+    /// 18.12).
+    AddressError,
+    /// The type, the code and the data of an ICMP message (RFC 8656, section 18.13).
+    Icmp,
+    /// How many times a request and its response were sent (RFC 7982, section 3.2).
+    Transmissions,
     /// Whether a response should come from another address or port (RFC 5780, section 7.2).
     ChangeRequest,
     /// The port to which a response should be sent (RFC 5780, section 7.5).
@@ -145,13 +152,13 @@ fn optional(number: u16) -> Option<Registered>
 {
     match number {
         0x8000 => entry("ADDITIONAL-ADDRESS-FAMILY", Form::Family),
-        0x8001 => entry("ADDRESS-ERROR-CODE", Form::Bytes),
+        0x8001 => entry("ADDRESS-ERROR-CODE", Form::AddressError),
         0x8002 => entry("PASSWORD-ALGORITHMS", Form::Algorithms),
         0x8003 => entry("ALTERNATE-DOMAIN", Form::Domain),
-        0x8004 => entry("ICMP", Form::Bytes),
+        0x8004 => entry("ICMP", Form::Icmp),
         0x8022 => entry("SOFTWARE", Form::Software),
         0x8023 => entry("ALTERNATE-SERVER", Form::Address),
-        0x8025 => entry("TRANSACTION_TRANSMIT_COUNTER", Form::Bytes),
+        0x8025 => entry("TRANSACTION_TRANSMIT_COUNTER", Form::Transmissions),
         0x8027 => entry("CACHE-TIMEOUT", Form::Bytes),
         0x8028 => entry("FINGERPRINT", Form::Bytes),
         0x8029 => entry("ICE-CONTROLLED", Form::TieBreaker),

@@ -2,9 +2,10 @@
 
 use crate::algorithms::{push_algorithm, push_algorithms};
 use crate::further_value::{
-    push_change_request, push_channel, push_domain, push_even_port, push_family, push_flag,
-    push_lifetime, push_number, push_plain_address, push_response_port, push_software,
-    push_tie_breaker, push_token, push_transport, push_types, push_xored_address,
+    push_address_error, push_change_request, push_channel, push_domain, push_even_port,
+    push_family, push_flag, push_icmp, push_lifetime, push_number, push_plain_address,
+    push_response_port, push_software, push_tie_breaker, push_token, push_transmissions,
+    push_transport, push_types, push_xored_address,
 };
 use crate::registry::{Form, error_name};
 use std::alloc::{AllocError, Allocator};
@@ -23,38 +24,51 @@ pub fn push_value<A: Allocator + Copy>(
     value: &[u8],
     id: TransactionId,
 ) -> Result<(), AllocError> {
-    let is_read = match form {
-        Form::Address => push_plain_address(line, value)?,
-        Form::XorAddress => push_xored_address(line, value, id)?,
-        Form::Text => push_text(line, value)?,
-        Form::Software => push_software(line, value)?,
-        Form::Domain => push_domain(line, value)?,
-        Form::Nonce => push_nonce(line, value)?,
-        Form::Error => push_error(line, value)?,
-        Form::Types => push_types(line, value)?,
-        Form::Algorithm => push_algorithm(line, value)?,
-        Form::Algorithms => push_algorithms(line, value)?,
-        Form::Sha1 | Form::Sha256 | Form::Userhash => {
-            has_length_of(form, value.len()) && push_digits(line, value)?
-        }
-        Form::Number => push_number(line, value)?,
-        Form::TieBreaker => push_tie_breaker(line, value)?,
-        Form::Flag => push_flag(line, value)?,
-        Form::Channel => push_channel(line, value)?,
-        Form::Lifetime => push_lifetime(line, value)?,
-        Form::Family => push_family(line, value)?,
-        Form::EvenPort => push_even_port(line, value)?,
-        Form::Transport => push_transport(line, value)?,
-        Form::Token => push_token(line, value)?,
-        Form::ChangeRequest => push_change_request(line, value)?,
-        Form::ResponsePort => push_response_port(line, value)?,
-        Form::Bytes => push_digits(line, value)?,
-    };
-    if !is_read {
+    if !push_form(line, form, value, id)? {
         line.push_str("malformed ")?;
         push_digits(line, value)?;
     }
     Ok(())
+}
+
+/// Appends a value in the form of its type. Returns `false`, and appends nothing, if the value is
+/// malformed.
+fn push_form<A: Allocator + Copy>(
+    line: &mut Line<A>,
+    form: Form,
+    value: &[u8],
+    id: TransactionId,
+) -> Result<bool, AllocError> {
+    match form {
+        Form::Address => push_plain_address(line, value),
+        Form::XorAddress => push_xored_address(line, value, id),
+        Form::Text => push_text(line, value),
+        Form::Software => push_software(line, value),
+        Form::Domain => push_domain(line, value),
+        Form::Nonce => push_nonce(line, value),
+        Form::Error => push_error(line, value),
+        Form::Types => push_types(line, value),
+        Form::Algorithm => push_algorithm(line, value),
+        Form::Algorithms => push_algorithms(line, value),
+        Form::Sha1 | Form::Sha256 | Form::Userhash => {
+            Ok(has_length_of(form, value.len()) && push_digits(line, value)?)
+        }
+        Form::Number => push_number(line, value),
+        Form::TieBreaker => push_tie_breaker(line, value),
+        Form::Flag => push_flag(line, value),
+        Form::Channel => push_channel(line, value),
+        Form::Lifetime => push_lifetime(line, value),
+        Form::Family => push_family(line, value),
+        Form::EvenPort => push_even_port(line, value),
+        Form::Transport => push_transport(line, value),
+        Form::Token => push_token(line, value),
+        Form::AddressError => push_address_error(line, value),
+        Form::Icmp => push_icmp(line, value),
+        Form::Transmissions => push_transmissions(line, value),
+        Form::ChangeRequest => push_change_request(line, value),
+        Form::ResponsePort => push_response_port(line, value),
+        Form::Bytes => push_digits(line, value),
+    }
 }
 
 /// Appends bytes as hexadecimal digits, or `empty` if there are none.
@@ -153,11 +167,19 @@ fn push_error<A: Allocator + Copy>(line: &mut Line<A>, value: &[u8]) -> Result<b
     let Ok(error) = ErrorCode::from_raw(RawAttribute::new(AttributeType::ERROR_CODE, value)) else {
         return Ok(false);
     };
-    let code = error.code();
+    push_code(line, error.code(), error.reason())?;
+    Ok(true)
+}
+
+/// Appends a code with its name, and a reason phrase in quotes.
+pub fn push_code<A: Allocator + Copy>(
+    line: &mut Line<A>,
+    code: u16,
+    reason: &str,
+) -> Result<(), AllocError> {
     line.push_number(u64::from(code))?;
     line.push(' ')?;
     line.push_str(error_name(code))?;
     line.push_str(", ")?;
-    push_quoted(line, error.reason())?;
-    Ok(true)
+    push_quoted(line, reason)
 }

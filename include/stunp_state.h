@@ -468,7 +468,12 @@ typedef struct {
  *     if (made < 0) fprintf(stderr, "%s\n", stunp_strerror(made));
  *
  * An outstanding request is one that has been stored and has not ended: it ends when
- * stunp_agent_handle accepts its response, or when stunp_agent_poll reports its end. */
+ * stunp_agent_handle accepts its response, or when stunp_agent_poll reports its end.
+ *
+ * With tens of thousands of outstanding requests, glibc's malloc may stop a single call for tens of
+ * milliseconds, because it merges small blocks that were freed all at once. If your program uses it
+ * and cannot have that, start it with GLIBC_TUNABLES=glibc.malloc.mxfast=0, or provide an allocator
+ * of your own. */
 
 /* Creates an agent that sends from the address `local`, with the timeouts of section 6.2.1: over
  * UDP 7 transmissions, with waits of 500 ms and then twice as long each time, and 8 s after the
@@ -1285,7 +1290,8 @@ int64_t stunp_server_nonce(const stunp_server *server, const stunp_address *at, 
  *
  * Call this after every response. As long as an address has a client, its record never expires, and
  * its 401 and 438 responses carry no list of algorithms, so that a client that starts afresh at the
- * same address cannot authenticate.
+ * same address cannot authenticate. The memory of the client's name stays with the record until
+ * another user is validated there, so a client who returns takes none.
  *
  * Returns 0, also if the address has no client. Errors:
  *   STUNP_EMPTY_HANDLE, STUNP_WRONG_HANDLE

@@ -683,6 +683,9 @@ impl LongTermServerAuth {
     /// Call this after every response. As long as an address has a client, its record never
     /// expires, and its 401 and 438 responses carry no list of algorithms, so that a client that
     /// starts afresh at the same address cannot authenticate.
+    ///
+    /// The memory of the client's name stays with the record, until another user is validated there
+    /// or the record is forgotten. So a client who returns allocates nothing.
     pub fn remove_client(&mut self, client: SocketAddr) {
         self.proved.remove_client(client);
     }

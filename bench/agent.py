@@ -23,6 +23,9 @@ HERE = os.path.dirname(os.path.abspath(__file__))
 CRATE = os.path.join(HERE, "..", "crates", "bench_agent")
 PROGRAM = os.path.join(CRATE, "out", "bench_agent")
 FEW, MANY = 10, 50
+# malloc keeps no block in its fast bins: else all of them are gathered in whichever call next asks
+# for a large one.
+ENVIRONMENT = dict(os.environ, GLIBC_TUNABLES="glibc.malloc.mxfast=0")
 ALLOCATES = re.compile(r"(malloc|realloc|calloc)(@.*|'2)?")
 
 AGENT_ROWS = [
@@ -62,7 +65,8 @@ def counted(call, size, times):
         out = f"{room}/counts"
         words = ["valgrind", "--tool=callgrind", f"--callgrind-out-file={out}",
                  "--compress-strings=no", PROGRAM, call, str(size), str(times)]
-        ran = subprocess.run(words, stdout=subprocess.PIPE, stderr=subprocess.PIPE, text=True)
+        ran = subprocess.run(words, stdout=subprocess.PIPE, stderr=subprocess.PIPE, text=True,
+                             env=ENVIRONMENT)
         if ran.returncode or ran.stdout != f"{times}\n":
             sys.exit(f"bench: {call} {size} {times}: status {ran.returncode}, "
                      f"{ran.stdout!r}\n{ran.stderr[-600:]}")

@@ -37,6 +37,8 @@ impl<'a> ErrorCode<'a> {
     pub const UNKNOWN_ATTRIBUTE: u16 = 420;
     /// 437: the request needs an allocation and there is none, or the other way round (RFC 8656).
     pub const ALLOCATION_MISMATCH: u16 = 437;
+    /// 440: the server does not support addresses of this family (RFC 8656).
+    pub const ADDRESS_FAMILY_NOT_SUPPORTED: u16 = 440;
     /// 441: the credentials are not those with which the allocation was made (RFC 8656).
     pub const WRONG_CREDENTIALS: u16 = 441;
     /// 486: the user has too many allocations (RFC 8656).
@@ -45,6 +47,8 @@ impl<'a> ErrorCode<'a> {
     pub const ROLE_CONFLICT: u16 = 487;
     /// 500: the server has failed temporarily. The client may try again.
     pub const SERVER_ERROR: u16 = 500;
+    /// 508: the server has no relayed address or port left for this request (RFC 8656).
+    pub const INSUFFICIENT_CAPACITY: u16 = 508;
 
     /// Creates the attribute from a code and a reason phrase.
     ///

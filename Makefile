@@ -2,6 +2,11 @@
 # release of the sources has only those.
 .PHONY: help lib export rust test rust-c dist prove c check wrong bench install uninstall release verify-release
 
+# Ends a target that needs the toolchain, where it is not there.
+needs_rt = @command -v rt >/dev/null || { echo "make $@: needs the toolchain rt, which is not \
+	installed (CONTRIBUTING.md). Without it, make export builds the crate in Rust, make lib the \
+	library for C, and make test runs the tests that need no prover." | tr -s '\t ' ' ' >&2; exit 2; }
+
 help:
 	@echo "make lib      export the calls for C, and build libstunp.a and libstunp.so to target/c"
 	@echo "make install  install the libraries, or the proved archives if they are built, headers,"
@@ -10,7 +15,7 @@ help:
 	@echo "make export   export the proved sources as plain Rust to target/export, and build them"
 	@echo "make rust     export the proved sources as plain Rust to target/export, and run its tests"
 	@echo "make test     the same: what is tested without rt"
-	@echo "make rust-c   after `make rust`: build libstunp.a and libstunp.so to target/c, and test them"
+	@echo "make rust-c   after 'make rust': build libstunp.a and libstunp.so to target/c, and test them"
 	@echo "make dist     release/stunp-VERSION-source.tar.gz, with other crates, to build without network"
 	@echo "With the toolchain (rt):"
 	@echo "make c        prove and build the archives for C (minutes)"
@@ -35,6 +40,7 @@ rust-c:
 	@tools/rust_c.sh udp
 
 c:
+	$(needs_rt)
 	@tools/archives.sh
 
 install:
@@ -47,19 +53,25 @@ dist:
 	@python3 tools/release.py --source release
 
 prove:
+	$(needs_rt)
 	rt ci
 
 check:
+	$(needs_rt)
 	.ci/run
 
 wrong:
+	$(needs_rt)
 	@python3 tools/wrong.py --all
 
 bench:
+	$(needs_rt)
 	bench/run.sh
 
 release:
+	$(needs_rt)
 	@python3 tools/release.py release $(LOG)
 
 verify-release:
+	$(needs_rt)
 	@python3 tools/release.py --verify release $(LOG)

@@ -1,5 +1,7 @@
 """The calls of the suite's files: what each asks of a subject, and how its answer is written."""
 
+import base64
+
 import grammar
 import reading
 import spelling
@@ -258,25 +260,57 @@ class Replies:
         kinds = [kind for kind, _, _ in spelling.attributes_of(self.last())]
         return reading.name_of(kinds[-1]) if kinds else "none"
 
+    def reply_equals(self, *words):
+        """Whether it has the bytes of a message."""
+        return "yes" if self.last() == self.message(words) else "no"
+
     def reply_bits(self):
         """The security bits of its nonce, as sent (section 9.2): those of features 0 and 1."""
         nonce = reading.value_in(self.last(), grammar.TYPES["NONCE"]) or b""
         bits = security_bits(nonce)
         number = int.from_bytes(bits or b"", "big")
-        named = [name for name, mask in (("algorithms", 0x800000), ("hashes", 0x400000),
-                                         ("others", 0x3FFFFF)) if number & mask]
+        named = [name for name, mask in FEATURE_BITS.items() if number & mask]
         return " ".join(named) or "none"
+
+    def reply_cookie(self):
+        """Whether its nonce begins with the nonce cookie (section 9.2)."""
+        if "rfc8489" not in self.claims:
+            raise Left("RFC 8489")
+        nonce = reading.value_in(self.last(), grammar.TYPES["NONCE"]) or b""
+        return "no" if security_bits(nonce) is None else "yes"
+
+    def reply_repeats(self, name, kept):
+        """Whether it has an attribute with a value that was kept."""
+        if kept not in self.kept:
+            raise Words(kept)
+        value = reading.value_in(self.last(), reading.type_word(name))
+        return "yes" if value == self.kept[kept] else "no"
+
+
+# The security features of a nonce (section 18.1): bit 0, bit 1, and the rest.
+FEATURE_BITS = {"algorithms": 0x800000, "hashes": 0x400000, "others": 0x3FFFFF}
 
 
 def security_bits(nonce):
     """The three bytes after the nonce cookie, or None."""
-    import base64
     if not nonce.startswith(b"obMatJos2") or len(nonce) < 13:
         return None
     try:
         return base64.b64decode(nonce[9:13], validate=True)
     except ValueError:
         return None
+
+
+def with_bits(nonce, names):
+    """The nonce with other security bits, by their names, or `none`."""
+    if security_bits(nonce) is None:
+        raise Left("a nonce without security bits")
+    number = 0
+    for name in names:
+        if name != "none" and name not in FEATURE_BITS:
+            raise Words(name)
+        number |= FEATURE_BITS.get(name, 0)
+    return nonce[:9] + base64.b64encode(number.to_bytes(3, "big")) + nonce[13:]
 
 
 class Credentials:
@@ -318,6 +352,29 @@ class Credentials:
                         hexadecimal(self.message(words)))
         return self.answered(came)
 
+    def server_accepts(self, *words):
+        """Whether its response is a success, whatever else it is."""
+        return "yes" if self.server_hears(*words) == "success" else "no"
+
+    def server_fingerprint(self):
+        return self.done("server-fingerprint")
+
+    def client_fingerprint(self):
+        return self.done("client-fingerprint")
+
+    # ---- A server of short-term credentials (section 9.1.3).
+
+    def short_server_new(self):
+        return self.done("short-server-new")
+
+    def short_server_add_user(self, name, password):
+        return self.done("short-server-add-user", hexadecimal(text(name)),
+                         hexadecimal(text(password)))
+
+    def short_server_hears(self, *words):
+        return self.answered(self.ask("short-server-hears", self.here,
+                                      hexadecimal(self.message(words))))
+
     def client_new(self):
         self.user = None
         return self.done("client-new")
@@ -327,6 +384,13 @@ class Credentials:
             raise Ours("client user")
         self.user = name, password
         return self.done("client-user", hexadecimal(text(name)), hexadecimal(text(password)))
+
+    def client_short_term(self, name, password):
+        return self.done("client-short-term", hexadecimal(text(name)),
+                         hexadecimal(text(password)))
+
+    def client_stream(self):
+        return self.done("client-stream")
 
     def client_hashes(self, word=None):
         if word is None:
@@ -340,6 +404,33 @@ class Credentials:
 
     def client_support_only(self, word):
         return self.supports("client", word, False)
+
+    # ---- A client that sends its own requests, with transaction IDs of its own.
+
+    def client_asks(self, *words):
+        """The first message that it sends for a request, whose ID it chooses."""
+        return self.sent(self.ask("client-asks", self.now, hexadecimal(self.message(words))))
+
+    def client_takes(self, *words):
+        return self.ask("client-takes", self.now, hexadecimal(self.message(words)))
+
+    def client_sends(self):
+        """Whether it has a message to send now."""
+        return "yes" if self.client_next() == "request" else "no"
+
+    def client_next(self):
+        """The next message that it sends, or how its request has ended."""
+        came = self.ask("client-next", self.now)
+        if not came.startswith("result "):
+            return self.sent(came)
+        self.lacking = self.reply = None
+        return came
+
+    def sent(self, came):
+        told = self.answered(came)
+        if self.reply is not None:
+            self.kept["id"] = self.reply[8:20]
+        return told
 
     def client_hears(self, *words):
         return self.ask("client-hears", hexadecimal(self.message(words)))
@@ -459,6 +550,10 @@ class Stage(Messages, Writing, Replies, Credentials, Transactions):
             value = reading.value_in(self.last(), reading.type_word(words[1]))
             if value is None:
                 raise Words(words[1])
+            if words[2:3] == ["bits"] and words[3:]:
+                value = with_bits(value, words[3:])
+            elif words[2:]:
+                raise Words(" ".join(words))
             self.kept[name] = value
         elif words[0] in ("client", "server", "short-term", "agent", "write", "meet"):
             raise Ours("a kept answer of " + words[0])

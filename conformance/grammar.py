@@ -126,6 +126,8 @@ class Spelling(spelling.Spelling):
         name, equals, value = word.partition("=")
         if word == "FP":
             self.attributes = stun.fingerprinted(self.header() + self.attributes)[20:]
+        elif name == "ID" and value.startswith("$"):
+            self.id = self.kept_value(value[1:])
         elif value.startswith("$"):
             self.add(type_of(name), self.kept_value(value[1:]))
         elif name == "METHOD":

@@ -4,8 +4,8 @@ subject.
 
 SUBJECT is a file of Python (`subjects/model.py`), the command of a program in one word, or the name
 of a subject that is shipped here: `stunp` (this library through C, the default), `model`, `aioice`,
-`pion`, `libnice`, `coturn`, `libre`, `turnserver`. FILE is a file of `levels/`, or one in the
-grammar of transcripts.
+`pion`, `libnice`, `coturn`, `libre`, `turnserver`, `p1_stun`. FILE is a file of `levels/`, or one
+in the grammar of transcripts.
 
 Each answer that differs is printed. Those of a shipped subject that differences.txt explains are
 printed with `--explained` alone. The last line has the counts: calls that were answered as written,

@@ -13,7 +13,7 @@ SUBJECTS = os.path.join(HERE, "subjects")
 BUILT = os.path.join(TOP, "target", "conformance")
 GO_PATH = "/usr/share/gocode"
 NAMES = ("stunp", "model", "aioice", "pion", "libnice", "coturn", "libre",
-         "turnserver")
+         "turnserver", "p1_stun")
 
 
 class Missing(Exception):
@@ -128,8 +128,18 @@ def turnserver():
     return Module(source("turnserver.py"))
 
 
+def p1_stun():
+    """The STUN of ejabberd, by Erlang's escript."""
+    found = shutil.which("escript")
+    has = found and run([found.replace("escript", "erl"), "-noshell", "-eval",
+                         "io:format(\"~s\", [code:lib_dir(p1_stun)]), halt()."])
+    if not has or not os.path.isdir(has):
+        raise Missing("erlang-p1-stun is not installed")
+    return Program(f"{shlex.quote(found)} {shlex.quote(source('p1_stun.escript'))}")
+
+
 STARTS = {one.__name__: one for one in
-          (stunp, model, aioice, pion, libnice, coturn, libre, turnserver)}
+          (stunp, model, aioice, pion, libnice, coturn, libre, turnserver, p1_stun)}
 
 
 def start(word):

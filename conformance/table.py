@@ -18,7 +18,7 @@ from shipped import NAMES
 HERE = os.path.dirname(os.path.abspath(__file__))
 PACKAGES = {"aioice": "python3-aioice", "pion": "golang-github-pion-stun-dev",
             "libnice": "libnice-dev", "coturn": "coturn", "libre": "libre-dev",
-            "turnserver": "coturn"}
+            "turnserver": "coturn", "p1_stun": "erlang-p1-stun"}
 COLUMNS = ("| Section | What it does | MUST | Choice | Example | Actual answer |",
            "|---|---|---|---|---|---|")
 HEAD = """\

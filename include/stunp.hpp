@@ -395,7 +395,7 @@ class received {
         got.answer_.resize(2048);
         int64_t kind = judge(got.answer_.data(), got.answer_.size(), &got.told_);
         if (kind == STUNP_BUFFER_TOO_SMALL) {
-            got.answer_.resize(got.told_.length);
+            got.answer_.resize(got.told_.needed);
             kind = judge(got.answer_.data(), got.answer_.size(), &got.told_);
         }
         got.answer_.resize(kind == STUNP_ANSWER ? got.told_.length : 0);
@@ -641,7 +641,7 @@ struct checker : handle<stunp_ice_checker, stunp_ice_checker_clear> {
                                              got.answer.data(), got.answer.size(), &got.told);
         };
         int64_t kind = judge();
-        if (kind == STUNP_BUFFER_TOO_SMALL) got.answer.resize(got.told.length), kind = judge();
+        if (kind == STUNP_BUFFER_TOO_SMALL) got.answer.resize(got.told.needed), kind = judge();
         got.answer.resize(kind == STUNP_ANSWER ? got.told.length : 0);
         return result<received>(kind, std::move(got));
     }

@@ -18,6 +18,7 @@
  * a check of the peer, or returns how a check of yours ended.
  *
  * No call performs I/O. You own the sockets, the clock, the threads and the random numbers.
+ * stunp_sockaddr.h converts the addresses of sockets from and to stunp_address.
  * Sections without an RFC are those of RFC 8489, and in what is about ICE those of RFC 8445.
  *
  *
@@ -353,21 +354,25 @@ typedef enum stunp_credentials {
  *   credentials         by default STUNP_LONG_TERM
  *   realm               (realm) the realm, of at most 763 bytes. It has no default
  *   secret              (realm) 32 random bytes. Whoever has them can make nonces that are accepted.
- *                       It has no default
+ *                       It has no default, and one byte that is repeated is refused, because then
+ *                       nobody has filled it
  *   previous_secret     (realm) 32 bytes whose nonces are accepted too, and never sent. Set it to the
- *                       secret before when you change the secret, for two nonce lifetimes
+ *                       secret before when you change the secret, for two nonce lifetimes. It must
+ *                       be another one than `secret`, and none of one repeated byte
  *   software            the text of SOFTWARE in each answer that the server writes, of at most 763
  *                       bytes. By default answers have none
  *   understood          the types of attributes that you understand beside those of STUN, as
  *                       `understood_count` numbers: STUNP_LIFETIME .. of a TURN server. A request
  *                       with another type that must be understood is answered 420
- *   nonce_seconds       (realm) how long a nonce is sent, 30 seconds at least. It is accepted for one
- *                       to two times as long. By default an hour
+ *   nonce_seconds       (realm) how long a nonce is sent, from 30 seconds to 30 days (2592000). It is
+ *                       accepted for one to two times as long. By default an hour
  *   algorithms          (realm) STUNP_SHA1, STUNP_SHA256, or by default both
  *   anonymous_username  (realm) STUNP_DISABLED if clients may not send a hash in place of the user
  *                       name. By default, and with STUNP_REQUIRED, they may
  *   answers_binding     whether an accepted Binding request is answered inside, by the client's
  *                       address. By default it is handed to you
+ *   requires_fingerprint  whether a message without FINGERPRINT is dropped (section 7.3). By default it
+ *                       is accepted
  *
  * The texts end with a zero byte. */
 typedef struct {
@@ -383,6 +388,7 @@ typedef struct {
     uint32_t algorithms;
     stunp_feature anonymous_username;
     bool answers_binding;
+    bool requires_fingerprint;
 } stunp_endpoint_server_settings;
 
 /* What a datagram comes to: what stunp_endpoint_server_receive, stunp_ice_checker_receive and
@@ -401,15 +407,20 @@ typedef enum stunp_kind {
                               * that it has accepted, which ends its request or is a challenge */
     STUNP_LOOKUP = 5,        /* a request that waits for its user: look up `name`, and call
                               * stunp_endpoint_server_resume. Its signature is not checked yet */
-    STUNP_NOT_OURS = 6       /* at a client: it is for somebody else, or for nobody */
+    STUNP_NOT_OURS = 6,      /* at a client: it is for somebody else, or for nobody */
+    STUNP_FAILED = 7         /* `kind` of a stunp_received, a stunp_ice_received or a stunp_event after
+                              * a call that failed. The call itself returns the error */
 } stunp_kind;
 
 /* Why a datagram is dropped. */
 typedef enum stunp_drop {
     STUNP_DROP_NOT_STUN = 1,          /* it does not begin with the header of a STUN message */
     STUNP_DROP_MALFORMED = 2,         /* its length or its attributes are not what its header says */
-    STUNP_DROP_WRONG_FINGERPRINT = 3, /* its FINGERPRINT is wrong: it is damaged, or belongs to
-                                       * another protocol. In ICE also if it has none */
+    STUNP_DROP_WRONG_FINGERPRINT = 3, /* its FINGERPRINT is wrong, is not the last attribute, or does
+                                       * not have 4 bytes: it is damaged, or belongs to another
+                                       * protocol. In ICE also if it has none */
+    STUNP_DROP_MISSING_FINGERPRINT = 13, /* it has no FINGERPRINT, although the settings of the server
+                                          * or the client require one (section 7.3) */
     STUNP_DROP_UNKNOWN_ATTRIBUTE = 4, /* it is an indication with an attribute that must be understood
                                        * and is not */
     /* This is of short-term credentials alone. */
@@ -513,7 +524,8 @@ typedef struct {
 } stunp_reply;
 
 /* What a datagram comes to. A field is 0 unless its line names the kind; only `reply` and `name` then
- * keep their old contents.
+ * keep their old contents. After an error `kind` is STUNP_FAILED and `length` is 0. If `size` is wrong,
+ * nothing else is written.
  *
  *   size         sizeof (stunp_received), set by STUNP_INIT once, before the loop
  *   kind         a stunp_kind
@@ -526,6 +538,7 @@ typedef struct {
  *                credentials the algorithm of the signature, also STUNP_IS_INDICATION. Without
  *                credentials 0
  *   length       STUNP_ANSWER: how many bytes are to be sent
+ *   needed       STUNP_FAILED: after STUNP_BUFFER_TOO_SMALL, how many bytes the answer has
  *   name_length  STUNP_IS_REQUEST, _IS_INDICATION, STUNP_LOOKUP: how long `name` is
  *   name         STUNP_IS_REQUEST, _IS_INDICATION: the name of the user who signed the message, also if
  *                that has a hash of it; zeros if nobody did. STUNP_LOOKUP: whom the request names. A
@@ -543,6 +556,7 @@ typedef struct {
     uint16_t method;
     uint16_t algorithm;
     size_t length;
+    size_t needed;
     size_t name_length;
     stunp_reply reply;
     uint8_t name[516];
@@ -605,7 +619,8 @@ typedef struct {
     bool nominates;
 } stunp_ice_check;
 
-/* What a datagram comes to at an agent of ICE. A field is 0 unless its line names the kind.
+/* What a datagram comes to at an agent of ICE. A field is 0 unless its line names the kind. After an
+ * error `kind` is STUNP_FAILED and `length` is 0. If `size` is wrong, nothing else is written.
  *
  *   size            sizeof (stunp_ice_received), set by STUNP_INIT once, before the loop
  *   kind            a stunp_kind
@@ -620,6 +635,7 @@ typedef struct {
  *   switched        STUNP_ICE_ACCEPTED, STUNP_ICE_CONFLICT: whether this agent has switched its role
  *                   because of the datagram. The priorities of pairs depend on the role
  *   length          STUNP_ANSWER: how many bytes are to be sent
+ *   needed          STUNP_FAILED: after STUNP_BUFFER_TOO_SMALL, how many bytes the answer has
  *   mapped          STUNP_ICE_VALID: where the peer saw the check come from. If it is none of your
  *                   candidates, it is a new peer-reflexive one (section 7.2.5.3.1) */
 typedef struct {
@@ -633,6 +649,7 @@ typedef struct {
     bool nominated;
     bool switched;
     size_t length;
+    size_t needed;
     stunp_address mapped;
 } stunp_ice_received;
 
@@ -646,7 +663,9 @@ typedef struct {
  * Returns 0. Errors:
  *   STUNP_FULL_HANDLE    the handle is not empty
  *   STUNP_BAD_ARGUMENT   `algorithms` is above 3, `anonymous_username` is above 2, or `nonce_seconds`
- *                        is below 30 and not 0
+ *                        is below 30 and not 0, or above 2592000 (30 days); all bytes of the secret
+ *                        are equal; or the previous secret counts, and all its bytes are equal or it
+ *                        is the secret
  *   STUNP_NOT_TEXT       the realm or SOFTWARE is not UTF-8
  *   STUNP_TEXT_TOO_LONG  the realm or SOFTWARE has more than 763 bytes
  *   STUNP_OUT_OF_MEMORY  an allocation failed */
@@ -657,7 +676,8 @@ int64_t stunp_endpoint_server_new_with(stunp_endpoint_server *server, const void
                                        const uint8_t previous_secret[32], bool has_previous_secret,
                                        const uint16_t *understood, size_t understood_length,
                                        uint64_t nonce_seconds, uint32_t algorithms,
-                                       uint32_t anonymous_username, bool answers_binding);
+                                       uint32_t anonymous_username, bool answers_binding,
+                                       bool requires_fingerprint);
 
 /* Creates a server with short-term credentials, like stunp_endpoint_server_new, from settings that
  * are passed one by one. `understood_length` counts numbers, not bytes. A `software_length` of 0
@@ -671,7 +691,8 @@ int64_t stunp_endpoint_server_new_with(stunp_endpoint_server *server, const void
 STUNP_READS(2, 3) STUNP_READS(4, 5) STUNP_NOT_NULL(1)
 int64_t stunp_endpoint_server_new_short_term(stunp_endpoint_server *server, const void *software,
                                              size_t software_length, const uint16_t *understood,
-                                             size_t understood_length, bool answers_binding);
+                                             size_t understood_length, bool answers_binding,
+                                             bool requires_fingerprint);
 
 /* Creates a server without credentials, like stunp_endpoint_server_new_short_term.
  *
@@ -679,7 +700,8 @@ int64_t stunp_endpoint_server_new_short_term(stunp_endpoint_server *server, cons
 STUNP_READS(2, 3) STUNP_READS(4, 5) STUNP_NOT_NULL(1)
 int64_t stunp_endpoint_server_new_open(stunp_endpoint_server *server, const void *software,
                                        size_t software_length, const uint16_t *understood,
-                                       size_t understood_length, bool answers_binding);
+                                       size_t understood_length, bool answers_binding,
+                                       bool requires_fingerprint);
 
 /* Creates a server with these settings. They are copied.
  *
@@ -702,7 +724,8 @@ stunp_endpoint_server_new(stunp_endpoint_server *server,
         return (settings->credentials == STUNP_SHORT_TERM ? stunp_endpoint_server_new_short_term
                                                           : stunp_endpoint_server_new_open)(
             server, settings->software, software_length, settings->understood,
-            settings->understood_count, settings->answers_binding);
+            settings->understood_count, settings->answers_binding,
+            settings->requires_fingerprint);
     }
     if (settings->secret == NULL || settings->realm == NULL) return STUNP_BAD_ARGUMENT;
     bool has_previous = settings->previous_secret != NULL;
@@ -710,7 +733,8 @@ stunp_endpoint_server_new(stunp_endpoint_server *server,
         server, settings->realm, strlen(settings->realm), settings->software, software_length,
         settings->secret, has_previous ? settings->previous_secret : settings->secret, has_previous,
         settings->understood, settings->understood_count, settings->nonce_seconds,
-        settings->algorithms, (uint32_t)settings->anonymous_username, settings->answers_binding);
+        settings->algorithms, (uint32_t)settings->anonymous_username, settings->answers_binding,
+        settings->requires_fingerprint);
 }
 
 /* Frees a server and makes its handle empty. The pointer must not be null. This call is for callers
@@ -763,6 +787,7 @@ STUNP_INLINED int64_t stunp_endpoint_users_new(stunp_endpoint_users *users,
  *   STUNP_WRONG_HANDLE   it has no table
  *   STUNP_NOT_TEXT       the name or the password is not UTF-8
  *   STUNP_TEXT_TOO_LONG  the name has more than STUNP_NAME_MAX bytes
+ *   STUNP_BAD_ARGUMENT   the password has no bytes
  *   STUNP_OUT_OF_MEMORY  an allocation failed */
 STUNP_READS(2, 3) STUNP_READS(4, 5) STUNP_NOT_NULL(1)
 int64_t stunp_endpoint_users_add(stunp_endpoint_users *users, const void *name, size_t name_length,
@@ -810,8 +835,8 @@ STUNP_INLINED void stunp_endpoint_users_free(stunp_endpoint_users *users) {
  * stunp_endpoint_server_resume and stunp_endpoint_server_cause_for call it.
  *
  * Returns 0. Errors:
- *   STUNP_BAD_ARGUMENT   `found->size` is wrong, its name is null, or it has neither a password nor a
- *                        key
+ *   STUNP_BAD_ARGUMENT   `found->size` is wrong, its name is null, its password is empty, or it has
+ *                        neither a password nor a key
  *   STUNP_FULL_HANDLE    the table's handle is not empty
  *   STUNP_EMPTY_HANDLE   the server's handle is empty, or null
  *   STUNP_WRONG_HANDLE   it has no server, or one without credentials, or one with short-term
@@ -824,7 +849,8 @@ STUNP_INLINED int64_t stunp_endpoint_users_new_found(stunp_endpoint_users *users
                                                      const stunp_found_user *found) {
     if (found != NULL
         && (found->size != sizeof *found || found->name == NULL
-            || (found->password == NULL && found->sha1_key == NULL && found->sha256_key == NULL)))
+            || (found->password != NULL ? found->password[0] == 0
+                                        : found->sha1_key == NULL && found->sha256_key == NULL)))
         return STUNP_BAD_ARGUMENT;
     int64_t made = stunp_endpoint_users_new(users, server);
     if (made < 0 || found == NULL) return made;
@@ -877,7 +903,7 @@ int64_t stunp_endpoint_server_receive_own(stunp_endpoint_server *server,
  *
  * `received` may be null if the returned kind is all that you want.
  *
- * Returns a stunp_kind. Errors:
+ * Returns a stunp_kind. Errors, after which `received->kind` is STUNP_FAILED:
  *   STUNP_EMPTY_HANDLE, STUNP_WRONG_HANDLE
  *                           the server's handle is empty or null, or has no server; and then the
  *                           users' is empty or null, or has no table, or one that was made for
@@ -885,8 +911,8 @@ int64_t stunp_endpoint_server_receive_own(stunp_endpoint_server *server,
  *   STUNP_BAD_ARGUMENT      `received->size` is wrong, `unix_seconds` is above 2 to the power of 40, so
  *                           you probably passed nanoseconds, or `from` is not an IPv4 or IPv6 address
  *   STUNP_OUT_OF_MEMORY     an allocation failed. Nothing is lost: the client sends again
- *   STUNP_BUFFER_TOO_SMALL  the answer does not fit into `room` bytes. `received->length` is then its
- *                           length, and nothing else of `*received` changes */
+ *   STUNP_BUFFER_TOO_SMALL  the answer does not fit into `room` bytes. `received->needed` is then its
+ *                           length */
 STUNP_USE_RESULT
 STUNP_INLINED int64_t
 stunp_endpoint_server_receive(const stunp_endpoint_server *server,
@@ -908,6 +934,7 @@ STUNP_INLINED const char *stunp_drop_text(uint32_t why) {
     case STUNP_DROP_NOT_STUN: return "it is not STUN";
     case STUNP_DROP_MALFORMED: return "it is not what its header says";
     case STUNP_DROP_WRONG_FINGERPRINT: return "its FINGERPRINT is wrong";
+    case STUNP_DROP_MISSING_FINGERPRINT: return "it has no FINGERPRINT";
     case STUNP_DROP_UNKNOWN_ATTRIBUTE: return "an indication has an unknown attribute";
     case STUNP_DROP_NOT_SIGNED: return "an indication is not signed by a user";
     case STUNP_DROP_OTHER_METHOD: return "its method is not Binding";
@@ -1030,8 +1057,8 @@ stunp_endpoint_server_identify(const stunp_endpoint_server *server, const uint8_
  * datagram arrived. It is stunp_endpoint_server_receive with a table of this one user.
  *
  * Returns a stunp_kind. Errors:
- *   STUNP_BAD_ARGUMENT   `found->size` is wrong, its name is null, or it has neither a password nor a
- *                        key
+ *   STUNP_BAD_ARGUMENT   `found->size` is wrong, its name is null, its password is empty, or it has
+ *                        neither a password nor a key
  *   STUNP_EMPTY_HANDLE   the handle is empty, or null
  *   STUNP_WRONG_HANDLE   it has no server, or one without credentials, or one with short-term
  *                        credentials for which the user has only keys
@@ -1049,6 +1076,13 @@ stunp_endpoint_server_resume(const stunp_endpoint_server *server, const stunp_fo
     if (kind >= 0)
         kind = stunp_endpoint_server_receive(server, &users, bytes, length, from, unix_seconds, out,
                                              room, received);
+    else if (received != NULL) {
+        received->kind = STUNP_FAILED, received->length = 0;
+        if (received->size == sizeof *received) {
+            received->why = 0, received->code = 0, received->method = 0, received->algorithm = 0;
+            received->needed = 0, received->name_length = 0, received->is_hash = false;
+        }
+    }
     stunp_endpoint_users_free(&users);
     return kind;
 }
@@ -1058,8 +1092,8 @@ stunp_endpoint_server_resume(const stunp_endpoint_server *server, const stunp_fo
  * stunp_endpoint_server_identify pass null in place of the user.
  *
  * Returns a stunp_cause, or 0 if the request is not refused. Errors:
- *   STUNP_BAD_ARGUMENT   `found->size` is wrong, its name is null, or it has neither a password nor a
- *                        key
+ *   STUNP_BAD_ARGUMENT   `found->size` is wrong, its name is null, its password is empty, or it has
+ *                        neither a password nor a key
  *   STUNP_EMPTY_HANDLE   the handle is empty, or null
  *   STUNP_WRONG_HANDLE   it has no server, or one without credentials
  *   STUNP_NOT_TEXT       the name or the password is not UTF-8
@@ -1252,14 +1286,14 @@ int64_t stunp_ice_checker_receive_with(stunp_ice_checker *checker, const uint8_t
  * `received` may be null if the returned kind is all that you want.
  *
  * Returns a stunp_kind: STUNP_DROPPED, _ANSWER, _IS_INDICATION or _IS_RESPONSE. Errors, which leave
- * the agent and its role as they were:
+ * the agent and its role as they were, and after which `received->kind` is STUNP_FAILED:
  *   STUNP_EMPTY_HANDLE      the handle is empty
  *   STUNP_WRONG_HANDLE      it has no agent
  *   STUNP_BAD_ARGUMENT      `received->size` is wrong, or `from` or the address in `check` is not an
  *                           IPv4 or IPv6 address
  *   STUNP_OUT_OF_MEMORY     an allocation failed. Nothing is lost: the peer sends again
- *   STUNP_BUFFER_TOO_SMALL  the answer does not fit into `room` bytes. `received->length` is then its
- *                           length, and nothing else of `*received` changes */
+ *   STUNP_BUFFER_TOO_SMALL  the answer does not fit into `room` bytes. `received->needed` is then its
+ *                           length */
 STUNP_USE_RESULT
 STUNP_INLINED int64_t stunp_ice_checker_receive(stunp_ice_checker *checker, const uint8_t *bytes,
                                                 size_t length, const stunp_address *from,
@@ -1292,12 +1326,13 @@ enum { STUNP_BODY_MAX = 60000 };
  *   server              the address of the server. It has no default
  *   seed                32 random bytes that no other client has, from which the transaction IDs are
  *                       made. Whoever can guess them can forge responses that nobody signs. It has no
- *                       default
- *   name                the user name, of at most STUNP_NAME_MAX bytes. If it is null or empty,
- *                       there is no user: requests are not signed, and a response is accepted
- *                       without a signature
- *   password            the user's password. It must be null if `name` is null, and must not be
- *                       null otherwise
+ *                       default, and one byte that is repeated is refused, because then nobody has
+ *                       filled it
+ *   name                the user name, of at most STUNP_NAME_MAX bytes. If it is null, there is no
+ *                       user: requests are not signed, and a response is accepted without a
+ *                       signature. It must not be empty
+ *   password            the user's password. It must be null if `name` is null, and must be neither
+ *                       null nor empty otherwise
  *   software            the text of SOFTWARE in each request, of at most 763 bytes. By default
  *                       requests have none
  *   understood          the types of attributes that you understand in responses beside those in
@@ -1320,7 +1355,9 @@ enum { STUNP_BODY_MAX = 60000 };
  *   longest             the longest of these waits, in nanoseconds. By default they have no bound
  *   last                how long to wait after the last transmission, in nanoseconds. By default
  *                       8000000000 (8 s), even if `initial` is set
- *   transmissions       how often a request is sent. By default 7 times, so that it ends after 39.5 s
+ *   transmissions       how often a request is sent. By default 7 times, so that a request without
+ *                       an answer ends after 39.5 s. Each challenge that the client answers begins
+ *                       this anew, so with 6 challenges a request ends within 276.5 s
  *   is_stream           whether messages go over a stream, such as TCP. Each request is then sent
  *                       once, and the client waits as long as it would for datagrams. Split the
  *                       stream by stunp_next_frame, or by stunp_next_turn_frame if it also has
@@ -1330,7 +1367,9 @@ enum { STUNP_BODY_MAX = 60000 };
  *                       long-term credentials. By default it does not, so a client with a user
  *                       times out at a server that asks for no credentials. If it does, an attacker
  *                       who can forge challenges can forge the response too
- *   has_fingerprint     whether requests end with FINGERPRINT */
+ *   has_fingerprint     whether requests end with FINGERPRINT
+ *   requires_fingerprint  whether a response without FINGERPRINT is dropped (section 7.3). By
+ *                       default it is accepted */
 typedef struct {
     size_t size;
     stunp_address server;
@@ -1351,6 +1390,7 @@ typedef struct {
     bool is_stream;
     bool accepts_unsigned;
     bool has_fingerprint;
+    bool requires_fingerprint;
 } stunp_endpoint_client_settings;
 
 /* The numbers among the settings of a client, as stunp_endpoint_client_new_with takes them. */
@@ -1366,6 +1406,7 @@ typedef struct {
     bool is_stream;
     bool accepts_unsigned;
     bool has_fingerprint;
+    bool requires_fingerprint;
 } stunp_client_options;
 
 /* What to do next: what stunp_endpoint_client_poll returns. */
@@ -1407,11 +1448,13 @@ typedef struct {
     uint32_t code;
 } stunp_dropped;
 
-/* What to do next. A field is 0 unless its line names the kind or the result. If the call fails
- * with another error than STUNP_BUFFER_TOO_SMALL, the event stays as it was.
+/* What to do next. A field is 0 unless its line names the kind or the result. After an error `kind`
+ * is STUNP_FAILED and `length` is 0. After STUNP_BUFFER_TOO_SMALL the other fields are those of the
+ * event whose bytes are lost, so that `result` and `request` say which request has ended, if one has.
+ * If `size` is wrong, nothing but `kind` and `length` is written.
  *
  *   size            sizeof (stunp_event), set by STUNP_INIT once, before the loop
- *   kind            a stunp_event_kind
+ *   kind            a stunp_event_kind, or STUNP_FAILED
  *   result          STUNP_ENDED: a stunp_result
  *   request         STUNP_ENDED: the number of the request
  *   until           STUNP_WAIT: when to call stunp_endpoint_client_poll again if nothing has
@@ -1420,6 +1463,7 @@ typedef struct {
  *   length          STUNP_TRANSMIT: how many bytes to send. STUNP_ENDED: the length of the response
  *                   in the buffer, or 0 if the result is STUNP_RESULT_TIMED_OUT, _UNAUTHORIZED or
  *                   _CANCELLED
+ *   needed          STUNP_FAILED: after STUNP_BUFFER_TOO_SMALL, how many bytes were lost
  *   code            STUNP_RESULT_REFUSED: the code of the error. STUNP_RESULT_REDIRECTED: 300
  *   not_understood  STUNP_RESULT_NOT_UNDERSTOOD: the type of the attribute
  *   signed_by       STUNP_ENDED: the stunp_algorithm of the signature that was verified, or 0 if
@@ -1432,6 +1476,7 @@ typedef struct {
     uint64_t request;
     uint64_t until;
     size_t length;
+    size_t needed;
     uint32_t code;
     uint16_t not_understood;
     uint16_t signed_by;
@@ -1461,9 +1506,11 @@ typedef struct {
  *
  * Returns 0. Errors:
  *   STUNP_FULL_HANDLE    the handle is not empty
- *   STUNP_BAD_ARGUMENT   `server` is not an IPv4 or IPv6 address; `algorithms` is above 3, or 3 with
- *                        STUNP_SHORT_TERM; `anonymous_username` is above 2; or there is a user, and
- *                        `credentials` is neither STUNP_LONG_TERM nor STUNP_SHORT_TERM
+ *   STUNP_BAD_ARGUMENT   `server` is not an IPv4 or IPv6 address; `algorithms` is above 3;
+ *                        `anonymous_username` is above 2; there is a user, and `credentials` is
+ *                        neither STUNP_LONG_TERM nor STUNP_SHORT_TERM, or is STUNP_SHORT_TERM and
+ *                        `algorithms` is 3; only one of the name and the password has bytes; or all
+ *                        bytes of the seed are equal
  *   STUNP_NOT_TEXT       the name, the password or SOFTWARE is not UTF-8
  *   STUNP_TEXT_TOO_LONG  the name has more than STUNP_NAME_MAX bytes, or SOFTWARE more than 763
  *   STUNP_OUT_OF_MEMORY  an allocation failed */
@@ -1479,13 +1526,15 @@ int64_t stunp_endpoint_client_new_with(stunp_endpoint_client *client, const stun
 /* Creates a client with these settings. They are copied.
  *
  * Returns 0. Errors:
- *   STUNP_BAD_ARGUMENT  `size` is wrong, `seed` is null, or only one of `name` and `password` is
+ *   STUNP_BAD_ARGUMENT  `size` is wrong, `seed` is null, only one of `name` and `password` is null, or
+ *                       one of them is empty
  * and then those of stunp_endpoint_client_new_with. */
 STUNP_INLINED int64_t
 stunp_endpoint_client_new(stunp_endpoint_client *client,
                           const stunp_endpoint_client_settings *settings) {
     if (settings->size != sizeof *settings || settings->seed == NULL
-        || (settings->name == NULL) != (settings->password == NULL))
+        || (settings->name == NULL) != (settings->password == NULL)
+        || (settings->name != NULL && (settings->name[0] == 0 || settings->password[0] == 0)))
         return STUNP_BAD_ARGUMENT;
     stunp_client_options options;
     options.initial = settings->initial, options.longest = settings->longest;
@@ -1497,6 +1546,7 @@ stunp_endpoint_client_new(stunp_endpoint_client *client,
     options.is_stream = settings->is_stream;
     options.accepts_unsigned = settings->accepts_unsigned;
     options.has_fingerprint = settings->has_fingerprint;
+    options.requires_fingerprint = settings->requires_fingerprint;
     return stunp_endpoint_client_new_with(
         client, &settings->server, settings->seed, settings->name,
         settings->name == NULL ? 0 : strlen(settings->name), settings->password,
@@ -1560,18 +1610,18 @@ STUNP_INLINED int64_t stunp_body_add(stunp_body *body, uint32_t type, const void
     return stunp_body_put(body, type, value, length);
 }
 
-/* Adds an attribute with a number of `size` bytes, 0 to 8, in network order, like stunp_body_add. A
- * number that needs more than `size` bytes loses its high bytes.
+/* Adds an attribute with a number of `size` bytes in network order, like stunp_body_add.
  *
  * Returns 0, or the first error of any call with this body. Errors:
- *   STUNP_BAD_ARGUMENT  `size` is above 8
+ *   STUNP_BAD_ARGUMENT  `size` is not 1, 2, 4 or 8, or the number does not fit into `size` bytes
  * and then those of stunp_body_add. */
 STUNP_INLINED int64_t stunp_body_add_number(stunp_body *body, uint32_t type, uint64_t number,
                                             size_t size) {
     uint8_t value[8];
-    if (body->refusal == 0 && size > sizeof value) body->refusal = STUNP_BAD_ARGUMENT;
-    for (size_t i = sizeof value; i-- > 0; number = i < size ? number >> 8 : number)
-        value[i] = (uint8_t)(i < size ? number & 255 : 0);
+    bool fits = size == 8 || ((size == 1 || size == 2 || size == 4) && number >> size * 8 == 0);
+    if (body->refusal == 0 && !fits) body->refusal = STUNP_BAD_ARGUMENT;
+    if (body->refusal < 0) return body->refusal;
+    for (size_t i = size; i-- > 0; number >>= 8) value[i] = (uint8_t)(number & 255);
     return stunp_body_add(body, type, value, size);
 }
 
@@ -1689,15 +1739,15 @@ int64_t stunp_endpoint_client_poll_with(stunp_endpoint_client *client, uint64_t 
  * each. Call it after each request, receive and cancel and when a wait is over, and repeat it until
  * it returns STUNP_WAIT. Otherwise requests are not sent, and you do not learn how they ended.
  *
- * Returns a stunp_event_kind. Errors:
+ * Returns a stunp_event_kind. Errors, after which `event->kind` is STUNP_FAILED:
  *   STUNP_EMPTY_HANDLE      the handle is empty
  *   STUNP_WRONG_HANDLE      it has no client
  *   STUNP_BAD_ARGUMENT      `event->size` is wrong
- *   STUNP_BUFFER_TOO_SMALL  the bytes do not fit into `room` bytes. Nothing is written to `out`,
- *                           but `*event` is written as after a success, and its `length`, which is
- *                           more than `room`, is how many bytes there are. A request is sent again
- *                           when its next transmission is due, but not over a stream. A response is
- *                           lost, because its request has ended */
+ *   STUNP_BUFFER_TOO_SMALL  the bytes do not fit into `room` bytes, and are lost. Nothing is written to
+ *                           `out`. `event->needed` is how many bytes there were. A request is sent
+ *                           again when its next transmission is due, but not over a stream. If a
+ *                           response was lost, its request has ended: `event->request` has its
+ *                           number, and `event->result`, which is then not 0, its result */
 STUNP_USE_RESULT
 STUNP_INLINED int64_t stunp_endpoint_client_poll(stunp_endpoint_client *client, uint64_t now,
                                                  uint8_t *out, size_t room, stunp_event *event) {

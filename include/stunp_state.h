@@ -1,5 +1,6 @@
 /* stunp_state.h: STUN (RFC 8489) with state, for C, C++ and Rust
  *
+ * Most programs need only stunp_endpoint.h, which has the loops of a client and of a server inside.
  * stunp.h reads and writes single messages. This header adds what must be remembered between
  * messages, in four objects:
  *
@@ -80,8 +81,11 @@
  *   fails with STUNP_FULL_HANDLE and any other with STUNP_WRONG_HANDLE, before it looks at anything
  *   else, and a _free call does nothing. Memory that was never initialized is refused like this too,
  *   unless it happens to begin with the number of the type.
- * - Do not write to the fields, and do not declare a handle const. A call that takes a handle as
- *   const leaves it as it was, but even this call requires an object that is not const.
+ * - Do not write to the fields, and do not declare a handle const. In this header const says that a
+ *   call leaves a handle as it was, and not that the call only reads it: each call takes the object
+ *   out of the handle, which it writes to for that, and puts it back at its end. So even a call that
+ *   takes a handle as const requires one that is not declared const, and that no other thread uses
+ *   meanwhile.
  *
  *
  * Memory
@@ -97,8 +101,10 @@
  * Threads
  *
  * Handles share nothing, so different threads may use different handles at the same time. A single
- * handle must be used by one thread at a time, even in calls that take it as const. You may pass it
- * to another thread if you synchronize the two, for example with a mutex or a join.
+ * handle must be used by one thread at a time, also in calls that take it as const, such as
+ * stunp_agent_statistics: they write to the handle during the call, so two of them at the same time
+ * are a data race. You may pass a handle to another thread if you synchronize the two, for example
+ * with a mutex or a join.
  *
  * Make no call in a signal handler, and none in the child of a process that had several threads
  * when it forked. After any other fork, parent and child each have a copy of every handle, which
@@ -198,27 +204,15 @@
  * answers unsigned, so call such a server without a stunp_client. The client of stunp_endpoint.h
  * does both, and has this loop inside.
  *
- * Call stunp_agent_poll_transmit before stunp_agent_poll, because only the former advances the
- * timers. A loop that calls stunp_agent_poll alone never retransmits and never times out. Once a
- * retransmission is due it also spins: stunp_agent_poll returns 0 with `*until` not after `now`.
- *
- * If many retransmissions are due at the same time, send some of them, read what has arrived, and
- * go on. None is lost.
+ * docs/PARTS.md of the repository gives the reason for each step. Call stunp_agent_poll_transmit
+ * before stunp_agent_poll, because only the former advances the timers.
  *
  *
  * A server
  *
  * This server tells each user of its realm at which address it sees the user. `serve` writes the
- * response to a datagram and returns its length: send it if that is above 0. For each request it
- *
- * 1. validates the request (`judge`);
- * 2. asks which user sent it (stunp_server_client);
- * 3. passes the response to stunp_server_sign, which adds the challenge or the signature. Only the
- *    400 of a request that failed authentication, which answers STUNP_BAD_REQUEST, goes out without
- *    it (section 9.2.4). Any response to a validated request is signed, an error such as a 400 too;
- * 4. removes the client of the address again, because every request carries its own credentials.
- *    If the client stayed, a client that starts afresh at the same address would be offered no
- *    algorithms, and would give up.
+ * response to a datagram and returns its length: send it if that is above 0. docs/PARTS.md of the
+ * repository gives the steps, and the reason for each.
  *
  * Set the server up with stunp_server_new, stunp_server_set_algorithms and stunp_server_add_user.
  * Besides `moment` and `fill_randomly` you provide `check`, which looks at a request whose sender
@@ -449,18 +443,8 @@ typedef struct {
 /* ---- Agents
  *
  * An agent stores the requests that are outstanding, each with its retransmission timer (section
- * 6.2). Drive it like this:
- *
- *   1. Pass a request to stunp_agent_send_request, and send its bytes.
- *   2. Call stunp_agent_poll_transmit until it returns 0, and send what it writes.
- *   3. Call stunp_agent_poll. It reports a request that has ended without a response, or tells how
- *      long you may sleep.
- *   4. When a datagram arrives, verify its signature if it must have one (stunp_client_validate, or
- *      stunp_verify with short-term credentials). Then pass it to stunp_agent_handle, which ends
- *      the request that it answers.
- *
- * Repeat steps 2 and 3 after every call that changes the agent. `ask` above is the whole loop; this
- * is the beginning:
+ * 6.2). After every call that changes it, call stunp_agent_poll_transmit until it returns 0, and
+ * then stunp_agent_poll. `ask` above is the whole loop; this is the beginning:
  *
  *     stunp_agent agent = {0};
  *     stunp_address local = {{192, 0, 2, 1}, 4242, 4}; // 192.0.2.1:4242

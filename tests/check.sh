@@ -10,7 +10,7 @@ cd "$(dirname "$0")"
 cc=${CC:-cc} plus=${CXX:-c++}
 . ../tools/compiler.sh
 if ! there "${CC-}" cc; then
-    echo 'tests: no C compiler'
+    echo 'tests: left out, no C compiler is there'
     exit 0
 fi
 scratch=$(mktemp -d)
@@ -162,6 +162,15 @@ if [ -n "$proved" ]; then
         stun_c_endpoint
 fi
 
+# What this machine lacks.
+lacks() { [ -n "$1" ] || echo "tests: $2: left out, $3"; }
+lacks "$has_plus" 'the headers in C++' 'no compiler of it is there'
+lacks "$sanitized" 'sanitizers' 'the compiler has none'
+case $races in *ThreadSanitizer*) ;; *) lacks '' ThreadSanitizer 'the compiler does not have it' ;; esac
+case $races in *helgrind*) ;; *) lacks '' helgrind 'valgrind is not there' ;; esac
+for name in libnice coturn libre; do
+    case " $neighbours " in *" $name "*) ;; *) lacks '' "beside $name" 'it is not installed' ;; esac
+done
 echo "tests: passed in C${has_plus:+ and C++}${sanitized:+, under sanitizers};" \
     "threads plain${races:+ and under$races}; beside${neighbours:- no other library};" \
     "$(tail -n 1 "$scratch/played"); $(tail -n 1 "$scratch/fuzzed")"

@@ -51,6 +51,7 @@ class Settings:
         self.waits, self.is_stream = (500 * 10**6, FOREVER, 7, 8 * 10**9), False
         self.most, self.accepts_unsigned, self.known = 6, False, set()
         self.software, self.has_fingerprint = None, False
+        self.requires_fingerprint = False
 
 
 def reading(message):
@@ -59,6 +60,24 @@ def reading(message):
     for kind, _, value in spelling.visible(message):
         values.setdefault(kind, value)
     return values
+
+
+def entries_of(algorithms):
+    """The entries of a list (section 14.11): number and parameters. None if they do not fill it."""
+    entries, at = [], 0
+    while at < len(algorithms):
+        number, length = struct.unpack_from(">HH", algorithms.ljust(at + 4, b"\0"), at)
+        end = at + 4 + length + -length % 4
+        if end > len(algorithms):
+            return None
+        entries.append((number, algorithms[at + 4:at + 4 + length]))
+        at = end
+    return entries
+
+
+def known_in(algorithms):
+    """The numbers of a list that have no parameters."""
+    return [number for number, parameters in entries_of(algorithms) if not parameters]
 
 
 def plain_address(value):
@@ -117,6 +136,8 @@ class ClientStage:
             settings.software = spelling.text(words[0])
         elif name == "fingerprint":
             settings.has_fingerprint = True
+        elif name == "requires-fingerprint":
+            settings.requires_fingerprint = True
         else:
             raise Words(name)
 
@@ -129,7 +150,7 @@ class ClientStage:
         if not settings.algorithms:
             return "NoAlgorithm"
         seed = bytes.fromhex(word)
-        self.built, self.seed = settings, seed * 32 if len(seed) == 1 else seed
+        self.built, self.seed = settings, spelling.drawn(seed)
         self.next_id, self.next_number = 0, 1
         # What is not sent yet and what has ended, by the number of the request.
         self.requests, self.due, self.unsent, self.ended = {}, {}, {}, {}
@@ -312,8 +333,9 @@ class ClientStage:
 
     def judged(self, request, response):
         built = self.built
-        if has_wrong_fingerprint(response):
-            return Dropped("WrongFingerprint")
+        fault = fingerprint_fault(response, built.requires_fingerprint)
+        if fault:
+            return Dropped(fault)
         if built.kind is None:
             return Believed(None)
         if built.kind == "short":
@@ -346,6 +368,8 @@ class ClientStage:
         if any(text is None or len(text) > LIMIT for text in (realm, nonce)):
             return None
         algorithms = values.get(stun.PASSWORD_ALGORITHMS)
+        if entries_of(algorithms or b"") is None:
+            algorithms = None
         if algorithms is None and before and code == 438:
             if verified(response, self.key_of(before)):
                 algorithms = before.algorithms
@@ -354,8 +378,7 @@ class ClientStage:
         if self.built.hashes == "required" and not may_hash:
             return None
         if bits is not None and bits[0] & 0x80:
-            listed = [int.from_bytes(algorithms[at:at + 2], "big")
-                      for at in range(0, len(algorithms or b""), 4)]
+            listed = known_in(algorithms or b"")
             algorithm = next((one for one in listed if one in self.built.algorithms), None)
         else:
             algorithm = stun.SHA1 if stun.SHA1 in self.built.algorithms else None

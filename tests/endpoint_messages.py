@@ -11,7 +11,7 @@ from spelling import PHRASES, TYPES, Words
 
 NAMES = {number: name for name, number in TYPES.items()
          if name not in ("PASSWORD-ALGORITHM", "USERHASH")}
-PASSWORD_ALGORITHM_NAMES = {1: "MD5", 2: "SHA256"}
+PASSWORD_ALGORITHM_NAMES = {bytes([0, 1, 0, 0]): "MD5", bytes([0, 2, 0, 0]): "SHA256"}
 # STUN's own attributes that must be understood (RFC 8489, section 14).
 OWN = {0x0001, 0x0006, 0x0008, 0x0009, 0x000A, 0x0014, 0x0015, 0x001C, 0x001D, 0x001E, 0x0020}
 LIMIT = 763
@@ -41,8 +41,8 @@ def shown(name, value, identity):
         has_own = PHRASES.get(str(code), "").encode() == phrase != b""
         return f"{code}" if has_own else f"{code}:{shown_text(phrase)}"
     if name == "PASSWORD-ALGORITHMS":
-        numbers = (struct.unpack_from(">H", value, at)[0] for at in range(0, len(value), 4))
-        return ",".join(PASSWORD_ALGORITHM_NAMES[one] for one in numbers)
+        names = [PASSWORD_ALGORITHM_NAMES.get(value[at:at + 4]) for at in range(0, len(value), 4)]
+        return ",".join(names) if all(names) else "0x" + value.hex()
     if name == "XOR-MAPPED-ADDRESS":
         port = struct.unpack(">H", value[2:4])[0] ^ 0x2112
         octets = bytes(a ^ b for a, b in zip(value[4:], spelling.COOKIE + identity))
@@ -113,12 +113,16 @@ def is_message(datagram):
     return place == len(datagram), True
 
 
-def has_wrong_fingerprint(message):
-    """FINGERPRINT is the last attribute (section 14.7)."""
-    visible = [kind for kind, _, _ in spelling.visible(message)]
-    if visible[-1:] != [stun.FINGERPRINT] or message[-8:-4] != b"\x80\x28\0\4":
-        return False
-    return not stun.has_right_fingerprint(message)
+def fingerprint_fault(message, is_required):
+    """Why a message is dropped for its FINGERPRINT, or None. The first one must be the last
+    attribute, have 4 bytes, and be right (section 14.7); there must be one if it is required
+    (section 7.3)."""
+    place, value = next(((place, value) for kind, place, value in spelling.visible(message)
+                         if kind == stun.FINGERPRINT), (None, None))
+    if place is None:
+        return "MissingFingerprint" if is_required else None
+    in_place = len(value) == 4 and place + 8 == len(message)
+    return None if in_place and stun.has_right_fingerprint(message) else "WrongFingerprint"
 
 
 # ---- Responses.
@@ -129,6 +133,7 @@ class Responder:
 
     def __init__(self):
         self.known, self.software, self.binding = set(), None, False
+        self.requires_fingerprint = False
 
     def end(self, response, request, key=None):
         if self.software is not None:
@@ -251,9 +256,10 @@ def verified(message, key):
     return algorithm if algorithm and stun.verifies(message, algorithm, key) else None
 
 
-def dropped(datagram):
+def dropped(datagram, is_required):
     """Why a datagram is dropped before anybody judges it, or None."""
     is_one, has_header = is_message(datagram)
     if not is_one:
         return "dropped Malformed" if has_header else "dropped NotStun"
-    return "dropped WrongFingerprint" if has_wrong_fingerprint(datagram) else None
+    fault = fingerprint_fault(datagram, is_required)
+    return f"dropped {fault}" if fault else None

@@ -29,9 +29,10 @@ class Waits(Exception):
 
 class Settings:
     def __init__(self, realm=""):
-        self.realm, self.secret, self.previous = realm, bytes(32), None
+        self.realm, self.secret, self.previous = realm, spelling.drawn(b"\1"), None
         self.algorithms, self.hashes, self.lifetime = {stun.SHA1, stun.SHA256}, True, 3600
         self.known, self.software, self.binding = set(), None, False
+        self.requires_fingerprint = False
 
     def refusal(self):
         if len(self.realm.encode()) > LIMIT:
@@ -75,9 +76,7 @@ class Server(Responder):
         letters = b"ABCDEFGHIJKLMNOPQRSTUVWXYZabcdefghijklmnopqrstuvwxyz0123456789"
         nonce = bytes(letters[word % 62] for word in words)
         bits = 0x80 * (stun.SHA256 in self.algorithms) + 0x40 * self.hashes
-        if bits:
-            return b"obMatJos2" + base64.b64encode(bytes((bits, 0, 0))) + nonce
-        return b"p" + nonce[1:] if nonce.startswith(b"obMatJos2") else nonce
+        return b"obMatJos2" + base64.b64encode(bytes((bits, 0, 0))) + nonce
 
     def nonces(self, source, now):
         """The nonces that are accepted, the current one first."""
@@ -231,7 +230,7 @@ class Stage:
             self.settings = Settings(spelling.text(word).decode())
         elif name in ("secret", "previous-secret"):
             secret = bytes.fromhex(word)
-            setattr(settings, name.split("-")[0], secret * 32 if len(secret) == 1 else secret)
+            setattr(settings, name.split("-")[0], spelling.drawn(secret))
         elif name == "algorithms":
             settings.algorithms = {{"sha1": 1, "sha256": 2}[one] for one in word.split(",")
                                    if one != "-"}
@@ -247,6 +246,8 @@ class Stage:
             settings.binding = {"yes": True, "no": False}.get(word)
             if settings.binding is None:
                 raise Words(word)
+        elif name == "requires-fingerprint":
+            settings.requires_fingerprint = {"yes": True, "no": False}[word]
         else:
             raise Words(name)
 
@@ -273,7 +274,7 @@ class Stage:
         return came
 
     def hears(self, datagram, users):
-        why = dropped(datagram)
+        why = dropped(datagram, self.server.requires_fingerprint)
         if why:
             return why
         kind = int.from_bytes(datagram[:2], "big")

@@ -19,6 +19,8 @@ class OpenStage:
             settings.software = spelling.text(words[0]).decode()
         elif name == "binding":
             settings.binding = {"yes": True, "no": False}[words[0]]
+        elif name == "requires-fingerprint":
+            settings.requires_fingerprint = {"yes": True, "no": False}[words[0]]
         elif name == "understands":
             settings.known = {spelling.attribute_type(one) for one in words[0].split(",")}
         elif name == "build":
@@ -41,7 +43,7 @@ class OpenStage:
         return None
 
     def hears(self, datagram):
-        why = dropped(datagram)
+        why = dropped(datagram, self.server.requires_fingerprint)
         if why:
             return why
         kind = int.from_bytes(datagram[:2], "big")

@@ -10,7 +10,7 @@ cd "$(dirname "$0")"
 python3 ../bench/bars.py >/dev/null # the tables of bench/README.md have the bars of the programs
 . ../tools/compiler.sh
 if ! there "${CC-}" cc || ! command -v make >/dev/null; then
-    echo "examples: no C compiler and make"
+    echo "examples: left out, no C compiler and make are there"
     exit 0
 fi
 scratch=$(mktemp -d)
@@ -128,13 +128,17 @@ if python3 -c "$loopback" >/dev/null 2>&1; then
     fi
     checked="$checked; $(tail -n 1 "$scratch/udp")"
     # Three servers behind one address, and a server with several networks, where network namespaces
-    # can be made; once more for the same reason.
+    # can be made; reloads, and newcomers beside silent connections; once more for the same reason.
     once() { python3 "$@" >"$scratch/twice" 2>&1; }
     twice() {
         once "$@" || { cat "$scratch/twice" >&2 && once "$@"; } ||
             { cat "$scratch/twice" >&2 && exit 1; }
     }
     twice udp/shards.py
+    checked="$checked; $(tail -n 1 "$scratch/twice")"
+    twice udp/reloads.py "$@"
+    checked="$checked; $(tail -n 1 "$scratch/twice")"
+    twice udp/newcomers.py "$@"
     checked="$checked; $(tail -n 1 "$scratch/twice")"
     twice udp/ways.py "$@"
     checked="$checked; $(tail -n 1 "$scratch/twice")"

@@ -83,15 +83,6 @@ stunp ($version-1) unstable; urgency=medium
 
  -- Trial <trial@example.org>  Thu, 01 Jan 2026 00:00:00 +0000
 CHANGELOG
-cat >copyright <<'COPYRIGHT'
-Format: https://www.debian.org/doc/packaging-manuals/copyright-format/1.0/
-Upstream-Name: stunp
-
-Files: *
-Copyright: 2026 the authors of stunp
-License: none
- No license is granted yet.
-COPYRIGHT
 cat >rules <<'RULES'
 #!/usr/bin/make -f
 export DEB_BUILD_MAINT_OPTIONS = hardening=+all
@@ -124,6 +115,7 @@ cd /work
 tar xzf stunp_*.orig.tar.gz
 mv stunp-*-source stunp
 mv debian stunp
+(cd stunp && python3 tools/licenses.py --debian >debian/copyright)
 # The symbols of the library: the calls that the headers declare.
 library=$(sed -n 's/^Package: \(libstunp[0-9].*\)/\1/p' stunp/debian/control)
 {

@@ -31,7 +31,8 @@ version=$(cat "$folder/VERSION")
 (cd "$folder" && quiet sha256sum -c SHA256SUMS)
 [ "$(cd "$folder" && find . -type f ! -name SHA256SUMS | wc -l)" = \
     "$(wc -l <"$folder/SHA256SUMS")" ] || fail 'SHA256SUMS does not name each file'
-for file in README.md SECURITY.md CHANGELOG.md CONTENTS.md docs/README.md transcripts/README.md \
+for file in README.md SECURITY.md CHANGELOG.md CONTENTS.md LICENSE-APACHE LICENSE-MIT \
+    docs/README.md docs/pictures/sansio.svg transcripts/README.md \
     transcripts/server.refusals.txt transcripts/endpoints/client.requests.txt \
     crate/seatcrane-stun/src/lib.rs; do
     [ -s "$folder/$file" ] || fail "no $file"
@@ -45,7 +46,7 @@ done
 in_c() {
     sed -n '/^    #include <stdio.h>/,/^    }$/s/^    //p' "$folder/README.md" >check.c
     $cc $strict check.c $(pkg-config --cflags --libs stunp) -o check
-    prints valid ./check <pages/request.bin
+    prints valid ./check <pages/request.hex
     for memory in LIBRARYS_MEMORY OWN_MEMORY; do
         $cc $strict -D$memory installed.c $(pkg-config --cflags --libs stunp_state) -o installed
         prints "$version" ./installed
@@ -90,7 +91,7 @@ PROJECT
     quiet cmake -S project -B built -DCMAKE_PREFIX_PATH="$prefix" -DRELEASE="$version" \
         -DPLACE="$PWD"
     quiet cmake --build built
-    prints valid built/check <pages/request.bin
+    prints valid built/check <pages/request.hex
     prints "$version" built/installed
     checked="$checked, CMake"
 fi

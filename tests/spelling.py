@@ -56,6 +56,11 @@ def unhex(digits):
         raise Words(digits) from None
 
 
+def drawn(octets):
+    """A secret or a seed: 32 bytes, or the first of them, which zeros follow."""
+    return octets + bytes(31) if len(octets) == 1 else octets
+
+
 def text(word):
     """`WORD`, `WORD*NUMBER` or `-`, as bytes."""
     part, star, count = word.partition("*")

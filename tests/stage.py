@@ -311,9 +311,9 @@ class Stage(Endpoints):
         return made(*words)
 
     def endpoint_realm(self, realm):
-        self.settings = {"realm": text(realm), "secret": bytes(32), "previous": b"",
+        self.settings = {"realm": text(realm), "secret": drawn(b"\1"), "previous": b"",
                          "software": b"", "seconds": 3600, "algorithms": 3, "names": 0,
-                         "binding": False, "types": b""}
+                         "binding": False, "requires": False, "types": b""}
         return ""
 
     def endpoint_set(self, name, value):
@@ -324,7 +324,7 @@ class Stage(Endpoints):
 
     def endpoint_secret(self, word, name="secret"):
         octets = unhex(word)
-        return self.endpoint_set(name, octets * 32 if len(octets) == 1 else octets)
+        return self.endpoint_set(name, drawn(octets))
 
     def endpoint_previous_secret(self, word):
         return self.endpoint_secret(word, "previous")
@@ -338,6 +338,9 @@ class Stage(Endpoints):
 
     def endpoint_binding(self, word):
         return self.endpoint_set("binding", self.yes(word))
+
+    def endpoint_requires_fingerprint(self, word):
+        return self.endpoint_set("requires", self.yes(word))
 
     def yes(self, word):
         if word not in YES_OR_NO:
@@ -366,7 +369,7 @@ class Stage(Endpoints):
         answer, _ = self.ask("endpoint-build", wanted["realm"], wanted["software"],
                              wanted["secret"], wanted["previous"], wanted["types"],
                              wanted["seconds"], wanted["algorithms"], wanted["names"],
-                             int(wanted["binding"]))
+                             int(wanted["binding"]), int(wanted["requires"]))
         if answer == 0:
             self.built = dict(wanted)
         names = {0: "", -17: "OutOfMemory", -7: "NonceLifetime", -9: "RealmTooLong"}

@@ -12,25 +12,26 @@ ENDPOINT_REFUSALS = {400: "BadRequest", 401: "Unauthenticated", 420: "UnknownAtt
                      438: "StaleNonce"}
 ENDPOINT_DROPS = {1: "NotStun", 2: "Malformed", 3: "WrongFingerprint", 4: "UnknownAttribute",
                   5: "OtherMethod", 6: "NotAsked", 7: "WrongSignature", 9: "NotVerified",
-                  10: "UnanswerableChallenge", 11: "WeakerChallenge", 12: "OutOfMemory"}
+                  10: "UnanswerableChallenge", 11: "WeakerChallenge", 12: "OutOfMemory",
+                  13: "MissingFingerprint"}
 # What stunp_received begins with, and where its name is.
-RECEIVED = struct.Struct("@N3I2H2N")
-NAME_IN_RECEIVED = 122
+RECEIVED = struct.Struct("@N3I2H3N")
+NAME_IN_RECEIVED = 130
 IS_HASH_IN_RECEIVED = NAME_IN_RECEIVED + 516
 # What stunp_ice_received has before the address, and where what stunp_ice_check says is.
-ICE_RECEIVED = struct.Struct("@N5IH2?N")
+ICE_RECEIVED = struct.Struct("@N5IH2?2N")
 CHECK_ROLE, CHECK_NOMINATES = 32, 33
 ROLES = ("controlled", "controlling")
 # How a look-up says that it found nobody.
 NOBODY = (0, b"", b"", b"", b"")
 # What stunp_event and stunp_dropped are.
-EVENT = struct.Struct("@N2I2QNI2H3I")
+EVENT = struct.Struct("@N2I2Q2NI2H3I")
 DROPPED = struct.Struct("@3I")
 # The settings of a client, in the order of play.c, by their defaults.
 CLIENT = {"server": None, "seed": b"", "name": b"", "password": b"", "software": b"", "types": b"",
           "initial": 0, "longest": 0, "transmissions": 0, "last": 0, "challenges": 0,
           "credentials": 0, "algorithms": 0, "hashes": 0, "stream": 0, "unsigned": 0,
-          "fingerprint": 0}
+          "fingerprint": 0, "requires": 0}
 CLIENT_FEATURES = {"auto": 0, "required": 1, "disabled": 2}
 CLIENT_ALGORITHMS = {"sha1": 1, "sha256": 2}
 # How a request ended, without what follows.
@@ -52,7 +53,7 @@ class Endpoints:
         if kind < 0:
             return REFUSALS[kind]
         told = outputs[-1]
-        _, _, why, code, _, algorithm, _, length = RECEIVED.unpack_from(told)
+        _, _, why, code, _, algorithm, _, _, length = RECEIVED.unpack_from(told)
         if kind == 5:
             name = told[NAME_IN_RECEIVED:NAME_IN_RECEIVED + length]
             return "looks up " + ("0x" + name.hex() if told[IS_HASH_IN_RECEIVED] else shown(name))
@@ -140,7 +141,7 @@ class Endpoints:
             return REFUSALS[kind]
         told = outputs[-1]
         (_, _, why, outcome, code, priority, not_understood, nominated, switched,
-         _) = ICE_RECEIVED.unpack_from(told)
+         *_) = ICE_RECEIVED.unpack_from(told)
         if kind == 1:
             words = {1: f"accepted {priority}{' nominated' * nominated}{' switched' * switched}",
                      2: "role conflict", 3: f"{code} {ENDPOINT_REFUSALS.get(code)}"}[outcome]
@@ -208,11 +209,14 @@ class Endpoints:
     def client_with_fingerprint(self):
         self.wanted["fingerprint"] = 1
 
+    def client_with_requires_fingerprint(self):
+        self.wanted["requires"] = 1
+
     def client_with_build(self, word):
         """C does not say which text is too long, and has no set of no algorithms."""
         if self.written == "NoAlgorithm":
             raise Left("endpoint client build")
-        self.wanted["seed"] = unhex(word) * 32
+        self.wanted["seed"] = drawn(unhex(word))
         answer, _ = self.ask("endpoint-client-new", *self.wanted.values())
         if answer == -9:
             return self.written if self.written in ("NameTooLong", "SoftwareTooLong") else "long"
@@ -282,7 +286,7 @@ class Endpoints:
 
     def client_that_polls(self):
         kind, outputs = self.ask("endpoint-client-poll", self.now, 1 << 16)
-        (_, _, result, request, until, _, code, not_understood, signed_by,
+        (_, _, result, request, until, _, _, code, not_understood, signed_by,
          *drops) = EVENT.unpack_from(outputs[-1])
         if kind == 0:
             return "wait" if until == FOREVER else f"wait {span_text(until)}"

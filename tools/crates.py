@@ -110,8 +110,7 @@ def rattle(verb, crate, *more):
     """The command that checks or builds the crate in its folder, over the libraries below it."""
     at = kit()
     kind, named = lines()[crate]
-    root = "main" if (TOP / "crates" / crate / "src/main.rt").exists() else "lib"
-    words = [f"{at}/bin/rattle", verb, "--crate-name", crate, f"src/{root}.rt"]
+    words = [f"{at}/bin/rattle", verb, "--crate-name", crate, root_of(crate)]
     for name in ["std", *named]:
         place = library(name) if name in lines() else f"{at}/rlibs/{name}.rlib"
         words += ["--extern", f"{name}={place}"]
@@ -121,7 +120,33 @@ def rattle(verb, crate, *more):
     words += ["--antt-project", f"{at}/rattle/logic/antt-project.json",
               "--logic-built", f"{at}/logic_built", "--links", f"{crate}="]
     words += ["--crate-type", kind] if kind else []
-    for name in below(crate) if kind or root == "main" else []:
+    for name in below(crate) if kind or root_of(crate) == "src/main.rt" else []:
+        words += ["--links", f"{name}="]
+    return [*words, *more]
+
+
+def root_of(crate):
+    """The root file of a crate, in its folder."""
+    is_program = (TOP / "crates" / crate / "src/main.rt").exists()
+    return f"src/{'main' if is_program else 'lib'}.rt"
+
+
+def over_sources(crate, *more):
+    """The command that checks the crate in its folder over the sources of the crates below it, which
+    needs nothing that was built. Of these it proves what the crate's functions call."""
+    at, found = kit(), below(crate)
+    of_kit = {name: None for one in (*found, crate) for name in ("std", "core", *lines()[one][1])
+              if name not in lines()}
+    words = [f"{at}/bin/rattle", "check", "--crate-name", crate, root_of(crate)]
+    for name in of_kit:
+        words += ["--extern", f"{name}={at}/rlibs/{name}.rlib"]
+    words += ["-L", f"dependency={at}/rlibs"]
+    for name in found:
+        named = ",".join(dict.fromkeys(("core", "std", *lines()[name][1])))
+        words += ["--lib", f"{name}:{named}={TOP}/crates/{name}/{root_of(name)}"]
+    words += ["--antt-project", f"{at}/rattle/logic/antt-project.json",
+              "--logic-built", f"{at}/logic_built"]
+    for name in (crate, *(found if root_of(crate) == "src/main.rt" else ())):
         words += ["--links", f"{name}="]
     return [*words, *more]
 

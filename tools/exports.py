@@ -7,8 +7,10 @@ closed family by its enum. What a declaration says to compilers, `STUNP_READS` a
 compared with what its parameters want. The structs but the handles are compared by their fields.
 The numbers of refusals, attribute types, methods, classes, algorithms, transports, features and
 fingerprints are compared with the sources, and so are lengths. The handles' fields and the numbers
-of other answers are not compared. With the definitions of attribute types it compares the registry
-of stun_inspect, the lists of types that must be understood, and the pages that list attributes. Of
+of other answers are not compared. The calls and structs for C are looked for in all of the crates.
+The definitions of attribute types are the table with which all other places are compared: the
+registry of stun_inspect, the lists of types that must be understood, and the pages that list
+attributes. A list of attribute types that is not compared with anything is one difference. Of
 the archives that are built it looks whether they have writable data or thread-locals: they must
 not. Run at the top of the repository. Prints each difference with the files and lines that name it,
 then a count; the status is 1 if there is one.
@@ -55,6 +57,7 @@ RENAMED = {"NO_FINGERPRINT": "ABSENT", "RIGHT_FINGERPRINT": "RIGHT", "WRONG_FING
            "MISPLACED_FINGERPRINT": "MISPLACED", "DATA_METHOD": "DATA",
            "DROP_NOT_STUN": "NOTSTUN", "DROP_MALFORMED": "MALFORMED",
            "DROP_WRONG_FINGERPRINT": "WRONGFINGERPRINT",
+           "DROP_MISSING_FINGERPRINT": "MISSINGFINGERPRINT",
            "DROP_UNKNOWN_ATTRIBUTE": "UNKNOWNATTRIBUTE", "DROP_OTHER_METHOD": "OTHERMETHOD",
            "DROP_NOT_ASKED": "NOTASKED", "DROP_WRONG_SIGNATURE": "WRONGSIGNATURE",
            "CAUSE_NO_SIGNATURE": "NOSIGNATURE", "CAUSE_INCOMPLETE": "INCOMPLETE",
@@ -65,7 +68,7 @@ RENAMED = {"NO_FINGERPRINT": "ABSENT", "RIGHT_FINGERPRINT": "RIGHT", "WRONG_FING
            "DROP_WEAKER_CHALLENGE": "WEAKERCHALLENGE", "DROP_OUT_OF_MEMORY": "OUTOFMEMORY"}
 RENAMING = ("fingerprint", "stunp_drop", "stunp_cause", "stunp_drop of ICE",
             "stunp_drop of clients")
-# Lengths of the header, each with the constant of the sources that it is.
+# Lengths of the header and a kind, each with the constant of the sources that it is.
 LENGTHS = {
     "ID_LENGTH": ("stun_numbers/src/id.rt", "ID_LENGTH"),
     "HEADER_LENGTH": ("stun_base/src/wire/header.rt", "HEADER_LENGTH"),
@@ -76,6 +79,7 @@ LENGTHS = {
     "FINGERPRINT_LENGTH": ("stun_extra/src/fingerprint.rt", "FINGERPRINT_LENGTH"),
     "MOST_KNOWN": ("stun_c/src/unknown.rt", "MOST_KNOWN"),
     "NAME_MAX": ("stun_c_endpoint/src/received.rt", "NAME_ROOM"),
+    "FAILED": ("stun_c_endpoint/src/received.rt", "FAILED"),
 }
 # The definitions of attribute types, and one of them: its RFC, and the file and line.
 TYPES = ("crates/stun_base/specs/Attributes.antt", "crates/stun_extra/specs/AttributeTypes.antt")
@@ -88,6 +92,7 @@ REGISTRY, LONGER = "crates/stun_inspect/src/registry.rt", {"ECN-CHECK": "ECN-CHE
 # endpoint.rs leave out the types of STUN.
 LISTS = [
     ("crates/stun_c_endpoint/src/client/settings.rt", "UNDERSTOOD", ()),
+    ("crates/stun_endpoint/src/server/settings.rt", "STUN_ATTRIBUTES", (8489,)),
     ("crates/stun_ice/specs/Parts.antt", "UNDERSTOOD", (8489, 8445)),
     ("crates/stun_ice/src/parts.rt", "UNDERSTOOD", (8489, 8445)),
     ("rust/src/ported.rs", "STUN", (8489,)), ("rust/src/ported.rs", "ICE", (8489, 8445)),
@@ -95,6 +100,15 @@ LISTS = [
     ("rust/src/endpoint.rs", "ICE", (8445,)), ("rust/src/endpoint.rs", "TURN", (8656,)),
     ("tests/endpoint_messages.py", "OWN", (8489,)), ("tests/endpoint_client.py", "READ", ()),
 ]
+# Lists of the types that a client adds by itself, which are alike.
+ALIKE = [("crates/stun_client_endpoint/specs/Bodies.antt", "RESERVED"),
+         ("crates/stun_client_endpoint/src/body.rt", "RESERVED"),
+         ("tests/endpoint_client.py", "RESERVED")]
+# Where lists of types are looked for: each that is found must be one of those above.
+LOOKED = ("crates/*/src/**/*.rt", "crates/*/specs/**/*.antt", "rust/src/**/*.rs",
+          "tests/endpoint_*.py")
+FOUND = re.compile(r"(?m)^ *(?:(?:pub(?:\(crate\))? )?(?:const|static) )?([A-Z_]+)\b[^=\n]*="
+                   r"((?:(?!\n\n)(?:\(\w*\)|[^=;\])}]))*)")
 # Paragraphs that list the further attributes by their RFCs: a file, and how the paragraph begins.
 PARAGRAPHS = [(TYPES[1], "-- The types of attributes:"),
               ("crates/stun_extra/src/attribute.rt", "//! Further attributes:"),
@@ -213,8 +227,9 @@ def attributes_of_header(text):
 
 def structs_of_rust(text, enums):
     fields = re.compile(r"(\w+): \[?(\w+)((?:; \d+\])?)")
-    structs = re.compile(r"struct (Address|Cursor|Header|Timeouts|Statistics|Received|Reply|IceCheck|"
-                         r"IceReceived|Event|Dropped|ClientOptions) \{(.*?)\}", re.DOTALL)
+    structs = re.compile(r"repr\(C\)\][^;{]*?struct (Address|Cursor|Header|Timeouts|Statistics|"
+                         r"Received|Reply|IceCheck|IceReceived|Event|Dropped|ClientOptions) "
+                         r"\{(.*?)\}", re.DOTALL)
     return {PASSED[name]: [(in_c(kind, field, "", enums)[0], field + size)
                            for field, kind, size in fields.findall(body)]
             for name, body in structs.findall(text)}
@@ -263,7 +278,7 @@ def compare_numbers(header):
         compare(f"{enum} of the sources", found,
                 {RENAMED.get(name, name): declared[name] for name in names})
     for name, (path, constant) in LENGTHS.items():
-        value = re.search(rf"const {constant}: usize = ([^;]*);", read(f"crates/{path}"))[1]
+        value = re.search(rf"const {constant}: (?:usize|u32) = ([^;]*);", read(f"crates/{path}"))[1]
         compare("length", {name: declared.get(name)}, {name: number(value)})
     longest = max(len(text) for text in re.findall(r'b"([^"]*)\\0"',
                                                    read("crates/stun_c/src/error_text.rt")))
@@ -303,7 +318,7 @@ def compare_registry(types):
 def numbers_of_list(path, name, types, lists):
     """Where a list is, and its numbers. `lists` has those that it may begin with."""
     text = read(path)
-    one = re.search(rf"(?m)^ *(?:pub(?:\(crate\))? const )?({name})\b[^=\n]*=((?:.|\n)*?)"
+    one = re.search(rf"(?m)^ *(?:(?:pub(?:\(crate\))? )?const )?({name})\b[^=\n]*=((?:.|\n)*?)"
                     r"(?:;\n|\n\n|\n(?=[#\w]))", text)
     if not one:
         wrong.append(f"{path}: it has no list {name}: correct LISTS in tools/exports.py")
@@ -334,6 +349,28 @@ def compare_lists(types):
             if listed.count(number) > wanted.count(number):
                 which = "twice" if number in wanted else "but should not"
                 wrong.append(f"{place}: {name} has {what} {which}: remove it")
+
+def compare_alike(types):
+    """The lists of ALIKE have the same types."""
+    global compared
+    found = [numbers_of_list(path, name, types, {}) for path, name in ALIKE]
+    first, listed = found[0]
+    compared += len(listed)
+    wrong.extend(f"{place}: {other} is not the list of {first}, {listed}: make them alike"
+                 for place, other in found[1:] if sorted(other) != sorted(listed))
+
+def find_lists(types):
+    """Each list of five types or more is one that is compared."""
+    numbers = {kind.number for kind in types.values()}
+    known = {(path, name) for path, name, *_ in [*LISTS, *ALIKE]}
+    for path in sorted(path for pattern in LOOKED for path in Path(".").glob(pattern)):
+        text = path.read_text("utf-8")
+        for one in FOUND.finditer(text):
+            words = re.findall(r"0x[0-9A-F]{4}\b|AttributeType::[A-Z_]{3,}", one[2])
+            count = sum(word[0] == "A" or int(word, 16) in numbers for word in words)
+            if count >= 5 and (str(path), one[1]) not in known:
+                wrong.append(f"{path}:{line_at(text, one.start(1))}: {one[1]} lists {count} types, "
+                             "and nothing compares it: name it in LISTS of tools/exports.py")
 
 def paragraph(path, start):
     """The paragraph of a page or a comment that begins so, as one line, and where it is."""
@@ -401,17 +438,16 @@ def compare_archives():
     compare("written data", {str(archive): written_sections(archive) for archive in there},
             {str(archive): [] for archive in there})
 
+def border():
+    """The sources with calls or structs for C."""
+    files = [path for crate in ("stun_c", "stun_state", "stun_handles", "stun_c_endpoint")
+             for path in sorted(Path(f"crates/{crate}/src").rglob("*.rt"))]
+    return [str(path) for path in files
+            if re.search(r"#\[(?:unsafe\()?(?:no_mangle|repr\(C\))", path.read_text("utf-8"))]
+
 def main():
     header = read("include/stunp.h", "include/stunp_state.h", "include/stunp_endpoint.h")
-    crates = read(*(f"crates/stun_c/src/{name}.rt" for name in ("lib", "header", "walk")),
-                  *(f"crates/stun_state/src/{name}.rt"
-                    for name in ("calls/agent", "calls/server", "calls/handed", "calls/user",
-                                 "calls/client",
-                                 "calls/release", "agent")),
-                  "crates/stun_handles/src/address.rt",
-                  *(f"crates/stun_c_endpoint/src/{name}.rt"
-                    for name in ("calls/server", "calls/users", "calls/ice", "calls/client", "release",
-                                 "received", "ice/told", "client/event", "client/settings")))
+    crates = read(*border())
     enums = enums_of_header(header)
     # An enum that is passed has the size of a u32: no number is below zero or above an int.
     passed = {name: numbers for name, numbers in enums.items() if name in ENUMS.values()}
@@ -441,6 +477,8 @@ def main():
     core, further = map(attribute_types, TYPES)
     compare_registry({**core, **further})
     compare_lists({**core, **further})
+    compare_alike({**core, **further})
+    find_lists({**core, **further})
     compare_paragraphs(further)
     compare_further(further)
     compare_archives()

@@ -1,5 +1,6 @@
 #!/usr/bin/env python3
-"""Prints what is too long to read well. It refuses nothing.
+"""Prints what is too long to read well and which tools/known/lines does not have (known.py). It
+refuses nothing.
 
 - Lines of over 100 columns. A row of a table in a page does not count, nor an import whose path
   alone is that long, nor an attribute of `rt fmt`'s layout.
@@ -10,8 +11,11 @@ What another tool writes is left out. Each line has the file and the line, and w
 Run at the top of the repository.
 """
 
+import hashlib
 import os
 import re
+
+from known import report
 
 COLUMNS, LINES, FUNCTION_LINES = 100, 600, 40
 KINDS = {".antt": "antt", ".c": "c", ".cpp": "c", ".go": "c", ".h": "c", ".hpp": "c", ".md": "md",
@@ -54,29 +58,30 @@ def functions(lines):
 
 
 def finds():
-    """Each line, file and function that is too long: where it is and what would mend it."""
+    """Each line, file and function that is too long: its file, what it is, and where and what would
+    mend it."""
     for kind, path in files():
         with open(path) as opened:
             lines = opened.read().split("\n")
         for number, line in enumerate(lines, 1):
             is_whole = UNBROKEN.match(line) or (kind == "md" and ROW.match(line))
             if len(line) > COLUMNS and not is_whole:
-                yield "%s:%d: %d columns: break the line at %d" % (path, number, len(line), COLUMNS)
+                what = hashlib.sha256(line.strip().encode()).hexdigest()[:8]
+                yield path, what, "%s:%d: %d columns: break the line at %d" % (
+                    path, number, len(line), COLUMNS)
         if len(lines) - 1 > LINES:
-            yield "%s:%d: a file of %d lines: split it by subject, at %d at most" % (
+            yield path, "file", "%s:%d: a file of %d lines: split it by subject, at %d at most" % (
                 path, LINES + 1, len(lines) - 1, LINES)
         if kind == "rt":
             for first, name, count in functions(lines):
                 if count > FUNCTION_LINES:
-                    yield "%s:%d: %s has %d lines: give a part of it to a function of its own" % (
-                        path, first + 1, name, count)
+                    yield path, name, (
+                        "%s:%d: %s has %d lines: give a part of it to a function of its own" % (
+                            path, first + 1, name, count))
 
 
 def main():
-    found = list(finds())
-    for line in found:
-        print(line)
-    print("lines: %d to look at" % len(found))
+    report("lines", list(finds()))
 
 
 if __name__ == "__main__":

@@ -1,5 +1,6 @@
 #!/usr/bin/env python3
-"""Prints the definitions of `specs/` whose names say too little. It refuses nothing.
+"""Prints the definitions of `specs/` whose names say too little and which tools/known/names does
+not have (known.py). It refuses nothing.
 
 - A name that two files of `specs/` define, of one crate or of several. A name that a file passes on
   by `pub use` is not defined there.
@@ -14,6 +15,7 @@ import collections
 import re
 
 from definitions import Repository
+from known import report
 
 # Participles that do not end in -ed.
 IRREGULAR = set(
@@ -36,7 +38,7 @@ def place(definition):
 
 
 def finds(repository):
-    """Each name that says too little: where it is and what would mend it."""
+    """Each name that says too little: its file, what it is, and where and what would mend it."""
     named = collections.defaultdict(dict)
     for read in repository.files.values():
         for definition in read.definitions:
@@ -44,18 +46,17 @@ def finds(repository):
     for name, definitions in sorted(named.items()):
         places = sorted(map(place, definitions.values()))
         for at in places[1:]:
-            yield "%s: %s is defined in %s too: give one of them a name of its own" % (
-                at, name, places[0])
+            yield at.split(":")[0], name + "-twice", (
+                "%s: %s is defined in %s too: give one of them a name of its own" % (
+                    at, name, places[0]))
         if is_participle(name):
             for at in places:
-                yield "%s: %s is a bare participle: name also what it was done to" % (at, name)
+                yield at.split(":")[0], name, (
+                    "%s: %s is a bare participle: name also what it was done to" % (at, name))
 
 
 def main():
-    found = list(finds(Repository(".")))
-    for line in found:
-        print(line)
-    print("names: %d to look at" % len(found))
+    report("names", list(finds(Repository("."))))
 
 
 if __name__ == "__main__":

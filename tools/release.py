@@ -41,6 +41,9 @@ KEPT = (
     ("docs/maintainers/TRANSCRIPTS.md", "transcripts/README.md"),
     ("docs", "docs"),
     ("CHANGELOG.md", "CHANGELOG.md"),
+    ("LICENSE-APACHE", "LICENSE-APACHE"),
+    ("LICENSE-MIT", "LICENSE-MIT"),
+    ("PROOF.txt", "PROOF.txt"),
     ("README.md", "README.md"),
     ("SECURITY.md", "SECURITY.md"),
     ("VERSION", "VERSION"),
@@ -81,7 +84,10 @@ This folder is a prefix. Use it where it lies, or copy it by `make install PREFI
 | `transcripts` | calls with their answers; [README.md](transcripts/README.md) is their language |
 | `transcripts/endpoints` | those of look-ups, servers without a realm, ICE and clients |
 | `docs`, the pages beside this one | those of the repository; links to other folders lead there |
+| `LICENSE-MIT`, `LICENSE-APACHE` | the terms, of which you choose one |
+| `docs/LICENSES.md` | what of this others wrote, and under which terms |
 | `PROOF` | the commit, the toolchain, and what was said of each proof |
+| `PROOF.txt` | of each crate its functions and clauses, and the sum of what was proved |
 | `SHA256SUMS` | of all other files: `sha256sum -c SHA256SUMS` |
 
 In C, with the folder's path as HERE:
@@ -100,7 +106,10 @@ The archives and the programs are proved; the crate and the heap are tested
 
 
 def run(*command, **how):
-    ran = subprocess.run(command, capture_output=True, text=True, **how)
+    try:
+        ran = subprocess.run(command, capture_output=True, text=True, **how)
+    except FileNotFoundError:
+        sys.exit("release: %s is not installed" % command[0])
     if ran.returncode != 0:
         sys.exit("release: %s:\n%s%s" % (" ".join(command), ran.stdout, ran.stderr))
     return ran.stdout
@@ -131,6 +140,8 @@ def record(log):
         sys.exit("release: files differ from those of the commit")
     if subprocess.run([sys.executable, "tools/wrong.py", "--whole"], cwd=TOP).returncode != 0:
         sys.exit("release: not every wrong edit was tried at this commit")
+    if subprocess.run([sys.executable, "tools/parts.py", "whole"], cwd=TOP).returncode != 0:
+        sys.exit("release: not all that it needs was tried at this commit")
     commit = "commit: " + run("git", "rev-parse", "HEAD", cwd=TOP).strip()
     with open(log, errors="replace") as opened:
         lines = opened.read().splitlines()
@@ -148,8 +159,17 @@ def record(log):
             sys.exit("release: %s is not there: run `make c`" % proof)
         with open(proof, errors="replace") as opened:
             words += ["lib%s.a: %s" % (name, line) for line in said(opened.read().splitlines())]
+    words += ["", "What the machine of the gate could not do:", "", *lacking()]
     words += ["", "What the gate said of each crate and of its tests:", "", *verdicts(lines)]
     return "\n".join(words) + "\n"
+
+
+def lacking():
+    """What the gate left out, since its machine lacked something. Its last parts, a minimal Debian
+    and a release, are not among it."""
+    told = [line.partition("cannot do: ")[2] for line in
+            run(sys.executable, "tools/parts.py", "lacking", cwd=TOP).splitlines()]
+    return [line for line in told if not line.startswith(("bare: ", "release: "))] or ["nothing"]
 
 
 def copy(source, target):

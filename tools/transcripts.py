@@ -3,17 +3,18 @@
 
     tools/transcripts.py FOLDER ..        each transcript of a page, with the programs of these
                                           folders
-    tools/transcripts.py --first-minute   the command of README.md that needs no proof, in a fresh
-                                          clone of this repository
+    tools/transcripts.py --first-minute   the command of CONTRIBUTING.md that needs no proof, in a
+                                          fresh clone of this repository
     tools/transcripts.py --c ARCHIVE ..   the program in C of README.md, with these archives and
                                           flags, on that request; with the proved archive also the
                                           commands of examples/README.md
-    tools/transcripts.py --rust FOLDER    the command of README.md after `make export`, and its
-                                          lines of Rust, with the exported crate of that folder
+    tools/transcripts.py --rust FOLDER    the checks of the sample request that README.md and
+                                          docs/TOOL.md show after `make export`, and the jobs in
+                                          Rust of README.md, with the exported crate of that folder
     tools/transcripts.py --jobs FILE      writes the jobs in Rust of README.md as one program, which
                                           prints 401
     tools/transcripts.py --write FOLDER   each transcript as two files, .command and .wanted, beside
-                                          request.bin, to be run elsewhere
+                                          request.bin and request.hex, to be run elsewhere
 
 A transcript is an indented block. It is a line `$ COMMAND`, further lines of a here-document up to
 its end word, and then what the command prints. That ends at the next `$` or the end of the block.
@@ -30,7 +31,7 @@ import tempfile
 
 TOP = os.path.normpath(os.path.join(os.path.dirname(os.path.abspath(__file__)), ".."))
 # Blocks that are run by name: each stands after a paragraph of a page that ends with these words.
-SHOWN = {"rt": ("README.md", "not proved yet:"), "rust": ("README.md", "section 2.1."),
+SHOWN = {"rt": ("CONTRIBUTING.md", "not proved yet:"), "rust": ("docs/TOOL.md", "section 2.1."),
          "c": ("README.md", "authenticators of both sides."),
          "c++": ("examples/README.md", "and the archives:")}
 
@@ -91,12 +92,10 @@ def missing(command, path):
 
 
 def lay_request(folder):
-    """request.bin, the request of RFC 5769, section 2.1."""
-    digits = "".join(text_of("examples/request.hex").split())
-    path = os.path.join(folder, "request.bin")
-    with open(path, "wb") as opened:
-        opened.write(bytes.fromhex(digits))
-    return path
+    """request.bin, the request of RFC 5769, section 2.1, and its digits, request.hex."""
+    shutil.copy(os.path.join(TOP, "examples/request.hex"), folder)
+    with open(os.path.join(folder, "request.bin"), "wb") as opened:
+        opened.write(bytes.fromhex("".join(text_of("examples/request.hex").split())))
 
 
 def all_transcripts():
@@ -159,7 +158,7 @@ def first_minute(clone):
     found = {name: block_named(name) for name in SHOWN}  # all of them, before the gate's long parts
     if not prints("valid MESSAGE-INTEGRITY\n", ["sh", "-ec", found["rt"]], cwd=clone):
         return False
-    print("transcripts: the command of README.md that needs no proof prints what README.md says")
+    print("transcripts: the command of CONTRIBUTING.md that needs no proof prints what it says")
     return True
 
 
@@ -200,8 +199,8 @@ def in_c(archives):
                     "-I" + os.path.join(TOP, "include"), source]
         if not prints("", compiler + archives + ["-o", program]):
             return False
-        with open(lay_request(scratch), "rb") as binary:
-            if not prints("valid\n", [program], stdin=binary):
+        with open(os.path.join(TOP, "examples/request.hex")) as sample:
+            if not prints("valid\n", [program], stdin=sample):
                 return False
         print("transcripts: the program in C of README.md prints valid")
         has_both = shutil.which("cc") and shutil.which("c++")
@@ -223,9 +222,18 @@ def write_jobs(path):
     return len(jobs)
 
 
+def first_run():
+    """The line of README.md that checks the sample request."""
+    line = r"(?m)^    (target/export/target/debug/stun_tool check .*)$"
+    found = re.search(line, text_of("README.md")) or sys.exit(
+        "transcripts: README.md does not show how to check the sample request")
+    return found.group(1)
+
+
 def in_rust(folder):
-    if not prints("valid MESSAGE-INTEGRITY\n", ["sh", "-ec", block_named("rust")], cwd=TOP):
-        return False
+    for command in (first_run(), block_named("rust")):
+        if not prints("valid MESSAGE-INTEGRITY\n", ["sh", "-ec", command], cwd=TOP):
+            return False
     source = os.path.join(folder, "examples", "readme.rs")
     try:
         count = write_jobs(source)
@@ -233,7 +241,8 @@ def in_rust(folder):
             return False
     finally:
         os.remove(source)
-    print("transcripts: the command and the %d jobs in Rust of README.md do what it says" % count)
+    print("transcripts: the command of TOOL.md, and that of README.md and its %d jobs do what they "
+          "say" % count)
     return True
 
 

@@ -3,23 +3,28 @@
 
     tools/wrong.py                 tries those of the crates that changed, and writes the record
     tools/wrong.py --all           tries all, and writes the record
-    tools/wrong.py --gate          tries those of the crates that changed and five more at random
+    tools/wrong.py --gate          tries those of the crates that changed, and five more at random
+                                   if the record is of another toolchain
     tools/wrong.py --whole         says whether the record is of the files as they are
     tools/wrong.py --look          says which edits cannot be made in the files as they are
     tools/wrong.py CRATE[/NAME] .. tries these
 
 The record, tests/wrong/RECORD, has a line for each crate: a sum of its sources, specs, proofs and
 edits, and of the crates below, as its edits were last tried and refused. A crate changed if its sum
-is another one. WRONG_SEED sets the seed of what is random, which is printed, and WRONG_RECORD names
-another record: --gate writes target/gate.record, where those of the record that stay are too. No
-edit is begun after WRONG_UNTIL, a time in seconds since 1970, and its crate gets no line then.
+is another one. The line `kit:` names the toolchain that all were last tried by. WRONG_RECORD names
+another record: --gate writes target/gate/edits.record, where those of the record that stay are too.
+What is random is drawn by the sums of the crates, or by WRONG_SEED, and the seed is printed.
 
 An edit is a line `file: src/..`, and then pairs of lines `old: TEXT` and `new: TEXT`. It is made in
-a copy of the crate, which is checked over the libraries that `rt ci` left, or else over those that
-`rt lib` builds: first the function or the module of the edit alone (`rattle check --only`), and the
-whole crate where that is still proved.
+a copy of the crate: first the function or the module of the edit alone is checked (`rattle check
+--only`), over the libraries that `rt ci` left, or else over those that `rt lib` builds. Of a crate
+with one or two edits to try it is checked over the sources of the crates below (tools/only.py),
+which is slower and needs no libraries. If that is still proved the whole crate is checked, over
+libraries. --show as the first word prints what the prover said.
 """
+import collections
 import concurrent.futures
+import hashlib
 import os
 import random
 import re
@@ -27,6 +32,7 @@ import shutil
 import subprocess
 import sys
 import tempfile
+import threading
 import time
 from pathlib import Path
 
@@ -34,9 +40,10 @@ import crates
 
 WRONG = crates.TOP / "tests/wrong"
 RECORD = Path(os.environ.get("WRONG_RECORD") or WRONG / "RECORD")
-OF_GATE = crates.TOP / "target/gate.record"
+OF_GATE = crates.TOP / "target/gate/edits.record"
 HEAD = "# Of each crate: the sum of what its edits were last tried against, and their number.\n"
 MORE = 5
+BUILDING, BUILT = threading.Lock(), set()
 
 
 def edits_of(crate):
@@ -52,10 +59,39 @@ def line_of(crate):
     return f"{crate} {crates.sum_of(crate, WRONG / crate)} {len(edits_of(crate))}"
 
 
+def known_lines():
+    return RECORD.read_text().splitlines() if RECORD.exists() else []
+
+
 def changed():
     """The crates whose line of the record is another one."""
-    known = RECORD.read_text().splitlines() if RECORD.exists() else []
+    known = known_lines()
     return [crate for crate in with_edits() if line_of(crate) not in known]
+
+
+def kit_line():
+    """The line of the record for the toolchain."""
+    said = subprocess.run(["rt", "version"], capture_output=True, text=True, check=False).stdout
+    return f"kit: {said.strip()}"
+
+
+def at_random(found):
+    """The edits that are tried although their crates did not change, and why: some if the record is
+    of another toolchain."""
+    if kit_line() in known_lines():
+        return [], ""
+    sums = " ".join(map(line_of, with_edits()))
+    seed = os.environ.get("WRONG_SEED") or hashlib.sha256(sums.encode()).hexdigest()[:8]
+    others = [edit for crate in with_edits() if crate not in found for edit in edits_of(crate)]
+    more = random.Random(seed).sample(others, min(MORE, len(others)))
+    return more, f"{len(more)} at random, by WRONG_SEED={seed}, since the record is not of this kit"
+
+
+def called_for():
+    """What --gate is going to try, in words, or an empty text."""
+    found = changed()
+    of_crates = f"those of {' '.join(found)}, which changed since the record" if found else ""
+    return "; ".join(filter(None, (of_crates, at_random(found)[1])))
 
 
 def edited(edit, folder):
@@ -99,8 +135,13 @@ def names_at(text, path, at):
     return ["::".join(words) for words in [*names, module] if words]
 
 
-def check(crate, texts, *more):
+def check(crate, texts, is_over_sources, *more):
     """Checks a copy of the crate with these texts in place of its own."""
+    if is_over_sources:
+        command = crates.over_sources(crate, "--jobs", "1", *more)
+    else:
+        build_below(crate)
+        command = crates.rattle("check", crate, *more)
     with tempfile.TemporaryDirectory(prefix=f"wrong-{os.getpid()}-") as room:
         for part in ("src", "specs", "proofs"):
             folder = crates.TOP / "crates" / crate / part
@@ -111,26 +152,28 @@ def check(crate, texts, *more):
                 opened.write(text)
         # A check ends with whoever asked for it.
         bound = ["setpriv", "--pdeathsig", "KILL"] if shutil.which("setpriv") else []
-        return subprocess.run([*bound, *crates.rattle("check", crate, *more)], cwd=room, text=True,
-                              stdin=subprocess.DEVNULL, stdout=subprocess.PIPE,
-                              stderr=subprocess.STDOUT, errors="replace", check=False)
+        ran = subprocess.run([*bound, *command], cwd=room, text=True, stdin=subprocess.DEVNULL,
+                             stdout=subprocess.PIPE, stderr=subprocess.STDOUT, errors="replace",
+                             check=False)
+        ran.stdout = ran.stdout.replace(room, f"crates/{crate}")
+        return ran
 
 
-def verdict(crate, edit):
-    """Whether the prover refuses the crate with this edit, and why; None if it is left out."""
-    if time.time() > float(os.environ.get("WRONG_UNTIL", "inf")):
-        return None, "left out, after WRONG_UNTIL"
+def verdict(crate, edit, is_over_sources, is_shown):
+    """Whether the prover refuses the crate with this edit, and why."""
     folder = crates.TOP / "crates" / crate
     try:
         texts, (path, at) = edited(edit, folder)
     except (ValueError, OSError, TypeError) as error:
         return False, f"cannot be made: {error}"
     for name in names_at((folder / path).read_text(), path, at):
-        ran = check(crate, texts, "--only", name)
+        ran = check(crate, texts, is_over_sources, "--only", name)
         counts = re.search(r"^only=(\d+) proved=(\d+)", ran.stdout, re.M)
+        if is_shown:
+            print(ran.stdout, end="")
         if ran.returncode == 1 and counts and int(counts[2]) < int(counts[1]):
             return True, f"refused in {name}"
-    ran = check(crate, texts)
+    ran = check(crate, texts, False)
     last = ran.stdout.rstrip("\n").rpartition("\n")[2]
     if ran.returncode == 1 and last.startswith("logic=not-proved"):
         told = next((line for line in ran.stdout.splitlines() if ": error" in line), "")
@@ -142,12 +185,14 @@ def verdict(crate, edit):
     return False, f"NOT TRIED: the check ended with {ran.returncode}:\n{ran.stdout[-2000:]}"
 
 
-def build_below(found):
-    """Has the libraries below the crates built."""
-    for crate in found:
-        for name in crates.uses(crate) if not crates.are_left(crate) else []:
+def build_below(crate):
+    """Has the libraries below a crate built, once, unless `rt ci` left them."""
+    with BUILDING:
+        is_new = crate not in BUILT and not crates.are_left(crate)
+        BUILT.add(crate)
+        for name in crates.uses(crate) if is_new else []:
             subprocess.run(["rt", "lib"], cwd=crates.TOP / "crates" / name, check=True,
-                           stdout=subprocess.DEVNULL)
+                           stdin=subprocess.DEVNULL, stdout=subprocess.DEVNULL)
 
 
 def workers():
@@ -165,47 +210,47 @@ def sweep():
             shutil.rmtree(path, ignore_errors=True)
 
 
-def tried(edits):
-    """Tries edits, tells of each, and returns the crates of those not refused, and not tried."""
+def tried(edits, is_shown=False):
+    """Tries edits, tells of each, and returns the crates of those that are not refused."""
     sweep()
-    build_below(dict.fromkeys(edit.parent.name for edit in edits))
-    wrong, left, begun = set(), set(), time.time()
+    wrong, begun = set(), time.monotonic()
+    counts = collections.Counter(edit.parent.name for edit in edits)
+    # To prove all crates below takes longer than one or two edits over sources.
+    bare = {crate for crate, count in counts.items() if count < 3 and not crates.are_left(crate)}
     with concurrent.futures.ThreadPoolExecutor(workers()) as pool:
-        made = {pool.submit(verdict, edit.parent.name, edit): edit for edit in edits}
+        made = {pool.submit(verdict, edit.parent.name, edit, edit.parent.name in bare, is_shown):
+                edit for edit in edits}
         for done in concurrent.futures.as_completed(made):
             edit, (is_refused, why) = made[done], done.result()
             print(f"wrong: {edit.parent.name}/{edit.stem}: {why}", flush=True)
-            wrong |= {edit.parent.name} if is_refused is False else set()
-            left |= {edit.parent.name} if is_refused is None else set()
-    print(f"wrong: {len(edits)} edits, in {time.time() - begun:.0f} s; "
-          + (f"not all refused, of {' '.join(sorted(wrong))}" if wrong else "all refused")
-          + (f", but for some of {' '.join(sorted(left))}, which were left out" if left else ""))
-    return wrong, left
+            wrong |= set() if is_refused else {edit.parent.name}
+    print(f"wrong: {len(edits)} edits, in {time.monotonic() - begun:.0f} s; "
+          + (f"not all refused, of {' '.join(sorted(wrong))}" if wrong else "all refused"))
+    return wrong
 
 
 def try_changed(found, more, record):
     """Tries the edits of these crates and more, and writes a record."""
     # (a file that changes meanwhile has another sum)
     lines = {crate: line_of(crate) for crate in with_edits()}
-    wrong, left = tried([edit for crate in found for edit in edits_of(crate)] + more)
-    known = RECORD.read_text().splitlines() if RECORD.exists() else []
+    wrong = tried([edit for crate in found for edit in edits_of(crate)] + more)
+    known = known_lines()
     kept = [line for crate, line in lines.items()
-            if crate not in wrong | left and (crate in found or line in known)]
-    record.write_text(HEAD + "".join(line + "\n" for line in sorted(kept)))
+            if crate not in wrong and (crate in found or line in known)]
+    is_of_kit = not wrong and (kit_line() in known or set(found) == set(lines))
+    kits = [kit_line()] if is_of_kit else [line for line in known if line.startswith("kit: ")]
+    record.parent.mkdir(parents=True, exist_ok=True)
+    record.write_text(HEAD + "".join(line + "\n" for line in [*kits, *sorted(kept)]))
     if record == OF_GATE and not wrong and found:
         print(f"wrong: to keep this, copy {OF_GATE.relative_to(crates.TOP)} to tests/wrong/RECORD")
     return 1 if wrong else 0
 
 
 def try_for_gate():
-    """Tries the edits of the crates that changed, and more at random."""
+    """Tries what the gate calls for."""
     found = changed()
-    seed = os.environ.get("WRONG_SEED") or str(int.from_bytes(os.urandom(4), "big"))
-    others = [edit for crate in with_edits() if crate not in found for edit in edits_of(crate)]
-    more = random.Random(seed).sample(others, min(MORE, len(others)))
-    print(f"wrong: changed since the record: {' '.join(found) or 'no crate'}; "
-          f"and {len(more)} edits at random, by WRONG_SEED={seed}", flush=True)
-    return try_changed(found, more, OF_GATE)
+    print(f"wrong: {called_for() or 'the record is of the files as they are'}", flush=True)
+    return try_changed(found, at_random(found)[0], OF_GATE)
 
 
 def look():
@@ -237,11 +282,12 @@ def main():
         return try_for_gate()
     if words in ([], ["--all"]):
         return try_changed(with_edits() if words else changed(), [], RECORD)
-    named = [edit for word in words for edit in
+    is_shown = words[0] == "--show"
+    named = [edit for word in words[is_shown:] for edit in
              ([WRONG / f"{word}.edit"] if "/" in word else edits_of(word))]
-    if words[0].startswith("-") or not named or not all(edit.is_file() for edit in named):
+    if not named or not all(edit.is_file() for edit in named):
         sys.exit(__doc__)
-    return 1 if tried(named)[0] else 0
+    return 1 if tried(named, is_shown) else 0
 
 
 if __name__ == "__main__":

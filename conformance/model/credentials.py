@@ -6,7 +6,7 @@ import hmac
 import struct
 
 from model.values import (NONCE, PASSWORD_ALGORITHM, PASSWORD_ALGORITHMS, REALM, USERHASH, USERNAME,
-                          XOR_MAPPED, decoded_algorithms, decoded_text, encoded_address)
+                          XOR_MAPPED, decoded_text, encoded_address)
 from model.wire import (COOKIE, DIGESTS, ERROR_CODE, FINGERPRINT, Message, Refused, appended,
                         check_fingerprint, fingerprinted, long_term_key, refusal_420, response,
                         signed, unknown_types, userhash, verified)
@@ -14,6 +14,14 @@ from model.wire import (COOKIE, DIGESTS, ERROR_CODE, FINGERPRINT, Message, Refus
 NUMBERS = {"sha1": 1, "sha256": 2}
 KNOWN = {1, 6, 8, 9, 10, 0x14, 0x15, 0x1C, 0x1D, 0x1E, 0x20}
 NONCE_COOKIE = b"obMatJos2"
+
+
+def algorithm_numbers(offered):
+    """The numbers of a list of algorithms, without their parameters (section 14.11)."""
+    while offered:
+        number, length = struct.unpack_from(">HH", offered)
+        yield number
+        offered = offered[4 + length + -length % 4:]
 
 
 def bits_of(nonce):
@@ -32,13 +40,12 @@ class Server:
     def __init__(self, realm):
         self.realm, self.users, self.hashes = realm, {}, True
         self.algorithms, self.lifetime = ["sha1"], 3600
+        self.fingerprints = ("none", "valid")
 
     def nonce(self, source, epoch):
         text = f"{source} {epoch} {self.algorithms}".encode()
         words = hmac.new(b"secret", text, hashlib.sha256).hexdigest()[:20].encode()
         bits = 0x80 * ("sha256" in self.algorithms) + 0x40 * self.hashes
-        if not bits:
-            return words
         return NONCE_COOKIE + base64.b64encode(bytes((bits, 0, 0))) + words
 
     def offer(self):
@@ -49,50 +56,52 @@ class Server:
     def hears(self, source, now, data):
         """The response to a datagram, or None."""
         message = Message(data)
-        if check_fingerprint(message) == "invalid" or message.klass != "request":
+        if message.klass != "request" or message.method != 1:
+            return None
+        if check_fingerprint(message) not in self.fingerprints:
             return None
         epoch = now // self.lifetime
         current = self.nonce(source, epoch)
         is_fresh = message.value(NONCE) in (current, self.nonce(source, epoch - 1))
-        code, name, key = self.judged(message, is_fresh)
+        code, key = self.judged(message)
+        if code is None and not is_fresh:
+            code = 438
         if code is not None:
             return self.end(message, self.refusal(message, code, current))
         types = unknown_types(message, KNOWN)
         answer = response(message)
         if types:
             answer = refusal_420(message, types)
-        elif message.method != 1:
-            answer = response(message, 400, "Bad Request")
         else:
             answer = appended(answer, XOR_MAPPED,
                               encoded_address(source, COOKIE + message.id))
+        name = "sha1" if message.value(PASSWORD_ALGORITHM) is None else "sha256"
         return self.end(message, signed(answer, name, key))
 
     def end(self, request, answer):
         return fingerprinted(answer) if request.value(FINGERPRINT) is not None else answer
 
-    def judged(self, message, is_fresh):
-        """The code of a refusal, or the integrity algorithm and the key."""
+    def judged(self, message):
+        """The code of a refusal, or the key."""
         names = [name for name, (kind, _) in DIGESTS.items() if message.value(kind) is not None]
         if not names:
-            return 401, None, None
+            return 401, None
         if message.value(REALM) is None or message.value(NONCE) is None:
-            return 400, None, None
+            return 400, None
         if message.value(USERNAME) is None and message.value(USERHASH) is None:
-            return 400, None, None
+            return 400, None
         algorithm = self.agreed(message)
         if algorithm is None:
-            return 400 if is_fresh else 438, None, None
-        if not is_fresh:
-            return 438, None, None
+            return 400, None
         name = self.named(message)
         if name not in self.users or algorithm not in self.algorithms:
-            return 401, None, None
+            return 401, None
         key = long_term_key(algorithm, name, self.realm, self.users[name])
         try:
-            return None, verified(message, key), key
+            verified(message, key)
         except Refused:
-            return 401, None, None
+            return 401, None
+        return None, key
 
     def named(self, message):
         wanted = message.value(USERHASH)
@@ -124,13 +133,80 @@ class Server:
         return answer
 
 
+class ShortServer:
+    """Section 9.1.3, for Binding requests."""
+
+    def __init__(self):
+        self.users = {}
+
+    def hears(self, source, data):
+        """The response to a datagram, or None."""
+        message = Message(data)
+        if message.method != 1 or message.klass != "request":
+            return None
+        if check_fingerprint(message) == "invalid":
+            return None
+        code = self.refusal(message)
+        if code is not None:
+            phrase = {400: "Bad Request", 401: "Unauthenticated"}[code]
+            return self.end(message, response(message, code, phrase))
+        types = unknown_types(message, KNOWN)
+        answer = refusal_420(message, types) if types else appended(
+            response(message), XOR_MAPPED, encoded_address(source, COOKIE + message.id))
+        key = self.users[message.value(USERNAME)]
+        return self.end(message, signed(answer, verified(message, key), key))
+
+    def end(self, request, answer):
+        return fingerprinted(answer) if request.value(FINGERPRINT) is not None else answer
+
+    def refusal(self, message):
+        """The code of a request that is refused, or None."""
+        kinds = [kind for kind, _ in DIGESTS.values() if message.value(kind) is not None]
+        if not kinds or message.value(USERNAME) is None:
+            return 400
+        if message.value(USERNAME) not in self.users:
+            return 401
+        try:
+            verified(message, self.users[message.value(USERNAME)])
+        except Refused:
+            return 401
+        return None
+
+
+class ShortClient:
+    """Sections 9.1.2, 9.1.4 and 9.1.5."""
+
+    realm, fingerprints = None, ("none", "valid", "invalid")
+
+    def __init__(self, name, password, algorithms):
+        self.user, self.password, self.algorithms = name, password, list(algorithms)
+
+    def signs(self, data):
+        """By all algorithms that the server may support: the weaker first (section 9.1.2)."""
+        data = appended(data, USERNAME, self.user)
+        for name in sorted(self.algorithms):
+            data = signed(data, name, self.password)
+        return data
+
+    def hears(self, message):
+        if message.klass not in ("success", "error"):
+            raise Refused
+        if check_fingerprint(message) not in self.fingerprints:
+            raise Refused
+        came = verified(message, self.password)
+        if came not in self.algorithms:
+            raise Refused
+        self.algorithms = [came]
+        return came
+
+
 class Client:
     """Sections 9.2.3 and 9.2.5."""
 
     def __init__(self):
         self.user = self.password = self.realm = self.nonce = self.algorithm = None
         self.algorithms, self.hashes, self.offered = ["sha1"], "auto", None
-        self.is_known = False
+        self.is_known, self.fingerprints = False, ("none", "valid", "invalid")
 
     def key(self, algorithm):
         return long_term_key(algorithm, self.user, self.realm, self.password)
@@ -150,6 +226,8 @@ class Client:
         return signed(data, name, self.key(self.algorithm))
 
     def hears(self, message):
+        if check_fingerprint(message) not in self.fingerprints:
+            raise Refused
         code = message.value(ERROR_CODE)
         number = code[2] * 100 + code[3] if code and len(code) > 3 else None
         is_error = message.klass == "error"
@@ -183,7 +261,7 @@ class Client:
 
     def challenged(self, message):
         realm, nonce = self.given(message)
-        if self.nonce == nonce:
+        if self.realm == realm:
             raise Refused
         algorithm, offered = self.chosen(message, nonce)
         if self.hashes == "required" and not bits_of(nonce) & 0x40:
@@ -210,8 +288,8 @@ class Client:
             return "sha1", offered
         if offered is None:
             raise Refused
-        for word in decoded_algorithms(PASSWORD_ALGORITHMS, offered).split(","):
-            name = {"MD5": "sha1", "SHA256": "sha256"}.get(word)
+        for number in algorithm_numbers(offered):
+            name = {1: "sha1", 2: "sha256"}.get(number)
             if name in self.algorithms:
                 return name, offered
         raise Refused

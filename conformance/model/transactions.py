@@ -1,7 +1,7 @@
 """Requests of the model and their timers (RFC 8489, section 6.2)."""
 
 from model.credentials import KNOWN
-from model.wire import Refused, unknown_types
+from model.wire import ERROR_CODE, Refused, unknown_types
 
 
 class Request:
@@ -61,13 +61,15 @@ class Agent:
         return f"wait {max(now, min(one.due() for one in self.requests.values()))}"
 
     def takes(self, peer, message):
-        """Whether a message is for the application: requests, indications, awaited responses. A
-        success with an unknown attribute ends its request, and is discarded (section 6.3.3)."""
+        """Whether a message is for the application: requests, indications, awaited responses. One
+        with an unknown attribute ends its request, and is discarded (section 6.3.3), and so does an
+        error without a code (section 6.3.4)."""
         if message.klass in ("request", "indication"):
             return "yes"
         request = self.requests.get(message.id)
         if request is None or request.peer != peer:
             return "no"
         del self.requests[message.id]
-        is_unknown = message.klass == "success" and unknown_types(message, KNOWN)
-        return "no" if is_unknown else "yes"
+        is_unknown = unknown_types(message, KNOWN)
+        is_nameless = message.klass == "error" and message.value(ERROR_CODE) is None
+        return "no" if is_unknown or is_nameless else "yes"

@@ -2,7 +2,8 @@
 
 import struct
 
-from model.credentials import Client, Server
+from model.asking import Asking
+from model.credentials import Client, Server, ShortClient, ShortServer
 from model.transactions import Agent
 from model.values import decoded, encoded, plain, types_of
 from model.wire import (FINGERPRINT, INTEGRITY, INTEGRITY_SHA256, Message, Refused, appended, begun,
@@ -134,6 +135,10 @@ class Credentials:
     def server_remove_user(self, name):
         self.server.users.pop(plain(name), None)
 
+    @call
+    def server_fingerprint(self):
+        self.server.fingerprints = ("valid",)
+
     def server_hears(self, source, seconds, data):
         try:
             came = self.server.hears(source, int(seconds), plain(data))
@@ -142,12 +147,53 @@ class Credentials:
         return "none" if came is None else came.hex()
 
     @call
+    def short_server_new(self):
+        self.short_server = ShortServer()
+
+    @call
+    def short_server_add_user(self, name, password):
+        self.short_server.users[plain(name)] = plain(password)
+
+    def short_server_hears(self, source, data):
+        try:
+            came = self.short_server.hears(source, plain(data))
+        except (Refused, struct.error):
+            return "none"
+        return "none" if came is None else came.hex()
+
+    @call
     def client_new(self):
         self.client = Client()
+        self.asking = Asking(self.client)
+
+    @call
+    def client_asks(self, now, data):
+        return self.asking.ask(int(now), Message(plain(data)))
+
+    @call
+    def client_takes(self, now, data):
+        return self.asking.takes(int(now), Message(plain(data)))
+
+    @call
+    def client_next(self, now):
+        return self.asking.next(int(now))
 
     @call
     def client_user(self, name, password):
         self.client.user, self.client.password = plain(name), plain(password)
+
+    @call
+    def client_short_term(self, name, password):
+        self.client = ShortClient(plain(name), plain(password), self.client.algorithms)
+        self.asking.client = self.client
+
+    @call
+    def client_stream(self):
+        self.asking.is_stream = True
+
+    @call
+    def client_fingerprint(self):
+        self.client.fingerprints = ("valid",)
 
     @call
     def client_algorithms(self, names):
@@ -212,3 +258,4 @@ class Transactions:
 class Subject(Reading, Writing, Credentials, Transactions):
     def __init__(self):
         self.server, self.client, self.agent = Server(b""), Client(), Agent("udp")
+        self.short_server = ShortServer()

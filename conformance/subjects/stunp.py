@@ -17,6 +17,8 @@ NAMES = {1: "sha1", 2: "sha256"}
 FINGERPRINTS = ("none", "valid", "invalid", "invalid")
 FEATURES = {"auto": 0, "required": 1, "disabled": 2}
 MISSING, NO_INTEGRITY = -15, -4
+# STUNP_DROP_NOT_VERIFIED
+NOT_VERIFIED = 9
 TEXTS, XORED, PLAIN = (6, 0x14, 0x15, 0x8022, 0x8003), (0x20, 0x12, 0x16), (1, 0x8023)
 # Attributes that are numbers: their bytes, and how many bits at their end are unused.
 NUMBERS = {0x24: (4, 0), 0x0D: (4, 0), 0x8029: (8, 0), 0x802A: (8, 0), 0x0C: (4, 16), 0x19: (4, 24),
@@ -24,6 +26,7 @@ NUMBERS = {0x24: (4, 0), 0x0D: (4, 0), 0x8029: (8, 0), 0x802A: (8, 0), 0x0C: (4,
 EVEN_PORT = 0x18
 # Values that the headers have no call for: they are left out.
 WITHOUT_CALLS = (0x08, 0x1C, 0x1D, 0x8002, 0x1E, 0x17, 0x8000)
+PEER = "10.0.0.2:3478"
 ROOM, HOUR = 70000, 3600 * 10**9
 SECRET = ctypes.c_char_p(bytes(range(1, 33)))
 
@@ -50,7 +53,8 @@ class Reply(ctypes.Structure):
 class Received(ctypes.Structure):
     _fields_ = [("size", c_size_t), ("kind", c_uint32), ("why", c_uint32), ("code", c_uint32),
                 ("method", c_uint16), ("algorithm", c_uint16), ("length", c_size_t),
-                ("name_length", c_size_t), ("reply", Reply), ("name", c_uint8 * 516)]
+                ("needed", c_size_t), ("name_length", c_size_t), ("reply", Reply),
+                ("name", c_uint8 * 516), ("is_hash", c_bool)]
 
 
 class Timeouts(ctypes.Structure):
@@ -292,7 +296,7 @@ class Server:
     def build(self):
         ask("endpoint_server_new_with", byref(self.handle), self.realm, None, c_size_t(0), SECRET,
             SECRET, c_bool(False), None, c_size_t(0), c_uint64(self.lifetime),
-            c_uint32(self.algorithms), c_uint32(self.hashes), c_bool(True))
+            c_uint32(self.algorithms), c_uint32(self.hashes), c_bool(True), c_bool(False))
         ask("endpoint_users_new_own", byref(self.table), byref(self.handle))
         for name, password in self.names.items():
             self.add(name, password)
@@ -306,23 +310,74 @@ class Server:
         out, received = buffer(), Received(size=ctypes.sizeof(Received))
         kind = ask("endpoint_server_receive_own", byref(self.handle), byref(self.table), data,
                    address(source), c_uint64(seconds), out, byref(received))
-        if kind == 1:
-            return bytes(out[:received.length])
-        return self.answer(received.reply) if kind == 2 else "none"
-
-    def answer(self, reply):
-        """An accepted request that the server has no answer for: 400, signed like the request."""
-        out = buffer()
-        length = ask("begin", c_uint32(3), c_uint32(reply.method), bytes(reply.id), out)
-        message = changed("add_error", bytes(out[:length]), c_uint32(400), b"Bad Request")
-        if reply.integrity:
-            message = changed("sign", message, c_uint32(reply.integrity),
-                              bytes(reply.key)[:reply.key_length])
-        return changed("add_fingerprint", message) if reply.has_fingerprint else message
+        # An accepted request of another method is the application's, which has none.
+        return bytes(out[:received.length]) if kind == 1 else "none"
 
     def end(self):
         LIBRARY.stunp_endpoint_users_clear(byref(self.table))
         LIBRARY.stunp_endpoint_server_clear(byref(self.handle))
+
+
+class ShortServer(Server):
+    """stunp_endpoint_server with short-term credentials."""
+
+    def __init__(self):
+        super().__init__(b"")
+        ask("endpoint_server_new_short_term", byref(self.handle), None, c_size_t(0), None,
+            c_size_t(0), c_bool(True), c_bool(False))
+        ask("endpoint_users_new_own", byref(self.table), byref(self.handle))
+
+
+class Options(ctypes.Structure):
+    _fields_ = [("initial", c_uint64), ("longest", c_uint64), ("last", c_uint64),
+                ("transmissions", c_uint32), ("challenges", c_uint32), ("credentials", c_uint32),
+                ("algorithms", c_uint32), ("anonymous_username", c_uint32), ("is_stream", c_bool),
+                ("accepts_unsigned", c_bool), ("has_fingerprint", c_bool),
+                ("requires_fingerprint", c_bool)]
+
+
+class Event(ctypes.Structure):
+    _fields_ = [("size", c_size_t), ("kind", c_uint32), ("result", c_uint32),
+                ("request", c_uint64), ("until", c_uint64), ("length", c_size_t),
+                ("needed", c_size_t), ("code", c_uint32), ("not_understood", c_uint16),
+                ("signed_by", c_uint16), ("dropped", c_uint32 * 3)]
+
+
+class Asking:
+    """stunp_endpoint_client: its settings are made when the first request is asked."""
+
+    def __init__(self):
+        self.handle, self.options, self.user = Handle(), Options(algorithms=1), (b"", b"")
+
+    def asks(self, now, message):
+        if not self.handle.is_full:
+            ask("endpoint_client_new_with", byref(self.handle), address(PEER), SECRET, *self.user,
+                None, c_size_t(0), None, c_size_t(0), byref(self.options))
+        body, number = message[20:], c_uint64()
+        ask("endpoint_client_request_with", byref(self.handle), c_uint32(ask("method", message)),
+            body, c_uint64(now), byref(number))
+        return self.next(now)
+
+    def takes(self, now, message):
+        why = c_uint32()
+        kind = ask("endpoint_client_receive_with", byref(self.handle), message, address(PEER),
+                   c_uint64(now), byref(why))
+        return "yes" if kind == 4 else "no"
+
+    def next(self, now):
+        out, event = buffer(), Event(size=ctypes.sizeof(Event))
+        ask("endpoint_client_poll_with", byref(self.handle), c_uint64(now), out, byref(event))
+        if event.kind == 1:
+            return bytes(out[:event.length])
+        if event.kind == 0:
+            return "none"
+        is_violated = event.dropped[0] and event.dropped[1] == NOT_VERIFIED
+        ends = {1: "success", 2: f"error {event.code}", 3: "error 300",
+                4: "violated" if is_violated else "timed out"}
+        return "result " + ends.get(event.result, "failed")
+
+    def end(self):
+        LIBRARY.stunp_endpoint_client_clear(byref(self.handle))
 
 
 class Credentials:
@@ -362,21 +417,61 @@ class Credentials:
         return self.server.hears(source, int(seconds), plain(data))
 
     @call
+    def short_server_new(self):
+        if self.short_server:
+            self.short_server.end()
+        self.short_server = ShortServer()
+
+    @call
+    def short_server_add_user(self, name, password):
+        self.short_server.add(plain(name), plain(password))
+
+    @call
+    def short_server_hears(self, source, data):
+        return self.short_server.hears(source, 0, plain(data))
+
+    @call
     def client_new(self):
         LIBRARY.stunp_client_clear(byref(self.client))
         ask("client_new", byref(self.client))
+        self.asking.end()
+        self.asking = Asking()
+
+    @call
+    def client_asks(self, now, message):
+        return self.asking.asks(int(now), plain(message))
+
+    @call
+    def client_takes(self, now, message):
+        return self.asking.takes(int(now), plain(message))
+
+    @call
+    def client_next(self, now):
+        return self.asking.next(int(now))
 
     @call
     def client_user(self, name, password):
+        self.asking.user = plain(name), plain(password)
         ask("client_set_credentials", byref(self.client), plain(name), plain(password))
 
     @call
+    def client_short_term(self, name, password):
+        self.asking.user = plain(name), plain(password)
+        self.asking.options.credentials = 1
+
+    @call
+    def client_stream(self):
+        self.asking.options.is_stream = True
+
+    @call
     def client_algorithms(self, names):
+        self.asking.options.algorithms = sum(ALGORITHMS[one] for one in names.split(","))
         ask("client_set_algorithms", byref(self.client),
             c_uint32(sum(ALGORITHMS[one] for one in names.split(","))))
 
     @call
     def client_hashes(self, word):
+        self.asking.options.anonymous_username = FEATURES[word]
         ask("client_set_anonymous_username", byref(self.client), c_uint32(FEATURES[word]))
 
     @call
@@ -448,9 +543,11 @@ class Transactions:
 class Subject(Reading, Writing, Credentials, Transactions):
     def __init__(self):
         self.server, self.client, self.agent = None, StateHandle(), StateHandle()
+        self.short_server, self.asking = None, Asking()
 
     def __del__(self):
         LIBRARY.stunp_client_clear(byref(self.client))
         LIBRARY.stunp_agent_clear(byref(self.agent))
-        if self.server:
-            self.server.end()
+        for server in filter(None, (self.server, self.short_server)):
+            server.end()
+        self.asking.end()

@@ -7,23 +7,34 @@
 #include <stdarg.h>
 #include <stdio.h>
 #include <stdlib.h>
+#include <sys/mman.h>
 #include <sys/prctl.h>
 #include <sys/wait.h>
 #include <unistd.h>
 
 volatile sig_atomic_t is_ending, hangups, reports;
 
+/* How many hangups each process has followed, in memory that all share. */
+static unsigned long *hangups_done;
+
 static void hear(int number) {
     if (number == SIGHUP) hangups++;
     else if (number == SIGUSR1) reports++;
-    else is_ending = 1;
+    else __atomic_store_n(&is_ending, 1, __ATOMIC_RELAXED); /* other threads read it */
 }
 
 void hear_signals(void) {
     static const int heard[] = {SIGTERM, SIGINT, SIGHUP, SIGUSR1};
-    for (size_t i = 0; i < sizeof heard / sizeof *heard; i++)
-        sigaction(heard[i], &(struct sigaction){.sa_handler = hear}, NULL);
+    for (size_t i = 0; i < sizeof heard / sizeof *heard; i++) {
+        bool ends = heard[i] == SIGTERM || heard[i] == SIGINT;
+        sigaction(heard[i],
+                  &(struct sigaction){.sa_handler = hear, .sa_flags = ends ? 0 : SA_RESTART}, NULL);
+    }
     sigaction(SIGPIPE, &(struct sigaction){.sa_handler = SIG_IGN}, NULL);
+}
+
+void say_hangup_is_done(unsigned long number) {
+    __atomic_fetch_add(&hangups_done[number], 1, __ATOMIC_RELAXED);
 }
 
 /* A pipe that can be written to has room for a whole line, so that it is not torn. */
@@ -83,17 +94,43 @@ static void tell_all(const pid_t *workers, unsigned long processes, int number) 
     for (unsigned long i = 0; i < processes; i++) kill(workers[i], number);
 }
 
+/* The round in which a hangup is passed on to one worker after the other. */
+struct round {
+    sig_atomic_t heard;        /* the hangups up to those of this round */
+    unsigned long turn;        /* the worker that follows it, or their number: the round is over */
+    unsigned long done_before; /* what that worker had followed when it got the signal */
+};
+
+/* Passes the hangup on to the worker whose turn it is. */
+static void take_turn(struct round *round, const pid_t *workers) {
+    round->done_before = __atomic_load_n(&hangups_done[round->turn], __ATOMIC_RELAXED);
+    kill(workers[round->turn], SIGHUP);
+}
+
+/* Goes on with a round if the worker whose turn it was is done, or begins one if there was a hangup
+ * since the last one began. */
+static void pass_hangups_on(struct round *round, const pid_t *workers, unsigned long processes) {
+    sig_atomic_t heard = hangups;
+    if (round->turn < processes) {
+        unsigned long done = __atomic_load_n(&hangups_done[round->turn], __ATOMIC_RELAXED);
+        if (done == round->done_before || ++round->turn == processes) return;
+    } else {
+        if (round->heard == heard) return;
+        *round = (struct round){.heard = heard};
+    }
+    take_turn(round, workers);
+}
+
 /* Waits for a signal to end, or until a worker ended, and then has all end. One that ended is not
  * waited for before, so that its number is nobody else's when the others are told. */
 static int end_together(const struct service *service, const pid_t *workers) {
     siginfo_t ended = {0};
+    struct round round = {.turn = service->processes};
     int status = 0, one;
-    sig_atomic_t passed_on = hangups;
     pid_t reaped;
     while (!is_ending && ended.si_pid == 0) {
         usleep(100000);
-        if (passed_on != hangups) tell_all(workers, service->processes, SIGHUP);
-        passed_on = hangups;
+        pass_hangups_on(&round, workers, service->processes);
         service->look();
         waitid(P_ALL, 0, &ended, WEXITED | WNOHANG | WNOWAIT);
     }
@@ -105,6 +142,12 @@ static int end_together(const struct service *service, const pid_t *workers) {
 int serve_in_processes(const struct service *service) {
     pid_t workers[MOST_PROCESSES];
     unsigned long port = service->port;
+    hangups_done = mmap(NULL, service->processes * sizeof *hangups_done, PROT_READ | PROT_WRITE,
+                        MAP_SHARED | MAP_ANONYMOUS, -1, 0);
+    if (hangups_done == MAP_FAILED) {
+        perror("mmap");
+        return 1;
+    }
     if (service->processes == 1) return serve_alone(service);
     if ((!service->place.is_shared || port == 0) && !is_free(service, &port)) return 1;
     for (unsigned long i = 0; i < service->processes; i++)

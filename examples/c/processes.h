@@ -7,9 +7,13 @@
 #include <signal.h>
 
 /* Whether SIGTERM or SIGINT arrived since `hear_signals` was called, and how often SIGHUP (read the
- * users again) and SIGUSR1 (print the counters) did. SIGPIPE is ignored. */
+ * users again) and SIGUSR1 (print the counters) did. SIGPIPE is ignored. The first two interrupt a
+ * read, and the others do not. To lose none, take the count of SIGHUP before you follow it. */
 extern volatile sig_atomic_t is_ending, hangups, reports;
 void hear_signals(void);
+
+/* Reports that the process with this number has followed a SIGHUP. Then the next one gets it. */
+void say_hangup_is_done(unsigned long number);
 
 /* Prints like printf, or nothing if it would have to wait. */
 void say(const char *format, ...) __attribute__((format(printf, 1, 2)));
@@ -27,7 +31,8 @@ struct service {
 
 /* Prints `port N` and serves, in one process or in several, each of which has sockets of its own on
  * the port: the kernel gives the datagrams of an address to one of them, as long as none comes or
- * goes. SIGHUP is passed on to each. Returns the status of the program. */
+ * goes. SIGHUP is passed on to one after the other, so that one alone is busy with it at a time.
+ * Returns the status of the program. */
 int serve_in_processes(const struct service *service);
 
 #endif

@@ -13,6 +13,7 @@
 #include "heap.h"
 #include "net.h"
 #include "processes.h"
+#include "reload.h"
 #include "streams.h"
 #include "stunp_endpoint.h"
 #include "users.h"
@@ -34,7 +35,8 @@ static const char help[] =
     "  --users FILE      users of a file, or of standard input if it is -. A line is `NAME\n"
     "                    PASSWORD` or `NAME 0xKEY [0xKEY]` with stored keys of 16 bytes\n"
     "                    (HMAC-SHA1) and 32 bytes (HMAC-SHA256) in hexadecimal; `#` begins a\n"
-    "                    comment. SIGHUP reads it again\n"
+    "                    comment. SIGHUP reads it again, while the server goes on, in one process\n"
+    "                    after the other\n"
     "  --secret FILE     what nonces are made of: 32 bytes, or 64 hexadecimal digits. Servers\n"
     "                    with the same secret, REALM, users, --expiry and --sha256 serve each\n"
     "                    other's clients. Random unless given\n"
@@ -59,7 +61,8 @@ static const char help[] =
     "  --                what follows is not an option, such as a PASSWORD that begins with `-`\n"
     "  --help, --version\n";
 
-enum { MOST_BATCHES = 4 /* of one socket in turn */, MOST_WAIT = 1000 /* milliseconds */ };
+enum { MOST_BATCHES = 4 /* of one socket in turn */ };
+enum { MOST_WAIT = 1000, MOST_WAIT_IN_RELOAD = 10 /* milliseconds of a turn of the loop */ };
 enum { MEMORY = 1 << 30 /* of one process, at most: users, and one answer */ };
 
 static struct {
@@ -283,13 +286,28 @@ static bool fill(stunp_endpoint_users *table, const char *what) {
     return false;
 }
 
-/* Reads the file of users again, after a SIGHUP. A file with a bad line changes nothing. */
-static void reload(void) {
-    stunp_endpoint_users again = {0};
-    if (!settings.has_users || settings.file == NULL || strcmp(settings.file, "-") == 0) return;
-    if (!fill(&again, "the users are unchanged: ")) return;
-    stunp_endpoint_users_free(&users);
-    users = again;
+static bool fill_again(stunp_endpoint_users *table) {
+    return fill(table, "the users are unchanged: ");
+}
+
+/* Reads the file of users again, if a SIGHUP arrived after the last reading began. A file with a
+ * bad line changes nothing. */
+static void follow_hangups(unsigned long number) {
+    static sig_atomic_t read_at; /* 0, so that a SIGHUP counts that arrived before the first turn */
+    if (is_reloading()) {
+        if (!go_on_with_reload(&users)) return;
+        say_hangup_is_done(number);
+    }
+    sig_atomic_t heard = hangups;
+    bool has_file = settings.file != NULL && strcmp(settings.file, "-") != 0;
+    if (read_at != heard && !(has_file && start_reload(fill_again))) say_hangup_is_done(number);
+    read_at = heard;
+}
+
+/* Ends a reload that is under way. It stops reading when `is_ending`. */
+static void end_reload(void) {
+    const struct timespec rest = {0, 1000000};
+    while (is_reloading() && !go_on_with_reload(&users)) nanosleep(&rest, NULL);
 }
 
 /* ---- The sockets */
@@ -339,17 +357,17 @@ static void look(void) {
 static bool serve(const struct listener *listener, unsigned long number) {
     struct epoll_event ready[MOST_SOCKETS];
     int queue = watch_all(listener);
-    sig_atomic_t read_at = hangups;
     counts = all_counts[number];
     if (queue < 0) perror("epoll");
     while (queue >= 0 && !is_ending) {
-        int events = epoll_wait(queue, ready, MOST_SOCKETS, MOST_WAIT);
+        int most = is_reloading() ? MOST_WAIT_IN_RELOAD : MOST_WAIT;
+        int events = epoll_wait(queue, ready, MOST_SOCKETS, most);
         for (int i = 0; i < events; i++) serve_one(listener, queue, ready[i].data.fd);
         if (settings.has_tcp) end_idle_streams(settings.idle * SECOND);
-        if (read_at != hangups) reload();
-        read_at = hangups;
+        follow_hangups(number);
         if (settings.workers == 1) look();
     }
+    end_reload();
     return queue >= 0 && close(queue) == 0;
 }
 
@@ -379,6 +397,8 @@ static bool has_right_words(int number, char **words) {
 }
 
 int main(int number, char **words) {
+    hear_signals(); /* first: a SIGHUP while the users are read does not end the program */
+    sigaction(SIGUSR2, &(struct sigaction){.sa_handler = jump, .sa_flags = SA_RESTART}, NULL);
     number = read_options(number, words, options);
     if (settings.wants_help || settings.wants_version) {
         if (settings.wants_help) printf("%s%s", usage, help);
@@ -401,9 +421,7 @@ int main(int number, char **words) {
         perror("udp_server");
         return 1;
     }
-    if (settings.has_users && !begin(words[1])) return 1;
-    hear_signals();
-    sigaction(SIGUSR2, &(struct sigaction){.sa_handler = jump}, NULL);
+    if (settings.has_users && !begin(words[1])) return is_ending ? 0 : 1;
     int status = serve_in_processes(&(struct service){
         {settings.at.texts, settings.at.count, settings.is_shared, settings.has_tcp},
         settings.port, settings.workers, serve, look});

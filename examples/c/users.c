@@ -1,6 +1,7 @@
 /* users.h: a line at a time, so that a file may have any size. */
 #define _GNU_SOURCE
 #include "users.h"
+#include "processes.h"
 #include <errno.h>
 #include <stdio.h>
 #include <stdlib.h>
@@ -85,12 +86,17 @@ static int64_t add_line(stunp_endpoint_users *users, char *line) {
     return answer;
 }
 
-/* Adds the users of lines. Returns how many lines are none, or -1 if it gave up. */
+/* Whether the program is ending, in any thread. */
+static bool gives_up(void) { return __atomic_load_n(&is_ending, __ATOMIC_RELAXED) != 0; }
+
+/* Adds the users of lines. Returns how many lines are none, or -1 if it gave up, as it does if the
+ * program is ending. */
 static long add_lines(stunp_endpoint_users *users, const char *path, const char *what,
                       FILE *file) {
     static char line[LONGEST_LINE];
     long bad = 0;
-    for (unsigned long number = 1; fgets(line, sizeof line, file) != NULL; number++) {
+    unsigned long number = 1;
+    for (; !gives_up() && fgets(line, sizeof line, file) != NULL; number++) {
         size_t length = strcspn(line, "\r\n");
         bool is_cut = line[length] == 0 && strlen(line) == sizeof line - 1;
         line[length] = 0;
@@ -107,7 +113,7 @@ static long add_lines(stunp_endpoint_users *users, const char *path, const char 
         }
     }
     explicit_bzero(line, sizeof line);
-    return bad;
+    return gives_up() ? -1 : bad;
 }
 
 bool add_file(stunp_endpoint_users *users, const char *path, const char *what) {
@@ -121,7 +127,7 @@ bool add_file(stunp_endpoint_users *users, const char *path, const char *what) {
     bool is_read = !ferror(file);
     if (is_read && bad > 0)
         fprintf(stderr, "udp_server: %s%s: bad lines: %ld\n", what, path, bad);
-    if (!is_read) fails(path, strerror(errno));
+    if (!is_read && !gives_up()) fails(path, strerror(errno));
     if (!is_input) fclose(file);
     explicit_bzero(ahead, sizeof ahead);
     return is_read && bad == 0;

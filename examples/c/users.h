@@ -12,7 +12,8 @@ bool add_words(stunp_endpoint_users *users, char **words, int count);
  * `NAME 0xKEY [0xKEY]` with stored keys of 16 bytes (HMAC-SHA1) and of 32 (HMAC-SHA256) in
  * hexadecimal. `#` begins a comment. A name that occurs again replaces the one before. Reports each
  * line that is no user by its number, and then returns false; the reason on standard error begins
- * with `what`. */
+ * with `what`. Returns false too, and prints nothing, if the program is ending. Use it in one
+ * thread at a time. */
 bool add_file(stunp_endpoint_users *users, const char *path, const char *what);
 
 /* Copies arguments, and overwrites the passwords among them: `ps` shows the arguments of a program

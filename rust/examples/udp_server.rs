@@ -19,6 +19,8 @@
 mod counts;
 #[path = "udp_server/discovery.rs"]
 mod discovery;
+#[path = "udp_server/streams.rs"]
+mod streams;
 #[path = "udp_server/users.rs"]
 mod users;
 
@@ -30,13 +32,15 @@ use seatcrane_stun::endpoint::{
 use seatcrane_stun::extra::{Frame, next_frame};
 use seatcrane_stun::types::message::*;
 use std::error::Error;
-use std::fs;
+use std::fs::{self, Metadata};
 use std::io::{self, Read, Write};
-use std::net::{IpAddr, SocketAddr, TcpListener, TcpStream, UdpSocket};
+use std::mem;
+use std::net::{IpAddr, SocketAddr, TcpListener, UdpSocket};
 use std::process::ExitCode;
 use std::sync::{PoisonError, RwLock};
 use std::thread;
 use std::time::{Duration, Instant, SystemTime};
+use streams::{Open, Streams};
 
 const USAGE: &str = "usage: udp_server PORT [REALM [NAME PASSWORD].. [--users FILE]] [OPTION]..";
 const HELP: &str = "
@@ -54,7 +58,8 @@ that realm alone. PORT 0 is any free one. The first line of output is `port N`.
                     unless given
   --at ADDRESS      an IP address to serve; may be repeated. `-` is the socket that is standard
                     input. `::` unless given, which is IPv4 too
-  --tcp             serve TCP too, 64 connections at a time for each address
+  --tcp             serve TCP too, 64 connections at a time for each address: one more ends the
+                    connection that has been silent for longest
   --idle SECONDS    end a connection without a whole message for SECONDS. 30 unless given
   --other ADDRESS   another IP address of this host, which makes this a server for NAT behavior
                     discovery (RFC 5780). It needs one --at, and takes ADDRESS:PORT for the other
@@ -66,7 +71,6 @@ that realm alone. PORT 0 is any free one. The first line of output is `port N`.
 ";
 const MOST_WORKERS: u64 = 64;
 const MOST_LENGTH: usize = 2048;
-const CONNECTIONS: usize = 64;
 
 /// The arguments of the command line.
 #[derive(Default)]
@@ -195,7 +199,12 @@ impl Service<'_> {
             let now = stamp(file);
             if now.is_some() && now != last && now == before {
                 match users::table(server, &self.settings.users, Some(file)) {
-                    Ok(users) => *table.write().unwrap_or_else(PoisonError::into_inner) = users,
+                    Ok(users) => {
+                        let mut current = table.write().unwrap_or_else(PoisonError::into_inner);
+                        let old = mem::replace(&mut *current, users);
+                        drop(current); // requests are judged again, while the old table goes
+                        drop(old);
+                    }
                     Err(error) => eprintln!("udp_server: the users are unchanged: {error}"),
                 }
                 last = now;
@@ -220,11 +229,15 @@ impl Service<'_> {
     }
 
     /// Answers the messages of one connection after another.
-    fn accept(&self, listener: &TcpListener) {
+    fn accept(&self, listener: &TcpListener, streams: &Streams) {
         let mut bytes = [0; MOST_LENGTH];
         loop {
             match listener.accept() {
-                Ok((stream, peer)) => drop(self.converse(stream, peer, &mut bytes)),
+                Ok((stream, peer)) => {
+                    let open = streams.add(stream);
+                    let _ = self.converse(&open, peer, &mut bytes); // however it ended
+                    streams.remove(&open);
+                }
                 Err(_) => thread::sleep(Duration::from_millis(10)),
             }
         }
@@ -232,25 +245,22 @@ impl Service<'_> {
 
     /// Answers messages until the connection ends, has no whole message for too long, or carries no
     /// STUN.
-    fn converse(
-        &self,
-        mut stream: TcpStream,
-        peer: SocketAddr,
-        bytes: &mut [u8],
-    ) -> io::Result<()> {
+    fn converse(&self, open: &Open, peer: SocketAddr, bytes: &mut [u8]) -> io::Result<()> {
         let idle = Duration::from_secs(self.settings.idle);
+        let (mut stream, mut length) = (&open.stream, 0);
         stream.set_write_timeout(Some(idle))?;
-        let (mut end, mut length) = (Instant::now() + idle, 0);
         loop {
             match next_frame(&bytes[..length]) {
                 Frame::Message(whole) => {
+                    open.note_message();
                     if let Outcome::Answer(_, answer, ..) = self.receive(&bytes[..whole], peer, 0) {
                         stream.write_all(&answer)?;
                     }
                     bytes.copy_within(whole..length, 0);
-                    (length, end) = (length - whole, Instant::now() + idle);
+                    length -= whole;
                 }
                 Frame::Need(more) if length + more <= bytes.len() => {
+                    let end = open.since() + idle;
                     let left = end.saturating_duration_since(Instant::now());
                     stream.set_read_timeout(Some(left.max(Duration::from_nanos(1000))))?;
                     match stream.read(&mut bytes[length..])? {
@@ -319,12 +329,25 @@ fn sockets(settings: &Settings) -> Result<Vec<UdpSocket>, Box<dyn Error>> {
     Ok(bound)
 }
 
-/// When a file was last written, and its length.
-type Stamp = (SystemTime, u64);
+/// When a file was last written, its length, and its identity.
+type Stamp = (SystemTime, u64, [u64; 3]);
 
 fn stamp(file: &str) -> Option<Stamp> {
     let of = fs::metadata(file).ok()?;
-    Some((of.modified().ok()?, of.len()))
+    Some((of.modified().ok()?, of.len(), identity(&of)))
+}
+
+/// Returns the number of a file and when it was last changed: a copy that keeps time and length
+/// has others.
+#[cfg(unix)]
+fn identity(of: &Metadata) -> [u64; 3] {
+    use std::os::unix::fs::MetadataExt;
+    [of.ino(), of.ctime() as u64, of.ctime_nsec() as u64]
+}
+
+#[cfg(not(unix))]
+fn identity(_: &Metadata) -> [u64; 3] {
+    [0; 3]
 }
 
 fn run(settings: &Settings) -> Result<(), Box<dyn Error>> {
@@ -333,7 +356,7 @@ fn run(settings: &Settings) -> Result<(), Box<dyn Error>> {
     let service = &Service::new(settings)?;
     let addresses = service.addresses.iter().filter(|_| settings.has_tcp);
     let listeners = addresses
-        .map(TcpListener::bind)
+        .map(|at| Ok((TcpListener::bind(at)?, Streams::default())))
         .collect::<io::Result<Vec<_>>>()?;
     thread::scope(|scope| {
         if let Some(file) = file {
@@ -347,8 +370,9 @@ fn run(settings: &Settings) -> Result<(), Box<dyn Error>> {
                 }
             });
         }
-        for listener in &listeners {
-            (0..CONNECTIONS).for_each(|_| drop(scope.spawn(|| service.accept(listener))));
+        for (listener, streams) in &listeners {
+            let accept = || service.accept(listener, streams);
+            (0..streams::THREADS).for_each(|_| drop(scope.spawn(accept)));
         }
         // This thread is the first worker of the first socket.
         for at in 0..service.sockets.len() {

@@ -15,6 +15,9 @@ macro_rules! hidden_address {
         let id = TransactionId::from([0; 12]);
         let address = "192.0.2.1:32853".parse().unwrap();
         assert_eq!($name::new(address, id).addr(id), address);
+        let mapped = "[::ffff:192.0.2.1]:32853".parse().unwrap();
+        assert_eq!($name::new(mapped, id).addr(id), mapped);
+        assert_eq!($name::new(mapped, id).canonical_addr(id), address);
         let value = [0, 1, 0xA1, 0x47, 0xE1, 0x12, 0xA6, 0x43];
         stands(&$name::new(address, id), &value, &[&value[1..], &[0; 8]]);
     };
@@ -36,6 +39,13 @@ macro_rules! hidden_address {
             pub fn addr(&self, id: TransactionId) -> SocketAddr {
                 self.0.addr(id.0)
             }
+
+            /// Like `addr`, but an IPv4 address that the attribute has as IPv6, `::ffff:a.b.c.d`, is
+            /// returned as IPv4. Compare this one with lists of networks: `::ffff:127.0.0.1` is in
+            /// no IPv4 network.
+            pub fn canonical_addr(&self, id: TransactionId) -> SocketAddr {
+                $crate::extra::canonical(self.0.addr(id.0))
+            }
         }
 
         forward_attribute!($name, $proved::$name);
@@ -47,6 +57,9 @@ macro_rules! plain_address {
     (@test $name:ident, $address:ident) => {
         let address = "192.0.2.1:3478".parse().unwrap();
         assert_eq!($name::new(address).$address(), address);
+        let mapped = "[::ffff:192.0.2.1]:3478".parse().unwrap();
+        assert_eq!($name::new(mapped).$address(), mapped);
+        assert_eq!($name::new(mapped).canonical_addr(), address);
         let value = [0, 1, 0x0D, 0x96, 192, 0, 2, 1];
         stands(&$name::new(address), &value, &[&value[1..], &[0; 8]]);
     };
@@ -66,6 +79,13 @@ macro_rules! plain_address {
             /// Returns the address. The flow information and the scope ID of an IPv6 address are 0.
             pub fn $address(&self) -> SocketAddr {
                 self.0.addr()
+            }
+
+            /// Returns the address, and an IPv4 address that the attribute has as IPv6,
+            /// `::ffff:a.b.c.d`, as IPv4. Compare this one with lists of networks:
+            /// `::ffff:127.0.0.1` is in no IPv4 network.
+            pub fn canonical_addr(&self) -> SocketAddr {
+                $crate::extra::canonical(self.0.addr())
             }
         }
 

@@ -3,19 +3,9 @@
 //!
 //! A [`StunAgent`] stores every outstanding request together with its retransmission timer. It
 //! performs no I/O: it owns no socket and reads no clock. You drive it from your own event loop, in
-//! four steps.
-//!
-//! 1. Pass a request to [`StunAgent::send_request`] and write the returned bytes to your socket.
-//! 2. Call [`StunAgent::poll_transmit`] until it returns `None`, and send each [`Transmit`].
-//! 3. Call [`StunAgent::poll`]. It either reports that a request has ended without a response, or
-//!    tells you how long you may sleep.
-//! 4. When a datagram arrives, authenticate it first (see [`auth`](crate::auth)), and then pass it
-//!    to [`StunAgent::handle_stun_message_with_time`], which ends the request that it answers.
-//!
-//! Repeat steps 2 and 3 after every call that takes `&mut self`. Their order matters: only
-//! `poll_transmit` advances the retransmission timers. A loop that calls `poll` alone never
-//! retransmits and never times out. Once a retransmission is due, such a loop spins, because `poll`
-//! returns a time that has already passed.
+//! the steps of `docs/PARTS.md` in the repository. After every call that takes `&mut self`, call
+//! [`StunAgent::poll_transmit`] until it returns `None`, and then [`StunAgent::poll`], because only
+//! the former advances the timers. The page of [`auth`](crate::auth) has a whole loop.
 //!
 //! # Examples
 //!
@@ -349,7 +339,7 @@ impl StunAgent {
         now: Instant,
     ) -> Result<Transmit<Data<'_>>, StunError> {
         let sent = self.0.send_request(Lent(message), to, now)?;
-        event!(%to, bytes = sent.data.len(), "sent a request");
+        event!(id = crate::trace::id_in(sent.data), %to, bytes = sent.data.len(), "sent a request");
         Ok(Transmit::new(
             Data::Borrowed(sent.data),
             sent.transport,
@@ -539,7 +529,12 @@ impl StunAgent {
     /// request comes from [`send_request`](StunAgent::send_request) and is not returned here.
     pub fn poll_transmit(&mut self, now: Instant) -> Option<Transmit<&[u8]>> {
         let sent = self.0.poll_transmit(now)?;
-        event!(to = %sent.to, bytes = sent.data.len(), "sent a request again");
+        event!(
+            id = crate::trace::id_in(sent.data),
+            to = %sent.to,
+            bytes = sent.data.len(),
+            "sent a request again"
+        );
         Some(Transmit::new(sent.data, sent.transport, sent.from, sent.to))
     }
 }

@@ -58,6 +58,8 @@
 //! # Ok(())
 //! # }
 //! ```
+//!
+#![cfg_attr(all(feature = "std", feature = "rand"), doc = include_str!("loops.md"))]
 
 use crate::Instant;
 use crate::copies::{granted, text};

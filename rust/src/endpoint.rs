@@ -49,6 +49,8 @@ mod clock;
 mod open;
 mod server;
 mod stream;
+#[cfg(feature = "tracing")]
+pub(crate) mod verdict;
 
 pub mod ice;
 
@@ -87,6 +89,19 @@ pub mod types {
     pub const ICE: &[AttributeType] = &[AttributeType(0x0024), AttributeType(0x0025)];
 
     /// The attributes of TURN that a receiver must understand (RFC 8656, section 18).
+    ///
+    /// A server that passes this list promises to do what each attribute asks for, because a request
+    /// with one of them no longer gets a 420. These three ask for something that not every server
+    /// does:
+    ///
+    /// - DONT-FRAGMENT (section 18.9): the DF bit is set in what the server relays.
+    /// - EVEN-PORT (section 18.7): the relayed address has an even port, and the next port is
+    ///   reserved if the attribute says so.
+    /// - RESERVATION-TOKEN (section 18.10): the relayed address is the one that was reserved under
+    ///   this token.
+    ///
+    /// Leave those out that yours does not do, by
+    /// [`ServerBuilder::does_not_understand`](super::ServerBuilder::does_not_understand).
     pub const TURN: &[AttributeType] = &[
         AttributeType(0x000C),
         AttributeType(0x000D),
@@ -182,7 +197,8 @@ pub enum DropReason {
     NotStun,
     /// Its length or its attributes are not what its header says.
     Malformed,
-    /// It has a FINGERPRINT that is wrong: it is damaged, or belongs to another protocol.
+    /// It has a FINGERPRINT that is wrong, is not the last attribute, or does not have 4 bytes: it is
+    /// damaged, or belongs to another protocol (RFC 8489, section 14.7).
     WrongFingerprint,
     /// It is an indication with an attribute that must be understood and is not.
     UnknownAttribute,
@@ -198,6 +214,8 @@ pub enum DropReason {
     /// An allocation failed, or a client has no transaction ID left to send a request again under.
     /// The sender of the request sends it again, until it times out.
     OutOfMemory,
+    /// It has no FINGERPRINT, although the settings require one (RFC 8489, section 7.3).
+    MissingFingerprint,
 }
 
 impl DropReason {
@@ -211,10 +229,11 @@ impl DropReason {
         DropReason::UnanswerableChallenge,
         DropReason::WeakerChallenge,
         DropReason::OutOfMemory,
+        DropReason::MissingFingerprint,
     ];
 
     /// How many reasons there are.
-    pub const COUNT: usize = 8;
+    pub const COUNT: usize = 9;
 
     /// Returns a number below [`COUNT`](Self::COUNT), for counters of yours.
     pub fn index(self) -> usize {
@@ -232,6 +251,7 @@ impl DropReason {
             DropReason::UnanswerableChallenge => "UnanswerableChallenge",
             DropReason::WeakerChallenge => "WeakerChallenge",
             DropReason::OutOfMemory => "OutOfMemory",
+            DropReason::MissingFingerprint => "MissingFingerprint",
         }
     }
 }
@@ -247,6 +267,7 @@ impl fmt::Display for DropReason {
             DropReason::UnanswerableChallenge => "its challenge cannot be answered",
             DropReason::WeakerChallenge => "its challenge asks for less than one before",
             DropReason::OutOfMemory => "an allocation failed",
+            DropReason::MissingFingerprint => "the FINGERPRINT is missing",
         })
     }
 }
@@ -257,6 +278,7 @@ impl From<received::DropReason> for DropReason {
             received::DropReason::NotStun => DropReason::NotStun,
             received::DropReason::Malformed => DropReason::Malformed,
             received::DropReason::WrongFingerprint => DropReason::WrongFingerprint,
+            received::DropReason::MissingFingerprint => DropReason::MissingFingerprint,
             received::DropReason::UnknownAttribute => DropReason::UnknownAttribute,
         }
     }
@@ -266,6 +288,7 @@ impl From<ended::DropReason> for DropReason {
     fn from(why: ended::DropReason) -> DropReason {
         match why {
             ended::DropReason::WrongFingerprint => DropReason::WrongFingerprint,
+            ended::DropReason::MissingFingerprint => DropReason::MissingFingerprint,
             ended::DropReason::NotVerified => DropReason::NotVerified,
             ended::DropReason::UnanswerableChallenge => DropReason::UnanswerableChallenge,
             ended::DropReason::WeakerChallenge => DropReason::WeakerChallenge,

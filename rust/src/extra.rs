@@ -10,6 +10,7 @@
 //!   with a length in front (RFC 4571), as ICE sends it over TCP. [`is_stun`] recognizes STUN on a
 //!   port that other protocols share.
 //! - Attributes: [`attribute`]. Methods of TURN: [`turn`].
+//! - Addresses: [`canonical`] returns an IPv4 address as IPv4 in either spelling.
 //!
 //! # Examples
 //!
@@ -46,6 +47,7 @@ use crate::write::with_header;
 
 pub use crate::ported::TcpBuffer;
 
+pub use crate::exported::stun_extra::canonical_address::canonical;
 pub use crate::exported::stun_extra::crc32::crc32;
 pub use crate::exported::stun_extra::fingerprint::{FINGERPRINT_LENGTH, Fingerprint};
 pub use crate::exported::stun_extra::framing::{

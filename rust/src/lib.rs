@@ -15,7 +15,38 @@
 //! [`Instant`] is the type of times, and [`endpoint::UnixTime`] that of an [`endpoint::Server`]. Only
 //! `UnixTime::now`, `Instant::from_std` and `endpoint::Clock` read a clock.
 //!
-#![cfg_attr(all(feature = "std", feature = "rand"), doc = include_str!("loops.md"))]
+//! # Events
+//!
+//! With the feature `tracing`, the crate records events of the crate `tracing` with the level DEBUG
+//! and the target `seatcrane_stun`. They have addresses, transaction IDs and numbers of requests, but
+//! no user name, password, key, nonce or other content of a message.
+//!
+//! | Event | Recorded when | Fields |
+//! |---|---|---|
+//! | `received` | a server, a client or an ICE agent of [`endpoint`] has judged a datagram, once for each call | `id`, `from`, `verdict`, `code`, `reason` |
+//! | `sent a request`, `sent a request again` | [`endpoint::Client::poll`], [`agent::StunAgent::send_request`] or `poll_transmit` returns it | `id`, `request` (of a client), `to`, `bytes` |
+//! | `a request ended` | [`endpoint::Client::poll`] returns its end | `request`, `result`: `success`, or the error as text |
+//! | `wrote a check` | [`endpoint::ice::Checker::check`] has written it | `id`, `to`, `nominates` |
+//! | `judged` | an authenticator of [`auth`] has judged a message | `id`, `class`, `verdict` |
+//! | `got a message` | a [`agent::StunAgent`] has accepted a message, or not | `id`, `from`, `is_accepted` |
+//! | `a request timed out`, `a request was canceled` | [`agent::StunAgent::poll`] returns that | `id` |
+//!
+//! The event `received` has one of these verdicts. It has no `id` if the datagram has no STUN header.
+//!
+//! | `verdict` | Of | Meaning |
+//! |---|---|---|
+//! | `answered` | servers | the server wrote a success response |
+//! | `refused` | servers, ICE agents | the answer is an error with this `code`; `reason` is the [`endpoint::Cause`] by its name, or the reason phrase if the server has no causes |
+//! | `accepted` | all | a request or a check is accepted; or a response is, which at a client may be an error or a challenge with this `code` |
+//! | `look-up` | [`endpoint::Server::identify`] | the request waits for its user, and [`endpoint::Server::resume`] records the verdict |
+//! | `valid`, `failed` | ICE agents | how the answer ended the check; `reason` is the [`endpoint::ice::Failure`] by its name |
+//! | `indication` | all | the message is for the caller |
+//! | `response` | servers | the message is for a client on the same socket |
+//! | `not ours` | clients | another client on the socket may have asked for it |
+//! | `dropped` | all | `reason` is the [`endpoint::DropReason`] or [`endpoint::ice::DropReason`] by its name |
+//!
+//! To find the cause of a refusal, the server judges the request again, so a refusal takes twice the
+//! time while somebody subscribes to these events.
 #![no_std]
 #![cfg_attr(docsrs, feature(doc_cfg))]
 #![forbid(unsafe_code)]

@@ -18,6 +18,16 @@ macro_rules! event {
 }
 pub(crate) use event;
 
+/// Records what a datagram from an address came to, as `received` says; `cause` returns why a server
+/// refused it.
+macro_rules! record {
+    ($bytes:expr, $from:expr, $received:expr, $cause:expr) => {
+        #[cfg(feature = "tracing")]
+        crate::endpoint::verdict::record($bytes, $from, &$received, $cause);
+    };
+}
+pub(crate) use record;
+
 /// Records how an authenticator judged a message, and returns that.
 #[cfg_attr(not(feature = "tracing"), allow(unused_variables))]
 pub(crate) fn judged<V: Debug, E: Debug>(

@@ -82,6 +82,28 @@ static void settings_in_order(void) {
     want("seed", stunp_endpoint_client_new(&full, &settings), STUNP_BAD_ARGUMENT);
     settings = good, settings.password = NULL;
     want("password", stunp_endpoint_client_new(&full, &settings), STUNP_BAD_ARGUMENT);
+    /* A name or a password that was never filled is no sign that there is no user. */
+    settings = good, settings.name = "";
+    want("empty name", stunp_endpoint_client_new(&full, &settings), STUNP_BAD_ARGUMENT);
+    settings.password = "";
+    want("both empty", stunp_endpoint_client_new(&full, &settings), STUNP_BAD_ARGUMENT);
+    settings = good, settings.password = "";
+    want("empty password", stunp_endpoint_client_new(&full, &settings), STUNP_BAD_ARGUMENT);
+    const stunp_client_options defaults = {0};
+    want("no name", stunp_endpoint_client_new_with(&client, &here, seed, NULL, 0, "\xff", 1, "", 0,
+         NULL, 0, &defaults), STUNP_BAD_ARGUMENT);
+    want("no password", stunp_endpoint_client_new_with(&client, &here, seed, "\xff", 1, NULL, 0, "",
+         0, NULL, 0, &defaults), STUNP_BAD_ARGUMENT);
+    want("full", stunp_endpoint_client_new_with(&full, &here, seed, "\xff", 1, NULL, 0, "", 0, NULL,
+         0, &defaults), STUNP_FULL_HANDLE);
+    uint8_t repeated[32];
+    for (int byte = 0; byte < 256; byte++) {
+        memset(repeated, byte, 32);
+        settings = good, settings.name = "\xff", settings.seed = repeated;
+        want("repeated", stunp_endpoint_client_new(&client, &settings), STUNP_BAD_ARGUMENT);
+        repeated[byte % 32] ^= 1;
+        want("drawn", stunp_endpoint_client_new(&client, &settings), STUNP_NOT_TEXT);
+    }
     settings = good, settings.server = nowhere, settings.algorithms = 4, settings.name = "\xff";
     want("full", stunp_endpoint_client_new(&full, &settings), STUNP_FULL_HANDLE);
     want("nowhere", stunp_endpoint_client_new(&client, &settings), STUNP_BAD_ARGUMENT);
@@ -97,7 +119,7 @@ static void settings_in_order(void) {
     want("name", stunp_endpoint_client_new(&client, &settings), STUNP_NOT_TEXT);
     settings.name = memset(text, 'x', sizeof text), text[514] = 0, settings.password = "\xff";
     want("text first", stunp_endpoint_client_new(&client, &settings), STUNP_NOT_TEXT);
-    settings.password = "";
+    settings.password = "p";
     want("long name", stunp_endpoint_client_new(&client, &settings), STUNP_TEXT_TOO_LONG);
     settings.name = "name", text[514] = 'x', text[764] = 0, settings.software = text;
     want("long text", stunp_endpoint_client_new(&client, &settings), STUNP_TEXT_TOO_LONG);
@@ -433,10 +455,24 @@ static void bodies(void) {
     want("nowhere", stunp_body_add_peer(&body, &nowhere), STUNP_BAD_ARGUMENT);
     body = stunp_body_on(room, sizeof room);
     want("nine bytes", stunp_body_add_number(&body, 0xc0de, 1, 9), STUNP_BAD_ARGUMENT);
+    /* What stunp_write_number refuses. */
+    for (size_t size = 0; size <= 16; size++)
+        for (int bits = 0; bits <= 64; bits++) {
+            const uint64_t number = bits == 64 ? UINT64_MAX : ((uint64_t)1 << bits) - 1;
+            const uint8_t id[STUNP_ID_LENGTH] = {1};
+            uint8_t bytes[64];
+            body = stunp_body_on(room, sizeof room);
+            stunp_writer writer = stunp_write(STUNP_REQUEST, 1, id, bytes, sizeof bytes);
+            stunp_write_number(&writer, 0xc0de, number, size);
+            want("as a writer", stunp_body_add_number(&body, 0xc0de, number, size),
+                 stunp_written(&writer));
+            if (body.refusal == 0) want_same("the same", room, bytes + 20, body.length);
+            want("for ever", stunp_body_add_number(&body, 0xc0de, 1, 4), body.refusal);
+        }
     body = stunp_body_on(room, sizeof room);
     want("large", stunp_body_add(&body, 0xc0de, large, STUNP_BODY_MAX - 3), STUNP_MESSAGE_TOO_LONG);
     body = stunp_body_on(room, sizeof room);
-    want("no bytes", stunp_body_add_number(&body, 0xc0de, 7, 0), 0);
+    want("no bytes", stunp_body_add(&body, 0xc0de, NULL, 0), 0);
     want("eight bytes", stunp_body_add_number(&body, 0xc0de, 0x0102030405060708, 8), 0);
     want_same("encoded", room, "\xc0\xde\0\0\xc0\xde\0\x08\1\2\3\4\5\6\7\x08", 16);
     want("largest", stunp_body_add(&body, 0xc0de, large, STUNP_BODY_MAX - 16 - 4), 0);
@@ -473,10 +509,38 @@ static void room(void) {
     memset(out, 0xaa, 64), memcpy(before, out, 64);
     want("small", stunp_endpoint_client_poll(&client, 0, out, 19, &event), STUNP_BUFFER_TOO_SMALL);
     want_same("nothing is written", out, before, 64);
-    want("length", (int64_t)event.length, 20);
+    want("failed", event.kind, STUNP_FAILED);
+    want("no length", (int64_t)event.length, 0);
+    want("needed", (int64_t)event.needed, 20);
+    want("nothing has ended", event.result, 0);
     want("wait", polled(&client, 0), STUNP_WAIT);
     want("again", polled(&client, event.until), STUNP_TRANSMIT);
-    want("no event", stunp_endpoint_client_poll(&client, event.until, NULL, 0, NULL), STUNP_WAIT);
+    want("it had room", (int64_t)event.needed, 0);
+    const uint64_t sent = event.until;
+    want("no event", stunp_endpoint_client_poll(&client, sent, NULL, 0, NULL), STUNP_WAIT);
+    /* Of a response that is lost the request and the result are told. */
+    uint8_t bytes[512];
+    stunp_writer told = answer(0, bytes);
+    want("read", heard(&client, &told, sent, NULL), STUNP_IS_RESPONSE);
+    want("lost", stunp_endpoint_client_poll(&client, sent, out, told.length - 1, &event),
+         STUNP_BUFFER_TOO_SMALL);
+    want("failed", event.kind, STUNP_FAILED);
+    want("no length", (int64_t)event.length, 0);
+    want("needed", (int64_t)event.needed, (int64_t)told.length);
+    want("request", (int64_t)event.request, 0);
+    want("result", event.result, STUNP_RESULT_SUCCESS);
+    /* After each other error too there is no event of before. */
+    event.kind = STUNP_TRANSMIT, event.length = 9;
+    stunp_endpoint_client none = {0};
+    want("empty", stunp_endpoint_client_poll(&none, 0, out, 9, &event), STUNP_EMPTY_HANDLE);
+    want("failed", event.kind, STUNP_FAILED);
+    want("no length", (int64_t)event.length, 0);
+    want("no result", event.result, 0);
+    event.kind = STUNP_TRANSMIT, event.length = 9, event.code = 9, event.size--;
+    want("size", stunp_endpoint_client_poll(&client, 0, out, 9, &event), STUNP_BAD_ARGUMENT);
+    want("failed", event.kind, STUNP_FAILED);
+    want("no length", (int64_t)event.length, 0);
+    want("left", event.code, 9);
     stunp_endpoint_client_free(&client);
     want_no_blocks("room");
 }

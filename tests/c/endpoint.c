@@ -63,6 +63,15 @@ static struct message request(struct realm *realm, uint32_t number, uint32_t typ
     return message;
 }
 
+/* What a call that failed leaves: no kind of before, no length, and what the answer needed. */
+static void want_failed(const char *name, const stunp_received *received, size_t needed) {
+    want(name, received->kind, STUNP_FAILED);
+    want("no length", (int64_t)received->length, 0);
+    want("needed", (int64_t)received->needed, (int64_t)needed);
+    want("nothing else", received->why | received->code | received->method | received->algorithm
+         | received->name_length | received->is_hash, 0);
+}
+
 /* The first request draws a 401, by which the client is challenged. */
 static void take_challenge(struct realm *realm, uint64_t now) {
     stunp_received received = STUNP_INIT(stunp_received);
@@ -95,6 +104,29 @@ static void settings_in_order(void) {
     want("feature", stunp_endpoint_server_new(&server, &settings), STUNP_BAD_ARGUMENT);
     settings = good, settings.nonce_seconds = 29;
     want("nonce", stunp_endpoint_server_new(&server, &settings), STUNP_BAD_ARGUMENT);
+    settings.nonce_seconds = 2592001, settings.realm = "\xff";
+    want("31 days", stunp_endpoint_server_new(&server, &settings), STUNP_BAD_ARGUMENT);
+    want("31 days", stunp_endpoint_server_new(&full, &settings), STUNP_FULL_HANDLE);
+    settings.nonce_seconds = 2592000;
+    want("30 days", stunp_endpoint_server_new(&server, &settings), STUNP_NOT_TEXT);
+    /* Secrets that nobody has filled, and one that is given twice. */
+    uint8_t repeated[32], almost[32];
+    for (int byte = 0; byte < 256; byte++) {
+        memset(repeated, byte, 32), memcpy(almost, repeated, 32), almost[31] ^= 1;
+        settings = good, settings.realm = "\xff", settings.secret = repeated;
+        want("repeated", stunp_endpoint_server_new(&server, &settings), STUNP_BAD_ARGUMENT);
+        settings.secret = almost;
+        want("drawn", stunp_endpoint_server_new(&server, &settings), STUNP_NOT_TEXT);
+        settings.previous_secret = repeated;
+        want("repeated", stunp_endpoint_server_new(&server, &settings), STUNP_BAD_ARGUMENT);
+        settings.previous_secret = secret;
+        want("another", stunp_endpoint_server_new(&server, &settings), STUNP_NOT_TEXT);
+        settings.secret = secret;
+        want("the same", stunp_endpoint_server_new(&server, &settings), STUNP_BAD_ARGUMENT);
+    }
+    want("does not count", stunp_endpoint_server_new_with(&server, "realm", 5, NULL, 0, secret,
+         repeated, false, NULL, 0, 0, 0, 0, false, false), 0);
+    stunp_endpoint_server_free(&server);
     settings = good, settings.realm = "";
     want("empty", server.is_full, false);
     want("empty realm", stunp_endpoint_server_new(&server, &settings), 0);
@@ -135,7 +167,9 @@ static void users_in_order(void) {
     want("name", stunp_endpoint_users_add(users, &byte, 1, "", 0), STUNP_NOT_TEXT);
     want("password", stunp_endpoint_users_add(users, name, 514, &byte, 1), STUNP_NOT_TEXT);
     want("long", stunp_endpoint_users_add(users, name, 514, "", 0), STUNP_TEXT_TOO_LONG);
-    want("longest", stunp_endpoint_users_add(users, name, 513, "", 0), 0);
+    want("no password", stunp_endpoint_users_add(users, name, 513, "", 0), STUNP_BAD_ARGUMENT);
+    want("no password", stunp_endpoint_users_add(users, name, 513, NULL, 0), STUNP_BAD_ARGUMENT);
+    want("longest", stunp_endpoint_users_add(users, name, 513, "p", 1), 0);
     want("keys", stunp_endpoint_users_add_keys(users, &byte, 1, key, 15, key, 32), STUNP_NOT_TEXT);
     want("keys", stunp_endpoint_users_add_keys(users, name, 514, key, 15, key, 32),
          STUNP_TEXT_TOO_LONG);
@@ -164,9 +198,13 @@ static void receiving_in_order(void) {
     stunp_received received = STUNP_INIT(stunp_received), before;
     struct message plain = message_of(STUNP_REQUEST, 1);
     received.kind = 9, received.name[0] = 9, received.reply.key[0] = 9;
-    before = received, before.size--;
+    before = received, before.size--, before.length = 9, before.name_length = 9;
     none.users.is_full = false;
     want("no users", judge(&none, &plain, LAST + 1, 0, &before), STUNP_EMPTY_HANDLE);
+    /* A struct of another size may have other fields behind these two. */
+    want("failed", before.kind, STUNP_FAILED);
+    want("no length", (int64_t)before.length, 0);
+    want("left", (int64_t)before.name_length, 9);
     none = realm, none.server.is_full = false;
     want("no server", judge(&none, &plain, LAST + 1, 0, &before), STUNP_EMPTY_HANDLE);
     want("null", stunp_endpoint_server_receive(NULL, NULL, plain.bytes, plain.length, &nowhere, NOW,
@@ -181,31 +219,44 @@ static void receiving_in_order(void) {
          plain.length, &nowhere, NOW, NULL, 0, &before), STUNP_WRONG_HANDLE);
     none = realm, none.users.state = realm.server.state;
     want("a server for users", judge(&none, &plain, LAST + 1, 0, &before), STUNP_WRONG_HANDLE);
+    before.kind = 1;
     want("size", judge(&realm, &plain, NOW, sizeof out, &before), STUNP_BAD_ARGUMENT);
-    before = received;
-    want("time", judge(&realm, &plain, (uint64_t)LAST + 1, sizeof out, &received),
-         STUNP_BAD_ARGUMENT);
-    want("nowhere", stunp_endpoint_server_receive(&realm.server, &realm.users, plain.bytes,
-         plain.length, &nowhere, NOW, out, sizeof out, &received), STUNP_BAD_ARGUMENT);
-    stunp_heap_bound(0);
-    want("memory", judge(&realm, &plain, NOW, sizeof out, &received), STUNP_OUT_OF_MEMORY);
-    stunp_heap_bound(SIZE_MAX);
-    want_same("as it was", &received, &before, sizeof received);
+    want("failed", before.kind, STUNP_FAILED);
+    /* After an answer each error leaves no kind, no code and no length of it. */
+    none.server.is_full = false;
+    for (int i = 0; i < 4; i++) {
+        want("an answer", judge(&realm, &plain, NOW, sizeof out, &received), STUNP_ANSWER);
+        want("its length", received.length > 20, true);
+        stunp_heap_bound(i == 3 ? 0 : SIZE_MAX);
+        int64_t kind =
+            i == 0 ? judge(&none, &plain, NOW, sizeof out, &received)
+            : i == 1 ? judge(&realm, &plain, (uint64_t)LAST + 1, sizeof out, &received)
+            : i == 2 ? stunp_endpoint_server_receive(&realm.server, &realm.users, plain.bytes,
+                                                     plain.length, &nowhere, NOW, out, sizeof out,
+                                                     &received)
+                     : judge(&realm, &plain, NOW, sizeof out, &received);
+        stunp_heap_bound(SIZE_MAX);
+        want("in order", kind, i == 0 ? STUNP_EMPTY_HANDLE
+                               : i == 3 ? STUNP_OUT_OF_MEMORY : STUNP_BAD_ARGUMENT);
+        want_failed("failed", &received, 0);
+    }
     want("the last second", judge(&realm, &plain, LAST, sizeof out, NULL), STUNP_ANSWER);
+    want("an answer", judge(&realm, &plain, NOW, sizeof out, &received), STUNP_ANSWER);
+    const size_t wanted = received.length;
     want("no room", stunp_endpoint_server_receive(&realm.server, &realm.users, plain.bytes,
          plain.length, &from, NOW, NULL, 0, &received), STUNP_BUFFER_TOO_SMALL);
-    size_t wanted = received.length;
-    want("its length is told", wanted > 20, true);
-    before.length = wanted;
-    want_same("and nothing else", &received, &before, sizeof received);
+    want_failed("no room", &received, wanted);
+    want("kept", received.name[0] | received.reply.key[0], 9);
     memset(out, 0xaa, sizeof out);
     want("one less", judge(&realm, &plain, NOW, wanted - 1, &received), STUNP_BUFFER_TOO_SMALL);
+    want_failed("one less", &received, wanted);
     want("nothing is written", out[0], 0xaa);
     want("as much", judge(&realm, &plain, NOW, wanted, &received), STUNP_ANSWER);
     want("not more", out[wanted], 0xaa);
     want("kind", received.kind, STUNP_ANSWER);
     want("code", received.code, 401);
     want("length", (int64_t)received.length, (int64_t)wanted);
+    want("it had room", (int64_t)received.needed, 0);
     want("dropped", stunp_endpoint_server_receive(&realm.server, &realm.users, NULL, 0, &from, NOW,
          NULL, 0, &received), STUNP_DROPPED);
     want("why", received.why, STUNP_DROP_NOT_STUN);
@@ -485,10 +536,20 @@ static void look_ups(bool is_hashed) {
     want("no secret", cause_for(&realm, &found, &message, LAST + 1), STUNP_BAD_ARGUMENT);
     found = good, found.name = NULL;
     want("no name", resume(&realm, &found, &message, &received), STUNP_BAD_ARGUMENT);
+    found = good, found.password = "", found.sha1_key = sha1;
+    want("no password", resume(&none, &found, &message, &received), STUNP_BAD_ARGUMENT);
     found = good, found.size--, none.server.is_full = false;
     want("size", resume(&none, &found, &message, &received), STUNP_BAD_ARGUMENT);
+    want("an answer", judge(&realm, &plain, NOW, sizeof out, &received), STUNP_ANSWER);
     found = good, found.name = "\xff", found.name_length = 1;
     want("no server", resume(&none, &found, &message, &received), STUNP_EMPTY_HANDLE);
+    want_failed("no server", &received, 0);
+    before = received, before.kind = 1, before.length = 9, before.code = 401, before.size--;
+    want("no server", resume(&none, &found, &message, &before), STUNP_EMPTY_HANDLE);
+    want("failed", before.kind, STUNP_FAILED);
+    want("no length", (int64_t)before.length, 0);
+    want("left", before.code, 401);
+    before = received;
     want("no server", cause_for(&none, &found, &message, LAST + 1), STUNP_EMPTY_HANDLE);
     want("no text", resume(&realm, &found, &message, &received), STUNP_NOT_TEXT);
     want("no text", cause_for(&realm, &found, &message, LAST + 1), STUNP_NOT_TEXT);
@@ -505,14 +566,19 @@ static void look_ups(bool is_hashed) {
     want("time", identify(&realm, &message, LAST + 1, 0, NULL), STUNP_BAD_ARGUMENT);
     want("nowhere", stunp_endpoint_server_identify(&realm.server, plain.bytes, plain.length,
          &nowhere, NOW, out, sizeof out, NULL), STUNP_BAD_ARGUMENT);
-    before = received;
     stunp_heap_bound(0);
+    received.kind = 1;
     want("memory", identify(&realm, &message, NOW, 0, &received), STUNP_OUT_OF_MEMORY);
+    want_failed("memory", &received, 0);
+    received.kind = 1;
     want("memory", resume(&realm, &good, &message, &received), STUNP_OUT_OF_MEMORY);
+    want_failed("memory", &received, 0);
     want("memory", cause_for(&realm, &good, &message, NOW), STUNP_OUT_OF_MEMORY);
     stunp_heap_bound(SIZE_MAX);
-    want_same("as it was", &received, &before, sizeof received);
+    want("an answer", identify(&realm, &plain, NOW, sizeof out, &received), STUNP_ANSWER);
+    const size_t needed = received.length;
     want("no room", identify(&realm, &plain, NOW, 20, &received), STUNP_BUFFER_TOO_SMALL);
+    want_failed("no room", &received, needed);
     free_realm(&realm);
 }
 
@@ -621,6 +687,7 @@ static void open_server(void) {
     received.size--;
     want("size", stunp_endpoint_server_receive(&server, NULL, plain.bytes, 20, &nowhere, 0, out,
          sizeof out, &received), STUNP_BAD_ARGUMENT);
+    want("failed", received.kind, STUNP_FAILED);
     received.size++;
     want("time", stunp_endpoint_server_receive(&server, NULL, plain.bytes, 20, &from, LAST + 1, out,
          sizeof out, &received), STUNP_BAD_ARGUMENT);
@@ -667,6 +734,45 @@ static struct message signed_by(stunp_message_class class, uint32_t number, cons
     want("signed", stunp_written(&writer), 0);
     message.length = writer.length;
     return message;
+}
+
+/* A key of any length signs: one that is longer than a block of HMAC is hashed (RFC 2104, section
+ * 2). The user is in a table, or is looked up. */
+static void password_of(size_t length, stunp_algorithm algorithm, bool is_looked_up) {
+    static char password[300];
+    stunp_endpoint_server_settings settings = settings_alone(STUNP_SHORT_TERM);
+    struct realm realm = {{0}, {0}, {0}};
+    stunp_received received = STUNP_INIT(stunp_received);
+    stunp_found_user found = STUNP_INIT(stunp_found_user);
+    for (size_t i = 0; i < length; i++) password[i] = (char)('a' + i % 26);
+    password[length] = 0;
+    want("server", stunp_endpoint_server_new(&realm.server, &settings), 0);
+    want("users", stunp_endpoint_users_new(&realm.users, &realm.server), 0);
+    want("add", stunp_endpoint_users_add(&realm.users, "name", 4, password, length), 0);
+    struct message request = signed_by(STUNP_REQUEST, 1, "name", algorithm, password);
+    found.name = "name", found.name_length = 4, found.password = password;
+    want("accepted",
+         is_looked_up ? stunp_endpoint_server_resume(&realm.server, &found, request.bytes,
+                                                     request.length, &from, 0, out, sizeof out,
+                                                     &received)
+                      : judge(&realm, &request, 0, sizeof out, &received), STUNP_IS_REQUEST);
+    for (int is_error = 0; is_error < 2; is_error++) {
+        stunp_writer answer = is_error
+                                  ? stunp_reply_error(&received.reply, 400, "", out, sizeof out)
+                                  : stunp_reply_success(&received.reply, out, sizeof out);
+        int64_t written = stunp_reply_finish(&received.reply, &answer);
+        want("under the password", stunp_verify(out, (size_t)written, password, length), algorithm);
+    }
+    free_realm(&realm);
+}
+
+static void long_passwords(void) {
+    const size_t lengths[] = {1, 20, 32, 62, 63, 64, 65, 66, 67, 68, 127, 128, 129, 256, 299};
+    for (size_t i = 0; i < sizeof lengths / sizeof *lengths; i++)
+        for (int is_looked_up = 0; is_looked_up < 2; is_looked_up++) {
+            password_of(lengths[i], STUNP_SHA1, is_looked_up);
+            password_of(lengths[i], STUNP_SHA256, is_looked_up);
+        }
 }
 
 /* A server with short-term credentials, and the tables that it takes. */
@@ -797,6 +903,7 @@ int main(void) {
     open_server();
     short_term_server(STUNP_SHA1);
     short_term_server(STUNP_SHA256);
+    long_passwords();
     each_allocation();
     want_no_blocks("in the end");
     puts("endpoint: passed");

@@ -232,12 +232,17 @@ static void refusals_in_order(void) {
     want("as much", stunp_ice_checker_check(&agent, id, &from, 1, false, out, 88, NULL), 88);
     want("not more", out[88], 0xaa);
     got.kind = 9, got.mapped.octets[3] = 9, as_it_was = got, as_it_was.size--;
+    as_it_was.length = 9, as_it_was.code = 9;
     bad = check, bad.to = nowhere;
     want("no agent", stunp_ice_checker_receive(&empty, BYTES(request), &nowhere, &bad, out, 0,
          &as_it_was), STUNP_EMPTY_HANDLE);
     want("size", stunp_ice_checker_receive(&agent, BYTES(request), &from, NULL, out, 1000,
          &as_it_was), STUNP_BAD_ARGUMENT);
-    as_it_was = got;
+    want("failed", as_it_was.kind, STUNP_FAILED);
+    want("no length", (int64_t)as_it_was.length, 0);
+    want("left", as_it_was.code, 9);
+    as_it_was = (stunp_ice_received)STUNP_INIT(stunp_ice_received);
+    as_it_was.kind = STUNP_FAILED;
     want("nowhere", stunp_ice_checker_receive(&agent, BYTES(request), &nowhere, NULL, out, 1000,
          &got), STUNP_BAD_ARGUMENT);
     want("a check to nowhere", stunp_ice_checker_receive(&agent, BYTES(request), &from, &bad, out,
@@ -246,15 +251,15 @@ static void refusals_in_order(void) {
     want("memory", stunp_ice_checker_receive(&agent, BYTES(request), &from, NULL, out, 0, &got),
          STUNP_OUT_OF_MEMORY);
     stunp_heap_bound(SIZE_MAX);
-    want_same("as it was", &got, &as_it_was, sizeof got);
+    want_same("it has failed", &got, &as_it_was, sizeof got);
     /* The answer is 64 bytes: header, address, signature and FINGERPRINT. The check that has no room
      * would switch the role. */
     memset(out, 0xaa, sizeof out);
     want("no room", stunp_ice_checker_receive(&agent, BYTES(request), &from, NULL, out, 63, &got),
          STUNP_BUFFER_TOO_SMALL);
     want_same("nothing is written", out, before, sizeof out);
-    as_it_was.length = 64;
-    want_same("its length is told, and nothing else", &got, &as_it_was, sizeof got);
+    as_it_was.needed = 64;
+    want_same("what it needs is told, and nothing else", &got, &as_it_was, sizeof got);
     want("no switch", stunp_ice_checker_is_controlling(&agent), 0);
     want("as much", stunp_ice_checker_receive(&agent, BYTES(request), &from, NULL, out, 64, &got),
          STUNP_ANSWER);

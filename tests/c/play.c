@@ -349,14 +349,15 @@ static int64_t endpoint_build(void) {
     block *types = numbers(bytes());
     uint64_t seconds = number();
     uint32_t algorithms = short_number(), names = short_number();
-    bool answers_binding = number() != 0;
+    bool answers_binding = number() != 0, requires_fingerprint = number() != 0;
     if (secret->length != 32) fail("no secret");
     stunp_endpoint_server fresh = {false, NULL};
     stunp_endpoint_users table = {false, NULL};
     int64_t answer = stunp_endpoint_server_new_with(
         &fresh, ALL(realm), ALL(software), secret->at,
         previous->length == 0 ? secret->at : previous->at, previous->length != 0,
-        VALUE(uint16_t, types), types->length / 2, seconds, algorithms, names, answers_binding);
+        VALUE(uint16_t, types), types->length / 2, seconds, algorithms, names, answers_binding,
+        requires_fingerprint);
     if (fresh.is_full != (answer == 0)) fail("a handle that is not made");
     if (answer == 0) answer = stunp_endpoint_users_new(&table, &fresh);
     if (table.is_full != (answer == 0)) fail("a table that is not made");
@@ -374,6 +375,13 @@ CALL(endpoint_users_add_keys, block *name = bytes(); block *sha1 = bytes(); bloc
 CALL(endpoint_users_remove, block *name = bytes(),
      stunp_endpoint_users_remove(&endpoint_users, ALL(name)))
 
+/* After an error a result says so, and has no length. Then it gets back what it had. */
+#define LEFT(result)                                                                       \
+    if (kind < 0) {                                                                        \
+        if ((result)->kind != STUNP_FAILED || (result)->length != 0) fail("a result of before"); \
+        *(result) = fresh;                                                                 \
+    }
+
 /* Answers why a datagram is dropped, the code of a response and the response, or the algorithm and
  * the name of a request, after the number of the kind. */
 static int64_t endpoint_server_receive(void) {
@@ -386,6 +394,7 @@ static int64_t endpoint_server_receive(void) {
     int64_t kind = stunp_endpoint_server_receive(&endpoint_server, &endpoint_users, ALL(message),
                                                  from, seconds, ALL(out), received);
     wrote_all(told, kind >= 0);
+    LEFT(received)
     if (kind != STUNP_ANSWER && kind >= 0 && received->length != 0) fail("a length of nothing");
     out->written = kind == STUNP_ANSWER ? received->length : 0;
     if (kind == STUNP_IS_REQUEST) reply = received->reply;
@@ -403,6 +412,7 @@ static int64_t endpoint_server_identify(void) {
     int64_t kind = stunp_endpoint_server_identify(&endpoint_server, ALL(message), from, seconds,
                                                   ALL(out), received);
     wrote_all(told, kind >= 0);
+    LEFT(received)
     if (kind == STUNP_IS_REQUEST) fail("a request without its user");
     out->written = kind == STUNP_ANSWER ? received->length : 0;
     return kind;
@@ -428,6 +438,7 @@ static int64_t endpoint_server_resume(void) {
     int64_t kind = stunp_endpoint_server_resume(&endpoint_server, way == 0 ? NULL : &found,
                                                 ALL(message), from, seconds, ALL(out), received);
     wrote_all(told, kind >= 0);
+    LEFT(received)
     out->written = kind == STUNP_ANSWER ? received->length : 0;
     if (kind == STUNP_IS_REQUEST) reply = received->reply;
     return kind;
@@ -497,6 +508,7 @@ static int64_t ice_receive(void) {
         &ice_checker, ALL(message), from, check->length == 0 ? NULL : VALUE(stunp_ice_check, check),
         ALL(out), received);
     wrote_all(told, kind >= 0);
+    LEFT(received)
     if (kind != STUNP_ANSWER && kind >= 0 && received->length != 0) fail("a length of nothing");
     out->written = kind == STUNP_ANSWER ? received->length : 0;
     return kind;
@@ -517,7 +529,7 @@ static int64_t endpoint_client_new(void) {
     options.challenges = short_number(), options.credentials = short_number();
     options.algorithms = short_number(), options.anonymous_username = short_number();
     options.is_stream = number() != 0, options.accepts_unsigned = number() != 0;
-    options.has_fingerprint = number() != 0;
+    options.has_fingerprint = number() != 0, options.requires_fingerprint = number() != 0;
     if (seed->length != 32) fail("no seed");
     MAKES(endpoint_client, stunp_endpoint_client_new_with(
                                &fresh, at, seed->at, ALL(name), ALL(password), ALL(software),
@@ -556,6 +568,7 @@ static int64_t endpoint_client_poll(void) {
     stunp_event *event = VALUE(stunp_event, told);
     int64_t kind = stunp_endpoint_client_poll(&endpoint_client, now, ALL(out), event);
     wrote_all(told, kind >= 0);
+    LEFT(event)
     out->written = kind >= 0 ? event->length : 0;
     return kind;
 }

@@ -235,6 +235,39 @@ static void other_servers() {
     static_assert(!std::is_copy_constructible_v<stunp::ice::checker>);
 }
 
+// Whether the response to a request verifies under a password.
+static bool is_signed_by(const stunp::result<stunp::endpoint::received> &got,
+                         const std::string &password) {
+    const stunp_reply *reply = got ? got->request() : nullptr;
+    if (reply == nullptr) return false;
+    auto answer = stunp::endpoint::success(*reply).sign(*reply).finish();
+    return stunp_is_signed(answer->data(), answer->size(), password.data(), password.size());
+}
+
+// A key that is longer than a block of HMAC is hashed (RFC 2104, section 2).
+static void long_passwords() {
+    auto settings = STUNP_INIT(stunp::endpoint::settings);
+    settings.credentials = STUNP_SHORT_TERM;
+    auto session = stunp::endpoint::server::make(settings);
+    if (!session) return show("no", "memory");
+    auto users = stunp::endpoint::users::make(*session);
+    if (!users) return show("no", "memory");
+    for (size_t length : {64, 65, 256})
+        for (auto algorithm : {STUNP_SHA1, STUNP_SHA256}) {
+            const std::string password(length, 'p');
+            auto found = STUNP_INIT(stunp_found_user);
+            found.name = "name", found.name_length = 4, found.password = password.c_str();
+            if (!users->add("name", password)) return show("not", "added");
+            stunp::writer request(STUNP_REQUEST, STUNP_BINDING, second_id);
+            request.add(STUNP_USERNAME, "name").sign(algorithm, password);
+            auto bytes = request.finish();
+            std::printf("a password of %zu bytes: %d, looked up: %d\n", length,
+                        is_signed_by(session->receive(*users, *bytes, home, 0), password),
+                        is_signed_by(session->resume(&found, *bytes, home, 0), password));
+        }
+    show("an empty password", users->add("name", "").text());
+}
+
 // A client whose requests a server answers, until one ends.
 static void ask_until_answered(stunp::endpoint::client &client,
                                const stunp::endpoint::server &server,
@@ -333,6 +366,7 @@ int main() {
     meet_from_a_database();
     long_term_server();
     other_servers();
+    long_passwords();
     client_with_a_user();
     check_a_pair();
     move_handles();

@@ -1,14 +1,15 @@
 #!/usr/bin/env python3
-"""Asks clippy for every place of the exported sources where Rust could panic or lose bits, and looks
-whether the exporter says there why it does not.
+"""Runs clippy over the exported workspace, once: prints its warnings, and asks it for every place of
+the exported sources where Rust could panic or lose bits, and looks whether the exporter says there
+why it does not.
 
 usage: tests/export/argued.py EXPORT
 
 EXPORT is what export.py wrote (target/export). Each place must be in a function whose body begins
-with a comment `// proved:`. Without clippy it says so, and passes.
+with a comment `// proved:`. The status is 1 if one is not, or if clippy warns of anything else.
+Without clippy it says so, and passes.
 """
 import json
-import os
 import re
 import subprocess
 import sys
@@ -19,24 +20,33 @@ LINTS = ["unwrap_used", "expect_used", "panic", "unreachable", "todo", "unimplem
          "cast_possible_wrap", "cast_sign_loss", "string_slice"]
 
 
+def messages(out):
+    """What clippy says of the workspace with its tests and examples. It ends if clippy fails or
+    warns of anything but these lints."""
+    # (a lint that is forced to warn is no error under `-D warnings` of rust.sh)
+    command = ["cargo", "clippy", "--offline", "--quiet", "--workspace", "--all-targets",
+               "--features", "tracing", "--message-format=json", "--",
+               *(word for lint in LINTS for word in ("--force-warn", f"clippy::{lint}"))]
+    ran = subprocess.run(command, cwd=out, capture_output=True, text=True, check=False)
+    found = [json.loads(line).get("message") or {} for line in ran.stdout.splitlines()]
+    others = [told for told in found if told.get("spans") and lint_of(told) not in LINTS]
+    for told in others:
+        print(told["rendered"])
+    if ran.returncode != 0 or others:
+        sys.exit(ran.stderr or f"argued: clippy warns of {len(others)} places")
+    return found
+
+
+def lint_of(told):
+    return (told.get("code") or {}).get("code", "").removeprefix("clippy::")
+
+
 def places(out):
     """The file and the line of each place, and its lint."""
-    command = ["cargo", "clippy", "--offline", "--quiet", "--package", "seatcrane-stun", "--lib",
-               "--features", "tracing", "--message-format=json", "--",
-               *(word for lint in LINTS for word in ("-W", f"clippy::{lint}"))]
-    # (clippy tells nothing of what it looked at before)
-    (out / "src/lib.rs").touch()
-    # (rust.sh makes errors of warnings)
-    flags = {**os.environ, "RUSTFLAGS": ""}
-    ran = subprocess.run(command, cwd=out, env=flags, capture_output=True, text=True, check=False)
-    if ran.returncode != 0:
-        sys.exit(ran.stderr)
-    for line in ran.stdout.splitlines():
-        told = json.loads(line).get("message") or {}
-        lint = (told.get("code") or {}).get("code", "").removeprefix("clippy::")
-        for span in told.get("spans", []) if lint in LINTS else []:
+    for told in messages(out):
+        for span in told.get("spans", []) if lint_of(told) in LINTS else []:
             if span["is_primary"]:
-                yield span["file_name"], span["line_start"], lint
+                yield span["file_name"], span["line_start"], lint_of(told)
 
 
 def is_argued(lines, number):
@@ -58,7 +68,7 @@ def main():
         print("argued: left out, no clippy is there")
         return 0
     count = wrong = 0
-    for name, number, lint in places(out):
+    for name, number, lint in sorted(set(places(out))):
         if not name.startswith("src/exported/"):
             continue
         count += 1

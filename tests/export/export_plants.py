@@ -2,7 +2,7 @@
 """Plants wrong rules in export.py and wrong lines in the library under the sources, one at a time,
 and tells which are found.
 
-usage: tests/export/export_plants.py [--look | --turn | NUMBER ..]
+usage: tests/export/export_plants.py [--look | --exporter | --turn | NUMBER ..]
 
 First it says which plants, of all, cannot be made in the files as they are, and ends with status 1
 if there are any. With --look it does no more than that. Nor does it plant anything if the files as
@@ -11,17 +11,18 @@ they are cannot be exported and compiled, because then each plant would seem to 
 Each is planted in a copy in a scratch folder, which is exported, compiled and tested. (`rt ci`
 refuses a second crates.txt in the repository, under target/ too.) It is found where the export, the
 comparison of tokens (same_tokens.py), rustc, a test or a transcript refuses it. Beside that it is
-told whether the odd forms of export_test.py refuse it. With --turn, which the gate runs, it plants
-three: those whose turn it is by the number of commits, or else by the day. One in the exporter
-takes seconds, one in the library under the sources a minute or two.
+told whether the odd forms of export_test.py refuse it. The gate plants with --exporter those in the
+exporter, which take seconds each, if that changed, and with --turn three of those in the library
+under the sources, which take a minute or two each, if that changed: whose turn it is follows from
+the sum of its files.
 """
+import hashlib
 import os
 import shutil
 import signal
 import subprocess
 import sys
 import tempfile
-import time
 from pathlib import Path
 
 ROOT = Path(__file__).resolve().parent.parent.parent
@@ -191,14 +192,19 @@ def copy_anew():
         shutil.copytree(config, COPY / "target" / "export" / ".cargo", dirs_exist_ok=True)
 
 
+def plants_of(folder):
+    """The numbers of the plants in a folder."""
+    return [number for number, plant in enumerate(PLANTS, 1) if plant[1].startswith(folder)]
+
+
 def in_turn():
-    """The numbers of the three plants whose turn it is."""
-    asked = subprocess.run(["git", "rev-list", "--count", "HEAD"], cwd=ROOT, capture_output=True,
-                           text=True, check=False)
-    count = int(asked.stdout) if asked.returncode == 0 else int(time.time() // 86400)
-    numbers = [(3 * count + more) % len(PLANTS) + 1 for more in range(3)]
-    print(f"plants {numbers} of {len(PLANTS)}, whose turn it is by the number {count}", flush=True)
-    return numbers
+    """The numbers of the three plants in the library under the sources whose turn it is."""
+    files, numbers = sorted((ROOT / KIT).rglob("*.rs")), plants_of(KIT)
+    total = hashlib.sha256(b"".join(path.read_bytes() for path in files)).digest()
+    count = int.from_bytes(total[:4], "big")
+    turn = [numbers[(count + more) % len(numbers)] for more in range(3)]
+    print(f"plants {turn} of {len(PLANTS)}, whose turn it is by the sum of {KIT}", flush=True)
+    return turn
 
 
 def main():
@@ -207,8 +213,9 @@ def main():
         return 1
     if words == ["--look"]:
         return 0
-    wanted = (in_turn() if words == ["--turn"] else [int(word) for word in words]
-              or range(1, len(PLANTS) + 1))
+    wanted = (in_turn() if words == ["--turn"] else
+              plants_of("tools/") if words == ["--exporter"] else
+              [int(word) for word in words] or range(1, len(PLANTS) + 1))
     copy_anew()
     step = refusing(STEPS[:3])
     if step:

@@ -52,6 +52,9 @@ export RUSTC="$at/usr/bin/rustc" CARGO_TARGET_DIR="$PWD/target/foreign"
 export CARGO_PROFILE_DEV_DEBUG=0 CARGO_PROFILE_DEV_OPT_LEVEL=1 CARGO_INCREMENTAL=0
 libraries=$at/usr/lib/x86_64-linux-gnu
 export LD_LIBRARY_PATH="$libraries${LD_LIBRARY_PATH:+:$LD_LIBRARY_PATH}"
+# A clone has no target/export and no folder of targets before the first run.
+[ -d target/export ] || tools/rust.sh --export >/dev/null
+mkdir -p "$CARGO_TARGET_DIR"
 for target; do
     of=$(names "$target")
     log=$CARGO_TARGET_DIR.$target.log

@@ -10,7 +10,7 @@ import subprocess
 import tempfile
 import time
 
-from harness import NAME, PASSWORD, REALM, USER, Peer, Server, is_signed, stun
+from harness import NAME, PASSWORD, REALM, USER, Peer, Server, is_signed, scaled, stun
 
 
 def answering(challenge, algorithm=stun.SHA1, extra=(), name=NAME, password=PASSWORD):
@@ -198,7 +198,7 @@ def workers(server):
 
 def wrong_words(program, *lines):
     for words in lines:
-        status = subprocess.run([program, *words], capture_output=True, timeout=20).returncode
+        status = subprocess.run([program, *words], capture_output=True, timeout=scaled(20)).returncode
         assert status == 2, f"{words}: status {status}"
 
 
@@ -246,7 +246,7 @@ def burst(server):
         for one in asked:
             peer.socket.sendto(one, peer.target)
         running.process.send_signal(signal.SIGCONT)
-        peer.socket.settimeout(2)
+        peer.socket.settimeout(scaled(2))
         answered = set()
         try:
             while len(answered) < number:
@@ -269,7 +269,7 @@ def stopped_reader(server):
 def wiped(server):
     """A password is overwritten when its memory is given back (wiped.c)."""
     program = pathlib.Path(server).parent / "wiped"
-    run = subprocess.run([program], capture_output=True, text=True, timeout=20)
+    run = subprocess.run([program], capture_output=True, text=True, timeout=scaled(20))
     found = re.fullmatch("([0-9]+) copies while in use, 0 later\n", run.stdout)
     assert found and int(found[1]) > 0, run
 
@@ -324,7 +324,7 @@ def slept(server, library):
             told = sleep.with_suffix(".told")
             told.write_text(f"{up + 60} 0\n")
             told.rename(sleep)
-            end = time.monotonic() + 5
+            end = time.monotonic() + scaled(5)
             while stun.code_of(peer.ask(signed)) != 438:
                 assert time.monotonic() < end, "the nonce goes on"
                 time.sleep(0.1)
@@ -341,7 +341,7 @@ def one_server(server):
             told = "socket: Address already in use\n"
             for others in ((), ("--workers", "2")):
                 run = subprocess.run([server, str(running.port), *others], capture_output=True,
-                                     text=True, timeout=20)
+                                     text=True, timeout=scaled(20))
                 assert (run.returncode, run.stdout, run.stderr) == (1, "", told), run
     with Server(server, "--shared") as running:
         with Server(server, "--shared", "--workers", "2", port=running.port) as second:
@@ -358,7 +358,7 @@ def counted(server):
                 with Peer(running.port) as peer:
                     assert stun.code_of(peer.ask(stun.message(stun.REQUEST))) == 200
             running.process.send_signal(signal.SIGUSR1)
-            end = time.monotonic() + 10
+            end = time.monotonic() + scaled(10)
             while not any(line.startswith("answered 20; ") for line in running.lines):
                 assert time.monotonic() < end, running.lines
                 time.sleep(0.05)

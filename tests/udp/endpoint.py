@@ -13,7 +13,7 @@ import tempfile
 import time
 
 from alone import answering
-from harness import NAME, PASSWORD, REALM, USER, Peer, Server, has_ipv6, stun
+from harness import NAME, PASSWORD, REALM, USER, Peer, Server, has_ipv6, scaled, stun
 
 CLIENTS = 20
 
@@ -114,7 +114,7 @@ def one_socket(server, words):
 
 def until(running, pattern, seconds=10):
     """Whether a line of a server comes to match."""
-    end = time.monotonic() + seconds
+    end = time.monotonic() + scaled(seconds)
     while time.monotonic() < end:
         if any(re.search(pattern, line) for line in running.lines):
             return True
@@ -124,7 +124,7 @@ def until(running, pattern, seconds=10):
 
 def tells(server):
     for word, wanted in (("--help", "usage: udp_server PORT"), ("--version", "udp_server ")):
-        run = subprocess.run([server, word], capture_output=True, text=True, timeout=20)
+        run = subprocess.run([server, word], capture_output=True, text=True, timeout=scaled(20))
         assert run.returncode == 0 and run.stdout.startswith(wanted) and run.stderr == "", run
 
 
@@ -160,7 +160,7 @@ def addresses(server):
                     continue
                 raise AssertionError("it serves 127.0.0.1")
     for wrong in ("here", "127.0.0.256", "192.0.2.1"):
-        run = subprocess.run([server, "0", "--at", wrong], capture_output=True, timeout=20)
+        run = subprocess.run([server, "0", "--at", wrong], capture_output=True, timeout=scaled(20))
         assert run.returncode == 1 and run.stdout == b"", run
 
 
@@ -169,7 +169,7 @@ def one_port(server):
     for held, words in (((), ()), (("--tcp",), ("--tcp",))):
         with Server(server, *held) as running:
             run = subprocess.run([server, str(running.port), *words], capture_output=True,
-                                 text=True, timeout=20)
+                                 text=True, timeout=scaled(20))
             assert run.returncode == 1 and run.stderr and run.stdout == "", run
 
 
@@ -198,7 +198,7 @@ def asked_over(stream, request):
 
 
 def connected(running, host="127.0.0.1"):
-    return socket.create_connection((host, running.port), 10)
+    return socket.create_connection((host, running.port), scaled(10))
 
 
 def has_ended(stream):
@@ -248,7 +248,7 @@ def no_streams(server):
                     assert stun.code_of(read_messages(stream, 1)[0]) == 200
                 has_ended(stream)
         with connected(running) as silent, connected(running) as slow:
-            end = time.monotonic() + 3.5
+            end = time.monotonic() + scaled(3.5)
             for byte in plain[:7]:
                 slow.sendall(bytes([byte]))
                 assert stun.code_of(asked_over(good, stun.message(stun.REQUEST))) == 200
@@ -328,7 +328,7 @@ def four_sockets(server, words):
             assert stun.code_of(answer) == 420
     for wrong in (("--other", "127.0.0.3"), ("--at", "::1", "--other", "here"),
                   ("--at", "127.0.0.2", "--other", "127.0.0.3", "--tcp")):
-        run = subprocess.run([server, "0", *wrong], capture_output=True, timeout=20)
+        run = subprocess.run([server, "0", *wrong], capture_output=True, timeout=scaled(20))
         assert run.returncode == 2 and run.stdout == b"", run
 
 
@@ -340,12 +340,12 @@ def bad_lines(server):
     text = f"# who may ask\n{NAME} {PASSWORD}\nbob\n\n x\n{'n' * 514} p\n"
     with file_of(text) as file:
         words = [server, "0", REALM, "--users", file]
-        run = subprocess.run(words, capture_output=True, text=True, timeout=20)
+        run = subprocess.run(words, capture_output=True, text=True, timeout=scaled(20))
         numbers = re.findall(r"line (\d+)", run.stderr)
         assert run.returncode == 1 and numbers == ["3", "5", "6"] and run.stdout == "", run
     with file_of(b"a b\n\xff c\n") as file:
         words = [server, "0", REALM, "--users", file]
-        run = subprocess.run(words, capture_output=True, text=True, timeout=20)
+        run = subprocess.run(words, capture_output=True, text=True, timeout=scaled(20))
         assert run.returncode == 1 and "line 2" in run.stderr, run
 
 
@@ -390,7 +390,7 @@ def written_slowly(server):
                     file.write("# a line more\n" if number else "")
                     file.flush()
                     time.sleep(0.25)
-            end = time.monotonic() + 10
+            end = time.monotonic() + scaled(10)
             while stun.code_of(peer.ask(alice)) != 401:
                 assert time.monotonic() < end, "no 401"
                 time.sleep(0.1)
@@ -418,7 +418,7 @@ def read_again(server, words, signalled):
                 bob = answering(challenge, stun.SHA1, (), "bob", "builder")
 
                 def become(request, code):
-                    end = time.monotonic() + 10
+                    end = time.monotonic() + scaled(10)
                     while stun.code_of(peer.ask(request)) != code:
                         assert time.monotonic() < end, f"no {code}"
                         time.sleep(0.1)
@@ -431,7 +431,7 @@ def read_again(server, words, signalled):
                 become(alice, 401)
                 file.write_text("nobody\n")
                 signalled(running)
-                end = time.monotonic() + 10
+                end = time.monotonic() + scaled(10)
                 while sorted(running.told()) != sorted(told * number):
                     assert time.monotonic() < end, running.told()
                     time.sleep(0.1)
@@ -469,7 +469,7 @@ def too_many_users(server):
                 resource.prlimit(pid, resource.RLIMIT_AS, (most, most))
                 lines = (f"user{number} pass{number}\n" for number in range(200000))
                 file.write_text("".join(lines))
-                end = time.monotonic() + 60
+                end = time.monotonic() + scaled(60)
                 while not running.told().endswith("an allocation failed\n"):
                     assert time.monotonic() < end, running.told()
                     assert asked_again(peer, answering(challenge)) == 200
@@ -496,6 +496,6 @@ def no_memory(server, library):
                     except TimeoutError:
                         pass
                 file.unlink()
-                peer.socket.settimeout(10)
+                peer.socket.settimeout(scaled(10))
                 assert stun.code_of(peer.ask(answering(challenge))) == 200
                 assert until(running, "OutOfMemory: 2;"), running.lines

@@ -5,7 +5,8 @@
  * NO_IPV6=1          no IPv6 socket can be created
  * SLEPT=FILE         as soon as FILE exists, the machine has slept for a minute, by CLOCK_BOOTTIME
  *                    and CLOCK_REALTIME, and /proc/uptime has the contents of FILE
- * COUNTED=FILE       a byte is appended to FILE for each call of getrandom */
+ * COUNTED=FILE       a byte is appended to FILE for each call of getrandom
+ * SLOW_LOOP=N        epoll_create1 takes N seconds */
 #define _GNU_SOURCE
 #include <dlfcn.h>
 #include <errno.h>
@@ -76,6 +77,15 @@ int open64(const char *path, int flags, ...) {
     int file = call(path, flags, va_arg(mode, mode_t));
     va_end(mode);
     return file;
+}
+
+int epoll_create1(int flags) {
+    int (*call)(int) = (int (*)(int))dlsym(RTLD_NEXT, "epoll_create1");
+    const char *seconds = getenv("SLOW_LOOP");
+    const struct timespec end = {seconds == NULL ? 0 : atol(seconds), 0};
+    struct timespec left = end; /* a signal does not end the wait */
+    while (nanosleep(&left, &left) != 0) continue;
+    return call(flags);
 }
 
 ssize_t getrandom(void *out, size_t length, unsigned flags) {

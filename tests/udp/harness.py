@@ -28,6 +28,14 @@ STATELESS = pathlib.Path(os.environ.get("STUN_C", TOP / "crates/stun_c/out/libst
 REALM, NAME, PASSWORD = "example.org", "alice", "wonderland"
 USER = (REALM, NAME, PASSWORD)
 SCRATCH = []  # the folder of the run, while there is one
+# How many times longer than on an idle machine a wait may take: a load of so many programs for each
+# processor, at most 10.
+SLOWNESS = min(10, max(1, os.getloadavg()[0] / (os.cpu_count() or 1)))
+
+
+def scaled(seconds):
+    """The longest wait for what takes at most so many seconds on an idle machine."""
+    return seconds * SLOWNESS
 
 
 # ---- Programs
@@ -100,7 +108,7 @@ class Server:
         self.process = subprocess.Popen(words, env=environment, **pipes)
         self.lines, self.is_up = [], threading.Event()
         threading.Thread(target=self.listen, daemon=True).start()
-        self.is_up.wait(20)
+        self.is_up.wait(scaled(20))
 
     def listen(self):
         for line in self.process.stdout:
@@ -126,7 +134,7 @@ class Server:
     def __exit__(self, kind, *_):
         self.process.terminate()
         try:
-            status = self.process.wait(20)
+            status = self.process.wait(scaled(20))
         except subprocess.TimeoutExpired:
             self.process.kill()
             status = self.process.wait()
@@ -138,10 +146,10 @@ class Server:
 Asked = collections.namedtuple("Asked", "status out err")
 
 
-def ask(program, host, port, *words, within="20"):
+def ask(program, host, port, *words, within=None):
     """Runs a client."""
-    words = [program, host, str(port), *words, "--within", within]
-    run = subprocess.run(words, capture_output=True, text=True, timeout=45)
+    words = [program, host, str(port), *words, "--within", within or str(round(scaled(20)))]
+    run = subprocess.run(words, capture_output=True, text=True, timeout=scaled(45))
     return Asked(run.returncode, run.stdout.strip(), run.stderr.strip())
 
 
@@ -201,7 +209,7 @@ class Relay:
 
     def __exit__(self, *_):
         self.is_over.set()
-        self.thread.join(10)
+        self.thread.join(scaled(10))
         for one in (self.front, self.back, self.stranger):
             one.close()
 
@@ -223,7 +231,7 @@ class Peer:
     def __init__(self, port, host="127.0.0.1", here=None):
         family = socket.AF_INET6 if ":" in host else socket.AF_INET
         self.socket = socket.socket(family, socket.SOCK_DGRAM)
-        self.socket.settimeout(10)
+        self.socket.settimeout(scaled(10))
         if here:
             self.socket.bind((here, 0))
         self.target = (host, port)
@@ -289,8 +297,9 @@ def begun():
 
 
 def end_within(seconds=170):
-    """The run has an end: after so many seconds, or more on fewer than four processors."""
-    seconds = round(seconds * max(1, 4 / (os.cpu_count() or 1)))
+    """The run has an end: after so many seconds, or more on fewer than four processors, and on a
+    machine that is busy."""
+    seconds = round(scaled(seconds) * max(1, 4 / (os.cpu_count() or 1)))
 
     def give_up(*_):
         """Ends what was started, and the run. First its programs go, so that none is started

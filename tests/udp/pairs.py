@@ -11,7 +11,7 @@ import threading
 import time
 
 from harness import NAME, PASSWORD, REALM, USER, Asked, Relay, Server, stun
-from harness import ask, codes, fails, is_signed, succeeds
+from harness import ask, codes, fails, is_signed, scaled, succeeds
 
 
 def open_server(server, client, host):
@@ -303,7 +303,7 @@ def closed_port(client):
         port = none.getsockname()[1]
     begun = time.monotonic()
     fails(ask(client, "127.0.0.1", port), "no answer")
-    assert time.monotonic() - begun < 5, "the client waited on"
+    assert time.monotonic() - begun < scaled(5), "the client waited on"
 
 
 def nobody_in_the_file(client):
@@ -317,9 +317,9 @@ def many(server, program, words):
     with Server(server, *USER, *words) as running:
         where = (program, "127.0.0.1", str(running.port))
         run = subprocess.run([*where, "200", "5", NAME, PASSWORD], capture_output=True, text=True,
-                             timeout=60)
+                             timeout=scaled(60))
         assert run.returncode == 0 and run.stdout.startswith("answered 1000 of 1000"), run
-        run = subprocess.run([*where, "2", "2"], capture_output=True, text=True, timeout=60)
+        run = subprocess.run([*where, "2", "2"], capture_output=True, text=True, timeout=scaled(60))
         assert run.returncode == 1 and run.stderr == "refused 401\n" * 4, run
 
 
@@ -337,13 +337,13 @@ def in_flight(server, program, words):
     with Server(server, *words) as running, Relay(running, hold) as relay:
         user = words[1:3]
         run = subprocess.run([program, "127.0.0.1", str(relay.port), "200", *user],
-                             capture_output=True, text=True, timeout=60)
+                             capture_output=True, text=True, timeout=scaled(60))
         assert run.returncode == 0 and run.stdout.startswith("answered 200 of 200"), run
         first = [stun.code_of(answer) for answer in relay.responses[:200]]
         assert first == [401 if words else 200] * 200, first
     with Server(server, *USER) as running:
         wrong = [program, "127.0.0.1", str(running.port), "2", NAME, "wrong"]
-        run = subprocess.run(wrong, capture_output=True, text=True, timeout=60)
+        run = subprocess.run(wrong, capture_output=True, text=True, timeout=scaled(60))
         assert run.returncode == 1 and run.stdout.startswith("answered 0 of 2"), run
 
 
@@ -355,7 +355,7 @@ def password_of_a_file(server, client):
         with Server(server, REALM, "--users", file.name) as running, Relay(running) as relay:
             with open(file.name) as lines:
                 words = [client, "127.0.0.1", str(relay.port), "--user", "-"]
-                run = subprocess.run(words, stdin=lines, capture_output=True, text=True, timeout=45)
+                run = subprocess.run(words, stdin=lines, capture_output=True, text=True, timeout=scaled(45))
             succeeds(Asked(run.returncode, run.stdout.strip(), run.stderr.strip()), relay.address())
         words = (REALM, "bob", "builder", "--users", file.name)
         with Server(server, *words) as running, Relay(running) as relay:

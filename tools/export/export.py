@@ -329,6 +329,8 @@ def main():
         shutil.rmtree(out / folder, ignore_errors=True)
     shutil.copytree(ROOT / "rust", out, dirs_exist_ok=True)
     shutil.copytree(ROOT / "tests/transcripts/endpoints", out / "tests/transcripts/data")
+    for name in ("LICENSE-APACHE", "LICENSE-MIT"):
+        shutil.copy(ROOT / name, out / name)
     uses = crates_known()
     crates = with_used(uses, LIBRARY + PROGRAMS)
     places = {crate: f"crate::{'exported' if crate in LIBRARY else 'programs'}::{crate}"
@@ -346,7 +348,7 @@ def main():
     # rustup has a rustfmt that runs nothing where the component is not there.
     asks = ["cargo", "fmt", "--version"]
     if not shutil.which("cargo") or subprocess.run(asks, capture_output=True).returncode != 0:
-        print("rustfmt is not there: the layout is not rustfmt's", file=sys.stderr)
+        print("rustfmt is not installed: what is exported builds, but is not laid out by it")
     elif subprocess.run(["cargo", "fmt", "--all"], cwd=out, check=False).returncode != 0:
         sys.exit("rustfmt refuses what was written")
 

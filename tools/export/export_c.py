@@ -17,9 +17,9 @@ CALL = re.compile(r'((?:^///[^\n]*\n)+)^#\[unsafe\(no_mangle\)\]\npub extern "C"
 # Sizes are those of 64 bits in the sources, and of the target here. What is exported is not proved.
 SIZES = [("IS_PROVED: bool = true;", "IS_PROVED: bool = false;"),
          ("usize = 9_223_372_036_854_775_807;", "usize = isize::MAX as usize;"),
-         (" RECEIVED_SIZE: usize = 640;", " RECEIVED_SIZE: usize = size_of::<Received>();"),
-         ("ICE_RECEIVED_SIZE: usize = 64;", "ICE_RECEIVED_SIZE: usize = size_of::<IceReceived>();"),
-         (" EVENT_SIZE: usize = 64;", " EVENT_SIZE: usize = size_of::<Event>();")]
+         (" RECEIVED_SIZE: usize = 648;", " RECEIVED_SIZE: usize = size_of::<Received>();"),
+         ("ICE_RECEIVED_SIZE: usize = 72;", "ICE_RECEIVED_SIZE: usize = size_of::<IceReceived>();"),
+         (" EVENT_SIZE: usize = 72;", " EVENT_SIZE: usize = size_of::<Event>();")]
 SLICES = {"&[u8]": ("*const u8", "read"), "&mut [u8]": ("*mut u8", "written"),
           "&[u16]": ("*const u16", "read"), "&mut [u16]": ("*mut u16", "written")}
 

@@ -8,14 +8,20 @@ use Rattle.std.proofs.lemmas.Bool.{ltb-true}
 use Rattle.std.proofs.lemmas.List.Sums.{sum_by-cons}
 use Rattle.stun_base.specs.declared.wire.transport.TransportType.{TransportType}
 use Rattle.stun_base.specs.declared.wire.transport.TransportType.TheVariants.{Udp, Tcp}
+use Rattle.stun_agent.specs.declared.state.tree.Link.{Link}
+use Rattle.stun_agent.specs.declared.state.tree.Link.TheVariants.{Empty, Leaf, Fork'}
 use Rattle.stun_agent.specs.Deadlines.{is_early, early_requests}
 use Rattle.stun_agent.specs.Timing.{repetitions, slots}
-use Rattle.stun_agent.specs.Transactions.{Transaction, Transactions, sooner, has_slots}
+use Rattle.std.specs.Ordering.{nat_cmp, is_eq, match_ordering}
+use Rattle.std.specs.declared.cmp.Ordering.{Ordering}
+use Rattle.std.specs.declared.cmp.Ordering.TheVariants.{Less, Equal, Greater}
+use Rattle.stun_agent.specs.Transactions.{Transaction, Transactions, at, with, sooner, has_slots}
 use Rattle.stun_agent.specs.Transactions.{is_cancelled, is_due, is_over, awaited_moment}
 use Rattle.stun_agent.specs.Transactions.{awaited_moments, next_awaited, first_over}
 use Rattle.stun_agent.specs.code.Awaited.{Awaited, nothing, slot_at, end_at, cancelled_one}
 use Rattle.stun_agent.specs.code.Awaited.{awaited_by, lesser, joined, awaited_of, has_come}
 use Rattle.stun_agent.specs.code.Awaited.{some_due, some_over, first_awaited}
+use Rattle.stun_agent.specs.code.Tree.{items, told, IsTimed}
 
 -- ---- the lesser of two moments
 lesser_none : (a : Option ℕ) → lesser None a ≡ a
@@ -62,6 +68,20 @@ pub joined_nothing : (a : Awaited) → joined a nothing ≡ a
 joined_nothing a =
     λ i. record { slot = a.slot; end = a.end; cancelled = or_false a.cancelled i }
 
+or_turned : (b c : Bool) → (b || c) ≡ (c || b)
+or_turned true true = refl
+or_turned true false = refl
+or_turned false true = refl
+or_turned false false = refl
+
+pub joined_turned : (a b : Awaited) → joined a b ≡ joined b a
+joined_turned a b =
+    λ i. record {
+      slot = lesser_turned a.slot b.slot i;
+      end = lesser_turned a.end b.end i;
+      cancelled = or_turned a.cancelled b.cancelled i;
+    }
+
 pub joined_joined : (a b c : Awaited) → joined (joined a b) c ≡ joined a (joined b c)
 joined_joined a b c =
     λ i. record {
@@ -78,6 +98,50 @@ awaited_of-append transport (e ∷ xs) ys =
     ap (joined (awaited_by transport e.1)) (awaited_of-append transport xs ys)
     ∙ sym (joined_joined (awaited_by transport e.1) (awaited_of transport xs)
     (awaited_of transport ys))
+
+-- what a link tells is what those below it await
+pub told_is : {A : Type 0} (transport : TransportType) (l : Link A) → IsTimed transport l
+    → told l ≡ awaited_of transport (items l)
+told_is transport Empty timed = refl
+told_is transport (Leaf awaited leaf) timed =
+    timed ∙ sym (joined_nothing (awaited_by transport leaf.value.1))
+told_is transport (Fork' awaited p a b c d) timed = timed.0
+
+-- what the parts of a fork tell is what all of them await
+pub awaited_of-four : (transport : TransportType) (a b c d : Transactions)
+    → joined
+    (joined (joined (awaited_of transport a) (awaited_of transport b)) (awaited_of transport c))
+    (awaited_of transport d)
+    ≡ awaited_of transport ((a ++ b) ++ (c ++ d))
+awaited_of-four transport a b c d =
+    joined_joined (joined (awaited_of transport a) (awaited_of transport b))
+    (awaited_of transport c) (awaited_of transport d)
+    ∙ ap₂ joined (sym (awaited_of-append transport a b)) (sym (awaited_of-append transport c d))
+    ∙ sym (awaited_of-append transport (a ++ b) (c ++ d))
+
+-- one more is joined to what the others await
+pub awaited_of-with : (transport : TransportType) (id : ℕ) (t : Transaction) (es : Transactions)
+    → at id es ≡ None
+    → joined (awaited_of transport es) (awaited_by transport t)
+    ≡ awaited_of transport (with id t es)
+awaited_of-with transport id t [] absent =
+    joined_turned nothing (awaited_by transport t)
+awaited_of-with transport id t (e ∷ es) absent =
+    by (nat_cmp id e.0) absent (awaited_of-with transport id t es)
+  where
+    by : (r : Ordering) → cond (is_eq r) (Some e.1) (at id es) ≡ None
+        → (at id es ≡ None → joined (awaited_of transport es) (awaited_by transport t)
+        ≡ awaited_of transport (with id t es))
+        → joined (awaited_of transport (e ∷ es)) (awaited_by transport t)
+        ≡ awaited_of transport
+        (match_ordering r ((id, t) ∷ e ∷ es) ((e.0, t) ∷ es) (e ∷ with id t es))
+    by Less absent rest =
+        joined_turned (awaited_of transport (e ∷ es)) (awaited_by transport t)
+    by Equal absent rest = cc
+    by Greater absent rest =
+        joined_joined (awaited_by transport e.1) (awaited_of transport es)
+        (awaited_by transport t)
+        ∙ ap (joined (awaited_by transport e.1)) (rest absent)
 
 -- ---- what is due, and what is over
 come_lesser : (now : ℕ) (a b : Option ℕ)

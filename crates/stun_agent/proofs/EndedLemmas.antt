@@ -1,14 +1,13 @@
 -- How many requests are read to find the one that is over.
-use Rattle.std.proofs.Common.{ℕ, ◌≡◌, ◌+◌, ◌≤◌, arith, Bool, ap, sym, subst, refl, ◌∙◌}
+use Rattle.std.proofs.Common.{ℕ, ◌≡◌, ◌+◌, ◌≤◌, arith, Bool, refl}
 use Rattle.std.specs.Prelude.{Option, Some, None, MatchOption}
-use Rattle.std.specs.Option.{option_map, option_map_or}
+use Rattle.std.specs.Option.{option_map}
 use Rattle.stun_base.specs.declared.wire.transport.TransportType.{TransportType}
 use Rattle.stun_agent.specs.Deadlines.{early_requests}
-use Rattle.stun_agent.specs.Transactions.{Transaction, Transactions, IsAscending, at}
-use Rattle.stun_agent.specs.Transactions.{is_over, repeats, first_over}
+use Rattle.stun_agent.specs.Transactions.{Transaction, Transactions}
+use Rattle.stun_agent.specs.Transactions.{first_over}
 use Rattle.stun_agent.specs.code.Transactions.{id_and_repeats}
 use Rattle.stun_agent.proofs.AwaitedLemmas.{over_early}
-use Rattle.stun_agent.proofs.EntryLemmas.{lookup_found}
 
 module _ (transport : TransportType) (now : ℕ) (all : Transactions) where
   -- the one that is read is early

@@ -7,6 +7,7 @@ pub mod EntryLemmas
 pub mod FoundLemmas
 pub mod HalvesLemmas
 pub mod InsertLemmas
+pub mod LookLemmas
 pub mod LookupLemmas
 pub mod NamedLemmas
 pub mod OnceLemmas

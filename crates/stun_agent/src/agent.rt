@@ -1,73 +1,21 @@
 //! The transaction layer: sending requests, retransmitting them and giving up on them (RFC 8489,
 //! section 6.2). It also remembers the addresses that messages came from.
 //!
-//! This is a whole loop around an agent and a long-term authenticator, from a request to its
-//! response:
-//!
-//! ```text
-//! let mut agent = StunAgent::builder(alloc, TransportType::Udp, local_addr).build();
-//! let mut is_to_ask = true;
-//! loop {
-//!     // Send a request with a new transaction ID, signed with what the client knows so far.
-//!     if is_to_ask {
-//!         let id = TransactionId::generate(&mut rng);
-//!         let request = Message::builder_request(BINDING, id, MessageWriteVec::new(alloc))?;
-//!         let request = authenticator.sign_outgoing_message(request)?.finish();
-//!         socket.send(agent.send_request(request, server, clock.now())?);
-//!         is_to_ask = false;
-//!     }
-//!     // Send the retransmissions that are due, one at a time.
-//!     if let Some(again) = agent.poll_transmit(clock.now()) {
-//!         socket.send(again);
-//!         continue;
-//!     }
-//!     // Find out whether the request has ended, or how long to wait.
-//!     let until = match agent.poll(clock.now()) {
-//!         StunAgentPollRet::WaitUntil(time) => time,
-//!         StunAgentPollRet::TransactionTimedOut(id) => return Err(no_response(id)),
-//!         StunAgentPollRet::TransactionCancelled(id) => return Err(cancelled(id)),
-//!     };
-//!     let Some((bytes, from)) = socket.receive(until) else { continue };
-//!     // Drop everything but a response to an outstanding request that was sent to this address.
-//!     let Ok(message) = Message::from_bytes(&bytes) else { continue };
-//!     let id = message.transaction_id();
-//!     let Some(asked) = agent.request_transaction(id) else { continue };
-//!     if !message.is_response() || asked.peer_address() != from { continue }
-//!     // Authenticate the response first, and drop it if it is forged.
-//!     let verdict = match authenticator.validate_incoming_message(&message) {
-//!         Ok(verdict) => verdict,
-//!         Err(error) => match error.reason() {
-//!             LongTermClientAuthErrorReason::IntegrityFailed => continue,
-//!             _ => return Err(refused(error)),
-//!         },
-//!     };
-//!     // Only then pass it to the agent.
-//!     agent.handle_stun_message_with_time(&message, from, clock.now())?;
-//!     match verdict {
-//!         // The server challenges the client, which answers with another request.
-//!         LongTermClientValidation::ResendRequest(_) => is_to_ask = true,
-//!         // This is the server's response, a success or an error.
-//!         LongTermClientValidation::Validated(_) => return Ok(message),
-//!     }
-//! }
-//! ```
-//!
 //! You own the socket, the clock and the source of random numbers. After every call that can change
-//! the agent, call both polls again: `poll_transmit` until it returns `None`, and then `poll`.
-//! Their order matters, because only `poll_transmit` advances the retransmission timers. A loop
-//! that calls `poll` alone never retransmits and never times out. The test
-//! `rust/checks/src/api/client_loop.rs` runs the loop above.
+//! the agent, call both polls again: `poll_transmit` until it returns `None`, and then `poll`,
+//! because only the former advances the timers. `rust/checks/src/api/client_loop.rs` is a whole
+//! loop, and docs/PARTS.md gives its steps.
 ghost use Rattle.std.specs.Prelude.{◌≡◌};
 ghost use Rattle.std.specs.Borrow.{sem};
 ghost use Rattle.std.specs.Option.{option_copied, option_copied_mut};
 ghost use Rattle.stun_agent.specs.Agent.{Agent};
 
 pub use crate::calls::builder::StunAgentBuilder;
-#[doc(hidden)]
-pub use crate::calls::poll::reads::Reads;
 pub use crate::calls::request::{StunRequest, StunRequestMut};
 pub use crate::calls::transmit::Transmit;
 pub use crate::error::{NoRoom, StunError};
+#[doc(hidden)]
+pub use crate::poll::reads::Reads;
 use crate::state::outstanding::Outstanding;
 pub use crate::state::rto::RequestRto;
 use crate::stats::StunAgentStats;

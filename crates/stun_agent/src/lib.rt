@@ -7,5 +7,6 @@ mod calls;
 pub mod derives;
 mod error;
 pub mod laws;
+mod poll;
 mod state;
 pub mod stats;

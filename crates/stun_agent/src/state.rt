@@ -1,10 +1,9 @@
 //! What an agent keeps between calls: the outstanding requests, each with its timeouts.
 
 pub(crate) mod address;
-pub(crate) mod awaited;
 pub(crate) mod outstanding;
 pub(crate) mod rto;
-pub(crate) mod search;
+mod search;
 pub(crate) mod timeouts;
 pub(crate) mod transaction;
-pub(crate) mod tree;
+mod tree;

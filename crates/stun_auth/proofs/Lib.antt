@@ -16,6 +16,7 @@ pub mod KeptPlaces
 pub mod LeastNames
 pub mod ListSteps
 pub mod Maps
+pub mod MarkedNonces
 pub mod MeantUser
 pub mod NoOracle
 pub mod NonceBits

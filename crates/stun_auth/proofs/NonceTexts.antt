@@ -24,7 +24,7 @@ in_front : (b : ℕ) (bytes : List ℕ) → b < 128 → IsAscii bytes → IsAsci
 in_front b bytes small ascii zero = small
 in_front b bytes small ascii (suc i) = ascii i
 
-all_small : List ℕ → Bool
+unfoldable pub all_small : List ℕ → Bool
 all_small [] = true
 all_small (b ∷ bytes) = nat_lt b 128 && all_small bytes
 
@@ -32,7 +32,7 @@ both : (a b : Bool) → (a && b) ≡ true → (a ≡ true) × (b ≡ true)
 both true b h = (refl, h)
 both false b h = cc
 
-from_small : (bytes : List ℕ) → all_small bytes ≡ true → IsAscii bytes
+pub from_small : (bytes : List ℕ) → all_small bytes ≡ true → IsAscii bytes
 unfolding all_small
 from_small [] h = IsAscii-nil
 from_small (b ∷ bytes) h =
@@ -51,7 +51,7 @@ small_letter n h =
           ] refl
     ] refl
 
-letters : (words : List ℕ) → IsAscii (map letter words)
+pub letters : (words : List ℕ) → IsAscii (map letter words)
 letters [] = IsAscii-nil
 letters (word ∷ words) =
     in_front (letter word) (map letter words) (small_letter (word % 62) (mod-lt word (omega arith)))

@@ -1,19 +1,7 @@
 //! The server side of long-term authentication (RFC 8489, section 9.2.4).
 //!
-//! For each datagram that is a request, a server does the following (docs/PARTS.md gives the
-//! reasons):
-//!
-//! 1. It calls `validate_incoming_message` with the source address, the current time and a source
-//!    of random numbers.
-//! 2. On `Validated` it asks `client` for the user who sent the request, and builds a success or an
-//!    error response. If the request is refused, it builds an error response: 401 for
-//!    `Unauthorized`, 438 for `StaleNonce`, 400 or 438 for `BadRequest`.
-//! 3. It calls `sign_outgoing_message`, which adds nonce, realm and signature to the response. Only
-//!    the 400 of a request that failed authentication, which was refused with `BadRequest`, goes
-//!    out as it is.
-//! 4. It calls `remove_client`, because each request brings its own credentials.
-//!
-//! Every few seconds it calls `forget_expired` or `forget_expired_within`.
+//! docs/PARTS.md gives the steps of a server and the reason for each, and
+//! `rust/checks/src/api/server_loop.rs` is a whole loop.
 //!
 //! A server that stores nothing about its clients calls `nonce_of_words`, `judge` and
 //! `add_challenge` instead.

@@ -1,2 +1,4 @@
 -- Lemmas of the crate.
 pub mod BodyLemmas
+mod KeyLemmas
+mod ReplyLemmas

@@ -22,8 +22,8 @@ use Rattle.stun_numbers.specs.declared.refusal.Refusal.TheVariants.{BufferTooSma
 use Rattle.stun_numbers.specs.declared.refusal.Refusal.TheVariants.{MessageTooLong}
 use Rattle.stun_numbers.specs.declared.refusal.Refusal.TheVariants.{OutOfMemory, WrongHandle}
 use Rattle.stun_c_endpoint.specs.Attributes.{Reads}
-use Rattle.stun_c_endpoint.specs.Events.{EVENT_SIZE, drop_told, drops_told, ended_told, sent_told}
-use Rattle.stun_c_endpoint.specs.Events.{wait_told}
+use Rattle.stun_c_endpoint.specs.Events.{EVENT_SIZE, drop_told, drops_told, ended_told, event_unless}
+use Rattle.stun_c_endpoint.specs.Events.{sent_told, wait_told}
 use Rattle.stun_c_endpoint.specs.Kept.{at_handle}
 use Rattle.stun_c_endpoint.specs.declared.client.event.Dropped.{Dropped as DroppedTold}
 use Rattle.stun_c_endpoint.specs.declared.client.event.Event.{Event}
@@ -182,7 +182,8 @@ WritesTold false bytes number result out out' =
 -- what a client says is written
 abbrev pub Tells : Endpoint → Told → ℤ → List ℕ → List ℕ → Event → Event → Type 0
 Tells e told result out out' v v' =
-    (v' ≡ event_told e told v)
+    (v' ≡ event_unless (nat_lt (length out) (length (bytes_told e told)))
+    (length (bytes_told e told)) (event_told e told v))
     × WritesTold (nat_lt (length out) (length (bytes_told e told))) (bytes_told e told)
     (event_number told) result out out'
 

@@ -21,7 +21,7 @@ use Rattle.stun_numbers.specs.Refusals.{refusal_number}
 use Rattle.stun_numbers.specs.declared.refusal.Refusal.{Refusal}
 use Rattle.stun_numbers.specs.declared.refusal.Refusal.TheVariants.{BadArgument, NotText}
 use Rattle.stun_numbers.specs.declared.refusal.Refusal.TheVariants.{TextTooLong}
-use Rattle.stun_c_endpoint.specs.Given.{Makes, if_any}
+use Rattle.stun_c_endpoint.specs.Given.{Makes, if_any, is_repeated}
 use Rattle.stun_c_endpoint.specs.declared.client.settings.ClientOptions.{ClientOptions}
 use Rattle.stun_c_endpoint.specs.declared.client.settings.TheConstants.{UNDERSTOOD}
 use Rattle.stun_c_endpoint.specs.declared.handle.endpoint.Kept.{Kept}
@@ -82,6 +82,11 @@ is_out_of_range user o =
     || (user && nat_lt 1 o.credentials
     || user && (o.credentials == 1) && (o.algorithms == 3)))
 
+-- whether there is a name without a password, or a password without a name
+abbrev pub is_half_user : List ℕ → List ℕ → Bool
+is_half_user name password =
+    if has_user name then length password == 0 else not (length password == 0)
+
 -- ---- the timers
 
 abbrev pub transport_given : Bool → TransportType
@@ -104,7 +109,9 @@ agent_given server o = record (new_agent (transport_given o.is_stream) server) {
 -- why no client is made at an address, the first reason that holds
 unfoldable pub client_refusal : ClientGiven → Option Refusal
 client_refusal g =
-    if is_out_of_range (has_user g.name) g.options then Some BadArgument
+    if is_out_of_range (has_user g.name) g.options
+    || (is_half_user g.name g.password || is_repeated g.seed)
+    then Some BadArgument
     else if not (is_utf8 g.name && is_utf8 g.password && is_utf8 g.software) then Some NotText
     else if nat_lt USERNAME_LIMIT (length g.name) || nat_lt TEXT_LIMIT (length g.software)
     then Some TextTooLong
@@ -113,7 +120,7 @@ client_refusal g =
 -- the client of what is given, of the server at an address
 abbrev pub client_given : ClientGiven → SocketAddr → Endpoint
 client_given g server =
-    new_endpoint (agent_given server g.options) server
+    new_endpoint (agent_given server g.options) server g.options.requires_fingerprint
     (identity_given g.name g.password g.options)
     (record { software = if_any g.software; has_fingerprint = g.options.has_fingerprint })
     (types_of g.understood ++ UNDERSTOOD) (or_else g.options.challenges 6) g.seed

@@ -1,11 +1,12 @@
 -- What a client is to do next, as a caller in C gets it.
-use Rattle.std.specs.Prelude.{ℕ, length, Option, Some, None}
+use Rattle.std.specs.Prelude.{ℕ, length, Bool, true, false, ◌==◌, if◌then◌else◌, Option, Some, None}
 use Rattle.std.specs.Option.{option_map_or}
 use Rattle.stun_client.specs.declared.judged.Outcome.{Outcome}
 use Rattle.stun_client.specs.declared.judged.Outcome.TheVariants.{Malformed, NotUnderstood}
 use Rattle.stun_client.specs.declared.judged.Outcome.TheVariants.{Redirected, Refused, Success}
 use Rattle.stun_client_endpoint.specs.Ends.{Ended}
 use Rattle.stun_client_endpoint.specs.declared.ended.DropReason.{DropReason}
+use Rattle.stun_client_endpoint.specs.declared.ended.DropReason.TheVariants.{MissingFingerprint}
 use Rattle.stun_client_endpoint.specs.declared.ended.DropReason.TheVariants.{NotVerified}
 use Rattle.stun_client_endpoint.specs.declared.ended.DropReason.TheVariants.{OutOfMemory}
 use Rattle.stun_client_endpoint.specs.declared.ended.DropReason.TheVariants.{UnanswerableChallenge}
@@ -15,17 +16,18 @@ use Rattle.stun_client_endpoint.specs.declared.ended.Drops.{Drops}
 use Rattle.stun_client_endpoint.specs.declared.ended.RequestEnd.{RequestEnd}
 use Rattle.stun_client_endpoint.specs.declared.ended.RequestEnd.TheVariants.{Answered, Cancelled}
 use Rattle.stun_client_endpoint.specs.declared.ended.RequestEnd.TheVariants.{TimedOut, Unauthorized}
-use Rattle.stun_c_endpoint.specs.Told.{integrity_number}
+use Rattle.stun_c_endpoint.specs.Told.{FAILED, integrity_number}
 use Rattle.stun_c_endpoint.specs.declared.client.event.Dropped.{Dropped}
 use Rattle.stun_c_endpoint.specs.declared.client.event.Event.{Event}
 
 -- how many bytes a caller's event has, with which it begins
 abbrev pub EVENT_SIZE : ℕ
-EVENT_SIZE = 64
+EVENT_SIZE = 72
 
 -- the numbers of the reasons to drop a response
 abbrev pub drop_told : DropReason → ℕ
 drop_told WrongFingerprint = 3
+drop_told MissingFingerprint = 13
 drop_told NotVerified = 9
 drop_told UnanswerableChallenge = 10
 drop_told WeakerChallenge = 11
@@ -53,11 +55,26 @@ event_blank kind e = record {
   request = 0;
   until = 0;
   length = 0;
+  needed = 0;
   code = 0;
   not_understood = 0;
   signed_by = 0;
   dropped = nothing_dropped;
 }
+
+-- what a caller gets where a call fails: no kind of before, and no length. Of a struct of another size
+-- only these two fields are written, which it has in each release
+abbrev pub event_failed : Event → Event
+event_failed e = record (if e.size == EVENT_SIZE then event_blank FAILED e else e) {
+  size = e.size;
+  kind = FAILED;
+  length = 0;
+}
+
+-- an event whose bytes are lost: all else is told
+abbrev pub event_unless : Bool → ℕ → Event → Event
+event_unless true count e = record e { kind = FAILED; length = 0; needed = count }
+event_unless false count e = e
 
 abbrev pub wait_told : ℕ → Event → Event
 wait_told until e = record (event_blank 0 e) { until = until }

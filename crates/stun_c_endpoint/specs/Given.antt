@@ -1,7 +1,8 @@
 -- The settings of a server as a caller in C gives them, and the server of them.
 use Rattle.std.specs.Prelude.{◌≡◌, ℕ, ℤ, pos, MatchOption, List, ◌++◌, Bool, ◌&&◌, ◌||◌, ◌==◌, not, length, nat_lt}
-use Rattle.std.specs.Prelude.{if◌then◌else◌, Option, Some, None, IfNone, IfSome}
-use Rattle.std.specs.Str.{is_utf8}
+use Rattle.std.specs.Prelude.{if◌then◌else◌, Option, Some, None, IfNone, IfSome, false}
+use Rattle.std.specs.Prelude.{replicate, slice_index}
+use Rattle.std.specs.Str.{bytes_eq, is_utf8}
 use Rattle.stun_types.specs.Limits.{TEXT_LIMIT}
 use Rattle.stun_extra.specs.Unknown.{types_of}
 use Rattle.stun_endpoint.specs.Realm.{algorithms_for, feature_for}
@@ -27,6 +28,7 @@ pub record Given : Type 0 where
   pub algorithms : ℕ
   pub anonymous_username : ℕ
   pub answers_binding : Bool
+  pub requires_fingerprint : Bool
 
 -- how long a nonce is sent: an hour, unless another time is given
 abbrev pub nonce_seconds : ℕ → ℕ
@@ -39,16 +41,34 @@ has_sha1 number = not (number == 2)
 abbrev pub has_sha256 : ℕ → Bool
 has_sha256 number = not (number == 1)
 
+-- whether 32 bytes are one byte that is repeated, and so are none that were drawn at random
+abbrev pub is_repeated : List ℕ → Bool
+is_repeated bytes = bytes_eq bytes (replicate 32 (slice_index bytes 0))
+
+-- whether a previous secret is one that was never in use
+abbrev pub is_wrong_previous : List ℕ → Option (List ℕ) → Bool
+is_wrong_previous secret None = false
+is_wrong_previous secret (Some previous) = is_repeated previous || bytes_eq previous secret
+
+-- the longest time in seconds for which a nonce is sent: 30 days
+abbrev pub LONGEST_NONCE_LIFETIME : ℕ
+LONGEST_NONCE_LIFETIME = 2592000
+
 -- whether a number is none that is taken
 abbrev pub is_out_of_range : Given → Bool
 is_out_of_range g =
     nat_lt 3 g.algorithms || (nat_lt 2 g.anonymous_username
-    || nat_lt (nonce_seconds g.nonce_seconds) 30)
+    || (nat_lt (nonce_seconds g.nonce_seconds) 30
+    || nat_lt LONGEST_NONCE_LIFETIME (nonce_seconds g.nonce_seconds)))
+
+-- whether a secret is none that is taken
+abbrev pub is_wrong_secret : Given → Bool
+is_wrong_secret g = is_repeated g.secret || is_wrong_previous g.secret g.previous_secret
 
 -- why no server is made, the first reason that holds
 abbrev pub given_refusal : Given → Option Refusal
 given_refusal g =
-    if is_out_of_range g then Some BadArgument
+    if is_out_of_range g || is_wrong_secret g then Some BadArgument
     else if not (is_utf8 g.realm && is_utf8 g.software) then Some NotText
     else if nat_lt TEXT_LIMIT (length g.realm) || nat_lt TEXT_LIMIT (length g.software)
     then Some TextTooLong
@@ -70,6 +90,7 @@ server_given g = record {
   known = types_of g.understood ++ STUN_ATTRIBUTES;
   software = if_any g.software;
   answers_binding = g.answers_binding;
+  requires_fingerprint = g.requires_fingerprint;
 }
 
 -- what a caller gives of a server without a realm
@@ -77,6 +98,7 @@ pub record GivenAlone : Type 0 where
   pub software : List ℕ
   pub understood : List ℕ
   pub answers_binding : Bool
+  pub requires_fingerprint : Bool
 
 -- why no such server is made, the first reason that holds
 abbrev pub alone_refusal : GivenAlone → Option Refusal
@@ -91,6 +113,7 @@ responding_given g = record {
   known = types_of g.understood ++ STUN_ATTRIBUTES;
   software = if_any g.software;
   answers_binding = g.answers_binding;
+  requires_fingerprint = g.requires_fingerprint;
 }
 
 -- a handle that has a value is refused, and left

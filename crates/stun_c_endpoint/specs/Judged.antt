@@ -31,6 +31,7 @@ use Rattle.stun_numbers.specs.declared.refusal.Refusal.{Refusal}
 use Rattle.stun_numbers.specs.declared.refusal.Refusal.TheVariants.{BadArgument, BufferTooSmall}
 use Rattle.stun_numbers.specs.declared.refusal.Refusal.TheVariants.{OutOfMemory}
 use Rattle.stun_c_endpoint.specs.Checks.{check_given}
+use Rattle.stun_c_endpoint.specs.Told.{FAILED}
 use Rattle.stun_c_endpoint.specs.declared.handle.endpoint.Kept.{Kept}
 use Rattle.stun_c_endpoint.specs.declared.handle.endpoint.Kept.TheVariants.{Checker}
 use Rattle.stun_c_endpoint.specs.declared.ice.told.IceCheck.{IceCheck}
@@ -40,7 +41,7 @@ use Rattle.stun_c_endpoint.specs.declared.ice.told.IceReceived.{IceReceived}
 
 -- the bytes of what a caller gets, with which it begins
 abbrev pub ICE_RECEIVED_SIZE : ℕ
-ICE_RECEIVED_SIZE = 64
+ICE_RECEIVED_SIZE = 72
 
 -- what a datagram comes to: the agent that it leaves, and what the caller is given
 pub record Seen : Type 0 where
@@ -94,7 +95,17 @@ ice_blank kind r = record {
   nominated = false;
   switched = false;
   length = 0;
+  needed = 0;
   mapped = start_for None;
+}
+
+-- what a caller gets where a call fails: no kind of before, and no length. Of a struct of another size
+-- only these two fields are written, which it has in each release
+abbrev pub ice_failed : IceReceived → IceReceived
+ice_failed r = record (if r.size == ICE_RECEIVED_SIZE then ice_blank FAILED r else r) {
+  size = r.size;
+  kind = FAILED;
+  length = 0;
 }
 
 -- what a check of the peer comes to
@@ -166,7 +177,7 @@ missing_room room (indicated bytes) = None
 missing_room room (dropped why) = None
 
 -- a call returns the number of what a datagram comes to, and leaves the agent, the answer and what
--- is told of it; but if the answer has no room its length is told, and nothing else
+-- is told of it; but if the answer has no room, how much it needs is told, and nothing else
 abbrev pub LeavesSeen : Option ℕ → Seen → ℤ → List ℕ → List ℕ → IceReceived → IceReceived
     → Option Kept → Option Kept → Type 0
 LeavesSeen None s result out out' r r' before now =
@@ -175,7 +186,7 @@ LeavesSeen None s result out out' r r' before now =
     × (now ≡ Some (Checker s.agent))
 LeavesSeen (Some missing) s result out out' r r' before now =
     (result ≡ refusal_number BufferTooSmall) × (out' ≡ out)
-    × (r' ≡ record r { length = missing }) × (now ≡ before)
+    × (r' ≡ record r { needed = missing }) × (now ≡ before)
 
 abbrev pub LeavesUnseen : Refusal → ℤ → List ℕ → List ℕ → IceReceived → IceReceived
     → Option Kept → Option Kept → Type 0

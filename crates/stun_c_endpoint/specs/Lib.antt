@@ -8,6 +8,8 @@ pub mod Given
 pub mod Users
 -- what a datagram comes to, as a caller gets it
 pub mod Told
+-- whose key signs the response to a request
+pub mod Replies
 -- what one comes to before its user is looked up
 pub mod Lookups
 -- why one is refused, as a caller gets it

@@ -4,8 +4,12 @@ use Rattle.std.specs.Prelude.{drop, take, nat_lt, if◌then◌else◌, Option, S
 use Rattle.std.specs.Prelude.{replicate}
 use Rattle.byteorder.specs.Endian.{big_bytes}
 use Rattle.std.specs.Option.{option_map, option_map_or}
+use Rattle.sha1.specs.Sha1.{sha1}
+use Rattle.sha2.specs.Sha256.{sha256}
 use Rattle.stun_auth.specs.Seen.{ClientSeen}
 use Rattle.stun_base.specs.declared.keys.algorithm.IntegrityAlgorithm.{IntegrityAlgorithm}
+use Rattle.stun_base.specs.declared.keys.algorithm.IntegrityAlgorithm.TheVariants.{Sha1, Sha256}
+use Rattle.stun_base.specs.Hmac.{block_of, key_block, short_key}
 use Rattle.stun_base.specs.Header.{type_field}
 use Rattle.stun_base.specs.MessageType.{method_of}
 use Rattle.stun_endpoint.specs.Answers.{Signature}
@@ -20,6 +24,7 @@ use Rattle.stun_endpoint.specs.ShortTerm as short
 use Rattle.stun_endpoint.specs.Refusals.{code_of}
 use Rattle.stun_endpoint.specs.declared.received.DropReason.{DropReason}
 use Rattle.stun_endpoint.specs.declared.received.DropReason.TheVariants.{NotStun, Malformed}
+use Rattle.stun_endpoint.specs.declared.received.DropReason.TheVariants.{MissingFingerprint}
 use Rattle.stun_endpoint.specs.declared.received.DropReason.TheVariants.{WrongFingerprint}
 use Rattle.stun_endpoint.specs.declared.received.DropReason.TheVariants.{UnknownAttribute}
 use Rattle.stun_endpoint.specs.declared.received.Refusal.{Refusal as Refused}
@@ -53,6 +58,7 @@ drop_number NotStun = 1
 drop_number Malformed = 2
 drop_number WrongFingerprint = 3
 drop_number UnknownAttribute = 4
+drop_number MissingFingerprint = 13
 
 -- the number of one more: an indication that no user has signed (section 9.1.3)
 abbrev pub NOT_SIGNED : ℕ
@@ -93,7 +99,7 @@ outcome_by (openly s) from seconds bytes = of_open (received_openly s from bytes
 
 -- the bytes of what a caller gets, with which it begins
 abbrev pub RECEIVED_SIZE : ℕ
-RECEIVED_SIZE = 640
+RECEIVED_SIZE = 648
 
 -- the greatest time: the year 36812. A greater number is one of nanoseconds
 abbrev pub LAST_SECOND : ℕ
@@ -114,10 +120,6 @@ outcome_at (Ok judge) from seconds bytes r =
 abbrev pub code_told : Option Refused → ℕ
 code_told None = 0
 code_told (Some refusal) = code_of refusal
-
--- the longest key that a reply has room for
-abbrev pub KEY_ROOM : ℕ
-KEY_ROOM = 64
 
 -- the longest name that is told, and the place for it
 abbrev pub NAME_ROOM : ℕ
@@ -143,13 +145,29 @@ integrity_of by = option_map (λ (s : Signature). s.algorithm) by
 abbrev pub key_of : Option Signature → List ℕ
 key_of by = option_map_or (λ (s : Signature). s.key) by []
 
+-- the hash function of an algorithm
+abbrev pub hash_by : IntegrityAlgorithm → List ℕ → List ℕ
+hash_by Sha1 bytes = sha1 bytes
+hash_by Sha256 bytes = sha256 bytes
+
+-- the key as one block of HMAC, which is what a reply has room for: the hash of a key that is longer
+-- than a block stands for it (RFC 2104, section 2). Without a signature there is no key
+abbrev pub block_told : Option IntegrityAlgorithm → List ℕ → List ℕ
+block_told None key = block_of []
+block_told (Some algorithm) key = key_block (hash_by algorithm) key
+
+-- how many bytes of the block are the key, or the hash of it
+abbrev pub key_length_told : Option IntegrityAlgorithm → List ℕ → ℕ
+key_length_told None key = 0
+key_length_told (Some algorithm) key = length (short_key (hash_by algorithm) key)
+
 -- the reply as a caller gets it: plain data
 abbrev pub reply_told : TheReply → Reply
 reply_told y = record {
   id = big_bytes 12 y.id;
-  key = at_front KEY_ROOM KEY_ROOM (key_of y.ending.signature);
+  key = block_told (integrity_of y.ending.signature) (key_of y.ending.signature);
   method = y.method;
-  key_length = min (length (key_of y.ending.signature)) KEY_ROOM;
+  key_length = key_length_told (integrity_of y.ending.signature) (key_of y.ending.signature);
   integrity = integrity_number (integrity_of y.ending.signature);
   has_fingerprint = y.ending.has_fingerprint;
 }
@@ -163,8 +181,22 @@ blank kind r = record r {
   method = 0;
   algorithm = 0;
   length = 0;
+  needed = 0;
   name_length = 0;
   is_hash = false;
+}
+
+-- the kind of what a caller gets where a call fails
+abbrev pub FAILED : ℕ
+FAILED = 7
+
+-- what a caller gets where a call fails: no kind of before, and no length. Of a struct of another size
+-- only these two fields are written, which it has in each release
+abbrev pub failed : Received → Received
+failed r = record (if r.size == RECEIVED_SIZE then blank FAILED r else r) {
+  size = r.size;
+  kind = FAILED;
+  length = 0;
 }
 
 -- who signed a message: the name in full, and the algorithm
@@ -205,17 +237,17 @@ room_refusal room (requested client reply) = None
 room_refusal room (indicated client m) = None
 room_refusal room (responded m) = None
 
--- how many bytes a response has; then they are told, and nothing else
-abbrev pub length_told : AnyOutcome → Received → Received
-length_told (dropped why code) r = r
-length_told (answered a) r = record r { length = length a.bytes }
-length_told (requested client reply) r = r
-length_told (indicated client m) r = r
-length_told (responded m) r = r
+-- how many bytes a response has that has no room; nothing else is told
+abbrev pub need_told : AnyOutcome → Received → Received
+need_told (dropped why code) r = r
+need_told (answered a) r = record r { needed = length a.bytes }
+need_told (requested client reply) r = r
+need_told (indicated client m) r = r
+need_told (responded m) r = r
 
 abbrev pub told_unless : Option Refusal → AnyOutcome → Received → Received
 told_unless None outcome r = told_of outcome r
-told_unless (Some refusal) outcome r = length_told outcome r
+told_unless (Some refusal) outcome r = need_told outcome r
 
 -- the response of what a datagram comes to
 abbrev pub response_of : AnyOutcome → List ℕ → List ℕ

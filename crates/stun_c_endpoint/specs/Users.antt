@@ -1,5 +1,6 @@
 -- What the calls on a table of users leave, and why they refuse (RFC 8489, section 9.2.2).
-use Rattle.std.specs.Prelude.{◌≡◌, ℕ, ℤ, pos, List, length, nat_lt, if◌then◌else◌, Option, Some, None}
+use Rattle.std.specs.Prelude.{◌≡◌, ◌==◌, ℕ, ℤ, pos, List, length, nat_lt, if◌then◌else◌, Option}
+use Rattle.std.specs.Prelude.{Some, None}
 use Rattle.std.specs.Prelude.{Result, Ok, Err}
 use Rattle.std.specs.FinMap as map
 use Rattle.stun_endpoint.specs.Realm.{table_of}
@@ -12,7 +13,8 @@ use Rattle.stun_handles.specs.Keys.{key_given, keys_given}
 use Rattle.stun_handles.specs.Numbers.{OrOutOfMemory}
 use Rattle.stun_numbers.specs.Refusals.{refusal_number, refusal_or}
 use Rattle.stun_numbers.specs.declared.refusal.Refusal.{Refusal}
-use Rattle.stun_numbers.specs.declared.refusal.Refusal.TheVariants.{TextTooLong, WrongHandle}
+use Rattle.stun_numbers.specs.declared.refusal.Refusal.TheVariants.{BadArgument, TextTooLong}
+use Rattle.stun_numbers.specs.declared.refusal.Refusal.TheVariants.{WrongHandle}
 use Rattle.stun_c_endpoint.specs.declared.handle.endpoint.Kept.{Kept}
 use Rattle.stun_c_endpoint.specs.declared.handle.endpoint.Kept.TheVariants.{Checker, Server, Users}
 use Rattle.stun_c_endpoint.specs.declared.handle.endpoint.Kept.TheVariants.{Open, ShortTerm}
@@ -22,16 +24,21 @@ use Rattle.stun_c_endpoint.specs.declared.handle.endpoint.Kept.TheVariants.{Clie
 abbrev pub name_refusal : List ℕ → Option Refusal
 name_refusal name = if nat_lt USERNAME_LIMIT (length name) then Some TextTooLong else None
 
+-- a password without bytes is one that was never set
+abbrev pub password_refusal : List ℕ → Option Refusal
+password_refusal password = if length password == 0 then Some BadArgument else None
+
 -- a table with a user of a password
 abbrev pub added : ServerSeen → List ℕ → List ℕ → ServerSeen
 added u name password = record u {
   registered = with_user u.registered (record { username = name; password = password });
 }
 
--- what is left of a table to which a user is added, unless the texts are refused
+-- what is left of a table to which a user is added, unless the texts are refused, the password last
 abbrev pub unless_refused : List ℕ → List ℕ → Kept → Result Kept Refusal
 unless_refused name password table =
-    refusal_or (texts_refusal name password) (refusal_or (name_refusal name) (Ok table))
+    refusal_or (texts_refusal name password)
+    (refusal_or (name_refusal name) (refusal_or (password_refusal password) (Ok table)))
 
 -- the same of each kind of table. With short-term credentials the key is the password (section 9.1.1)
 abbrev pub adding : List ℕ → List ℕ → Kept → Result Kept Refusal

@@ -8,6 +8,7 @@ mod calls;
 mod client;
 mod handle;
 mod ice;
+pub mod laws;
 mod received;
 mod release;
 mod server;

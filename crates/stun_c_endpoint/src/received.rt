@@ -1,15 +1,22 @@
 //! The result of judging a datagram, as a caller in C receives it.
 
-ghost use Rattle.std.specs.Prelude.{◌≡◌, ◌≤◌, None, Some};
+ghost use Rattle.std.specs.Prelude.{◌≡◌, ◌≤◌, None, Some, length};
 ghost use Rattle.byteorder.specs.Endian.{big_bytes};
+ghost use Rattle.sha1.specs.Sha1.{sha1};
+ghost use Rattle.sha2.specs.Sha256.{sha256};
+ghost use Rattle.stun_base.specs.Hmac.{block_of, key_block, short_key};
 ghost use Rattle.stun_endpoint.specs.Refusals.{code_of};
 ghost use Rattle.stun_c_endpoint.specs.Told.{NOT_SIGNED, at_front, blank, signer_told, drop_number};
-ghost use Rattle.stun_c_endpoint.specs.Told.{dropped, indicated, integrity_number, requested};
+ghost use Rattle.stun_c_endpoint.specs.Told.{dropped, failed, indicated, integrity_number};
+ghost use Rattle.stun_c_endpoint.specs.Told.{requested};
 ghost use Rattle.stun_c_endpoint.specs.Lookups.{lookup_told, named_told};
-ghost use Rattle.stun_c_endpoint.specs.Told.{reply_told, responded, told_of};
+ghost use Rattle.stun_c_endpoint.specs.Told.{block_told, hash_by, key_length_told, reply_told};
+ghost use Rattle.stun_c_endpoint.specs.Told.{responded, told_of};
 ghost use Rattle.stun_auth.specs.Handed.{named_seen};
 
 use byteorder::{BigEndian, ByteOrder};
+use sha1::Sha1;
+use sha2::{Digest, Sha256};
 use std::alloc::Global;
 use stun_auth::auth::NamedUser;
 use stun_endpoint::lookup::Lookup;
@@ -19,8 +26,8 @@ use stun_endpoint::reply::Reply as EndpointReply;
 use stun_endpoint::short_term::ShortTermIndication;
 use stun_types::message::{IntegrityAlgorithm, Message, TransactionId};
 
-/// The longest key for which a reply has room.
-pub const KEY_ROOM: usize = 64;
+/// The size of a block of HMAC, which is the longest key for which a reply has room.
+const KEY_ROOM: usize = 64;
 
 /// The reason for an indication that no user has signed.
 const NOT_SIGNED: u32 = 8;
@@ -29,7 +36,10 @@ const NOT_SIGNED: u32 = 8;
 pub const NAME_ROOM: usize = 513;
 
 /// The size of the caller's struct, which begins with this number.
-pub const RECEIVED_SIZE: usize = 640;
+pub const RECEIVED_SIZE: usize = 648;
+
+/// The kind of a result after a call that failed.
+pub const FAILED: u32 = 7;
 
 /// The means to respond to one request. It is plain data, and owns nothing.
 #[repr(C)]
@@ -37,7 +47,8 @@ pub const RECEIVED_SIZE: usize = 640;
 pub struct Reply {
     /// The transaction ID.
     pub id: [u8; 12],
-    /// The key that signs a response, in the first bytes.
+    /// The key that signs a response, in the first bytes: that of the user, or its hash if it is
+    /// longer than a block of HMAC.
     pub key: [u8; 64],
     /// The method.
     pub method: u16,
@@ -67,6 +78,8 @@ pub struct Received {
     pub algorithm: u16,
     /// The length of the response.
     pub length: usize,
+    /// The length of a response that the buffer had no room for.
+    pub needed: usize,
     /// The length of the name.
     pub name_length: usize,
     /// The means to respond to the request.
@@ -108,17 +121,85 @@ pub fn integrity_number(algorithm: Option<IntegrityAlgorithm>) -> u8
     }
 }
 
+/// Returns the SHA-1 of some bytes.
+fn sha1_of(bytes: &[u8]) -> [u8; 20]
+    ensures { result ≡ sha1 bytes.now }
+{
+    let mut hasher = Sha1::new();
+    hasher.update(bytes);
+    hasher.finalize()
+}
+
+/// Returns the SHA-256 of some bytes.
+fn sha256_of(bytes: &[u8]) -> [u8; 32]
+    ensures { result ≡ sha256 bytes.now }
+{
+    let mut hasher = <Sha256 as Digest>::new();
+    hasher.update(bytes);
+    hasher.finalize()
+}
+
+/// A key as one block of HMAC, and how many bytes of it are the key.
+#[derive(Clone, Copy)]
+struct KeyBlock {
+    bytes: [u8; 64],
+    length: u8,
+}
+
+impl KeyBlock {
+    /// Fills up the block with zeros.
+    fn filled(key: &[u8]) -> KeyBlock
+        requires { length key.now ≤ 64 }
+        ensures bytes { result.bytes ≡ block_of key.now }
+        ensures length { result.length ≡ length key.now }
+    {
+        let mut bytes = [0; KEY_ROOM];
+        bytes[..key.len()].copy_from_slice(key);
+        KeyBlock {
+            bytes,
+            length: key.len() as u8,
+        }
+    }
+
+    /// Converts the key of an algorithm. A key that is longer than a block is replaced by its hash
+    /// (RFC 2104, section 2).
+    fn of(algorithm: IntegrityAlgorithm, key: &[u8]) -> KeyBlock
+        ensures bytes { result.bytes ≡ key_block (hash_by algorithm) key.now }
+        ensures length { result.length ≡ length (short_key (hash_by algorithm) key.now) }
+    {
+        if key.len() <= KEY_ROOM {
+            return KeyBlock::filled(key);
+        }
+        match algorithm {
+            IntegrityAlgorithm::Sha1 => KeyBlock::filled(&sha1_of(key)),
+            IntegrityAlgorithm::Sha256 => KeyBlock::filled(&sha256_of(key)),
+        }
+    }
+
+    /// Converts the key that signs a response, if one does.
+    fn of_signature(algorithm: Option<IntegrityAlgorithm>, key: &[u8]) -> KeyBlock
+        ensures bytes { result.bytes ≡ block_told algorithm key.now }
+        ensures length { result.length ≡ key_length_told algorithm key.now }
+    {
+        match algorithm {
+            Some(algorithm) => KeyBlock::of(algorithm, key),
+            None => KeyBlock::filled(&[]),
+        }
+    }
+}
+
 impl Reply {
     /// Converts the means to respond to a request.
     fn of(reply: &EndpointReply<Global>) -> Reply
         ensures { result ≡ reply_told reply.now }
     {
-        let key = reply.key();
+        let block = KeyBlock::of_signature(reply.integrity(), reply.key());
+        let key = block.bytes;
         Reply {
             id: id_bytes(reply.transaction_id()),
-            key: front(key, KEY_ROOM),
+            key,
             method: reply.method().value(),
-            key_length: key.len().min(KEY_ROOM) as u8,
+            key_length: block.length,
             integrity: integrity_number(reply.integrity()),
             has_fingerprint: reply.has_fingerprint(),
         }
@@ -134,6 +215,7 @@ pub fn drop_number(why: DropReason) -> u32
         DropReason::Malformed => 2,
         DropReason::WrongFingerprint => 3,
         DropReason::UnknownAttribute => 4,
+        DropReason::MissingFingerprint => 13,
         // There is no other one in this release.
         _ => 0,
     }
@@ -150,8 +232,22 @@ impl Received {
         self.method = 0;
         self.algorithm = 0;
         self.length = 0;
+        self.needed = 0;
         self.name_length = 0;
         self.is_hash = false;
+    }
+
+    /// Sets that the call has failed, which holds until the result is set. A struct of another size
+    /// may lack the fields behind the length.
+    pub fn fails(&mut self)
+        ensures { self.new ≡ failed self.old }
+    {
+        if self.size == RECEIVED_SIZE {
+            self.begin(FAILED);
+        } else {
+            self.kind = FAILED;
+            self.length = 0;
+        }
     }
 
     /// Sets the result for a datagram that is dropped.

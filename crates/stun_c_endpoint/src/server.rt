@@ -40,7 +40,7 @@ fn code(refusal: Option<Refused>) -> u16
 }
 
 /// Writes a response to the front of the buffer, and its length to the result. If the buffer has no
-/// room for it, only the length is written.
+/// room for it, only the room that it needs is written.
 fn answered(
     answer: &Answer<Global>,
     out: &mut [u8],
@@ -51,7 +51,7 @@ fn answered(
 {
     let bytes = answer.bytes();
     if out.len() < bytes.len() {
-        received.length = bytes.len();
+        received.needed = bytes.len();
         return Err(Refusal::BufferTooSmall);
     }
     put(out, bytes);

@@ -3,12 +3,14 @@
 ghost use Rattle.std.specs.Option.{option_map};
 ghost use Rattle.std.specs.Prelude.{◌≡◌, ◌==◌, IfOk, None, Some};
 ghost use Rattle.std.specs.Prelude.{length, not, pos};
+ghost use Rattle.std.specs.Str.{bytes_eq};
 ghost use Rattle.std.specs.String.{string_bytes};
 ghost use Rattle.stun_extra.specs.Unknown.{types_of};
 ghost use Rattle.stun_handles.specs.Numbers.{OrOutOfMemory};
 ghost use Rattle.stun_c_endpoint.specs.Given.{MakesOpen, MakesServer, MakesShortTerm};
 ghost use Rattle.stun_c_endpoint.specs.Given.{alone_refusal, given_refusal, has_sha1, has_sha256};
-ghost use Rattle.stun_c_endpoint.specs.Given.{if_any, is_out_of_range, nonce_seconds};
+ghost use Rattle.stun_c_endpoint.specs.Given.{if_any, is_out_of_range, is_repeated};
+ghost use Rattle.stun_c_endpoint.specs.Given.{is_wrong_previous, is_wrong_secret, nonce_seconds};
 ghost use Rattle.stun_c_endpoint.specs.Given.{responding_given, server_given};
 ghost use Rattle.stun_c_endpoint.specs.code.Building.{Builds, RefusedFor};
 
@@ -16,6 +18,7 @@ use crate::handle::endpoint::{EndpointHandle, Kept};
 use std::alloc::{AllocError, Global};
 use std::marker::Model;
 use stun_base::attribute_type::AttributeType;
+use stun_base::compare::is_same_text;
 use stun_endpoint::open::OpenServer;
 use stun_endpoint::responder::ResponseSettings;
 use stun_endpoint::server::{DEFAULT_NONCE_LIFETIME, LongTerm, SHORTEST_NONCE_LIFETIME, Server};
@@ -37,6 +40,9 @@ const MOST_ALGORITHMS: u32 = 3;
 /// The greatest number for a feature: names are never hashed.
 const DISABLED: u32 = 2;
 
+/// The longest time in seconds for which a nonce is sent: 30 days.
+const LONGEST_NONCE_LIFETIME: u64 = 2_592_000;
+
 /// The arguments of a caller. Contracts see bytes and numbers.
 #[derive(Drop)]
 pub struct Given<'a> {
@@ -49,6 +55,7 @@ pub struct Given<'a> {
     pub algorithms: u32,
     pub anonymous_username: u32,
     pub answers_binding: bool,
+    pub requires_fingerprint: bool,
 }
 
 impl<'a> Model for Given<'a> {
@@ -66,6 +73,7 @@ impl<'a> Model for Given<'a> {
       algorithms = given.algorithms;
       anonymous_username = given.anonymous_username;
       answers_binding = given.answers_binding;
+      requires_fingerprint = given.requires_fingerprint;
     } };
 }
 
@@ -77,6 +85,31 @@ fn nonce_seconds(seconds: u64) -> u64
         return DEFAULT_NONCE_LIFETIME;
     }
     seconds
+}
+
+/// Returns `true` if two secrets are the same.
+fn is_same(one: &[u8; 32], other: &[u8; 32]) -> bool
+    ensures { result ≡ bytes_eq one.now other.now }
+{
+    is_same_text(one, other)
+}
+
+/// Returns `true` if the bytes are one byte that is repeated, which nobody has drawn at random.
+pub fn is_repeated(bytes: &[u8; 32]) -> bool
+    ensures { result ≡ is_repeated bytes.now }
+{
+    let first = [bytes[0]; 32];
+    is_same(bytes, &first)
+}
+
+/// Returns `true` if a previous secret was never in use: it is one repeated byte, or the secret.
+fn is_wrong_previous(secret: &[u8; 32], previous: &Option<[u8; 32]>) -> bool
+    ensures { result ≡ is_wrong_previous secret.now previous.now }
+{
+    match previous {
+        Some(previous) => is_repeated(previous) || is_same(previous, secret),
+        None => false,
+    }
 }
 
 /// Converts numbers to attribute types.
@@ -131,6 +164,14 @@ impl<'a> Given<'a> {
         self.algorithms > MOST_ALGORITHMS
             || self.anonymous_username > DISABLED
             || nonce_seconds(self.nonce_seconds) < SHORTEST_NONCE_LIFETIME
+            || nonce_seconds(self.nonce_seconds) > LONGEST_NONCE_LIFETIME
+    }
+
+    /// Returns `true` if a secret cannot be one that was drawn at random.
+    fn is_wrong_secret(&self) -> bool
+        ensures { result ≡ is_wrong_secret self.now }
+    {
+        is_repeated(&self.secret) || is_wrong_previous(&self.secret, &self.previous_secret)
     }
 
     /// Creates the settings, with the realm and the SOFTWARE text.
@@ -156,6 +197,8 @@ impl<'a> Given<'a> {
             ≡ types_of self.now.understood) }
         ensures binding { IfOk result (λ made. made.answers_binding
             ≡ self.now.answers_binding) }
+        ensures fingerprint { IfOk result (λ made. made.requires_fingerprint
+            ≡ self.now.requires_fingerprint) }
     {
         let software = text_if_any(alloc, software)?;
         let understood = types(alloc, self.understood)?;
@@ -170,6 +213,7 @@ impl<'a> Given<'a> {
             understood,
             software,
             answers_binding: self.answers_binding,
+            requires_fingerprint: self.requires_fingerprint,
         })
     }
 
@@ -188,7 +232,7 @@ impl<'a> Given<'a> {
     fn server(&self, alloc: Global) -> Result<Server<Global>, Refusal>
         ensures { Builds (given_refusal self.now) (server_given self.now) result }
     {
-        if self.is_out_of_range() {
+        if self.is_out_of_range() || self.is_wrong_secret() {
             return Err(Refusal::BadArgument);
         }
         let realm = text(self.realm)?;
@@ -211,6 +255,7 @@ pub struct GivenAlone<'a> {
     pub software: &'a [u8],
     pub understood: &'a [u16],
     pub answers_binding: bool,
+    pub requires_fingerprint: bool,
 }
 
 impl<'a> Model for GivenAlone<'a> {
@@ -222,6 +267,7 @@ impl<'a> Model for GivenAlone<'a> {
       software = given.software.now;
       understood = given.understood.now;
       answers_binding = given.answers_binding;
+      requires_fingerprint = given.requires_fingerprint;
     } };
 }
 
@@ -258,6 +304,8 @@ impl<'a> GivenAlone<'a> {
         ensures understood { IfOk result (λ made. made.understood.items
             ≡ types_of self.now.understood) }
         ensures binding { IfOk result (λ made. made.answers_binding ≡ self.now.answers_binding) }
+        ensures fingerprint { IfOk result (λ made. made.requires_fingerprint
+            ≡ self.now.requires_fingerprint) }
     {
         let software = text(self.software)?;
         if software.len() > TEXT_LIMIT {
@@ -268,6 +316,7 @@ impl<'a> GivenAlone<'a> {
             understood: types(alloc, self.understood)?,
             software,
             answers_binding: self.answers_binding,
+            requires_fingerprint: self.requires_fingerprint,
         })
     }
 

@@ -4,7 +4,8 @@ ghost use Rattle.std.specs.Prelude.{◌≡◌, IfErr, IfOk, MatchResult, Ok, Err
 ghost use Rattle.stun_handles.specs.Numbers.{done_answer};
 ghost use Rattle.stun_numbers.specs.Refusals.{refusal_or};
 ghost use Rattle.stun_c_endpoint.specs.Users.{LeavesTable, LeavesTableOr, adding, adding_keys};
-ghost use Rattle.stun_c_endpoint.specs.Users.{name_refusal, removing, table_for, with_stored};
+ghost use Rattle.stun_c_endpoint.specs.Users.{name_refusal, password_refusal, removing, table_for};
+ghost use Rattle.stun_c_endpoint.specs.Users.{with_stored};
 ghost use Rattle.stun_c_endpoint.specs.declared.handle.endpoint.Kept.TheVariants as kind;
 
 use crate::handle::endpoint::Kept;
@@ -24,6 +25,16 @@ fn check_name(name: &str) -> Result<(), Refusal>
 {
     if name.len() > USERNAME_LIMIT {
         return Err(Refusal::TextTooLong);
+    }
+    Ok(())
+}
+
+/// Fails with `BadArgument` if the password has no bytes.
+fn check_password(password: &str) -> Result<(), Refusal>
+    ensures { result ≡ refusal_or (password_refusal password.now) (Ok tt) }
+{
+    if password.is_empty() {
+        return Err(Refusal::BadArgument);
     }
     Ok(())
 }
@@ -68,6 +79,7 @@ fn add(
     let name = text(name)?;
     let password = text(password)?;
     check_name(name)?;
+    check_password(password)?;
     let name = copied(alloc, name)?;
     let credentials = LongTermCredentials::new(name, copied(alloc, password)?);
     Ok(users.add(credentials)?)
@@ -87,6 +99,7 @@ fn add_short_term(
     let name = text(name)?;
     let password = text(password)?;
     check_name(name)?;
+    check_password(password)?;
     let credentials = ShortTermCredentials::new(copied(alloc, password)?);
     Ok(users.add(copied(alloc, name)?, credentials)?)
 }

@@ -1,5 +1,5 @@
 //! Reading: everything that a command reads comes in through this module.
-ghost use Rattle.std.specs.Prelude.{◌≡◌, ◌≤◌, ◌+◌, ◌++◌, ◌↔◌, ◌⊎◌, ℕ, Bool, true, IfErr, IfOk};
+ghost use Rattle.std.specs.Prelude.{◌≡◌, ◌≢◌, ◌≤◌, ◌+◌, ◌++◌, ◌↔◌, ◌⊎◌, ℕ, Bool, true, IfErr, IfOk};
 ghost use Rattle.std.specs.Prelude.{IfSome, length};
 ghost use Rattle.std.specs.Io.{ReadsAtMost};
 ghost use Rattle.std.specs.Io.KnownBytes.{ReadConsumes};
@@ -96,6 +96,7 @@ pub fn read_to_end<R: CountedRead, A: Allocator>(
     ensures asked { R.asked reader.new ≤ R.asked reader.old + most_tries }
     ensures reason { IfErr result (λ failure. IsReason failure most (R.remaining reader.old)
         (R.asked reader.old) (R.asked reader.new) (R.failed reader.new)) }
+    ensures good { IfOk result (λ _. R.failed reader.new ≢ true) }
 {
     let mut bytes = Vec::new(alloc);
     let mut buffer = [0u8; READ_SIZE];

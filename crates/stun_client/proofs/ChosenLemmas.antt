@@ -8,8 +8,7 @@ use Rattle.stun_base.specs.Credentials.{NameAndPassword}
 use Rattle.stun_base.specs.declared.keys.algorithm.IntegrityAlgorithm.{IntegrityAlgorithm}
 use Rattle.stun_base.specs.declared.keys.algorithm.IntegrityAlgorithm.TheVariants.{Sha1, Sha256}
 use Rattle.stun_auth.specs.Algorithms.{algorithms_of, contains}
-use Rattle.stun_auth.specs.Client.{Challenge}
-use Rattle.stun_auth.specs.ClientStep.{is_required, naming_of, new_challenge}
+use Rattle.stun_auth.specs.ClientStep.{is_required, naming_of}
 use Rattle.stun_auth.specs.Feature.{is_possible}
 use Rattle.stun_auth.specs.Nonces.{asks_for_algorithms, asks_for_userhash}
 use Rattle.stun_auth.specs.Signed.{plain_name}
@@ -18,10 +17,12 @@ use Rattle.stun_auth.specs.declared.algorithm_set.AlgorithmSet.TheVariants.{Only
 use Rattle.stun_auth.specs.declared.algorithm_set.AlgorithmSet.TheVariants.{OnlySha256, Both}
 use Rattle.stun_auth.specs.declared.feature.Feature.{Feature}
 use Rattle.stun_auth.specs.declared.feature.Feature.TheVariants.{Auto, Required, Disabled}
+use Rattle.stun_client.specs.Challenge.{Challenge, new_challenge}
 use Rattle.stun_client.specs.Challenges.{IsOfMessage, by_rule, by_rule_if, challenge_of}
 use Rattle.stun_client.specs.Challenges.{list_for, list_kept}
 use Rattle.stun_client.specs.Challenging.{is_challenge, nonce_in, realm_in}
 use Rattle.stun_client.specs.Downgrade.{IsStrongestOfBoth}
+use Rattle.stun_client.specs.Offers.{algorithms_in}
 use Rattle.stun_client.specs.Preferences.{supports}
 use Rattle.stun_client.specs.Rule.{IsByRule, IsChosen, chosen, lacks_userhash}
 use Rattle.stun_client.specs.declared.preferences.Preferences.{Preferences}
@@ -71,13 +72,14 @@ strongest_found p Both a found there =
         }
 
 -- the list that a request repeats gives the same choice
-kept-same : (asks : Bool) (p : Preferences) (list : List IntegrityAlgorithm)
-    → cond asks (find (supports p) (cond asks list [])) (cond p.hmac_sha1 (Some Sha1) None)
-    ≡ cond asks (find (supports p) list) (cond p.hmac_sha1 (Some Sha1) None)
+kept-same : (asks : Bool) (p : Preferences) (list : List ℕ)
+    → cond asks (find (supports p) (algorithms_in (cond asks list [])))
+    (cond p.hmac_sha1 (Some Sha1) None)
+    ≡ cond asks (find (supports p) (algorithms_in list)) (cond p.hmac_sha1 (Some Sha1) None)
 kept-same true p list = refl
 kept-same false p list = refl
 
-pub chosen-kept : (p : Preferences) (nonce : List ℕ) (list : List IntegrityAlgorithm)
+pub chosen-kept : (p : Preferences) (nonce list : List ℕ)
     → chosen p nonce (list_kept nonce list) ≡ chosen p nonce list
 chosen-kept p nonce list = kept-same (asks_for_algorithms nonce) p list
 
@@ -101,11 +103,11 @@ must_hash Auto asks username realm has must = cc
 must_hash Disabled asks username realm has must = cc
 
 -- what the rule makes is by the rule
-new_by_rule : (p : Preferences) (who : NameAndPassword) (realm nonce : List ℕ)
-    (list : List IntegrityAlgorithm) (a : IntegrityAlgorithm)
+new_by_rule : (p : Preferences) (who : NameAndPassword) (realm nonce list : List ℕ)
+    (a : IntegrityAlgorithm)
     → lacks_userhash p nonce ≡ false → chosen p nonce list ≡ Some a
     → IsByRule p who
-    (new_challenge p.anonymous_username who realm nonce (Some (list_kept nonce list)) a)
+    (new_challenge p.anonymous_username who realm nonce (list_kept nonce list) a)
 new_by_rule p who realm nonce list a has is = record {
   algorithm = chosen-kept p nonce list ∙ is;
   naming = refl;
@@ -119,22 +121,22 @@ module _ (p : Preferences) (who : NameAndPassword) (before : Option Challenge) (
       → lacks_userhash p nonce ≡ false
       → (o : Option IntegrityAlgorithm) → chosen p nonce (list_for before bytes) ≡ o
       → option_map (new_challenge p.anonymous_username who realm nonce
-      (Some (list_kept nonce (list_for before bytes)))) o ≡ Some c
+      (list_kept nonce (list_for before bytes))) o ≡ Some c
       → IsByRule p who c × IsOfMessage before bytes c
   made realm nonce realm_is nonce_is has None is h = cc
   made realm nonce realm_is nonce_is has (Some a) is h =
       let list = list_for before bytes in
-      let same : new_challenge p.anonymous_username who realm nonce (Some (list_kept nonce list)) a
+      let same : new_challenge p.anonymous_username who realm nonce (list_kept nonce list) a
       ≡ c = cc in
       subst (λ (d : Challenge). IsByRule p who d × IsOfMessage before bytes d) same (
         new_by_rule p who realm nonce list a has is,
-        record { asks = asks; realm = realm_is; nonce = nonce_is; algorithms = refl },
+        record { asks = asks; realm = realm_is; nonce = nonce_is; offered = refl },
       )
 
   unless : (realm nonce : List ℕ) → realm_in bytes ≡ Some realm → nonce_in bytes ≡ Some nonce
       → (lacks : Bool) → lacks_userhash p nonce ≡ lacks
       → cond lacks None (option_map (new_challenge p.anonymous_username who realm nonce
-      (Some (list_kept nonce (list_for before bytes)))) (chosen p nonce (list_for before bytes)))
+      (list_kept nonce (list_for before bytes))) (chosen p nonce (list_for before bytes)))
       ≡ Some c
       → IsByRule p who c × IsOfMessage before bytes c
   unless realm nonce realm_is nonce_is true has h = cc
@@ -165,20 +167,20 @@ made_by_rule p who before bytes c = cases (is_challenge bytes) refl
     cases false asks h = cc
 
 -- and a chosen one is
-pub chosen_new : (p : Preferences) (who : NameAndPassword) (realm nonce : List ℕ)
-    (list : List IntegrityAlgorithm) (a : IntegrityAlgorithm) (c : Challenge)
+pub chosen_new : (p : Preferences) (who : NameAndPassword) (realm nonce list : List ℕ)
+    (a : IntegrityAlgorithm) (c : Challenge)
     → lacks_userhash p nonce ≡ false → chosen p nonce list ≡ Some a
-    → c ≡ new_challenge p.anonymous_username who realm nonce (Some (list_kept nonce list)) a
+    → c ≡ new_challenge p.anonymous_username who realm nonce (list_kept nonce list) a
     → IsChosen p c
 chosen_new p who realm nonce list a c has is same =
     subst (IsChosen p) (sym same)
     (chosen_of_rule p who
-    (new_challenge p.anonymous_username who realm nonce (Some (list_kept nonce list)) a)
+    (new_challenge p.anonymous_username who realm nonce (list_kept nonce list) a)
     (new_by_rule p who realm nonce list a has is))
 
 -- a message with a realm and a nonce is the challenge that the rule makes of them
 pub challenge_is : (p : Preferences) (who : NameAndPassword) (before : Option Challenge)
-    (bytes realm nonce : List ℕ) (list : List IntegrityAlgorithm)
+    (bytes realm nonce list : List ℕ)
     → is_challenge bytes ≡ true → realm_in bytes ≡ Some realm → nonce_in bytes ≡ Some nonce
     → list ≡ list_for before bytes
     → by_rule p who realm nonce list ≡ challenge_of p who before bytes

@@ -51,7 +51,8 @@ module _ (c : EndpointClient) (from : SocketAddr) (bytes : List ℕ) (number : �
         outstanding = asked.0;
         named = cc;
         answers = asked.1;
-        believable = believable c.identity c.standing a.signed_for bytes signed cc;
+        believable =
+            believable c.requires_fingerprint c.identity c.standing a.signed_for bytes signed cc;
       }
 
   pub ends : heard c from bytes ≡ responded bytes number (believed signed)

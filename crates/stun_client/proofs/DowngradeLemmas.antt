@@ -3,31 +3,37 @@
 -- server has HMAC-SHA1 alone.
 use Rattle.std.proofs.Common.{◌≡◌, ◌⊎◌, inl, inr, Bool, true, false, ℕ, List, [], ◌∷◌}
 use Rattle.std.proofs.Common.{Option, Some, None, refl, ◌∙◌, ap, sym}
-use Rattle.std.specs.Prelude.{cond, find, ◌&&◌, ◌||◌}
+use Rattle.std.specs.Prelude.{cond, find, if◌then◌else◌, map, ◌&&◌, ◌||◌}
 use Rattle.std.specs.Option.{option_and_then, option_map}
 use Rattle.stun_base.specs.declared.keys.algorithm.IntegrityAlgorithm.{IntegrityAlgorithm}
 use Rattle.stun_base.specs.declared.keys.algorithm.IntegrityAlgorithm.TheVariants.{Sha1, Sha256}
 use Rattle.stun_base.specs.declared.wire.message_type.MessageClass.{MessageClass}
 use Rattle.stun_types.specs.Integrity.{deciding, deciding_algorithm, integrity_algorithm}
 use Rattle.stun_types.specs.Integrity.{is_digest, verified_algorithm, verified_at}
+use Rattle.stun_types.specs.PasswordAlgorithms.{entries, integrity_of}
 use Rattle.stun_types.specs.Walk.{Member}
+use Rattle.stun_types.specs.declared.attribute.password_algorithm.PasswordAlgorithmValue.{
+  PasswordAlgorithmValue,
+}
 use Rattle.stun_auth.specs.Algorithms.{algorithms_of, has, is_sha256, offered_list}
 use Rattle.stun_auth.specs.Algorithms.{same_algorithm, same_list}
-use Rattle.stun_auth.specs.Client.{Challenge}
+use Rattle.stun_client.specs.Challenge.{Challenge, added_under, is_listed, list_read}
 use Rattle.stun_auth.specs.Feature.{is_possible}
 use Rattle.stun_auth.specs.Nonces.{asks_for_algorithms, asks_for_userhash}
 use Rattle.stun_auth.specs.Reading.{has_visible_integrity, reading_of, verified_under}
 use Rattle.stun_auth.specs.Registered.{Registered}
 use Rattle.stun_auth.specs.Seen.{ClientSeen}
 use Rattle.stun_auth.specs.Server.{IsAccepted, choice}
-use Rattle.stun_auth.specs.Signed.{ReadsAs, added_under, is_listed, only_if}
+use Rattle.stun_auth.specs.Signed.{ReadsAs, only_if}
 use Rattle.stun_auth.specs.declared.algorithm_set.AlgorithmSet.{AlgorithmSet}
 use Rattle.stun_auth.specs.declared.feature.Feature.{Feature}
 use Rattle.stun_client.specs.Downgrade.{IsNotBidDown, IsStrongestOfBoth, IsUpToDate}
+use Rattle.stun_client.specs.Offers.{algorithms_in}
 use Rattle.stun_client.specs.Preferences.{supports}
 use Rattle.stun_client.specs.Rule.{IsChosen, is_hashed}
 use Rattle.stun_client.specs.declared.preferences.Preferences.{Preferences}
 use Rattle.stun_client.proofs.ChosenLemmas.{strongest_found}
+use Rattle.stun_client.proofs.OfferLemmas.{known_read, none_in_nothing}
 
 some-same : {X : Type 0} (x y : X) → Some x ≡ Some y → x ≡ y
 some-same x y is = cc
@@ -90,28 +96,46 @@ chosen-of-list list offered a b is =
     tested true false same is = cc
     tested false there same is = cc
 
--- with what a client adds for its list
-chosen-of-added : (p : Preferences) (list offered : List IntegrityAlgorithm)
-    (a b : IntegrityAlgorithm) → find (supports p) list ≡ Some a
-    → choice (only_if (is_listed list) list) (only_if (is_sha256 a || is_listed list) a) offered
+-- with what is read of the list that a client repeats
+chosen-of-added : (p : Preferences) (offer : List ℕ) (offered : List IntegrityAlgorithm)
+    (a b : IntegrityAlgorithm) → find (supports p) (algorithms_in offer) ≡ Some a
+    → choice (if is_listed offer then list_read offer else None)
+    (only_if (is_sha256 a || is_listed offer) a) offered
     ≡ Some b
-    → (list ≡ offered) × (a ≡ b) × (is_listed list ≡ true)
-chosen-of-added p [] offered a b found is = cc
-chosen-of-added p (x ∷ xs) offered Sha1 b found is =
-    let both = chosen-of-list (x ∷ xs) offered Sha1 b is in (both.0, both.1, refl)
-chosen-of-added p (x ∷ xs) offered Sha256 b found is =
-    let both = chosen-of-list (x ∷ xs) offered Sha256 b is in (both.0, both.1, refl)
-
--- the offered list, where there is one, is the server's
-offered-is : (offered : Option AlgorithmSet) (set : AlgorithmSet) (list : List IntegrityAlgorithm)
-    → (offered ≡ None) ⊎ (offered ≡ Some set) → list ≡ offered_list offered
-    → is_listed list ≡ true → list ≡ algorithms_of set
-offered-is offered set list (inl none) same listed =
-    absurd (empty (sym (ap is_listed (same ∙ ap offered_list none)) ∙ listed))
+    → (algorithms_in offer ≡ offered) × (a ≡ b)
+chosen-of-added p [] offered a b found is =
+    let none : find (supports p) [] ≡ Some a = ap (find (supports p)) (sym none_in_nothing) ∙ found in
+    cc
+chosen-of-added p (byte ∷ list) offered a b found is = by a (entries (byte ∷ list)) refl is
   where
-    empty : false ≡ true → ⊥
-    empty is = cc
-offered-is offered set list (inr some) same listed = same ∙ ap offered_list some
+    named : (a : IntegrityAlgorithm) → only_if (is_sha256 a || true) a ≡ Some a
+    named Sha1 = refl
+    named Sha256 = refl
+
+    by : (a : IntegrityAlgorithm) (read : Option (List PasswordAlgorithmValue))
+        → entries (byte ∷ list) ≡ read
+        → choice (option_map (map integrity_of) read) (only_if (is_sha256 a || true) a) offered
+        ≡ Some b
+        → (algorithms_in (byte ∷ list) ≡ offered) × (a ≡ b)
+    by a None read is =
+        let no : choice None (Some a) offered ≡ Some b =
+        ap (λ one. choice None one offered) (sym (named a)) ∙ is in
+        cc
+    by a (Some all) read is =
+        let both = chosen-of-list (map integrity_of all) offered a b
+        (ap (λ one. choice (Some (map integrity_of all)) one offered) (sym (named a)) ∙ is) in
+        (known_read (byte ∷ list) all read ∙ both.0, both.1)
+
+-- the offered list, where something is chosen of it, is the server's
+offered-is : (p : Preferences) (offered : Option AlgorithmSet) (set : AlgorithmSet)
+    (list : List IntegrityAlgorithm) (a : IntegrityAlgorithm)
+    → (offered ≡ None) ⊎ (offered ≡ Some set) → list ≡ offered_list offered
+    → find (supports p) list ≡ Some a → list ≡ algorithms_of set
+offered-is p offered set list a (inl none) same found =
+    let nothing : find (supports p) [] ≡ Some a =
+    ap (find (supports p)) (sym (same ∙ ap offered_list none)) ∙ found in
+    cc
+offered-is p offered set list a (inr some) same found = same ∙ ap offered_list some
 
 module _ (p : Preferences) (c : Challenge) (class : MessageClass) (error : Option ℕ)
     (bytes : List ℕ) (by_rule : IsChosen p c)
@@ -130,19 +154,20 @@ module _ (p : Preferences) (c : Challenge) (class : MessageClass) (error : Optio
       → (c.algorithm ≡ client.algorithm) × IsStrongestOfBoth p users.algorithms client.algorithm
   agreed client accepted true asks =
       let r = reading_of bytes in
-      let found : find (supports p) c.algorithms ≡ Some c.algorithm =
-      sym (ap (λ b. cond b (find (supports p) c.algorithms) (cond p.hmac_sha1 (Some Sha1) None))
+      let found : find (supports p) (algorithms_in c.offered) ≡ Some c.algorithm =
+      sym (ap (λ b. cond b (find (supports p) (algorithms_in c.offered)) (cond p.hmac_sha1 (Some Sha1) None))
       (ap asks_for_algorithms (nonce-same client accepted) ∙ asks)) ∙ by_rule.by_rule in
       let agreement_is : choice r.algorithms r.algorithm (offered_list offered)
       ≡ Some client.algorithm =
       sym (ap (λ b. cond b (choice r.algorithms r.algorithm (offered_list offered)) (Some Sha1))
       asks) ∙ accepted.algorithm in
-      let added = chosen-of-added p c.algorithms (offered_list offered) c.algorithm
+      let added = chosen-of-added p c.offered (offered_list offered) c.algorithm
       client.algorithm found
       (sym (ap (λ list. choice list r.algorithm (offered_list offered)) reads.algorithms_are
-      ∙ ap (λ one. choice (only_if (is_listed c.algorithms) c.algorithms) one
+      ∙ ap (λ one. choice (if is_listed c.offered then list_read c.offered else None) one
       (offered_list offered)) reads.algorithm_is) ∙ agreement_is) in
-      let list = offered-is offered users.algorithms c.algorithms current.offer added.0 added.2 in (
+      let list = offered-is p offered users.algorithms (algorithms_in c.offered) c.algorithm
+      current.offer added.0 found in (
         added.1,
         strongest_found p users.algorithms client.algorithm
             (sym (ap (find (supports p)) list) ∙ (found ∙ ap (λ a. Some a) added.1))
@@ -151,7 +176,7 @@ module _ (p : Preferences) (c : Challenge) (class : MessageClass) (error : Optio
   agreed client accepted false asks =
       let r = reading_of bytes in
       let only : cond p.hmac_sha1 (Some Sha1) None ≡ Some c.algorithm =
-      sym (ap (λ b. cond b (find (supports p) c.algorithms) (cond p.hmac_sha1 (Some Sha1) None))
+      sym (ap (λ b. cond b (find (supports p) (algorithms_in c.offered)) (cond p.hmac_sha1 (Some Sha1) None))
       (ap asks_for_algorithms (nonce-same client accepted) ∙ asks)) ∙ by_rule.by_rule in
       let agreement_is : Some Sha1 ≡ Some client.algorithm =
       sym (ap (λ b. cond b (choice r.algorithms r.algorithm (offered_list offered)) (Some Sha1))

@@ -2,24 +2,23 @@
 -- its own.
 use Rattle.std.proofs.Common.{◌≡◌, Bool, true, false, ℕ, List, Option, Some, None, cond}
 use Rattle.std.proofs.Common.{◌∙◌, ap, refl, subst}
-use Rattle.std.specs.Prelude.{◌&&◌, not}
-use Rattle.std.specs.Option.{IfSome, is_some, option_map}
+use Rattle.std.specs.Prelude.{◌&&◌}
+use Rattle.std.specs.Option.{IfSome, is_none, is_some, option_map}
 use Rattle.stun_base.specs.Credentials.{NameAndPassword}
 use Rattle.stun_base.specs.declared.keys.algorithm.IntegrityAlgorithm.{IntegrityAlgorithm}
 use Rattle.stun_base.specs.declared.keys.algorithm.IntegrityAlgorithm.TheVariants.{Sha1, Sha256}
 use Rattle.stun_types.specs.Integrity.{verified_algorithm}
-use Rattle.stun_auth.specs.Client.{Challenge}
+use Rattle.stun_client.specs.Challenge.{Challenge}
 use Rattle.stun_client.specs.Challenges.{Answered, challenge_of, is_one}
 use Rattle.stun_client.specs.Challenging.{is_challenge}
 use Rattle.stun_client.specs.Judging.{Identity, IsAnsweredAnew, IsBelievable, answered_in}
 use Rattle.stun_client.specs.Judging.{anew, believed, by_key, by_signature, by_sole_algorithm, dropped}
-use Rattle.stun_client.specs.Judging.{is_damaged, judged, judged_by, judged_by_long_term}
-use Rattle.stun_client.specs.Judging.{judged_read, long_term, short_term, unsigned}
+use Rattle.stun_client.specs.Judging.{fault_in, judged, judged_by, judged_by_long_term}
+use Rattle.stun_client.specs.Judging.{judged_read, long_term, short_term, unless_faulty, unsigned}
 use Rattle.stun_client.specs.Standing.{StandingSeen, is_ignored}
 use Rattle.stun_client.specs.declared.judged.Distrust.{Distrust}
 use Rattle.stun_client.specs.declared.judged.Distrust.TheVariants.{NotVerified, WeakerChallenge}
 use Rattle.stun_client.specs.declared.judged.Distrust.TheVariants.{UnanswerableChallenge}
-use Rattle.stun_client.specs.declared.judged.Distrust.TheVariants.{WrongFingerprint}
 use Rattle.stun_client.specs.declared.preferences.Preferences.{Preferences}
 
 -- ---- reading a challenge
@@ -41,12 +40,12 @@ pub not_answered : (p : Preferences) (is : Option Challenge)
 not_answered p None none = refl
 not_answered p (Some c) none = cc
 
--- judging needs no memory for what is not damaged, only if it is no challenge
-pub not_needed : (damaged : Bool) (read : Option Answered) → damaged ≡ false
-    → (not damaged && is_some read) ≡ false → read ≡ None
-not_needed true read whole unneeded = cc
-not_needed false None whole unneeded = refl
-not_needed false (Some c) whole unneeded = cc
+-- judging needs no memory for what has no fault, only if it is no challenge
+pub not_needed : (fault : Option Distrust) (read : Option Answered) → fault ≡ None
+    → (is_none fault && is_some read) ≡ false → read ≡ None
+not_needed (Some why) read whole unneeded = cc
+not_needed None None whole unneeded = refl
+not_needed None (Some c) whole unneeded = cc
 
 -- ---- belief
 
@@ -100,20 +99,34 @@ short_term_believed Sha1 (Some Sha256) by is = cc
 short_term_believed Sha256 (Some Sha1) by is = cc
 short_term_believed Sha256 (Some Sha256) by is = (cc, refl)
 
-pub believable : (identity : Identity) (standing : StandingSeen) (before : Option Answered)
-    (bytes : List ℕ) (by : Option IntegrityAlgorithm)
-    → judged identity standing before bytes ≡ believed by → IsBelievable identity before bytes by
-believable identity standing before bytes by = cases (is_damaged bytes) identity
+pub believable : (required : Bool) (identity : Identity) (standing : StandingSeen)
+    (before : Option Answered) (bytes : List ℕ) (by : Option IntegrityAlgorithm)
+    → judged required identity standing before bytes ≡ believed by
+    → IsBelievable identity before bytes by
+believable required identity standing before bytes by = cases (fault_in required bytes) identity
   where
-    cases : (b : Bool) (i : Identity)
-        → cond b (dropped WrongFingerprint) (judged_by i standing before bytes) ≡ believed by
+    cases : (fault : Option Distrust) (i : Identity)
+        → unless_faulty (judged_by i standing before bytes) fault ≡ believed by
         → IsBelievable i before bytes by
-    cases true i is = cc
-    cases false unsigned is = cc
-    cases false (short_term name password algorithm) is =
+    cases (Some why) i is = cc
+    cases None unsigned is = cc
+    cases None (short_term name password algorithm) is =
         short_term_believed algorithm (verified_algorithm bytes password) by is
-    cases false (long_term who p accepts) is =
+    cases None (long_term who p accepts) is =
         long_term_believed who p accepts standing before bytes by is
+
+-- what is believed has no fault
+pub faultless : (required : Bool) (identity : Identity) (standing : StandingSeen)
+    (before : Option Answered) (bytes : List ℕ) (by : Option IntegrityAlgorithm)
+    → judged required identity standing before bytes ≡ believed by
+    → fault_in required bytes ≡ None
+faultless required identity standing before bytes by = cases (fault_in required bytes)
+  where
+    cases : (fault : Option Distrust)
+        → unless_faulty (judged_by identity standing before bytes) fault ≡ believed by
+        → fault ≡ None
+    cases (Some why) is = cc
+    cases None is = refl
 
 -- ---- sending again
 
@@ -165,14 +178,15 @@ long_term_anew who p accepts standing before bytes c =
         }
     cases false read found is = absurd (signature_not_anew accepts before NotVerified bytes c is)
 
-pub answered_anew : (who : NameAndPassword) (p : Preferences) (accepts : Bool)
+pub answered_anew : (required : Bool) (who : NameAndPassword) (p : Preferences) (accepts : Bool)
     (standing : StandingSeen) (before : Option Answered) (bytes : List ℕ) (c : Answered)
-    → judged (long_term who p accepts) standing before bytes ≡ anew (Some c)
+    → judged required (long_term who p accepts) standing before bytes ≡ anew (Some c)
     → IsAnsweredAnew p who standing before bytes c
-answered_anew who p accepts standing before bytes c = cases (is_damaged bytes)
+answered_anew required who p accepts standing before bytes c = cases (fault_in required bytes)
   where
-    cases : (b : Bool) → cond b (dropped WrongFingerprint)
-        (judged_by_long_term accepts p who standing before bytes) ≡ anew (Some c)
+    cases : (fault : Option Distrust)
+        → unless_faulty (judged_by_long_term accepts p who standing before bytes) fault
+        ≡ anew (Some c)
         → IsAnsweredAnew p who standing before bytes c
-    cases true is = cc
-    cases false is = long_term_anew who p accepts standing before bytes c is
+    cases (Some why) is = cc
+    cases None is = long_term_anew who p accepts standing before bytes c is

@@ -5,13 +5,16 @@ use Rattle.std.specs.Option.{is_none, is_some, option_map}
 use Rattle.std.specs.Str.{bytes_eq}
 use Rattle.stun_base.specs.Credentials.{NameAndPassword}
 use Rattle.stun_base.specs.declared.keys.algorithm.IntegrityAlgorithm.{IntegrityAlgorithm}
+use Rattle.stun_base.specs.declared.keys.algorithm.IntegrityAlgorithm.TheVariants.{Sha1}
 use Rattle.stun_types.specs.Integrity.{verified_algorithm}
-use Rattle.stun_auth.specs.Client.{Challenge}
-use Rattle.stun_auth.specs.ClientStep.{STALE_NONCE, is_code, list_or_none, new_challenge}
-use Rattle.stun_auth.specs.Algorithms.{is_sha256, same_algorithm, same_list}
+use Rattle.stun_auth.specs.ClientStep.{STALE_NONCE, is_code}
+use Rattle.stun_auth.specs.Algorithms.{has, is_sha256, same_algorithm}
 use Rattle.stun_auth.specs.Nonces.{asks_for_algorithms}
 use Rattle.stun_auth.specs.Signed.{plain_name}
+use Rattle.stun_client.specs.Challenge.{Challenge, new_challenge}
 use Rattle.stun_client.specs.Challenging.{code_in, is_challenge, list_in, nonce_in, realm_in}
+use Rattle.stun_client.specs.Offers.{algorithms_in}
+use Rattle.stun_client.specs.Preferences.{supports}
 use Rattle.stun_client.specs.Rule.{chosen, lacks_userhash}
 use Rattle.stun_client.specs.declared.preferences.Preferences.{Preferences}
 
@@ -26,28 +29,31 @@ is_renewal before bytes =
     is_code STALE_NONCE (code_in bytes) && is_none (list_in bytes)
     && is_some (verified_algorithm bytes before.key)
 
+-- a list, or the empty one
+abbrev pub list_or_none : Option (List ℕ) → List ℕ
+list_or_none None = []
+list_or_none (Some list) = list
+
 -- the list that a message is judged by. It is the message's own. For a signed 438 without a list,
 -- the list of the challenge before stands in: the server that has the key kept what it offered
-abbrev pub list_for : Option Challenge → List ℕ → List IntegrityAlgorithm
+abbrev pub list_for : Option Challenge → List ℕ → List ℕ
 list_for None bytes = list_or_none (list_in bytes)
 list_for (Some before) bytes =
-    if is_renewal before bytes then before.algorithms else list_or_none (list_in bytes)
+    if is_renewal before bytes then before.offered else list_or_none (list_in bytes)
 
--- the list that a request repeats: none, if the nonce does not ask for a choice
-abbrev pub list_kept : List ℕ → List IntegrityAlgorithm → List IntegrityAlgorithm
+-- the list that a request repeats, as it came: none, if the nonce does not ask for a choice
+abbrev pub list_kept : List ℕ → List ℕ → List ℕ
 list_kept nonce list = if asks_for_algorithms nonce then list else []
 
 -- a challenge with this realm, nonce and list, unless the rule ignores it
-abbrev pub by_rule : Preferences → NameAndPassword → List ℕ → List ℕ → List IntegrityAlgorithm
-    → Option Challenge
+abbrev pub by_rule : Preferences → NameAndPassword → List ℕ → List ℕ → List ℕ → Option Challenge
 by_rule p who realm nonce list =
     if lacks_userhash p nonce then None
-    else option_map (new_challenge p.anonymous_username who realm nonce
-    (Some (list_kept nonce list))) (chosen p nonce list)
+    else option_map (new_challenge p.anonymous_username who realm nonce (list_kept nonce list))
+    (chosen p nonce list)
 
 -- the same where realm and nonce may be missing: then there is no challenge
-abbrev pub by_rule_if : Preferences → NameAndPassword → Option (List ℕ) → Option (List ℕ)
-    → List IntegrityAlgorithm
+abbrev pub by_rule_if : Preferences → NameAndPassword → Option (List ℕ) → Option (List ℕ) → List ℕ
     → Option Challenge
 by_rule_if p who None _ list = None
 by_rule_if p who (Some realm) None list = None
@@ -66,7 +72,26 @@ pub record IsOfMessage (before : Option Challenge) (bytes : List ℕ) (c : Chall
   pub asks : is_challenge bytes ≡ true
   pub realm : realm_in bytes ≡ Some c.realm
   pub nonce : nonce_in bytes ≡ Some c.nonce
-  pub algorithms : c.algorithms ≡ list_kept c.nonce (list_for before bytes)
+  pub offered : c.offered ≡ list_kept c.nonce (list_for before bytes)
+
+-- whether a challenge offers an algorithm: in its list, if the nonce asks for a choice. Else it offers
+-- HMAC-SHA1
+abbrev pub is_offered : List ℕ → List ℕ → IntegrityAlgorithm → Bool
+is_offered nonce list a =
+    if asks_for_algorithms nonce then has a (algorithms_in list) else same_algorithm a Sha1
+
+-- a challenge that a client can answer: it has realm and nonce, it allows a hash if the client must
+-- send one, and it offers an algorithm that the client supports
+pub record IsAnswerable (p : Preferences) (before : Option Challenge) (bytes : List ℕ) : Type 0 where
+  pub asks : is_challenge bytes ≡ true
+  pub realm : List ℕ
+  pub realm_is : realm_in bytes ≡ Some realm
+  pub nonce : List ℕ
+  pub nonce_is : nonce_in bytes ≡ Some nonce
+  pub hashes : lacks_userhash p nonce ≡ false
+  pub algorithm : IntegrityAlgorithm
+  pub supported : supports p algorithm ≡ true
+  pub offered : is_offered nonce (list_for before bytes) algorithm ≡ true
 
 -- whether a request for a challenge is protected by less than one for another: by HMAC-SHA1 in
 -- place of HMAC-SHA256, or by a user name in place of a hash
@@ -80,7 +105,7 @@ is_weaker c other =
 abbrev pub is_same : Challenge → Challenge → Bool
 is_same c other =
     bytes_eq c.nonce other.nonce && bytes_eq c.realm other.realm
-    && same_list c.algorithms other.algorithms && same_algorithm c.algorithm other.algorithm
+    && bytes_eq c.offered other.offered && same_algorithm c.algorithm other.algorithm
 
 -- whether one is the other
 abbrev pub is_one : Option Answered → Option Answered → Bool

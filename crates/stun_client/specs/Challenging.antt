@@ -1,17 +1,17 @@
 -- What a client reads of a challenge: the first visible attribute of each type, where that is well
 -- formed (RFC 8489, section 14).
-use Rattle.std.specs.Prelude.{ℕ, Bool, ◌||◌, if◌then◌else◌, List, map, Option, None}
+use Rattle.std.specs.Prelude.{ℕ, Bool, ◌||◌, if◌then◌else◌, List, Option, None}
 use Rattle.std.specs.Option.{option_and_then, option_map}
 use Rattle.stun_base.specs.Attributes.{ERROR_CODE, NONCE, PASSWORD_ALGORITHMS, REALM}
 use Rattle.stun_base.specs.MessageType.{class_in, is_error}
-use Rattle.stun_base.specs.declared.keys.algorithm.IntegrityAlgorithm.{IntegrityAlgorithm}
 use Rattle.stun_types.specs.Attribute.{TypedValue}
 use Rattle.stun_types.specs.ErrorCode.{CodeAndReason, error_of}
 use Rattle.stun_types.specs.Integrity.{first_of}
 use Rattle.stun_types.specs.Limits.{TEXT_LIMIT}
-use Rattle.stun_types.specs.PasswordAlgorithms.{integrity_of, password_algorithms_in}
 use Rattle.stun_types.specs.Text.{text_of}
 use Rattle.stun_types.specs.Visible.{visible}
+use Rattle.stun_extra.specs.Values.{bytes_of}
+use Rattle.stun_client.specs.Offers.{if_entries}
 use Rattle.stun_auth.specs.ClientStep.{STALE_NONCE, UNAUTHORIZED, is_code}
 
 -- what the first visible attribute of a type reads as
@@ -30,9 +30,9 @@ realm_in bytes = first (text_of REALM TEXT_LIMIT) REALM bytes
 abbrev pub nonce_in : List ℕ → Option (List ℕ)
 nonce_in bytes = first (text_of NONCE TEXT_LIMIT) NONCE bytes
 
--- the algorithms whose keys the listed password algorithms make
-abbrev pub list_in : List ℕ → Option (List IntegrityAlgorithm)
-list_in bytes = option_map (map integrity_of) (first password_algorithms_in PASSWORD_ALGORITHMS bytes)
+-- the list of password algorithms, as the bytes of its value, where these are entries
+abbrev pub list_in : List ℕ → Option (List ℕ)
+list_in bytes = option_and_then if_entries (first (bytes_of PASSWORD_ALGORITHMS) PASSWORD_ALGORITHMS bytes)
 
 -- whether an error response asks for credentials, by 401 or by 438
 abbrev pub is_challenge : List ℕ → Bool

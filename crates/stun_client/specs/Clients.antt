@@ -21,10 +21,11 @@ use Rattle.stun_client.specs.declared.client.Heard.{Heard}
 use Rattle.stun_client.specs.declared.client.Heard.TheVariants.{NotOurs, Indication as OfServer}
 use Rattle.stun_client.specs.declared.client.Heard.TheVariants.{Response}
 
--- the address of the server, how the client proves who it is, the challenge that new requests are
--- signed for, and the outstanding requests
+-- the address of the server, whether each response must have a FINGERPRINT, how the client proves
+-- who it is, the challenge that new requests are signed for, and the outstanding requests
 pub record EndpointClient : Type 0 where
   pub server : SocketAddr
+  pub requires_fingerprint : Bool
   pub identity : Identity
   pub standing : StandingSeen
   pub requests : RequestsSeen
@@ -47,7 +48,8 @@ heard_of (Response message number judged) = responded message number (verdict_of
 abbrev pub by_asked : EndpointClient → List ℕ → Option AskedSeen → Given
 by_asked c bytes None = not_ours
 by_asked c bytes (Some a) =
-    responded bytes a.number (judged c.identity c.standing a.signed_for bytes)
+    responded bytes a.number
+    (judged c.requires_fingerprint c.identity c.standing a.signed_for bytes)
 
 abbrev pub by_class : EndpointClient → List ℕ → MessageClass → Given
 by_class c bytes Request = not_ours
@@ -65,7 +67,8 @@ heard c from bytes =
 -- whether judging a datagram as the response to a request needs memory
 abbrev pub needs_memory_for : EndpointClient → List ℕ → Option AskedSeen → Bool
 needs_memory_for c bytes None = false
-needs_memory_for c bytes (Some a) = needs_memory c.identity a.signed_for bytes
+needs_memory_for c bytes (Some a) =
+    needs_memory c.requires_fingerprint c.identity a.signed_for bytes
 
 -- a datagram from an address ends the request with this number by its own, signed so: it is a
 -- message from the server, it is a response with the transaction ID and the method of the

@@ -1,7 +1,7 @@
 -- What a response to an outstanding request comes to (RFC 8489, sections 9.1.4 and 9.2.5).
 use Rattle.std.specs.Prelude.{◌≡◌, ℕ, List, Bool, true, false, if◌then◌else◌, Option, Some, None}
-use Rattle.std.specs.Prelude.{◌&&◌, not, string_bytes}
-use Rattle.std.specs.Option.{is_some, option_map}
+use Rattle.std.specs.Prelude.{◌&&◌, string_bytes}
+use Rattle.std.specs.Option.{is_none, is_some, option_map}
 use Rattle.stun_base.specs.Credentials.{NameAndPassword}
 use Rattle.stun_base.specs.declared.keys.algorithm.IntegrityAlgorithm.{IntegrityAlgorithm}
 use Rattle.stun_types.specs.Integrity.{verified_algorithm}
@@ -20,6 +20,7 @@ use Rattle.stun_client.specs.declared.judged.Distrust.{Distrust}
 use Rattle.stun_client.specs.declared.judged.Distrust.TheVariants.{NotVerified, WeakerChallenge}
 use Rattle.stun_client.specs.declared.judged.Distrust.TheVariants.{UnanswerableChallenge}
 use Rattle.stun_client.specs.declared.judged.Distrust.TheVariants.{WrongFingerprint}
+use Rattle.stun_client.specs.declared.judged.Distrust.TheVariants.{MissingFingerprint}
 use Rattle.stun_client.specs.declared.judged.Judged.{Judged}
 use Rattle.stun_client.specs.declared.judged.Judged.TheVariants.{Believed, Anew, Dropped}
 use Rattle.stun_client.specs.declared.preferences.Preferences.{Preferences}
@@ -50,17 +51,20 @@ verdict_of (Believed by) = believed by
 verdict_of (Anew challenge) = anew challenge
 verdict_of (Dropped why) = dropped why
 
--- ---- damage (section 14.7)
+-- ---- FINGERPRINT (sections 7.3 and 14.7)
 
-abbrev pub is_wrong : Fingerprint → Bool
-is_wrong Wrong = true
-is_wrong Right = false
-is_wrong Misplaced = false
-is_wrong Absent = false
+-- why a message is dropped by what its FINGERPRINT is. One that is not the last attribute, or has
+-- no value of 4 bytes, is as wrong as one with another CRC. There must be one if the client requires
+-- it
+abbrev pub fault_of : Bool → Fingerprint → Option Distrust
+fault_of required Right = None
+fault_of required Wrong = Some WrongFingerprint
+fault_of required Misplaced = Some WrongFingerprint
+fault_of required Absent = if required then Some MissingFingerprint else None
 
--- whether the FINGERPRINT of a message is wrong
-abbrev pub is_damaged : List ℕ → Bool
-is_damaged bytes = is_wrong (fingerprint_in bytes)
+-- why a message is dropped for its FINGERPRINT
+abbrev pub fault_in : Bool → List ℕ → Option Distrust
+fault_in required bytes = fault_of required (fingerprint_in bytes)
 
 -- ---- signatures
 
@@ -115,12 +119,12 @@ judged_by_long_term accepts_unsigned p who standing before bytes =
 -- ---- memory
 
 -- whether judging a response needs memory: with long-term credentials, if it is a challenge that the
--- rule does not ignore, and is not damaged
-abbrev pub needs_memory : Identity → Option Answered → List ℕ → Bool
-needs_memory unsigned before bytes = false
-needs_memory (short_term name password algorithm) before bytes = false
-needs_memory (long_term who p accepts_unsigned) before bytes =
-    not (is_damaged bytes) && is_some (answered_in p who before bytes)
+-- rule does not ignore, and is not dropped for its FINGERPRINT
+abbrev pub needs_memory : Bool → Identity → Option Answered → List ℕ → Bool
+needs_memory required unsigned before bytes = false
+needs_memory required (short_term name password algorithm) before bytes = false
+needs_memory required (long_term who p accepts_unsigned) before bytes =
+    is_none (fault_in required bytes) && is_some (answered_in p who before bytes)
 
 -- ---- all of it
 
@@ -131,11 +135,16 @@ judged_by (short_term name password algorithm) standing before bytes =
 judged_by (long_term who p accepts_unsigned) standing before bytes =
     judged_by_long_term accepts_unsigned p who standing before bytes
 
--- what a response comes to, whose request was signed for this challenge
-abbrev pub judged : Identity → StandingSeen → Option Answered → List ℕ → Verdict
-judged identity standing before bytes =
-    if is_damaged bytes then dropped WrongFingerprint
-    else judged_by identity standing before bytes
+-- a fault of the FINGERPRINT comes first
+abbrev pub unless_faulty : Verdict → Option Distrust → Verdict
+unless_faulty verdict None = verdict
+unless_faulty verdict (Some why) = dropped why
+
+-- what a response comes to, whose request was signed for this challenge, at a client that requires
+-- FINGERPRINT or does not
+abbrev pub judged : Bool → Identity → StandingSeen → Option Answered → List ℕ → Verdict
+judged required identity standing before bytes =
+    unless_faulty (judged_by identity standing before bytes) (fault_in required bytes)
 
 -- ---- what follows
 

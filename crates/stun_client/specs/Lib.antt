@@ -2,6 +2,10 @@
 
 -- what a client supports
 pub mod Preferences
+-- the list of a challenge: which of its entries are known
+pub mod Offers
+-- a challenge, and what a request for it has
+pub mod Challenge
 -- the rule: which algorithm a challenge is answered with, and whether by a hashed name (RFC 8489,
 -- section 9.2.5)
 pub mod Rule

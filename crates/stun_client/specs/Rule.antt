@@ -7,19 +7,21 @@ use Rattle.stun_base.specs.Credentials.{NameAndPassword}
 use Rattle.stun_base.specs.Keys.{long_term_key}
 use Rattle.stun_base.specs.declared.keys.algorithm.IntegrityAlgorithm.{IntegrityAlgorithm}
 use Rattle.stun_base.specs.declared.keys.algorithm.IntegrityAlgorithm.TheVariants.{Sha1}
-use Rattle.stun_auth.specs.Client.{Challenge}
 use Rattle.stun_auth.specs.ClientStep.{is_required, naming_of}
 use Rattle.stun_auth.specs.Feature.{is_possible}
 use Rattle.stun_auth.specs.Signed.{plain_name}
 use Rattle.stun_auth.specs.Nonces.{asks_for_algorithms, asks_for_userhash}
+use Rattle.stun_client.specs.Challenge.{Challenge}
+use Rattle.stun_client.specs.Offers.{algorithms_in}
 use Rattle.stun_client.specs.Preferences.{supports}
 use Rattle.stun_client.specs.declared.preferences.Preferences.{Preferences}
 
 -- the algorithm. Where the nonce asks for a choice, it is the first of the list that the client
--- supports. Else it is HMAC-SHA1, if the client supports that, and the list is not looked at
-abbrev pub chosen : Preferences → List ℕ → List IntegrityAlgorithm → Option IntegrityAlgorithm
+-- supports: entries that are unknown are passed over. Else it is HMAC-SHA1, if the client supports
+-- that, and the list is not looked at
+abbrev pub chosen : Preferences → List ℕ → List ℕ → Option IntegrityAlgorithm
 chosen p nonce list =
-    if asks_for_algorithms nonce then find (supports p) list
+    if asks_for_algorithms nonce then find (supports p) (algorithms_in list)
     else if p.hmac_sha1 then Some Sha1 else None
 
 -- whether the user is named by a hash: where the nonce allows it and the client does it
@@ -33,7 +35,7 @@ lacks_userhash p nonce = is_required p.anonymous_username && not (asks_for_userh
 -- a challenge is by the rule: algorithm, name and key are those that the rule gives for its own
 -- nonce, list and realm. If names must be hashed, the name is not there in clear
 pub record IsByRule (p : Preferences) (who : NameAndPassword) (c : Challenge) : Type 0 where
-  pub algorithm : chosen p c.nonce c.algorithms ≡ Some c.algorithm
+  pub algorithm : chosen p c.nonce c.offered ≡ Some c.algorithm
   pub naming : c.naming ≡ naming_of (is_hashed p c.nonce) who.username c.realm
   pub key : c.key ≡ long_term_key c.algorithm who.username c.realm who.password
   pub required : is_required p.anonymous_username ≡ true → plain_name c.naming ≡ None
@@ -41,6 +43,6 @@ pub record IsByRule (p : Preferences) (who : NameAndPassword) (c : Challenge) : 
 -- what holds of each challenge that a client answers, whoever its user is: the algorithm is the
 -- rule's, and where names are hashed, or must be, the name is not there in clear
 pub record IsChosen (p : Preferences) (c : Challenge) : Type 0 where
-  pub by_rule : chosen p c.nonce c.algorithms ≡ Some c.algorithm
+  pub by_rule : chosen p c.nonce c.offered ≡ Some c.algorithm
   pub hashed : is_hashed p c.nonce ≡ true → plain_name c.naming ≡ None
   pub required : is_required p.anonymous_username ≡ true → plain_name c.naming ≡ None

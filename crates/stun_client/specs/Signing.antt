@@ -2,7 +2,7 @@
 use Rattle.std.specs.Prelude.{List, [], ◌∷◌, true, Option, Some, None}
 use Rattle.stun_auth.specs.AddedAttribute.{username}
 use Rattle.stun_auth.specs.Additions.{Addition, attribute, integrity}
-use Rattle.stun_auth.specs.ClientSigning.{challenge_additions}
+use Rattle.stun_client.specs.Challenge.{challenge_additions}
 use Rattle.stun_client.specs.Challenges.{Answered}
 use Rattle.stun_client.specs.Judging.{Identity, long_term, short_term, unsigned}
 

@@ -3,3 +3,4 @@ pub mod Kept
 pub mod AddedAttribute
 pub mod Requests
 pub mod Signing
+pub mod Offers

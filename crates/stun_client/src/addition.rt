@@ -4,9 +4,10 @@ ghost use Rattle.stun_client.specs.code.AddedAttribute.{attribute_of};
 ghost use Rattle.stun_auth.specs.Additions.{attribute, integrity, is_text_too_long, page_in};
 ghost use Rattle.stun_auth.specs.code.Additions.{IsAdded, IsOutcome};
 
+use crate::challenge::offer::Offer;
 use std::alloc::Allocator;
 use stun_types::attribute::{
-    Nonce, PasswordAlgorithm, PasswordAlgorithmValue, PasswordAlgorithms, Realm, Userhash, Username,
+    Nonce, PasswordAlgorithm, PasswordAlgorithmValue, Realm, Userhash, Username,
 };
 use stun_types::message::{IntegrityAlgorithm, PreparedKey, StunWriteError};
 use stun_types::prelude::*;
@@ -18,8 +19,8 @@ pub(crate) enum AddedAttribute<'a> {
     Realm(&'a str),
     Username(&'a str),
     Userhash([u8; 32]),
-    /// The algorithms that a server offers.
-    PasswordAlgorithms(&'a [PasswordAlgorithmValue]),
+    /// The list that a server sent, as the bytes of its value.
+    PasswordAlgorithms(&'a [u8]),
     /// The algorithm whose key is used.
     PasswordAlgorithm(IntegrityAlgorithm),
 }
@@ -40,9 +41,7 @@ pub(crate) fn add<W: MessageWrite>(
         AddedAttribute::Realm(text) => add_made(writer, &Realm::new(text)?),
         AddedAttribute::Username(text) => add_made(writer, &Username::new(text)?),
         AddedAttribute::Userhash(hash) => add_made(writer, &Userhash::new(hash)),
-        AddedAttribute::PasswordAlgorithms(list) => {
-            add_made(writer, &PasswordAlgorithms::new(list))
-        }
+        AddedAttribute::PasswordAlgorithms(list) => add_made(writer, &Offer::new(list)),
         AddedAttribute::PasswordAlgorithm(algorithm) => add_made(
             writer,
             &PasswordAlgorithm::new(PasswordAlgorithmValue::from_integrity(algorithm)),

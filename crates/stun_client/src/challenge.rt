@@ -1,34 +1,34 @@
 //! A server's challenge, and how a client answers it (RFC 8489, section 9.2.5).
-ghost use Rattle.std.specs.Prelude.{◌≡◌, ◌≤◌, IfOk, IsOk, None, Ok, Some, length, map, codes};
+ghost use Rattle.std.specs.Prelude.{◌≡◌, ◌≤◌, IfOk, IsOk, None, Ok, Some, length, codes};
 ghost use Rattle.std.specs.Fmt.{WritesOnOk, WritesStyledOnOk};
 ghost use Rattle.std.specs.Option.{IfSome, is_none, option_copied, option_map};
 ghost use Rattle.stun_types.specs.Integrity.{verified_algorithm};
 ghost use Rattle.stun_types.specs.Limits.{TEXT_LIMIT};
-ghost use Rattle.stun_types.specs.PasswordAlgorithms.{integrity_of};
-ghost use Rattle.stun_auth.specs.Algorithms.{is_sha256, same_algorithm, same_list};
-ghost use Rattle.stun_auth.specs.ClientStep.{list_or_none, new_challenge};
+ghost use Rattle.stun_auth.specs.Algorithms.{is_sha256, same_algorithm};
 ghost use Rattle.stun_auth.specs.Signed.{plain_name};
+ghost use Rattle.stun_client.specs.Challenge.{new_challenge};
 ghost use Rattle.stun_client.specs.Challenges.{Answered, by_rule, challenge_of, is_one, is_renewal};
 ghost use Rattle.stun_client.specs.Challenges.{is_same, is_weaker};
-ghost use Rattle.stun_client.specs.Challenges.{list_for, list_kept};
+ghost use Rattle.stun_client.specs.Challenges.{list_for, list_kept, list_or_none};
 ghost use Rattle.stun_client.specs.Challenging.{list_in};
 ghost use Rattle.stun_client.specs.code.Kept.{challenge_seen};
 
 mod kept;
+pub(crate) mod offer;
 pub(crate) mod reading;
 mod rule;
 mod signing;
 
 use crate::challenge::kept::{KeptChallenge, UserNaming};
 use crate::challenge::reading::{code_of, is_challenge, list_of, nonce_of, realm_of};
-use crate::challenge::rule::{asks_for_algorithms, chosen, is_hashed, lacks_userhash, listed};
+use crate::challenge::rule::{asks_for_algorithms, chosen, is_hashed, lacks_userhash};
 use crate::limited_text::LimitedText;
 use crate::preferences::Preferences;
 use std::alloc::{AllocError, Allocator, Global};
 use std::fmt;
 use std::marker::Model;
 use stun_base::key::long_term_key;
-use stun_types::attribute::{ErrorCode, PasswordAlgorithmValue, PasswordAlgorithms};
+use stun_types::attribute::ErrorCode;
 use stun_types::message::{IntegrityAlgorithm, LongTermCredentials, Message, PreparedKey};
 
 /// A server's challenge with the key that answers it: realm, nonce, the server's list of
@@ -37,8 +37,9 @@ use stun_types::message::{IntegrityAlgorithm, LongTermCredentials, Message, Prep
 /// All of it comes from one message, a 401 or a 438, by one rule:
 ///
 /// 1. If the nonce asks for password algorithms, the algorithm is the first of the message's list
-///    that the client supports. A message without a list, or without a supported algorithm in it,
-///    is ignored.
+///    that the client supports. Numbers that are unknown here are passed over, and requests repeat
+///    the list byte for byte. A message without a list, or without a supported algorithm in it, is
+///    ignored.
 /// 2. Otherwise the algorithm is HMAC-SHA1, and the list is not looked at. If the client does not
 ///    support HMAC-SHA1, the message is ignored.
 /// 3. The user name is sent as a hash if the nonce allows it and the client does it. A client that
@@ -125,7 +126,7 @@ impl<A: Allocator + Copy> Challenge<A> {
             return Ok(None);
         };
         let list = list_for(before, message);
-        let read = Challenge::by_rule(alloc, preferences, credentials, realm, nonce, &list)?;
+        let read = Challenge::by_rule(alloc, preferences, credentials, realm, nonce, list)?;
         Ok(read)
     }
 
@@ -137,16 +138,16 @@ impl<A: Allocator + Copy> Challenge<A> {
         credentials: &LongTermCredentials<A>,
         realm: &str,
         nonce: &str,
-        list: &PasswordAlgorithms<'_>,
+        list: &[u8],
     ) -> Result<Option<Challenge<A>>, AllocError>
         requires realm { length realm.now ≤ TEXT_LIMIT }
         requires nonce { length nonce.now ≤ TEXT_LIMIT }
         ensures challenge { IfOk result (λ made. option_map (λ c. c.challenge) made
-            ≡ by_rule preferences credentials.now realm.now nonce.now (map integrity_of list.now)) }
+            ≡ by_rule preferences credentials.now realm.now nonce.now list.now) }
         ensures preferences { IfOk result (λ made. IfSome made
             (λ c. c.preferences ≡ preferences)) }
-        ensures no_memory { by_rule preferences credentials.now realm.now nonce.now
-            (map integrity_of list.now) ≡ None → IsOk result }
+        ensures no_memory { by_rule preferences credentials.now realm.now nonce.now list.now
+            ≡ None → IsOk result }
     {
         if lacks_userhash(preferences, nonce) {
             return Ok(None);
@@ -174,42 +175,37 @@ fn parts_of<A: Allocator + Copy>(
     credentials: &LongTermCredentials<A>,
     realm: &str,
     nonce: &str,
-    list: &PasswordAlgorithms<'_>,
+    list: &[u8],
     algorithm: IntegrityAlgorithm,
 ) -> Result<KeptChallenge<A>, AllocError>
     requires realm { length realm.now ≤ TEXT_LIMIT }
     requires nonce { length nonce.now ≤ TEXT_LIMIT }
     ensures { IfOk result (λ kept. challenge_seen kept
         ≡ new_challenge preferences.anonymous_username credentials.now realm.now nonce.now
-        (Some (list_kept nonce.now (map integrity_of list.now))) algorithm) }
+        (list_kept nonce.now list.now) algorithm) }
 {
     let username = credentials.username();
     let naming = UserNaming::new(alloc, is_hashed(preferences, nonce), username, realm)?;
     let realm_kept = LimitedText::copied(alloc, realm)?;
     let nonce_kept = LimitedText::copied(alloc, nonce)?;
-    let algorithms = list_kept(alloc, nonce, list)?;
+    let offered = list_kept(alloc, nonce, list)?;
     let key = long_term_key(alloc, algorithm, username, realm, credentials.password());
     Ok(KeptChallenge {
         naming,
         realm: realm_kept,
         nonce: nonce_kept,
-        algorithms,
+        offered,
         algorithm,
         key: PreparedKey::new(key, algorithm),
     })
 }
 
 /// Copies the list that a request repeats: none, if the nonce does not ask for a choice.
-fn list_kept<A: Allocator>(
-    alloc: A,
-    nonce: &str,
-    list: &PasswordAlgorithms<'_>,
-) -> Result<Vec<PasswordAlgorithmValue, A>, AllocError>
-    ensures { IfOk result (λ copy. map integrity_of copy.items
-        ≡ list_kept nonce.now (map integrity_of list.now)) }
+fn list_kept<A: Allocator>(alloc: A, nonce: &str, list: &[u8]) -> Result<Vec<u8, A>, AllocError>
+    ensures { IfOk result (λ copy. copy.items ≡ list_kept nonce.now list.now) }
 {
     if asks_for_algorithms(nonce) {
-        listed(alloc, list)
+        Vec::from_slice(alloc, list)
     } else {
         Ok(Vec::new(alloc))
     }
@@ -217,11 +213,8 @@ fn list_kept<A: Allocator>(
 
 /// Returns the list that a message is judged by: its own, or if it is a signed 438 without a list
 /// the one of the challenge before.
-fn list_for<'a, A: Allocator>(
-    before: Option<&'a Challenge<A>>,
-    message: &Message<'a>,
-) -> PasswordAlgorithms<'a>
-    ensures { map integrity_of result
+fn list_for<'a, A: Allocator>(before: Option<&'a Challenge<A>>, message: &Message<'a>) -> &'a [u8]
+    ensures { result.now
         ≡ list_for (option_map (λ (b : Answered). b.challenge) (option_copied before.entry)) message.now }
 {
     match before {
@@ -231,11 +224,8 @@ fn list_for<'a, A: Allocator>(
 }
 
 /// Returns the list that a message is judged by after a challenge.
-fn list_after<'a, A: Allocator>(
-    before: &'a Challenge<A>,
-    message: &Message<'a>,
-) -> PasswordAlgorithms<'a>
-    ensures { map integrity_of result ≡ list_for (Some before.now.challenge) message.now }
+fn list_after<'a, A: Allocator>(before: &'a Challenge<A>, message: &Message<'a>) -> &'a [u8]
+    ensures { result.now ≡ list_for (Some before.now.challenge) message.now }
 {
     if is_renewal(before, message) {
         before.list()
@@ -245,12 +235,12 @@ fn list_after<'a, A: Allocator>(
 }
 
 /// Returns the list of a message, which is empty if the message has none.
-fn own_list<'a>(message: &Message<'a>) -> PasswordAlgorithms<'a>
-    ensures { map integrity_of result ≡ list_or_none (list_in message.now) }
+fn own_list<'a>(message: &Message<'a>) -> &'a [u8]
+    ensures { result.now ≡ list_or_none (list_in message.now) }
 {
     match list_of(message) {
         Some(list) => list,
-        None => PasswordAlgorithms::new(&[]),
+        None => &[],
     }
 }
 
@@ -292,11 +282,12 @@ impl<A: Allocator> Challenge<A> {
         matches!(&self.kept.naming, UserNaming::Hashed(_))
     }
 
-    /// Returns the server's list, which is empty if the nonce does not ask for a choice.
-    fn list(&self) -> PasswordAlgorithms<'_>
-        ensures { map integrity_of result ≡ self.now.challenge.algorithms }
+    /// Returns the server's list as the bytes of its value, which is empty if the nonce does not ask
+    /// for a choice.
+    fn list(&self) -> &[u8]
+        ensures { result.now ≡ self.now.challenge.offered }
     {
-        PasswordAlgorithms::new(self.kept.algorithms.as_slice())
+        self.kept.offered.as_slice()
     }
 
     /// Returns the algorithm of a message's signature if it is valid under the key, and `None`
@@ -328,16 +319,8 @@ impl<A: Allocator + Copy> Challenge<A> {
     {
         self.nonce() == other.nonce()
             && self.realm() == other.realm()
-            && self.has_same_list(other)
+            && self.list() == other.list()
             && is_same_algorithm(self.algorithm(), other.algorithm())
-    }
-
-    /// Returns whether the server's lists of two challenges are the same.
-    fn has_same_list(&self, other: &Challenge<A>) -> bool
-        ensures { result
-            ≡ same_list self.now.challenge.algorithms other.now.challenge.algorithms }
-    {
-        self.list().equals(other.kept.algorithms.as_slice())
     }
 
     /// Returns whether a request for this challenge is protected by less than a request for the

@@ -42,6 +42,7 @@ pub enum Heard<'a, A: Allocator = Global> {
 pub struct Client<A: Allocator = Global> {
     alloc: A,
     server: SocketAddr,
+    requires_fingerprint: bool,
     credentials: Credentials<A>,
     standing: Standing<A>,
     requests: Requests<A>,
@@ -55,6 +56,7 @@ impl<A: Allocator> Model for Client<A> {
 
     ghost view = { λ c. record {
       server = c.server;
+      requires_fingerprint = c.requires_fingerprint;
       identity = identity_of c.credentials;
       standing = c.standing;
       requests = c.requests;
@@ -63,15 +65,17 @@ impl<A: Allocator> Model for Client<A> {
 
 impl<A: Allocator + Copy> Client<A> {
     /// Creates a client without requests. A request is sent again for at most `challenges`
-    /// challenges.
+    /// challenges. If `requires_fingerprint` is true, responses without FINGERPRINT are dropped.
     pub fn new(
         alloc: A,
         server: SocketAddr,
+        requires_fingerprint: bool,
         credentials: Credentials<A>,
         challenges: u32,
     ) -> Client<A>
         ensures { result ≡ record {
           server = server;
+          requires_fingerprint = requires_fingerprint;
           identity = identity_of credentials;
           standing = new_standing;
           requests = new_requests challenges;
@@ -80,6 +84,7 @@ impl<A: Allocator + Copy> Client<A> {
         Client {
             alloc,
             server,
+            requires_fingerprint,
             credentials,
             standing: Standing::new(),
             requests: Requests::new(alloc, challenges),
@@ -151,12 +156,14 @@ impl<A: Allocator + Copy> Client<A> {
     ) -> Result<Heard<'a, A>, AllocError>
         ensures heard { IfOk result (λ given. heard_of given
             ≡ by_asked self.now response.entry (Some asked.now)) }
-        ensures no_memory { needs_memory self.now.identity asked.now.signed_for response.entry
-            ≡ false → IsOk result }
+        ensures no_memory { needs_memory self.now.requires_fingerprint self.now.identity
+            asked.now.signed_for response.entry ≡ false → IsOk result }
     {
         let signed_for = asked.signed_for();
         let credentials = &self.credentials;
-        match credentials.judge(self.alloc, &self.standing, signed_for, &response) {
+        let standing = &self.standing;
+        let required = self.requires_fingerprint;
+        match credentials.judge(self.alloc, required, standing, signed_for, &response) {
             Ok(judged) => Ok(Heard::Response(response, asked.number(), judged)),
             Err(error) => Err(error),
         }

@@ -3,7 +3,7 @@
 ghost use Rattle.std.specs.Prelude.{◌≡◌, false, IfOk, IsOk, None, Some};
 ghost use Rattle.stun_types.specs.Integrity.{verified_algorithm};
 ghost use Rattle.stun_client.specs.Judging.{answered_in, by_key, by_signature, by_sole_algorithm};
-ghost use Rattle.stun_client.specs.Judging.{identity_of, is_damaged, judged, judged_by_long_term};
+ghost use Rattle.stun_client.specs.Judging.{fault_in, identity_of, judged, judged_by_long_term};
 ghost use Rattle.stun_client.specs.Judging.{judged_challenge, needs_memory, verdict_of};
 
 use crate::challenge::Challenge;
@@ -49,22 +49,25 @@ pub enum Credentials<A: Allocator = Global> {
     LongTerm(LongTerm<A>),
 }
 
-/// Returns whether the FINGERPRINT of a message is wrong. A message without one is not damaged.
-fn is_damaged(message: &Message<'_>) -> bool
-    ensures { result ≡ is_damaged message.now }
+/// Returns why a message is dropped for its FINGERPRINT, if it is. `is_required` says whether it
+/// must have one.
+fn fault_in(message: &Message<'_>, is_required: bool) -> Option<Distrust>
+    ensures { result ≡ fault_in is_required message.now }
 {
     match check_fingerprint(message) {
-        Fingerprint::Wrong => true,
-        Fingerprint::Right => false,
-        Fingerprint::Misplaced => false,
-        Fingerprint::Absent => false,
+        Fingerprint::Right => None,
+        Fingerprint::Wrong => Some(Distrust::WrongFingerprint),
+        Fingerprint::Misplaced => Some(Distrust::WrongFingerprint),
+        Fingerprint::Absent if is_required => Some(Distrust::MissingFingerprint),
+        Fingerprint::Absent => None,
     }
 }
 
 impl<A: Allocator + Copy> Credentials<A> {
     /// Judges a response to an outstanding request, which was signed for this challenge.
     ///
-    /// - A response whose FINGERPRINT is wrong is dropped.
+    /// - A response is dropped if its FINGERPRINT is wrong, is not the last attribute or does not
+    ///   have 4 bytes, or if it has none and `requires_fingerprint` is true.
     /// - Without credentials every other response is believed.
     /// - With short-term credentials a response is believed if it is signed with the password, by
     ///   the algorithm of the request (RFC 8489, section 9.1.4).
@@ -77,21 +80,23 @@ impl<A: Allocator + Copy> Credentials<A> {
     ///   unsigned responses are accepted.
     ///
     /// Fails if an allocation fails. It allocates only with long-term credentials, for a challenge
-    /// that is not damaged and that the rule does not ignore (see `Challenge`).
+    /// that is not dropped for its FINGERPRINT and that the rule does not ignore (see `Challenge`).
     pub fn judge(
         &self,
         alloc: A,
+        requires_fingerprint: bool,
         standing: &Standing<A>,
         signed_for: &Option<Challenge<A>>,
         response: &Message<'_>,
     ) -> Result<Judged<A>, AllocError>
         ensures judged { IfOk result (λ verdict. verdict_of verdict
-            ≡ judged (identity_of self.now) standing.now signed_for.now response.now) }
-        ensures no_memory { needs_memory (identity_of self.now) signed_for.now response.now ≡ false
-            → IsOk result }
+            ≡ judged requires_fingerprint (identity_of self.now) standing.now signed_for.now
+            response.now) }
+        ensures no_memory { needs_memory requires_fingerprint (identity_of self.now) signed_for.now
+            response.now ≡ false → IsOk result }
     {
-        if is_damaged(response) {
-            return Ok(Judged::Dropped(Distrust::WrongFingerprint));
+        if let Some(why) = fault_in(response, requires_fingerprint) {
+            return Ok(Judged::Dropped(why));
         }
         match self {
             Credentials::Unsigned => Ok(Judged::Believed(None)),

@@ -13,8 +13,11 @@ use stun_types::message::{IntegrityAlgorithm, Message, MessageClass};
 #[derive(Clone, Copy, Debug, PartialEq, Eq)]
 #[non_exhaustive]
 pub enum Distrust {
-    /// The FINGERPRINT is wrong: the response is damaged, or belongs to another protocol.
+    /// The FINGERPRINT is wrong, is not the last attribute, or its value does not have 4 bytes: the
+    /// response is damaged, or belongs to another protocol (RFC 8489, section 14.7).
     WrongFingerprint,
+    /// The client requires a FINGERPRINT, and the response has none (RFC 8489, section 7.3).
+    MissingFingerprint,
     /// The response is not signed with the key of the request.
     NotVerified,
     /// The response is a 401 or a 438 that the client cannot answer, and is not signed.

@@ -1,20 +1,22 @@
 //! Laws over the definitions that the contracts of this crate cite. They do nothing when they run.
-ghost use Rattle.std.specs.Prelude.{◌≡◌, ℕ, Bool, List, Option, Some, true};
+ghost use Rattle.std.specs.Option.{IsSome};
+ghost use Rattle.std.specs.Prelude.{◌≡◌, ◌++◌, ℕ, Bool, List, None, Option, Some, false, true};
 ghost use Rattle.std.specs.declared.net.socket_addr.SocketAddr.{SocketAddr};
 ghost use Rattle.stun_base.specs.Credentials.{NameAndPassword};
 ghost use Rattle.stun_base.specs.declared.keys.algorithm.IntegrityAlgorithm.{IntegrityAlgorithm};
 ghost use Rattle.stun_base.specs.declared.wire.message_type.MessageClass.{MessageClass};
-ghost use Rattle.stun_auth.specs.Client.{Challenge};
-ghost use Rattle.stun_auth.specs.Nonces.{nonce_of};
+ghost use Rattle.stun_auth.specs.Nonces.{front, nonce_of, security_byte};
 ghost use Rattle.stun_auth.specs.Reading.{reading_of};
 ghost use Rattle.stun_auth.specs.Registered.{Registered};
-ghost use Rattle.stun_auth.specs.Signed.{ReadsAs, added_under};
+ghost use Rattle.stun_auth.specs.Signed.{ReadsAs};
 ghost use Rattle.stun_auth.specs.declared.feature.Feature.{Feature as TheFeature};
-ghost use Rattle.stun_client.specs.Challenges.{Answered, IsOfMessage, challenge_of};
+ghost use Rattle.stun_client.specs.Challenge.{Challenge, added_under};
+ghost use Rattle.stun_client.specs.Challenges.{Answered, IsAnswerable, IsOfMessage};
+ghost use Rattle.stun_client.specs.Challenges.{challenge_of, is_one};
 ghost use Rattle.stun_client.specs.Clients.{EndpointClient, IsAnswer, heard, responded};
 ghost use Rattle.stun_client.specs.Downgrade.{IsNowhereBidDown, IsUpToDate};
 ghost use Rattle.stun_client.specs.Judging.{IsAnsweredAnew, IsBelievable, Identity, anew, believed};
-ghost use Rattle.stun_client.specs.Judging.{judged, long_term};
+ghost use Rattle.stun_client.specs.Judging.{answered_in, fault_in, judged, long_term};
 ghost use Rattle.stun_client.specs.Rule.{IsByRule, IsChosen};
 ghost use Rattle.stun_client.specs.Standing.{AreUsualEvents, StandingEvent, StandingSeen};
 ghost use Rattle.stun_client.specs.Standing.{is_ignored, standing_after_all};
@@ -31,6 +33,21 @@ pub fn challenges_are_by_the_rule()
         → IsOfMessage before bytes c }
 {}
 
+/// A client answers each challenge that offers an algorithm which it supports, whatever other
+/// algorithms the list has beside it: the challenge is read, and a request that was signed for another
+/// one, or not at all, is sent again for it, unless it is weaker than what a success has confirmed.
+pub fn answerable_challenges_are_answered()
+    ensures read { (p : ThePreferences) (who : NameAndPassword) (before : Option Challenge)
+        (bytes : List ℕ) → IsAnswerable p before bytes → IsSome (challenge_of p who before bytes) }
+    ensures sent { (required : Bool) (who : NameAndPassword) (p : ThePreferences)
+        (accepts_unsigned : Bool) (standing : StandingSeen) (before : Option Answered)
+        (bytes : List ℕ) (c : Answered) → fault_in required bytes ≡ None
+        → answered_in p who before bytes ≡ Some c → is_one (Some c) before ≡ false
+        → is_ignored standing c ≡ false
+        → judged required (long_term who p accepts_unsigned) standing before bytes
+        ≡ anew (Some c) }
+{}
+
 /// No downgrade. A message that reads as one signed for a challenge by the rule is not bid down:
 /// whatever server accepts it, by a nonce and an offer that are up to date, accepts it by the
 /// strongest algorithm that both sides support (RFC 8489, section 9.2.5). Nothing is assumed of
@@ -42,29 +59,40 @@ pub fn signed_requests_are_not_bid_down()
         → IsNowhereBidDown p (reading_of bytes) }
 {}
 
-/// The nonces that a server makes are up to date, with an offer of all its algorithms.
+/// The nonces that a server makes are up to date, with an offer of all its algorithms: those of
+/// `LongTermServerAuth` (`made`), and all that begin with the nonce cookie and the security bits of
+/// the server's settings, such as those of `stun_endpoint` (`marked`).
 pub fn nonces_of_a_server_are_up_to_date()
-    ensures { (users : Registered) (feature : TheFeature) (words : List ℕ)
+    ensures made { (users : Registered) (feature : TheFeature) (words : List ℕ)
         → IsUpToDate users feature (nonce_of users.algorithms feature words)
+        (Some users.algorithms) }
+    ensures marked { (users : Registered) (feature : TheFeature) (behind : List ℕ)
+        → IsUpToDate users feature (front (security_byte users.algorithms feature) ++ behind)
         (Some users.algorithms) }
 {
     stun_auth::laws::nonces_ask_for_what_is_supported();
 }
 
-/// A response is believed only if it may be: without credentials, or signed as its request was.
+/// A response is believed only if it may be: without credentials, or signed as its request was
+/// (`signed`). Its FINGERPRINT is right, or it has none and the client requires none (`whole`).
 pub fn believed_responses_are_believable()
-    ensures { (identity : Identity) (standing : StandingSeen) (before : Option Answered)
-        (bytes : List ℕ) (by : Option IntegrityAlgorithm)
-        → judged identity standing before bytes ≡ believed by
+    ensures signed { (required : Bool) (identity : Identity) (standing : StandingSeen)
+        (before : Option Answered) (bytes : List ℕ) (by : Option IntegrityAlgorithm)
+        → judged required identity standing before bytes ≡ believed by
         → IsBelievable identity before bytes by }
+    ensures whole { (required : Bool) (identity : Identity) (standing : StandingSeen)
+        (before : Option Answered) (bytes : List ℕ) (by : Option IntegrityAlgorithm)
+        → judged required identity standing before bytes ≡ believed by
+        → fault_in required bytes ≡ None }
 {}
 
 /// A request is sent again only for the challenge that its response is by the rule. That challenge
 /// is neither the one that the request was signed for nor one that is ignored.
 pub fn requests_are_sent_again_for_new_challenges()
-    ensures { (who : NameAndPassword) (p : ThePreferences) (accepts_unsigned : Bool)
-        (standing : StandingSeen) (before : Option Answered) (bytes : List ℕ) (c : Answered)
-        → judged (long_term who p accepts_unsigned) standing before bytes ≡ anew (Some c)
+    ensures { (required : Bool) (who : NameAndPassword) (p : ThePreferences)
+        (accepts_unsigned : Bool) (standing : StandingSeen) (before : Option Answered)
+        (bytes : List ℕ) (c : Answered)
+        → judged required (long_term who p accepts_unsigned) standing before bytes ≡ anew (Some c)
         → IsAnsweredAnew p who standing before bytes c }
 {}
 

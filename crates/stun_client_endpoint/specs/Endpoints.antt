@@ -58,9 +58,9 @@ pub record Endpoint : Type 0 where
   pub requests : Pendings
 
 -- a client that has asked nothing. The agent knows the server's address
-abbrev pub new_endpoint : Agent → SocketAddr → Identity → Form → List AttributeType → ℕ → List ℕ
-    → Endpoint
-new_endpoint agent server identity form understood challenges seed = record {
+abbrev pub new_endpoint : Agent → SocketAddr → Bool → Identity → Form → List AttributeType → ℕ
+    → List ℕ → Endpoint
+new_endpoint agent server requires_fingerprint identity form understood challenges seed = record {
   form = form;
   understood = understood;
   challenges = challenges;
@@ -70,6 +70,7 @@ new_endpoint agent server identity form understood challenges seed = record {
     server = server;
     client = record {
       server = server;
+      requires_fingerprint = requires_fingerprint;
       identity = identity;
       standing = new_standing;
       requests = new_requests challenges;

@@ -4,6 +4,7 @@ use Rattle.stun_client.specs.declared.judged.Distrust.{Distrust}
 use Rattle.stun_client.specs.declared.judged.Distrust.TheVariants as Distrusts
 use Rattle.stun_client_endpoint.specs.declared.ended.DropReason.{DropReason}
 use Rattle.stun_client_endpoint.specs.declared.ended.DropReason.TheVariants.{WrongFingerprint}
+use Rattle.stun_client_endpoint.specs.declared.ended.DropReason.TheVariants.{MissingFingerprint}
 use Rattle.stun_client_endpoint.specs.declared.ended.DropReason.TheVariants.{NotVerified}
 use Rattle.stun_client_endpoint.specs.declared.ended.DropReason.TheVariants.{UnanswerableChallenge}
 use Rattle.stun_client_endpoint.specs.declared.ended.DropReason.TheVariants.{WeakerChallenge}
@@ -19,6 +20,7 @@ pub record Ended : Type 0 where
 -- why a response is dropped that is not believed
 abbrev pub reason_of : Distrust → DropReason
 reason_of Distrusts.WrongFingerprint = WrongFingerprint
+reason_of Distrusts.MissingFingerprint = MissingFingerprint
 reason_of Distrusts.NotVerified = NotVerified
 reason_of Distrusts.UnanswerableChallenge = UnanswerableChallenge
 reason_of Distrusts.WeakerChallenge = WeakerChallenge

@@ -1,5 +1,5 @@
 -- Laws of a client over any calls. Their times may go back (RFC 8489, sections 6.2, 6.3 and 9.2.5).
-use Rattle.std.specs.Prelude.{◌≡◌, ◌≤◌, ◌⊎◌, ℕ, true, List, None, Some}
+use Rattle.std.specs.Prelude.{◌≡◌, ◌≤◌, ◌⊎◌, ℕ, true, List, None, Some, Bool}
 use Rattle.std.specs.List.Sorted.{IsStrictlySortedBy}
 use Rattle.std.specs.Map.{keys_of}
 use Rattle.std.specs.Option.{IsSome}
@@ -56,10 +56,11 @@ pub record IsStarted (number : ℕ) (e : Endpoint) : Type 0 where
 
 -- it holds of a client that has asked nothing, over an agent that has its transactions in order
 abbrev pub BeginsAsEndpoint : Type 0
-BeginsAsEndpoint = (agent : Agent) (server : SocketAddr) (identity : Identity) (form : Form)
-    (understood : List AttributeType) (challenges : ℕ) (seed : List ℕ)
+BeginsAsEndpoint = (agent : Agent) (server : SocketAddr) (requires_fingerprint : Bool)
+    (identity : Identity) (form : Form) (understood : List AttributeType) (challenges : ℕ) (seed : List ℕ)
     → IsAscending agent.transactions
-    → IsEndpoint (new_endpoint agent server identity form understood challenges seed)
+    → IsEndpoint
+    (new_endpoint agent server requires_fingerprint identity form understood challenges seed)
 
 -- over any calls, what holds of every client still holds
 abbrev pub StaysAnEndpoint : Type 0

@@ -11,8 +11,11 @@ use stun_types::message::IntegrityAlgorithm;
 #[derive(Clone, Copy, Debug, PartialEq, Eq)]
 #[non_exhaustive]
 pub enum DropReason {
-    /// The FINGERPRINT is wrong: the response is damaged, or belongs to another protocol.
+    /// The FINGERPRINT is wrong, is not the last attribute, or its value does not have 4 bytes: the
+    /// response is damaged, or belongs to another protocol (RFC 8489, section 14.7).
     WrongFingerprint,
+    /// The client requires a FINGERPRINT, and the response has none (RFC 8489, section 7.3).
+    MissingFingerprint,
     /// The response has not the valid signature that it must have.
     NotVerified,
     /// The response is a 401 or a 438 that the client cannot answer, and is not signed, or one whose
@@ -30,6 +33,7 @@ pub(crate) fn reason_of(why: Distrust) -> DropReason
 {
     match why {
         Distrust::WrongFingerprint => DropReason::WrongFingerprint,
+        Distrust::MissingFingerprint => DropReason::MissingFingerprint,
         Distrust::NotVerified => DropReason::NotVerified,
         Distrust::UnanswerableChallenge => DropReason::UnanswerableChallenge,
         _ => DropReason::WeakerChallenge,

@@ -26,6 +26,8 @@ mod requesting;
 pub struct Settings<A: Allocator = Global> {
     /// What each request has beside its body and its signature.
     pub form: Form<A>,
+    /// Whether a response without FINGERPRINT is dropped (RFC 8489, section 7.3).
+    pub requires_fingerprint: bool,
     /// The types of attributes that are understood in responses.
     pub understood: Vec<AttributeType, A>,
     /// For how many challenges a request is sent again. The next one ends it.
@@ -90,8 +92,8 @@ impl<A: Allocator + Copy> ClientEndpoint<A> {
         seed: &[u8; 32],
     ) -> Result<ClientEndpoint<A>, AllocError>
         ensures { IfOk result (λ client. client ≡ new_endpoint agent server
-            (identity_of credentials) settings.form settings.understood.items settings.challenges
-            seed.now) }
+            settings.requires_fingerprint (identity_of credentials) settings.form
+            settings.understood.items settings.challenges seed.now) }
     {
         let mut agent = agent;
         // A peer that the agent knows takes no memory when it answers.
@@ -99,9 +101,18 @@ impl<A: Allocator + Copy> ClientEndpoint<A> {
         let key = IntegrityKey::from_bytes(alloc, seed)?;
         let Settings {
             form,
+            requires_fingerprint,
             understood,
             challenges,
         } = settings;
+        let state = ClientLoop::new(
+            alloc,
+            agent,
+            server,
+            requires_fingerprint,
+            credentials,
+            challenges,
+        );
         Ok(ClientEndpoint {
             alloc,
             form,
@@ -110,7 +121,7 @@ impl<A: Allocator + Copy> ClientEndpoint<A> {
             seed: PreparedKey::new(key, IntegrityAlgorithm::Sha1),
             next_id: 0,
             next: 0,
-            state: ClientLoop::new(alloc, agent, server, credentials, challenges),
+            state,
             requests: Pendings::new(alloc),
         })
     }

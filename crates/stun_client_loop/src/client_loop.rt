@@ -75,11 +75,13 @@ impl<A: Allocator + Copy> ClientLoop<A> {
     ghost use Rattle.stun_client_loop.specs.Loops.{after_transmit};
 
     /// Creates a client of this server without requests, over an agent. A request is sent again for
-    /// at most `challenges` challenges.
+    /// at most `challenges` challenges. If `requires_fingerprint` is true, responses without
+    /// FINGERPRINT are dropped.
     pub fn new(
         alloc: A,
         agent: StunAgent<A>,
         server: SocketAddr,
+        requires_fingerprint: bool,
         credentials: Credentials<A>,
         challenges: u32,
     ) -> ClientLoop<A>
@@ -87,6 +89,7 @@ impl<A: Allocator + Copy> ClientLoop<A> {
           server = server;
           client = record {
             server = server;
+            requires_fingerprint = requires_fingerprint;
             identity = identity_of credentials;
             standing = new_standing;
             requests = new_requests challenges;
@@ -98,7 +101,7 @@ impl<A: Allocator + Copy> ClientLoop<A> {
         let _awaited = agent.next_awaited();
         ClientLoop {
             server,
-            client: Client::new(alloc, server, credentials, challenges),
+            client: Client::new(alloc, server, requires_fingerprint, credentials, challenges),
             agent,
         }
     }

@@ -46,7 +46,7 @@ module _ (s : Settings) (users : Secrets) (from : SocketAddr) (now : ℕ) (messa
   abbrev v : Verdict
   v = judgement s users from now message
 
-  forth : (b : Bool) → is_undropped_request message.items ≡ b
+  forth : (b : Bool) → is_undropped_request s.requires_fingerprint message.items ≡ b
       → Some (cond b (Some (as_reply v)) None) ≡ Some (Some (Validated a)) → Accepted
   forth true is h =
       let one = validated_is v a h in (
@@ -60,7 +60,7 @@ module _ (s : Settings) (users : Secrets) (from : SocketAddr) (now : ℕ) (messa
   forth false is h = cc
 
   back : Accepted
-      → Some (cond (is_undropped_request message.items) (Some (as_reply v)) None)
+      → Some (cond (is_undropped_request s.requires_fingerprint message.items) (Some (as_reply v)) None)
       ≡ Some (Some (Validated a))
   back (name, (is, one)) =
       ap (λ b. Some (cond b (Some (as_reply v)) None)) is
@@ -75,7 +75,7 @@ validates_accepted s start events i from now message a is =
     let found =
     verdict_at s start events i (Arrived from now message) is
     ∙ ap Some (verdict_is s users from now message) in (
-      λ h. forth s users from now message a (is_undropped_request message.items) refl
+      λ h. forth s users from now message a (is_undropped_request s.requires_fingerprint message.items) refl
           (sym found ∙ h),
       λ accepted. found ∙ back s users from now message a accepted,
     )

@@ -21,12 +21,12 @@ use Rattle.stun_extra.specs.Fingerprint.{fingerprint_in}
 use Rattle.stun_proto.specs.Serving.{Reply, after_calls, replies, reply_of_answer}
 use Rattle.stun_proto.specs.declared.replay.call.ServerCall.{ServerCall}
 use Rattle.stun_endpoint.specs.Judged.{judged}
-use Rattle.stun_endpoint.specs.Nonces.{epoch_of}
-use Rattle.stun_endpoint.specs.Responding.{is_undropped_request, is_wrong, no_message}
+use Rattle.stun_endpoint.specs.Nonces.{epoch_of, uses_features}
+use Rattle.stun_endpoint.specs.Responding.{drop_reason, fault_of, is_undropped_request}
+use Rattle.stun_endpoint.specs.Responding.{no_message}
 use Rattle.stun_endpoint.specs.Runs.{Arrival, verdict_by_class}
 use Rattle.stun_endpoint.specs.Settings.{Settings}
 use Rattle.stun_endpoint.specs.declared.received.DropReason.{DropReason}
-use Rattle.stun_endpoint.specs.declared.received.DropReason.TheVariants.{WrongFingerprint}
 use Rattle.stun_datagrams.specs.Calls.{CanBeCalled, calls_for, calls_of, calls_under}
 use Rattle.stun_datagrams.specs.Calls.{first_accepted, parts_by_event, second_validations}
 use Rattle.stun_datagrams.specs.Calls.{server_with, verdict_told, words_for}
@@ -41,50 +41,45 @@ use Rattle.stun_datagrams.proofs.SignLemmas.{ServersSignWithRoom}
 -- ---- which datagrams are judged
 
 -- a request that is not dropped has a verdict, and nothing else has one
-judged_by_class : (a w : Bool) (why other : DropReason) (class : MessageClass) (given : Validation)
+judged_by_class : (why : Option DropReason) (class : MessageClass) (given : Validation)
     (by : MessageClass → Option Validation)
     → by Request ≡ Some given → by Indication ≡ None → by Success ≡ None → by Error ≡ None
-    → cond a None (cond w None (by class))
-    ≡ cond (is_none (cond a (Some why) (cond w (Some other) None)) && is_request class)
-    (Some given) None
-judged_by_class true w why other class given by one two three four = refl
-judged_by_class false true why other class given by one two three four = refl
-judged_by_class false false why other Request given by one two three four = one
-judged_by_class false false why other Indication given by one two three four = two
-judged_by_class false false why other Success given by one two three four = three
-judged_by_class false false why other Error given by one two three four = four
+    → cond (is_some why) None (by class)
+    ≡ cond (is_none why && is_request class) (Some given) None
+judged_by_class (Some why) class given by one two three four = refl
+judged_by_class None Request given by one two three four = one
+judged_by_class None Indication given by one two three four = two
+judged_by_class None Success given by one two three four = three
+judged_by_class None Error given by one two three four = four
 
 -- it is a message, and no response
-not_some : (o : Option StunParseError) → is_some o ≡ false → o ≡ None
-not_some None h = refl
-not_some (Some error) h = cc
+not_some : (o : Option StunParseError) (why : DropReason) (rest : Option DropReason)
+    → cond (is_some o) (Some why) rest ≡ None → o ≡ None
+not_some None why rest h = refl
+not_some (Some error) why rest h = cc
 
-request_parts : (a w : Bool) (why other : DropReason) (class : MessageClass)
-    → (is_none (cond a (Some why) (cond w (Some other) None)) && is_request class) ≡ true
-    → (a ≡ false) × (w ≡ false) × (class ≡ Request)
-request_parts true w why other class h = cc
-request_parts false true why other class h = cc
-request_parts false false why other Request h = (refl, refl, refl)
-request_parts false false why other Indication h = cc
-request_parts false false why other Success h = cc
-request_parts false false why other Error h = cc
+request_parts : (why : Option DropReason) (class : MessageClass)
+    → (is_none why && is_request class) ≡ true → (why ≡ None) × (class ≡ Request)
+request_parts (Some why) class h = cc
+request_parts None Request h = (refl, refl)
+request_parts None Indication h = cc
+request_parts None Success h = cc
+request_parts None Error h = cc
 
-pub record IsKeptRequest (bytes : List ℕ) : Type 0 where
+pub record IsKeptRequest (required : Bool) (bytes : List ℕ) : Type 0 where
   pub read : refusal bytes ≡ None
-  pub is_some_not : is_some (refusal bytes) ≡ false
-  pub right : is_wrong (fingerprint_in bytes) ≡ false
+  pub undropped : drop_reason required bytes ≡ None
   pub request : class_in bytes ≡ Request
 
-pub kept_request : (bytes : List ℕ) → is_undropped_request bytes ≡ true → IsKeptRequest bytes
-kept_request bytes h =
-    let all =
-    request_parts (is_some (refusal bytes)) (is_wrong (fingerprint_in bytes)) (no_message bytes)
-    WrongFingerprint (class_in bytes) h in
+pub kept_request : (required : Bool) (bytes : List ℕ) → is_undropped_request required bytes ≡ true
+    → IsKeptRequest required bytes
+kept_request required bytes h =
+    let all = request_parts (drop_reason required bytes) (class_in bytes) h in
     record {
-      read = not_some (refusal bytes) all.0;
-      is_some_not = all.0;
-      right = all.1;
-      request = all.2;
+      read = not_some (refusal bytes) (no_message bytes) (fault_of required (fingerprint_in bytes))
+          all.0;
+      undropped = all.0;
+      request = all.1;
     }
 
 pub class_read : (bytes : List ℕ) → (reading_of bytes).class ≡ class_in bytes
@@ -98,15 +93,15 @@ module _ (s : Settings) (users : Secrets) (from : SocketAddr) (now : ℕ) (messa
   judgement = judged s (realm_with s users) from now (reading_of message.items)
 
   pub verdict_is : verdict_of_event s users (Arrived from now message)
-      ≡ cond (is_undropped_request message.items) (Some (as_reply judgement)) None
+      ≡ cond (is_undropped_request s.requires_fingerprint message.items)
+      (Some (as_reply judgement)) None
   verdict_is =
       let d : Arrival =
       record { from = from; now = now; bytes = message.items; users = users } in
       ap (option_map reply_of_answer)
-      (judged_by_class (is_some (refusal message.items)) (is_wrong (fingerprint_in message.items))
-      (no_message message.items) WrongFingerprint (class_in message.items) (answer_to judgement)
-      (verdict_by_class s d) refl refl refl refl)
-      ∙ mapped (is_undropped_request message.items)
+      (judged_by_class (drop_reason s.requires_fingerprint message.items) (class_in message.items)
+      (answer_to judgement) (verdict_by_class s d) refl refl refl refl)
+      ∙ mapped (is_undropped_request s.requires_fingerprint message.items)
     where
       mapped : (b : Bool)
           → option_map reply_of_answer (cond b (Some (answer_to judgement)) None)
@@ -122,25 +117,26 @@ module _ (law : ServersSignWithRoom) (s : Settings) (clock : ℕ → ℕ) (respo
     calls_by b =
         cond b (flat_map (calls_under from (clock now) message response) (words_for s from now)) []
 
-    left_by : (b : Bool) → is_undropped_request message.items ≡ b
+    left_by : (b : Bool) → is_undropped_request s.requires_fingerprint message.items ≡ b
         → after_calls (server_with s users) (calls_by b) ≡ server_with s users
     left_by false is = refl
     left_by true is =
-        let kept = kept_request message.items is in
+        let kept = kept_request s.requires_fingerprint message.items is in
         left_all law s clock response fine users from now message kept.read
         (ap is_response (class_read message.items ∙ kept.request)) (words_for s from now)
         (few_all s from s.previous (epoch_of s now))
 
-    told_by : (b : Bool) → is_undropped_request message.items ≡ b
+    told_by : uses_features s ≡ true → (b : Bool) → is_undropped_request s.requires_fingerprint message.items ≡ b
         → verdict_told (replies (server_with s users) (calls_by b))
         ≡ cond b (Some (as_reply (judgement s users from now message))) None
-    told_by false is = refl
-    told_by true is =
-        let kept = kept_request message.items is in
+    told_by uses false is = refl
+    told_by uses true is =
+        let kept = kept_request s.requires_fingerprint message.items is in
         ap first_accepted (told_all law s clock response fine users from now message kept.read
         (ap is_response (class_read message.items ∙ kept.request)) (words_for s from now)
         (few_all s from s.previous (epoch_of s now)))
-        ∙ picked s (realm_with s users) from (reading_of message.items) s.previous (epoch_of s now)
+        ∙ picked s (realm_with s users) from (reading_of message.items) uses s.previous
+        (epoch_of s now)
 
   left_one : (users : Secrets) (e : ServerEvent)
       → after_calls (server_with s users) (calls_for s clock response e)
@@ -148,15 +144,15 @@ module _ (law : ServersSignWithRoom) (s : Settings) (clock : ℕ → ℕ) (respo
   left_one users (UserAdded name password) = refl
   left_one users (UserRemoved name) = refl
   left_one users (Arrived from now message) =
-      left_by users from now message (is_undropped_request message.items) refl
+      left_by users from now message (is_undropped_request s.requires_fingerprint message.items) refl
 
-  told_one : (users : Secrets) (e : ServerEvent)
+  told_one : uses_features s ≡ true → (users : Secrets) (e : ServerEvent)
       → verdict_told (replies (server_with s users) (calls_for s clock response e))
       ≡ verdict_of_event s users e
-  told_one users (UserAdded name password) = refl
-  told_one users (UserRemoved name) = refl
-  told_one users (Arrived from now message) =
-      told_by users from now message (is_undropped_request message.items) refl
+  told_one uses users (UserAdded name password) = refl
+  told_one uses users (UserRemoved name) = refl
+  told_one uses users (Arrived from now message) =
+      told_by users from now message uses (is_undropped_request s.requires_fingerprint message.items) refl
       ∙ sym (verdict_is s users from now message)
 
   -- ---- a list of events
@@ -200,20 +196,21 @@ module _ (law : ServersSignWithRoom) (s : Settings) (clock : ℕ → ℕ) (respo
       ∙ ap (λ t. given ∷ parts_of later (replies t others)) (left_one users e)
       ∙ ap (λ (all : List (List Reply)). given ∷ all) (parts_are later (users_after_event users e))
 
-  told_own : (events : List ServerEvent) (users : Secrets)
+  told_own : uses_features s ≡ true → (events : List ServerEvent) (users : Secrets)
       → map verdict_told (own_parts events users) ≡ verdicts s users events
-  told_own [] users = refl
-  told_own (e ∷ later) users =
+  told_own uses [] users = refl
+  told_own uses (e ∷ later) users =
       ap (λ (v : Option Reply). v ∷ map verdict_told (own_parts later (users_after_event users e)))
-      (told_one users e)
+      (told_one uses users e)
       ∙ ap (λ (vs : List (Option Reply)). verdict_of_event s users e ∷ vs)
-      (told_own later (users_after_event users e))
+      (told_own uses later (users_after_event users e))
 
-  pub told_many : (events : List ServerEvent) (users : Secrets)
+  pub told_many : uses_features s ≡ true → (events : List ServerEvent) (users : Secrets)
       → map verdict_told
       (parts_of events (replies (server_with s users) (calls_of s clock response events)))
       ≡ verdicts s users events
-  told_many events users = ap (map verdict_told) (parts_are events users) ∙ told_own events users
+  told_many uses events users =
+      ap (map verdict_told) (parts_are events users) ∙ told_own uses events users
 
   -- ---- under each nonce
   own_at : (events : List ServerEvent) (users : Secrets) (i : ℕ) (e : ServerEvent)
@@ -228,19 +225,19 @@ module _ (law : ServersSignWithRoom) (s : Settings) (clock : ℕ → ℕ) (respo
   own_at (first ∷ later) users (suc i) e h = own_at later (users_after_event users first) i e h
 
   module _ (from : SocketAddr) (now : ℕ) (message : Vec ℕ)
-      (is : is_undropped_request message.items ≡ true) where
+      (is : is_undropped_request s.requires_fingerprint message.items ≡ true) where
     abbrev seconds : Secrets → List Reply
     seconds users =
         map (λ words. as_reply (verdict_with s (realm_with s users) from (reading_of message.items)
         words))
         (words_for s from now)
 
-    seconds_of : (users : Secrets) (b : Bool) → is_undropped_request message.items ≡ b
+    seconds_of : (users : Secrets) (b : Bool) → is_undropped_request s.requires_fingerprint message.items ≡ b
         → b ≡ true
         → second_validations (replies (server_with s users) (calls_by users from now message b))
         ≡ seconds users
     seconds_of users true kept same =
-        let one = kept_request message.items kept in
+        let one = kept_request s.requires_fingerprint message.items kept in
         told_all law s clock response fine users from now message one.read
         (ap is_response (class_read message.items ∙ one.request)) (words_for s from now)
         (few_all s from s.previous (epoch_of s now))
@@ -257,4 +254,4 @@ module _ (law : ServersSignWithRoom) (s : Settings) (clock : ℕ → ℕ) (respo
         ∙ ap (option_map second_validations)
         (own_at events users i (Arrived from now message) there)
         ∙ ap Some (seconds_of (users_after users (take i events))
-        (is_undropped_request message.items) refl is)
+        (is_undropped_request s.requires_fingerprint message.items) refl is)

@@ -1,8 +1,8 @@
 -- A request that a registered user signs is accepted.
 use Rattle.std.proofs.Common.{◌≡◌, ◌≤◌, ◌+◌, inl, ℕ, zero, suc}
 use Rattle.std.proofs.Common.{List, [], ◌++◌}
-use Rattle.std.proofs.Common.{Option, Some, None, true, refl, sym, ◌∙◌, ap, arith, Ok}
-use Rattle.std.proofs.Common.{length}
+use Rattle.std.proofs.Common.{Option, Some, None, true, false, refl, sym, ◌∙◌, ap, arith, Ok}
+use Rattle.std.proofs.Common.{length, map}
 use Rattle.std.specs.Prelude.{cond, IsUtf8}
 use Rattle.std.specs.List.{AllByRecursion}
 use Rattle.std.specs.Option.{is_some, option_map}
@@ -15,7 +15,6 @@ use Rattle.stun_base.specs.declared.keys.algorithm.IntegrityAlgorithm.TheVariant
 use Rattle.stun_base.specs.declared.wire.message_type.MessageClass.{MessageClass}
 use Rattle.stun_base.specs.declared.wire.message_type.MessageClass.TheVariants as Class
 use Rattle.stun_types.specs.Integrity.{first_of}
-use Rattle.stun_types.specs.Message.{refusal}
 use Rattle.stun_types.specs.Visible.{visible}
 use Rattle.stun_types.specs.Walk.{Member, walk_up_to}
 use Rattle.stun_types.specs.Writing.{IsOpen}
@@ -26,7 +25,7 @@ use Rattle.stun_auth.specs.declared.algorithm_set.AlgorithmSet.TheVariants.{Only
 use Rattle.stun_auth.specs.Additions.{Addition, Page, added_all, page_of}
 use Rattle.stun_auth.specs.Algorithms.{algorithms_of, contains}
 use Rattle.stun_auth.specs.Joined.{HasAdded, IsTyped, added_members}
-use Rattle.stun_auth.specs.Nonces.{asks_for_algorithms, nonce_of}
+use Rattle.stun_auth.specs.Nonces.{letter}
 use Rattle.stun_auth.specs.Reading.{Reading, error_code, reading_of}
 use Rattle.stun_auth.specs.Registered.{UserSecret, of_password}
 use Rattle.stun_auth.specs.Seen.{ClientSeen}
@@ -35,16 +34,18 @@ use Rattle.stun_auth.specs.Signed.{Added, HasRoomFor, IsBuilt, IsSmall, IsText, 
 use Rattle.stun_auth.specs.Signed.{IsWithinLimits, ReadsAs, additions_of}
 use Rattle.stun_auth.proofs.SignedReading.{typed-additions}
 use Rattle.stun_extra.specs.Fingerprint.{fingerprint_if, fingerprint_in}
+use Rattle.stun_extra.specs.declared.fingerprint.Fingerprint.TheVariants.{Absent}
 use Rattle.stun_proto.specs.Negotiation.{request}
 use Rattle.stun_endpoint.specs.Judged.{IsAcceptedUnder}
-use Rattle.stun_endpoint.specs.Nonces.{current_nonce, epoch_of, nonce_in, words_of}
-use Rattle.stun_endpoint.specs.Responding.{is_undropped_request, is_wrong, no_message}
+use Rattle.stun_endpoint.specs.Nonces.{current_nonce, epoch_of, front_of, nonce_in, words_of}
+use Rattle.stun_endpoint.specs.Responding.{drop_reason, fault_of, is_undropped_request}
+use Rattle.stun_endpoint.specs.Responding.{no_message}
 use Rattle.stun_endpoint.specs.Lookups.{users_with}
 use Rattle.stun_endpoint.specs.Settings.{Settings}
-use Rattle.stun_endpoint.specs.declared.received.DropReason.TheVariants.{WrongFingerprint}
 use Rattle.stun_datagrams.specs.Events.{Secrets, realm_with}
 use Rattle.stun_datagrams.specs.Example.{IsUserOf, SignedRequestsAreAccepted, added_by_user}
 use Rattle.stun_datagrams.specs.Example.{strongest_in}
+use Rattle.stun_endpoint.proofs.OfferLemmas.{nonce_asks}
 use Rattle.stun_datagrams.proofs.OutcomeLemmas.{undropped_is}
 use Rattle.stun_datagrams.proofs.EventLemmas.{class_read}
 use Rattle.stun_datagrams.proofs.FourCalls.{sixteen}
@@ -66,11 +67,10 @@ pub record SigningLaws : Type 0 where
       → HasRoomFor a message room
       → (page : Page)
       × (added_all (additions_of a) (record { bytes = message; room = room }) ≡ Ok page)
-  pub text : (s : Settings) (words : List ℕ) → IsUtf8 (nonce_of s.algorithms s.feature words)
-  pub asks : (s : Settings) (words : List ℕ)
-      → asks_for_algorithms (nonce_of s.algorithms s.feature words) ≡ contains Sha256 s.algorithms
+  pub text : (s : Settings) (words : List ℕ)
+      → IsUtf8 (front_of s.algorithms s.feature ++ map letter words)
   pub short : (s : Settings) (words : List ℕ)
-      → length (nonce_of s.algorithms s.feature words) ≤ 13 + length words
+      → length (front_of s.algorithms s.feature ++ map letter words) ≤ 13 + length words
 
 -- ---- by the supported algorithms
 
@@ -122,7 +122,8 @@ unfolding request
 request_built law = law (type_number Class.Request 1) 7 (omega arith)
 
 module _ (laws : SigningLaws) (s : Settings) (users : Secrets) (user : NameAndPassword)
-    (from : SocketAddr) (now : ℕ) (known : IsUserOf s users user) where
+    (from : SocketAddr) (now : ℕ) (known : IsUserOf s users user)
+    (plain : s.requires_fingerprint ≡ false) where
   abbrev words : List ℕ
   words = words_of s.algorithms s.secret from (epoch_of s now)
 
@@ -189,7 +190,7 @@ module _ (laws : SigningLaws) (s : Settings) (users : Secrets) (user : NameAndPa
   agreed_here : agreement r nonce (Some s.algorithms) ≡ Some (strongest_in s.algorithms)
   agreed_here =
       ap (λ b. cond b (choice r.algorithms r.algorithm (algorithms_of s.algorithms)) (Some Sha1))
-      (laws.asks s words)
+      (nonce_asks s s.secret from (epoch_of s now) nonce refl)
       ∙ ap (λ l. cond (contains Sha256 s.algorithms)
       (choice l r.algorithm (algorithms_of s.algorithms)) (Some Sha1)) reads.algorithms_are
       ∙ ap (λ c. cond (contains Sha256 s.algorithms)
@@ -221,27 +222,32 @@ module _ (laws : SigningLaws) (s : Settings) (users : Secrets) (user : NameAndPa
   under zero one = one
   under (suc e) one = inl one
 
-  kept : is_undropped_request page.bytes ≡ true
-  kept =
-      undropped_is (is_some (refusal page.bytes)) (is_wrong (fingerprint_in page.bytes))
-      (no_message page.bytes) WrongFingerprint (class_in page.bytes)
-      (ap is_some (refusal-none page.bytes has_added.is_message))
-      (ap (λ (members : List Member). is_wrong (fingerprint_if page.bytes
+  undropped : drop_reason s.requires_fingerprint page.bytes ≡ None
+  undropped =
+      ap (λ o. cond (is_some o) (Some (no_message page.bytes))
+      (fault_of s.requires_fingerprint (fingerprint_in page.bytes)))
+      (refusal-none page.bytes has_added.is_message)
+      ∙ ap (λ (members : List Member). fault_of s.requires_fingerprint (fingerprint_if page.bytes
       (first_of FINGERPRINT members)))
       (has_added.visible_is
       ∙ ap (λ (shown : List Member). shown ++ added_members (request 7) (additions_of a))
       request_shows)
-      ∙ ap (λ (m : Option Member). is_wrong (fingerprint_if page.bytes m))
-      (no_fingerprint s.algorithms nonce s.realm user (request 7)))
+      ∙ ap (λ (m : Option Member). fault_of s.requires_fingerprint (fingerprint_if page.bytes m))
+      (no_fingerprint s.algorithms nonce s.realm user (request 7))
+      ∙ ap (λ required. fault_of required Absent) plain
+
+  kept : is_undropped_request s.requires_fingerprint page.bytes ≡ true
+  kept =
+      undropped_is (drop_reason s.requires_fingerprint page.bytes) (class_in page.bytes) undropped
       (sym (class_read page.bytes) ∙ reads.class_is ∙ request_class)
 
 pub signed_are_accepted : SigningLaws → SignedRequestsAreAccepted
-signed_are_accepted laws s users user from now known = (
-  page laws s users user from now known,
-  (signed laws s users user from now known).1,
+signed_are_accepted laws s users user from now known plain = (
+  page laws s users user from now known plain,
+  (signed laws s users user from now known plain).1,
   (
-    kept laws s users user from now known,
-    inl (under laws s users user from now known (epoch_of s now)
-        (accepted laws s users user from now known)),
+    kept laws s users user from now known plain,
+    inl (under laws s users user from now known plain (epoch_of s now)
+        (accepted laws s users user from now known plain)),
   ),
 )

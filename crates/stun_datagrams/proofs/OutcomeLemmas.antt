@@ -2,7 +2,7 @@
 use Rattle.std.proofs.Common.{◌≡◌, ℕ, zero, suc, List, [], ◌∷◌, ◌++◌, length, take}
 use Rattle.std.proofs.Common.{Option, Some, None, Bool, true, false, refl, sym, ◌∙◌, ap, Ok, Err}
 use Rattle.std.specs.Prelude.{cond, slice_get, not, ◌&&◌}
-use Rattle.std.specs.Option.{is_none, is_some}
+use Rattle.std.specs.Option.{is_none}
 use Rattle.std.specs.declared.net.socket_addr.SocketAddr.{SocketAddr}
 use Rattle.std.specs.declared.result.Result.{Result}
 use Rattle.stun_base.specs.MessageType.{class_in, is_request}
@@ -10,22 +10,20 @@ use Rattle.stun_base.specs.declared.wire.message_type.MessageClass.{MessageClass
 use Rattle.stun_base.specs.declared.wire.message_type.MessageClass.TheVariants.{Request}
 use Rattle.stun_base.specs.declared.wire.message_type.MessageClass.TheVariants.{Indication}
 use Rattle.stun_base.specs.declared.wire.message_type.MessageClass.TheVariants.{Success, Error}
-use Rattle.stun_types.specs.Message.{refusal}
 use Rattle.stun_auth.specs.declared.server.reason.VerdictRefusal.{VerdictRefusal}
 use Rattle.stun_auth.specs.Reading.{reading_of}
 use Rattle.stun_auth.specs.Seen.{ClientSeen}
-use Rattle.stun_extra.specs.Fingerprint.{fingerprint_in}
 use Rattle.stun_extra.specs.Unknown.{unknown_types}
 use Rattle.stun_endpoint.specs.Judged.{Realm, judged, key_of_client}
 use Rattle.stun_endpoint.specs.Nonces.{epoch_of}
 use Rattle.stun_endpoint.specs.Received.{AcceptedRequest, Answer, Outcome, by_class, by_verdict}
-use Rattle.stun_endpoint.specs.Received.{dropped, indicated, no_message, or_handed, received_by}
+use Rattle.stun_endpoint.specs.Received.{dropped, indicated, or_handed, received_by}
 use Rattle.stun_endpoint.specs.Received.{requested, responding_of, signature_for}
+use Rattle.stun_endpoint.specs.Received.{unless_dropped}
 use Rattle.stun_endpoint.specs.Responding.{binding_by, is_binding, is_empty, is_undropped_request}
-use Rattle.stun_endpoint.specs.Responding.{is_wrong, reply_by, unknown_by}
+use Rattle.stun_endpoint.specs.Responding.{drop_reason, reply_by, unknown_by}
 use Rattle.stun_endpoint.specs.Settings.{Settings}
 use Rattle.stun_endpoint.specs.declared.received.DropReason.{DropReason}
-use Rattle.stun_endpoint.specs.declared.received.DropReason.TheVariants.{WrongFingerprint}
 use Rattle.stun_endpoint.specs.declared.received.DropReason.TheVariants.{UnknownAttribute}
 use Rattle.stun_endpoint.proofs.AcceptedLemmas.{accepted_at}
 use Rattle.stun_datagrams.specs.Events.{ServerEvent, UserAdded, UserRemoved, Arrived, Secrets}
@@ -107,12 +105,10 @@ for_caller_is true true false one other h = refl
 for_caller_is true false y one other h = refl
 for_caller_is false x y one other h = cc
 
-pub undropped_is : (a w : Bool) (why other : DropReason) (class : MessageClass) → a ≡ false
-    → w ≡ false → class ≡ Request
-    → (is_none (cond a (Some why) (cond w (Some other) None)) && is_request class) ≡ true
-undropped_is true w why other class a_is w_is is = cc
-undropped_is false true why other class a_is w_is is = cc
-undropped_is false false why other class a_is w_is is = ap is_request is
+pub undropped_is : (why : Option DropReason) (class : MessageClass) → why ≡ None
+    → class ≡ Request → (is_none why && is_request class) ≡ true
+undropped_is (Some why) class kept is = cc
+undropped_is None class kept is = ap is_request is
 
 module _ (s : Settings) (realm : Realm) (from : SocketAddr) (now : ℕ) (bytes : List ℕ)
     (client : ClientSeen) where
@@ -174,37 +170,27 @@ module _ (s : Settings) (realm : Realm) (from : SocketAddr) (now : ℕ) (bytes :
   forth_class Success (request, h, is) = cc
   forth_class Error (request, h, is) = cc
 
-  forth_kept : (a w : Bool) (why other : DropReason) (rest : Outcome)
-      → IsHanded (cond a (dropped why) (cond w (dropped other) rest))
-      → (a ≡ false) × (w ≡ false) × IsHanded rest
-  forth_kept true w why other rest (request, h, is) = cc
-  forth_kept false true why other rest (request, h, is) = cc
-  forth_kept false false why other rest h = (refl, refl, h)
+  forth_kept : (why : Option DropReason) (rest : Outcome) → IsHanded (unless_dropped rest why)
+      → (why ≡ None) × IsHanded rest
+  forth_kept (Some why) rest (request, h, is) = cc
+  forth_kept None rest h = (refl, h)
 
   forth : IsHanded (received_by s realm from now bytes)
-      → (is_undropped_request bytes ≡ true) × IsHandedFrom
+      → (is_undropped_request s.requires_fingerprint bytes ≡ true) × IsHandedFrom
   forth h =
-      let kept =
-      forth_kept (is_some (refusal bytes)) (is_wrong (fingerprint_in bytes)) (no_message bytes)
-      WrongFingerprint (by_class s realm from now bytes (class_in bytes)) h in
-      let by = forth_class (class_in bytes) kept.2 in (
-        undropped_is (is_some (refusal bytes)) (is_wrong (fingerprint_in bytes))
-            (no_message bytes) WrongFingerprint (class_in bytes) kept.0 kept.1 by.0,
-        by.1,
-      )
+      let why = drop_reason s.requires_fingerprint bytes in
+      let kept = forth_kept why (by_class s realm from now bytes (class_in bytes)) h in
+      let by = forth_class (class_in bytes) kept.1 in
+      (undropped_is why (class_in bytes) kept.0 by.0, by.1)
 
-  back : is_undropped_request bytes ≡ true → IsHandedFrom
+  back : is_undropped_request s.requires_fingerprint bytes ≡ true → IsHandedFrom
       → IsHanded (received_by s realm from now bytes)
   back is (caller, accepted) =
-      let kept = kept_request bytes is in
+      let kept = kept_request s.requires_fingerprint bytes is in
       let key = key_of_client realm client in
       let by = signature_for key bytes in (
         request_for client key,
-        ap (λ a. cond a (dropped (no_message bytes))
-            (cond (is_wrong (fingerprint_in bytes)) (dropped WrongFingerprint)
-            (by_class s realm from now bytes (class_in bytes)))) kept.is_some_not
-            ∙ ap (λ w. cond w (dropped WrongFingerprint)
-            (by_class s realm from now bytes (class_in bytes))) kept.right
+        ap (unless_dropped (by_class s realm from now bytes (class_in bytes))) kept.undropped
             ∙ ap (by_class s realm from now bytes) kept.request
             ∙ ap (by_verdict s realm from now bytes) accepted
             ∙ ap (or_handed s key from bytes client)

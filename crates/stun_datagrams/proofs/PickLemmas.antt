@@ -1,7 +1,7 @@
 -- Of the verdicts under each nonce, the first acceptance is the server's verdict, or the first of
 -- them if there is none.
 use Rattle.std.proofs.Common.{◌≡◌, ◌⊎◌, inl, inr, ℕ, zero, suc, List, [], ◌∷◌, ◌++◌, map}
-use Rattle.std.proofs.Common.{Option, Some, None, refl, Ok, Err}
+use Rattle.std.proofs.Common.{Option, Some, None, true, refl, ◌∙◌, Ok, Err}
 use Rattle.std.specs.Option.{option_map_or}
 use Rattle.std.specs.declared.net.socket_addr.SocketAddr.{SocketAddr}
 use Rattle.std.specs.declared.result.Result.{Result}
@@ -10,7 +10,7 @@ use Rattle.stun_auth.specs.declared.server.reason.VerdictRefusal.TheVariants.{Un
 use Rattle.stun_auth.specs.declared.server.reason.VerdictRefusal.TheVariants.{BadRequest}
 use Rattle.stun_auth.specs.declared.server.reason.VerdictRefusal.TheVariants.{StaleNonce}
 use Rattle.stun_auth.specs.Epochs.{or_before}
-use Rattle.stun_auth.specs.Nonces.{nonce_of}
+use Rattle.stun_auth.specs.Nonces.{letter, nonce_of}
 use Rattle.stun_auth.specs.Reading.{Reading}
 use Rattle.stun_auth.specs.Seen.{ClientSeen}
 use Rattle.stun_auth.specs.Validation.{answer_to}
@@ -18,9 +18,10 @@ use Rattle.stun_auth.proofs.Accepting.{accepted_from_verdict}
 use Rattle.stun_proto.specs.Serving.{Reply, reply_of_answer}
 use Rattle.stun_endpoint.specs.Judged.{IsAcceptedBy, IsAcceptedByPrevious, IsAcceptedUnder, Realm}
 use Rattle.stun_endpoint.specs.Judged.{judged_under, or_previous, verdict_under}
-use Rattle.stun_endpoint.specs.Nonces.{nonce_in, words_of}
+use Rattle.stun_endpoint.specs.Nonces.{front_of, nonce_in, uses_features, words_of}
 use Rattle.stun_endpoint.specs.Settings.{Settings}
 use Rattle.stun_endpoint.proofs.AcceptedLemmas.{accepted_is_judged}
+use Rattle.stun_endpoint.proofs.NonceLemmas.{nonce_of-front}
 use Rattle.stun_datagrams.specs.Calls.{first_accepted, words_under}
 
 -- ---- two or four verdicts
@@ -101,8 +102,13 @@ module _ (s : Settings) (realm : Realm) (from : SocketAddr) (r : Reading) where
   judged_with previous e =
       or_previous s realm previous from e r (judged_under s realm s.secret from e r)
 
+  -- the same under the endpoint's nonces
+  abbrev verdict_in : List ℕ → Verdict
+  verdict_in words =
+      verdict_under realm (front_of s.algorithms s.feature ++ map letter words) r
+
   accepted_by : (secret : List ℕ) (e : ℕ) (client : ClientSeen)
-      → verdict_with (words_of s.algorithms secret from e) ≡ Ok client
+      → verdict_in (words_of s.algorithms secret from e) ≡ Ok client
       → IsAcceptedBy realm (nonce_in s secret from e) r client
   accepted_by secret e client =
       accepted_from_verdict realm.users realm.feature (nonce_in s secret from e)
@@ -114,26 +120,36 @@ module _ (s : Settings) (realm : Realm) (from : SocketAddr) (r : Reading) where
       → judged_with previous e ≡ Ok client
   judges previous e client = accepted_is_judged s realm from r client previous e
 
-  pub picked : (previous : Option (List ℕ)) (e : ℕ)
-      → first_accepted (map (λ words. as_reply (verdict_with words)) (words_in previous e))
+  picked_in : (previous : Option (List ℕ)) (e : ℕ)
+      → first_accepted (map (λ words. as_reply (verdict_in words)) (words_in previous e))
       ≡ Some (as_reply (judged_with previous e))
-  picked None zero = pick-one (verdict_with (words_of s.algorithms s.secret from 0))
-  picked None (suc e) =
-      pick-two (verdict_with (words_of s.algorithms s.secret from (suc e)))
-      (verdict_with (words_of s.algorithms s.secret from e))
+  picked_in None zero = pick-one (verdict_in (words_of s.algorithms s.secret from 0))
+  picked_in None (suc e) =
+      pick-two (verdict_in (words_of s.algorithms s.secret from (suc e)))
+      (verdict_in (words_of s.algorithms s.secret from e))
       (λ client is. judges None (suc e) client (inl (inr (accepted_by s.secret e client is))))
-  picked (Some secret) zero =
-      pick-two (verdict_with (words_of s.algorithms s.secret from 0))
-      (verdict_with (words_of s.algorithms secret from 0))
+  picked_in (Some secret) zero =
+      pick-two (verdict_in (words_of s.algorithms s.secret from 0))
+      (verdict_in (words_of s.algorithms secret from 0))
       (λ client is. judges (Some secret) 0 client (inr (accepted_by secret 0 client is)))
-  picked (Some secret) (suc e) =
-      pick-four (verdict_with (words_of s.algorithms s.secret from (suc e)))
-      (verdict_with (words_of s.algorithms s.secret from e))
-      (verdict_with (words_of s.algorithms secret from (suc e)))
-      (verdict_with (words_of s.algorithms secret from e))
+  picked_in (Some secret) (suc e) =
+      pick-four (verdict_in (words_of s.algorithms s.secret from (suc e)))
+      (verdict_in (words_of s.algorithms s.secret from e))
+      (verdict_in (words_of s.algorithms secret from (suc e)))
+      (verdict_in (words_of s.algorithms secret from e))
       (λ client is. judges (Some secret) (suc e) client
       (inl (inr (accepted_by s.secret e client is))))
       (λ client is. judges (Some secret) (suc e) client
       (inr (inl (accepted_by secret (suc e) client is))))
       (λ client is. judges (Some secret) (suc e) client
       (inr (inr (accepted_by secret e client is))))
+
+  -- with a security feature, these are the nonces that the other server makes of the numbers
+  pub picked : uses_features s ≡ true → (previous : Option (List ℕ)) (e : ℕ)
+      → first_accepted (map (λ words. as_reply (verdict_with words)) (words_in previous e))
+      ≡ Some (as_reply (judged_with previous e))
+  picked uses previous e =
+      (λ i. first_accepted (map
+      (λ words. as_reply (verdict_under realm (nonce_of-front s uses words i) r))
+      (words_in previous e)))
+      ∙ picked_in previous e

@@ -72,7 +72,7 @@ abbrev pub calls_for : Settings → (ℕ → ℕ) → Vec ℕ → ServerEvent �
 calls_for s clock response (UserAdded name password) = Call.AddUser name password ∷ []
 calls_for s clock response (UserRemoved name) = Call.RemoveUser name ∷ []
 calls_for s clock response (Arrived from now message) =
-    if is_undropped_request message.items
+    if is_undropped_request s.requires_fingerprint message.items
     then flat_map (calls_under from (clock now) message response) (words_for s from now) else []
 
 abbrev pub calls_of : Settings → (ℕ → ℕ) → Vec ℕ → List ServerEvent → List ServerCall

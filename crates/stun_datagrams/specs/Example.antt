@@ -1,6 +1,6 @@
 -- A request that a registered user signs under the nonce which is current at its source (RFC 8489,
 -- sections 9.2.3 and 9.2.4).
-use Rattle.std.specs.Prelude.{◌≡◌, ◌≤◌, ℕ, List, length, Some, None, Ok, IsUtf8}
+use Rattle.std.specs.Prelude.{◌≡◌, ◌≤◌, ℕ, List, length, Some, None, Ok, IsUtf8, false}
 use Rattle.std.specs.FinMap as fin
 use Rattle.std.specs.declared.net.socket_addr.SocketAddr.{SocketAddr}
 use Rattle.stun_base.specs.Credentials.{NameAndPassword}
@@ -59,11 +59,12 @@ IsSignedRequest s user from now page =
     (page_of (request 7))
     ≡ Ok page
 
--- it can be signed, and it is accepted from that user with the strongest algorithm
+-- it can be signed, and it is accepted from that user with the strongest algorithm. It has no
+-- FINGERPRINT, so the server must not require one
 abbrev pub SignedRequestsAreAccepted : Type 0
 SignedRequestsAreAccepted =
     (s : Settings) (users : Secrets) (user : NameAndPassword) (from : SocketAddr) (now : ℕ)
-    → IsUserOf s users user
+    → IsUserOf s users user → s.requires_fingerprint ≡ false
     → (page : Page) × IsSignedRequest s user from now page
     × IsAcceptedFrom s users from now page.bytes
     (record { name = user.username; algorithm = strongest_in s.algorithms })

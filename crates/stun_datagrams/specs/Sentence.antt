@@ -16,6 +16,7 @@ use Rattle.stun_extra.specs.Unknown.{unknown_types}
 use Rattle.stun_proto.specs.Serving.{Reply, Validated, reply_of_answer}
 use Rattle.stun_proto.specs.declared.replay.call.ServerCall.{ServerCall}
 use Rattle.stun_endpoint.specs.Judged.{IsAcceptedAt, verdict_under}
+use Rattle.stun_endpoint.specs.Nonces.{uses_features}
 use Rattle.stun_endpoint.specs.Received.{AcceptedRequest, Outcome, requested}
 use Rattle.stun_endpoint.specs.Responding.{is_binding, is_empty, is_undropped_request}
 use Rattle.stun_endpoint.specs.Settings.{Settings}
@@ -30,7 +31,7 @@ use Rattle.stun_datagrams.specs.Events.{outcomes, realm_with, users_after, verdi
 -- the epoch or of the epoch before, of the secret or of the previous secret (`IsAcceptedAt`)
 abbrev pub IsAcceptedFrom : Settings → Secrets → SocketAddr → ℕ → List ℕ → ClientSeen → Type 0
 IsAcceptedFrom s users from now bytes client =
-    (is_undropped_request bytes ≡ true)
+    (is_undropped_request s.requires_fingerprint bytes ≡ true)
     × IsAcceptedAt s (realm_with s users) from now (reading_of bytes) client
 
 -- whether the server leaves the response to an accepted request to its caller: its attributes are
@@ -89,20 +90,23 @@ replied_under s users bytes words =
     reply_of_answer (answer_to (verdict_under (realm_with s users)
     (nonce_of s.algorithms s.feature words) (reading_of bytes)))
 
--- what `serve` replies to the calls of a list of events, and what they leave
+-- What `serve` replies to the calls of a list of events, and what they leave. A server that uses a
+-- security feature has the nonces of the one that keeps records. Without a feature its nonces begin
+-- with the nonce cookie, and those of the other do not (RFC 8489, section 9.2)
 pub record TellsEachVerdict (s : Settings) (start : Secrets) (events : List ServerEvent)
     (calls : ServerEvent → List ServerCall) (given : List Reply) (left : ServerSeen) : Type 0 where
   -- the replies to the second validations give the verdict on each datagram
-  pub told : map verdict_told (parts_by_event calls events given) ≡ verdicts s start events
+  pub told : uses_features s ≡ true
+      → map verdict_told (parts_by_event calls events given) ≡ verdicts s start events
   -- each of these replies is the verdict under one nonce that the source may have
   pub by_nonce : (i : ℕ) (from : SocketAddr) (now : ℕ) (message : Vec ℕ)
       → slice_get events i ≡ Some (Arrived from now message)
-      → is_undropped_request message.items ≡ true
+      → is_undropped_request s.requires_fingerprint message.items ≡ true
       → option_map second_validations (slice_get (parts_by_event calls events given) i)
       ≡ Some (map (replied_under s (users_after start (take i events)) message.items)
       (words_for s from now))
   -- so they say exactly which datagrams are accepted
-  pub accepted : ValidatesAcceptedDatagrams s start events
+  pub accepted : uses_features s ≡ true → ValidatesAcceptedDatagrams s start events
       (map verdict_told (parts_by_event calls events given))
   -- no record of an address is left
   pub nothing_left : left ≡ server_with s (users_after start events)

@@ -26,6 +26,7 @@ use std::alloc::{AllocError, Allocator};
 use std::net::SocketAddr;
 use stun_auth::auth::LongTermServerAuth;
 use stun_auth::laws as auth_laws;
+use stun_endpoint::laws as endpoint_laws;
 use stun_endpoint::open::{OpenReceived, OpenServer};
 use stun_endpoint::received::Received;
 use stun_endpoint::server::Server;
@@ -66,9 +67,12 @@ pub fn accepted_datagrams_are_handed_out()
 /// again, and its address is forgotten. Users are added and removed by the calls for that.
 ///
 /// - `headline`: the first sentence holds of these calls.
-/// - `told`: the reply to each second validation is the verdict under its nonce. Together they give
-///   the verdict on the datagram, so they say exactly which datagrams are accepted. No record of an
-///   address is left.
+/// - `told`: the reply to each second validation is the verdict under its nonce. If the server uses a
+///   security feature, that is a nonce of the endpoint, so together they give the verdict on the
+///   datagram, and say exactly which datagrams are accepted. Without a feature the endpoint's nonces
+///   begin with the nonce cookie and `LongTermServerAuth`'s do not, so the two accept different
+///   requests (`accepted_datagrams_are_handed_out` says which, whatever the settings are). No record
+///   of an address is left.
 ///
 /// The server starts with any users, and with no record of an address. Its clock and the response
 /// may be any that it can work with (`CanBeCalled`).
@@ -102,7 +106,7 @@ pub fn served_datagrams_begin()
 
 /// There are datagrams that are accepted. A Binding request that a registered user signs under the
 /// nonce which is current at its source is accepted from that user with the strongest algorithm of
-/// the server, whatever the settings, the source and the time are.
+/// the server, whatever the source, the time and the settings are, if these require no FINGERPRINT.
 pub fn signed_requests_are_accepted()
     ensures { SignedRequestsAreAccepted }
 {
@@ -110,7 +114,7 @@ pub fn signed_requests_are_accepted()
     auth_laws::signed_messages_are_read();
     auth_laws::signing_succeeds_with_room();
     auth_laws::built_messages_can_be_signed();
-    auth_laws::nonces_ask_for_what_is_supported();
+    endpoint_laws::nonces_have_the_bits_of_their_server();
 }
 
 /// What `receive` returns for a datagram is what the datagram comes to in any list of datagrams and

@@ -18,11 +18,11 @@ use Rattle.stun_auth.specs.Seen.{ClientSeen}
 use Rattle.stun_auth.specs.Server.{bits_differ}
 use Rattle.stun_auth.proofs.Accepting.{accepted_from_verdict, verdict_from_accepted}
 use Rattle.stun_auth.proofs.Accepting.{verdict_under_other}
-use Rattle.stun_auth.proofs.NonceTexts.{bits_alike}
 use Rattle.stun_endpoint.specs.Judged.{IsAcceptedBy, IsAcceptedByPrevious, IsAcceptedUnder}
 use Rattle.stun_endpoint.specs.Judged.{Realm, judged_in, judged_under, or_previous, verdict_under}
-use Rattle.stun_endpoint.specs.Nonces.{nonce_in, words_of}
+use Rattle.stun_endpoint.specs.Nonces.{nonce_in}
 use Rattle.stun_endpoint.specs.Settings.{Settings}
+use Rattle.stun_endpoint.proofs.NonceLemmas.{bits_alike}
 
 pub bits-same : (bits : Option (List ℕ)) → bits_differ bits bits ≡ false
 bits-same None = refl
@@ -72,8 +72,7 @@ module _ (s : Settings) (realm : Realm) (from : SocketAddr) (r : Reading)
       (Some realm.offered) r client one
       ∙ ap (λ bits. cond (bytes_eq ours now) (Ok client)
       (Err (cond (bits_differ (security_bits now) bits) Unauthorized StaleNonce)))
-      (bits_alike s.algorithms s.feature (words_of s.algorithms secret from e)
-      (words_of s.algorithms other from f))
+      (bits_alike s secret other from from e f)
       ∙ ap (λ b. cond (bytes_eq ours now) (Ok client) (Err (cond b Unauthorized StaleNonce)))
       (bits-same (security_bits now))
 

@@ -1,9 +1,7 @@
 -- Who gets a success or a 420 is accepted, who is accepted gets what an accepted request does, and
 -- everybody else is refused.
 use Rattle.std.proofs.Common.{◌≡◌, ◌⊎◌, inl, inr, ℕ, List, [], Option, Some, None}
-use Rattle.std.proofs.Common.{Bool, true, false, refl, sym, ◌∙◌, ap, subst, Ok, Err}
-use Rattle.std.specs.Prelude.{cond}
-use Rattle.std.specs.Option.{is_some}
+use Rattle.std.proofs.Common.{refl, sym, ◌∙◌, ap, subst, Ok, Err}
 use Rattle.std.specs.declared.net.socket_addr.SocketAddr.{SocketAddr}
 use Rattle.std.specs.declared.result.Result.{Result}
 use Rattle.stun_base.specs.MessageType.{class_in}
@@ -11,38 +9,26 @@ use Rattle.stun_base.specs.declared.wire.message_type.MessageClass.{MessageClass
 use Rattle.stun_base.specs.declared.wire.message_type.MessageClass.TheVariants.{Request}
 use Rattle.stun_base.specs.declared.wire.message_type.MessageClass.TheVariants.{Indication}
 use Rattle.stun_base.specs.declared.wire.message_type.MessageClass.TheVariants.{Success, Error}
-use Rattle.stun_types.specs.Message.{refusal}
 use Rattle.stun_auth.specs.Datagrams.{told_refusal}
 use Rattle.stun_auth.specs.Reading.{reading_of}
 use Rattle.stun_auth.specs.Seen.{ClientSeen}
 use Rattle.stun_auth.specs.declared.server.reason.VerdictRefusal.{VerdictRefusal}
 use Rattle.stun_auth.specs.declared.server.reason.VerdictRefusal.TheVariants as verdict
-use Rattle.stun_extra.specs.Fingerprint.{fingerprint_in}
 use Rattle.stun_extra.specs.Unknown.{unknown_types}
 use Rattle.stun_endpoint.specs.Judged.{IsAcceptedAt, Realm, judged, key_of_client}
 use Rattle.stun_endpoint.specs.Nonces.{current_nonce, epoch_of}
 use Rattle.stun_endpoint.specs.Received.{Answer, answer_to_refused, answered, by_class, by_verdict}
-use Rattle.stun_endpoint.specs.Received.{is_empty, is_wrong, no_message}
+use Rattle.stun_endpoint.specs.Received.{is_empty}
 use Rattle.stun_endpoint.specs.Received.{outcome_of_accepted, received_by, refused_with}
 use Rattle.stun_endpoint.specs.Received.{responding_of}
 use Rattle.stun_endpoint.specs.Responding.{Responding, drop_reason, refusal_by}
 use Rattle.stun_endpoint.specs.Settings.{Settings}
-use Rattle.stun_endpoint.specs.code.Waiting.{IsWaiting}
-use Rattle.stun_endpoint.specs.declared.received.DropReason.{DropReason}
-use Rattle.stun_endpoint.specs.declared.received.DropReason.TheVariants.{WrongFingerprint}
 use Rattle.stun_endpoint.specs.declared.received.Refusal.{Refusal}
 use Rattle.stun_endpoint.specs.declared.received.Refusal.TheVariants as refused
 use Rattle.stun_endpoint.proofs.AcceptedLemmas.{accepted_at}
 use Rattle.stun_endpoint.proofs.HandedLemmas.{challenge_told, not_dropped_answer}
 use Rattle.stun_endpoint.proofs.HandedLemmas.{not_indicated_answer}
-use Rattle.stun_endpoint.proofs.JudgementLemmas.{waiting_received}
-
--- a datagram that is not dropped is a message without a wrong FINGERPRINT
-pub undropped : (b c : Bool) (why other : DropReason)
-    → cond b (Some why) (cond c (Some other) None) ≡ None → (b ≡ false) × (c ≡ false)
-undropped true c why other h = cc
-undropped false true why other h = cc
-undropped false false why other h = (refl, refl)
+use Rattle.stun_endpoint.proofs.JudgementLemmas.{request_received}
 
 -- ---- how a response refuses
 
@@ -107,24 +93,17 @@ module _ (s : Settings) (realm : Realm) (from : SocketAddr) (now : ℕ) (bytes :
   answered_is_accepted a h given =
       let one =
       class_of_answered a (class_in bytes)
-      (not_dropped_answer (is_some (refusal bytes)) (is_wrong (fingerprint_in bytes)) _ _ _ a h)
+      (not_dropped_answer (drop_reason s.requires_fingerprint bytes) _ a h)
       given in
       (one.0, (accepted_at s realm from (reading_of bytes) one.0 (epoch_of s now)).0 one.1)
 
   -- ---- a request that is not dropped
-  waiting : drop_reason bytes ≡ None → class_in bytes ≡ Request → IsWaiting bytes
-  waiting kept request =
-      let read =
-      undropped (is_some (refusal bytes)) (is_wrong (fingerprint_in bytes)) (no_message bytes)
-      WrongFingerprint kept in
-      record { read = read.0; right = read.1; request = request }
-
-  pub accepted_comes_to : (client : ClientSeen) → drop_reason bytes ≡ None
+  pub accepted_comes_to : (client : ClientSeen) → drop_reason s.requires_fingerprint bytes ≡ None
       → class_in bytes ≡ Request → IsAcceptedAt s realm from now (reading_of bytes) client
       → received_by s realm from now bytes
       ≡ outcome_of_accepted s (key_of_client realm client) from bytes client
   accepted_comes_to client kept request is =
-      waiting_received s realm from now bytes [] (waiting kept request)
+      request_received s realm from now bytes [] kept request
       ∙ ap (by_verdict s realm from now bytes)
       ((accepted_at s realm from (reading_of bytes) client (epoch_of s now)).1 is)
 
@@ -139,10 +118,11 @@ module _ (s : Settings) (realm : Realm) (from : SocketAddr) (now : ℕ) (bytes :
       ((accepted_at s realm from (reading_of bytes) client (epoch_of s now)).0 is))
   by_refused (Err why) is nobody = (why, ap (by_verdict s realm from now bytes) is)
 
-  pub refused_comes_to : drop_reason bytes ≡ None → class_in bytes ≡ Request
+  pub refused_comes_to : drop_reason s.requires_fingerprint bytes ≡ None
+      → class_in bytes ≡ Request
       → ((client : ClientSeen) → IsAcceptedAt s realm from now (reading_of bytes) client → ⊥)
       → (why : VerdictRefusal) × (received_by s realm from now bytes
       ≡ refused_with s (current_nonce s from now) from bytes why)
   refused_comes_to kept request nobody =
       let one = by_refused (judged s realm from now (reading_of bytes)) refl nobody in
-      (one.0, waiting_received s realm from now bytes [] (waiting kept request) ∙ one.1)
+      (one.0, request_received s realm from now bytes [] kept request ∙ one.1)

@@ -19,7 +19,6 @@ use Rattle.stun_auth.specs.Server.{agreement, bits_differ, client_of, nonce_refu
 use Rattle.stun_auth.specs.Server.{verdict, verified_named}
 use Rattle.stun_auth.specs.Validation.{is_complete, is_malformed}
 use Rattle.stun_auth.proofs.Accepting.{accepted_from_verdict, verdict_from_accepted}
-use Rattle.stun_auth.proofs.NonceTexts.{bits_alike}
 use Rattle.stun_auth.proofs.VerdictLemmas.{by_rows, verdict-rows}
 use Rattle.stun_endpoint.specs.Causes.{credential_cause, has_other_bits, is_agreed, is_current}
 use Rattle.stun_endpoint.specs.Causes.{is_signed_by_user}
@@ -27,7 +26,7 @@ use Rattle.stun_endpoint.specs.Judged.{IsAcceptedBy, IsAcceptedByPrevious, IsAcc
 use Rattle.stun_endpoint.specs.Judged.{Realm, judged, judged_in, judged_under, or_previous}
 use Rattle.stun_endpoint.specs.Judged.{verdict_under}
 use Rattle.stun_endpoint.specs.Lookups.{accepted_nonces, has_one_of, nonces_of, previous_nonces}
-use Rattle.stun_endpoint.specs.Nonces.{current_nonce, epoch_of, nonce_in, words_of}
+use Rattle.stun_endpoint.specs.Nonces.{current_nonce, epoch_of, nonce_in}
 use Rattle.stun_endpoint.specs.Settings.{Settings, registered_of}
 use Rattle.stun_endpoint.specs.code.Refusing.{cause_by_refusal, cause_told, is_unauthorized}
 use Rattle.stun_endpoint.specs.code.Refusing.{verdict_under_none}
@@ -36,6 +35,7 @@ use Rattle.stun_endpoint.specs.declared.server.causes.Cause.TheVariants.{NoSigna
 use Rattle.stun_endpoint.specs.declared.server.causes.Cause.TheVariants.{OtherAlgorithms}
 use Rattle.stun_endpoint.specs.declared.server.causes.Cause.TheVariants.{OtherFeatures, StaleNonce}
 use Rattle.stun_endpoint.specs.declared.server.causes.Cause.TheVariants.{WrongCredentials}
+use Rattle.stun_endpoint.proofs.NonceLemmas.{bits_alike}
 use Rattle.stun_endpoint.proofs.AcceptedLemmas.{accepted_at, bits-same}
 use Rattle.stun_endpoint.proofs.ReadyLemmas.{accepted_parts, nonce_in-there, stale_for_all}
 
@@ -297,8 +297,7 @@ module _ (s : Settings) (realm : Realm) (from : SocketAddr) (r : Reading) where
   bits_of_nonce secret e now is =
       ap (λ n. bits_differ (security_bits (current_nonce s from now)) (security_bits n)) is
       ∙ ap (λ bits. bits_differ (security_bits (current_nonce s from now)) bits)
-      (bits_alike s.algorithms s.feature (words_of s.algorithms secret from e)
-      (words_of s.algorithms s.secret from (epoch_of s now)))
+      (bits_alike s secret s.secret from from e (epoch_of s now))
       ∙ bits-same (security_bits (current_nonce s from now))
 
   -- an accepted request fails no check of its credentials

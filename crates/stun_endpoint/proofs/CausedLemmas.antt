@@ -11,7 +11,6 @@ use Rattle.stun_base.specs.declared.wire.message_type.MessageClass.{MessageClass
 use Rattle.stun_base.specs.declared.wire.message_type.MessageClass.TheVariants.{Request}
 use Rattle.stun_base.specs.declared.wire.message_type.MessageClass.TheVariants.{Indication}
 use Rattle.stun_base.specs.declared.wire.message_type.MessageClass.TheVariants.{Success, Error}
-use Rattle.stun_types.specs.Message.{refusal}
 use Rattle.stun_auth.specs.Datagrams.{told_refusal}
 use Rattle.stun_auth.specs.Reading.{Reading, reading_of}
 use Rattle.stun_auth.specs.Seen.{ClientSeen}
@@ -19,23 +18,21 @@ use Rattle.stun_auth.specs.Server.{their_nonce}
 use Rattle.stun_auth.specs.Validation.{is_malformed}
 use Rattle.stun_auth.specs.declared.server.reason.VerdictRefusal.{VerdictRefusal}
 use Rattle.stun_auth.specs.declared.server.reason.VerdictRefusal.TheVariants as verdict
-use Rattle.stun_extra.specs.Fingerprint.{fingerprint_in}
 use Rattle.stun_extra.specs.Unknown.{unknown_types}
 use Rattle.stun_endpoint.specs.Causes.{cause_by_class, cause_of, code_of_cause, credential_cause}
 use Rattle.stun_endpoint.specs.Causes.{or_unknown, refused_code}
 use Rattle.stun_endpoint.specs.Judged.{Realm, judged, key_of_client}
 use Rattle.stun_endpoint.specs.Nonces.{current_nonce}
 use Rattle.stun_endpoint.specs.Received.{Answer, Outcome, answer_to_refused, by_class, by_verdict}
-use Rattle.stun_endpoint.specs.Received.{dropped, indicated, is_binding, is_empty, is_wrong}
-use Rattle.stun_endpoint.specs.Received.{no_message, or_handed, received_by, responding_of}
-use Rattle.stun_endpoint.specs.Received.{signature_for}
+use Rattle.stun_endpoint.specs.Received.{dropped, indicated, is_binding, is_empty}
+use Rattle.stun_endpoint.specs.Received.{or_handed, received_by, responding_of, signature_for}
+use Rattle.stun_endpoint.specs.Received.{unless_dropped}
 use Rattle.stun_endpoint.specs.Refusals.{code_of}
-use Rattle.stun_endpoint.specs.Responding.{binding_by, unknown_by}
+use Rattle.stun_endpoint.specs.Responding.{binding_by, drop_reason, unknown_by}
 use Rattle.stun_endpoint.specs.Settings.{Settings}
 use Rattle.stun_endpoint.specs.code.Refusing.{cause_told, is_unauthorized}
 use Rattle.stun_endpoint.specs.code.Refusing.{verdict_under_none}
 use Rattle.stun_endpoint.specs.declared.received.DropReason.{DropReason}
-use Rattle.stun_endpoint.specs.declared.received.DropReason.TheVariants.{WrongFingerprint}
 use Rattle.stun_endpoint.specs.declared.received.DropReason.TheVariants as drop
 use Rattle.stun_endpoint.specs.declared.received.Refusal.TheVariants as refused
 use Rattle.stun_endpoint.specs.declared.server.causes.Cause.{Cause}
@@ -67,14 +64,12 @@ told_code s ours r verdict.StaleNonce = refl
 told_code s ours r verdict.BadRequest = bad_code (is_malformed r || bytes_eq (their_nonce r) [])
 
 -- what a dropped datagram comes to
-undropped_code : (b c : Bool) (why other : DropReason) (rest : Outcome) (cause : Option Cause)
+undropped_code : (why : Option DropReason) (rest : Outcome) (cause : Option Cause)
     → option_map code_of_cause cause ≡ refused_code rest
-    → option_map code_of_cause
-    (cond (is_some (cond b (Some why) (cond c (Some other) None))) None cause)
-    ≡ refused_code (cond b (dropped why) (cond c (dropped other) rest))
-undropped_code true c why other rest cause h = refl
-undropped_code false true why other rest cause h = refl
-undropped_code false false why other rest cause h = h
+    → option_map code_of_cause (cond (is_some why) None cause)
+    ≡ refused_code (unless_dropped rest why)
+undropped_code (Some why) rest cause h = refl
+undropped_code None rest cause h = h
 
 module _ (s : Settings) (realm : Realm) (from : SocketAddr) (now : ℕ) (bytes : List ℕ) where
   -- what an accepted request comes to
@@ -124,6 +119,6 @@ module _ (s : Settings) (realm : Realm) (from : SocketAddr) (now : ℕ) (bytes :
   pub cause_code : option_map code_of_cause (cause_of s realm from now bytes)
       ≡ refused_code (received_by s realm from now bytes)
   cause_code =
-      undropped_code (is_some (refusal bytes)) (is_wrong (fingerprint_in bytes)) (no_message bytes)
-      WrongFingerprint (by_class s realm from now bytes (class_in bytes))
+      undropped_code (drop_reason s.requires_fingerprint bytes)
+      (by_class s realm from now bytes (class_in bytes))
       (cause_by_class s realm from now bytes (class_in bytes)) (class_code (class_in bytes))

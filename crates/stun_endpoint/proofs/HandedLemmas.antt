@@ -2,7 +2,6 @@
 use Rattle.std.proofs.Common.{◌≡◌, ◌⊎◌, inl, inr, ℕ, List, Option, Some, None}
 use Rattle.std.proofs.Common.{Bool, true, false, refl, sym, ◌∙◌, ap, Ok, Err}
 use Rattle.std.specs.Prelude.{cond, ◌||◌, ◌&&◌}
-use Rattle.std.specs.Option.{is_some}
 use Rattle.std.specs.Str.{bytes_eq}
 use Rattle.std.specs.declared.net.socket_addr.SocketAddr.{SocketAddr}
 use Rattle.std.specs.declared.result.Result.{Result}
@@ -11,7 +10,6 @@ use Rattle.stun_base.specs.declared.wire.message_type.MessageClass.{MessageClass
 use Rattle.stun_base.specs.declared.wire.message_type.MessageClass.TheVariants.{Request}
 use Rattle.stun_base.specs.declared.wire.message_type.MessageClass.TheVariants.{Indication}
 use Rattle.stun_base.specs.declared.wire.message_type.MessageClass.TheVariants.{Success, Error}
-use Rattle.stun_types.specs.Message.{refusal}
 use Rattle.stun_auth.specs.Datagrams.{told_refusal}
 use Rattle.stun_auth.specs.Reading.{Reading, reading_of}
 use Rattle.stun_auth.specs.Seen.{ClientSeen}
@@ -19,16 +17,17 @@ use Rattle.stun_auth.specs.Server.{their_nonce}
 use Rattle.stun_auth.specs.Validation.{is_malformed}
 use Rattle.stun_auth.specs.declared.server.reason.VerdictRefusal.{VerdictRefusal}
 use Rattle.stun_auth.specs.declared.server.reason.VerdictRefusal.TheVariants as verdict
-use Rattle.stun_extra.specs.Fingerprint.{fingerprint_in}
 use Rattle.stun_extra.specs.Unknown.{unknown_types}
 use Rattle.stun_endpoint.specs.Judged.{IsAcceptedAt, Realm, judged, key_of_client}
 use Rattle.stun_endpoint.specs.Nonces.{current_nonce, epoch_of}
 use Rattle.stun_endpoint.specs.Answers.{Signature}
 use Rattle.stun_endpoint.specs.Received.{AcceptedRequest, Answer, Outcome, answer_to_refused}
 use Rattle.stun_endpoint.specs.Received.{answered, by_class, by_verdict, challenge_answer, dropped}
-use Rattle.stun_endpoint.specs.Received.{indicated, is_binding, is_empty, is_wrong, or_handed}
+use Rattle.stun_endpoint.specs.Received.{indicated, is_binding, is_empty, or_handed}
 use Rattle.stun_endpoint.specs.Received.{received_by, requested, responding_of, signature_for}
-use Rattle.stun_endpoint.specs.Responding.{Responding, binding_by, own_answer, reply_by, unknown_by}
+use Rattle.stun_endpoint.specs.Received.{unless_dropped}
+use Rattle.stun_endpoint.specs.Responding.{Responding, binding_by, drop_reason, own_answer}
+use Rattle.stun_endpoint.specs.Responding.{reply_by, unknown_by}
 use Rattle.stun_endpoint.specs.Settings.{Settings}
 use Rattle.stun_endpoint.specs.declared.received.DropReason.{DropReason}
 use Rattle.stun_endpoint.specs.declared.received.Refusal.{Refusal}
@@ -60,17 +59,15 @@ pub not_indicated_answer : (b : Bool) (bytes : List ℕ) (why : DropReason) (a :
 not_indicated_answer true bytes why a A h = cc
 not_indicated_answer false bytes why a A h = cc
 
-not_dropped : (b c : Bool) (why other : DropReason) (rest : Outcome) (q : AcceptedRequest)
-    → cond b (dropped why) (cond c (dropped other) rest) ≡ requested q → rest ≡ requested q
-not_dropped true c why other rest q h = cc
-not_dropped false true why other rest q h = cc
-not_dropped false false why other rest q h = h
+not_dropped : (why : Option DropReason) (rest : Outcome) (q : AcceptedRequest)
+    → unless_dropped rest why ≡ requested q → rest ≡ requested q
+not_dropped None rest q h = h
+not_dropped (Some why) rest q h = cc
 
-pub not_dropped_answer : (b c : Bool) (why other : DropReason) (rest : Outcome) (a : Answer)
-    → cond b (dropped why) (cond c (dropped other) rest) ≡ answered a → rest ≡ answered a
-not_dropped_answer true c why other rest a h = cc
-not_dropped_answer false true why other rest a h = cc
-not_dropped_answer false false why other rest a h = h
+pub not_dropped_answer : (why : Option DropReason) (rest : Outcome) (a : Answer)
+    → unless_dropped rest why ≡ answered a → rest ≡ answered a
+not_dropped_answer None rest a h = h
+not_dropped_answer (Some why) rest a h = cc
 
 -- an accepted request does not get a 400
 not_bad : (b c : Bool) (one other : Answer) (s : Settings) (key : List ℕ) (from : SocketAddr)
@@ -153,7 +150,7 @@ module _ (s : Settings) (realm : Realm) (from : SocketAddr) (now : ℕ) (bytes :
       → judged s realm from now (reading_of bytes) ≡ Ok q.client
   judged_of_handed q h =
       class_of_handed q (class_in bytes)
-      (not_dropped (is_some (refusal bytes)) (is_wrong (fingerprint_in bytes)) _ _ _ q h)
+      (not_dropped (drop_reason s.requires_fingerprint bytes) _ q h)
 
   pub handed_is_accepted : (q : AcceptedRequest)
       → received_by s realm from now bytes ≡ requested q
@@ -197,4 +194,4 @@ module _ (s : Settings) (realm : Realm) (from : SocketAddr) (now : ℕ) (bytes :
       ⊎ (bytes_eq (their_nonce (reading_of bytes)) (current_nonce s from now) ≡ true)
   bad_is_malformed a h bad =
       class_of_bad a (class_in bytes)
-      (not_dropped_answer (is_some (refusal bytes)) (is_wrong (fingerprint_in bytes)) _ _ _ a h) bad
+      (not_dropped_answer (drop_reason s.requires_fingerprint bytes) _ a h) bad

@@ -11,23 +11,22 @@ use Rattle.stun_base.specs.declared.wire.message_type.MessageClass.{MessageClass
 use Rattle.stun_base.specs.declared.wire.message_type.MessageClass.TheVariants.{Request}
 use Rattle.stun_base.specs.declared.wire.message_type.MessageClass.TheVariants.{Indication}
 use Rattle.stun_base.specs.declared.wire.message_type.MessageClass.TheVariants.{Success, Error}
-use Rattle.stun_types.specs.Message.{refusal}
 use Rattle.stun_auth.specs.Handed.{Named, named_in}
 use Rattle.stun_auth.specs.Reading.{Reading, reading_of}
 use Rattle.stun_auth.specs.Registered.{Registered}
 use Rattle.stun_auth.specs.Server.{agreement, their_nonce}
 use Rattle.stun_auth.specs.Validation.{is_complete}
-use Rattle.stun_extra.specs.Fingerprint.{fingerprint_in}
 use Rattle.stun_endpoint.specs.Judged.{realm_of_user}
 use Rattle.stun_endpoint.specs.Lookups.{Identification, IsOneOf, LookupSeen, WaitsUnderItsNonce}
 use Rattle.stun_endpoint.specs.Lookups.{accepted_nonces, awaited, done, has_one_of, identified_as}
 use Rattle.stun_endpoint.specs.Lookups.{identified_by, is_ready, looked_up, waiting_by_class}
 use Rattle.stun_endpoint.specs.Lookups.{waits_for}
 use Rattle.stun_endpoint.specs.Nonces.{epoch_of}
-use Rattle.stun_endpoint.specs.Received.{Outcome, by_class, by_verdict, dropped, is_wrong}
-use Rattle.stun_endpoint.specs.Received.{no_message, received_by}
+use Rattle.stun_endpoint.specs.Received.{Outcome, by_class, by_verdict, received_by}
+use Rattle.stun_endpoint.specs.Received.{unless_dropped}
+use Rattle.stun_endpoint.specs.Responding.{drop_reason}
 use Rattle.stun_endpoint.specs.Settings.{Settings}
-use Rattle.stun_endpoint.specs.declared.received.DropReason.TheVariants.{WrongFingerprint}
+use Rattle.stun_endpoint.specs.declared.received.DropReason.{DropReason}
 use Rattle.stun_endpoint.proofs.UnnamedLemmas.{unnamed_is_refused}
 
 -- the look-up, or a value in its place
@@ -52,21 +51,18 @@ module _ (s : Settings) (from : SocketAddr) (now : ℕ) (bytes : List ℕ) where
   same_class one other Success h = refl
   same_class one other Error h = refl
 
-  same_rest : (a b : Bool) (waiting : Option Named) (w x one other : Outcome)
-      → (waiting ≡ None → one ≡ other)
-      → cond a None (cond b None waiting) ≡ None
-      → cond a w (cond b x one) ≡ cond a w (cond b x other)
-  same_rest true b waiting w x one other same h = refl
-  same_rest false true waiting w x one other same h = refl
-  same_rest false false waiting w x one other same h = same h
+  same_rest : (why : Option DropReason) (waiting : Option Named) (one other : Outcome)
+      → (waiting ≡ None → one ≡ other) → cond (is_some why) None waiting ≡ None
+      → unless_dropped one why ≡ unless_dropped other why
+  same_rest (Some why) waiting one other same h = refl
+  same_rest None waiting one other same h = same h
 
   same_for_all : (one other : Option Registered) → awaited s from now bytes ≡ None
       → received_by s (realm_of_user s one) from now bytes
       ≡ received_by s (realm_of_user s other) from now bytes
   same_for_all one other h =
-      same_rest (is_some (refusal bytes)) (is_wrong (fingerprint_in bytes))
-      (waiting_by_class s from now bytes (class_in bytes)) (dropped (no_message bytes))
-      (dropped WrongFingerprint)
+      same_rest (drop_reason s.requires_fingerprint bytes)
+      (waiting_by_class s from now bytes (class_in bytes))
       (by_class s (realm_of_user s one) from now bytes (class_in bytes))
       (by_class s (realm_of_user s other) from now bytes (class_in bytes))
       (same_class one other (class_in bytes)) h
@@ -101,11 +97,10 @@ module _ (s : Settings) (from : SocketAddr) (now : ℕ) (bytes : List ℕ) where
   class_of_waiting Success user h = cc
   class_of_waiting Error user h = cc
 
-  read_of_waiting : (a b : Bool) (waiting : Option Named) (user : Named)
-      → cond a None (cond b None waiting) ≡ Some user → waiting ≡ Some user
-  read_of_waiting true b waiting user h = cc
-  read_of_waiting false true waiting user h = cc
-  read_of_waiting false false waiting user h = h
+  read_of_waiting : (a : Bool) (waiting : Option Named) (user : Named)
+      → cond a None waiting ≡ Some user → waiting ≡ Some user
+  read_of_waiting true waiting user h = cc
+  read_of_waiting false waiting user h = h
 
   given_if : (b c : Bool) (o : Option Named) (user : Named) → cond (b && c) o None ≡ Some user
       → (b ≡ true) × (c ≡ true) × (o ≡ Some user)
@@ -164,7 +159,7 @@ module _ (s : Settings) (from : SocketAddr) (now : ℕ) (bytes : List ℕ) where
       let parts = looked_up_if (awaited s from now bytes) l h in
       let waiting =
       class_of_waiting (class_in bytes) parts.0
-      (read_of_waiting (is_some (refusal bytes)) (is_wrong (fingerprint_in bytes))
+      (read_of_waiting (is_some (drop_reason s.requires_fingerprint bytes))
       (waiting_by_class s from now bytes (class_in bytes)) parts.0 parts.1) in (
         sym (ap (λ (x : LookupSeen). x.message) parts.2),
         sym (ap (λ (x : LookupSeen). x.from) parts.2),

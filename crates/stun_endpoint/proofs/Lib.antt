@@ -1,8 +1,12 @@
 -- Lemmas of the crate.
 pub mod AcceptedLemmas
+pub mod FeatureLemmas
+pub mod FrontLemmas
 pub mod HandedLemmas
 pub mod AnsweredLemmas
+pub mod DroppedLemmas
 pub mod ChallengeLemmas
+pub mod NonceLemmas
 pub mod OfferLemmas
 pub mod KeyLemmas
 pub mod SignerLemmas

@@ -12,10 +12,10 @@ use Rattle.stun_auth.specs.Additions.{Addition, Page, added_all, added_one, addi
 use Rattle.stun_auth.specs.Additions.{UnlessMemory, attribute, growth_of, page_in}
 use Rattle.stun_auth.specs.Additions.{page_unless_refused, with_addition, written_page}
 use Rattle.stun_auth.specs.Algorithms.{algorithms_of, contains}
-use Rattle.stun_auth.specs.Nonces.{asks_for_algorithms}
+use Rattle.stun_auth.specs.Nonces.{asks_for_algorithms, letter}
 use Rattle.stun_auth.specs.Registered.{Registered}
 use Rattle.stun_auth.specs.ServerSigning.{challenge_under}
-use Rattle.stun_auth.proofs.NonceBits.{asks_for_algorithms-nonce_of}
+use Rattle.stun_auth.proofs.MarkedNonces.{marked_asks_for_algorithms}
 use Rattle.stun_endpoint.specs.Answers.{offered, with_attributes}
 use Rattle.stun_endpoint.specs.Nonces.{nonce_in, words_of}
 use Rattle.stun_endpoint.specs.Settings.{Settings}
@@ -25,7 +25,8 @@ pub nonce_asks : (s : Settings) (secret : List ℕ) (from : SocketAddr) (epoch :
     → asks_for_algorithms nonce ≡ contains Sha256 s.algorithms
 nonce_asks s secret from epoch nonce is =
     ap asks_for_algorithms is
-    ∙ asks_for_algorithms-nonce_of s.algorithms s.feature (words_of s.algorithms secret from epoch)
+    ∙ marked_asks_for_algorithms s.algorithms s.feature
+    (map letter (words_of s.algorithms secret from epoch))
 
 -- ---- attributes that are added one after another
 

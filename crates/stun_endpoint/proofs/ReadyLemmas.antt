@@ -2,19 +2,14 @@
 -- nonce it has.
 use Rattle.std.proofs.Common.{◌⊎◌, inl, inr}
 use Rattle.std.proofs.Common.{◌≡◌, ◌<◌, ◌-◌, ℕ, zero, suc, List, [], ◌∷◌, ◌++◌}
-use Rattle.std.proofs.Common.{length, map, take, Option, Some, None, Bool, true, false, refl, sym}
+use Rattle.std.proofs.Common.{map, Option, Some, None, Bool, true, false, refl, sym}
 use Rattle.std.proofs.Common.{◌∙◌, ap, arith}
-use Rattle.std.specs.Prelude.{cond, not, ◌||◌, ◌&&◌, ◌==◌, drop}
+use Rattle.std.specs.Prelude.{cond, not, ◌||◌, ◌&&◌}
 use Rattle.std.specs.Option.{is_none}
 use Rattle.std.specs.Str.{bytes_eq}
 use Rattle.std.proofs.lemmas.Slice.Eq.{bytes_eq-Decides}
 use Rattle.std.specs.declared.net.socket_addr.SocketAddr.{SocketAddr}
-use Rattle.sha1.specs.Sha1.{digest_bytes, sha1}
-use Rattle.stun_base.specs.Hmac.{hmac}
-use Rattle.stun_auth.specs.Nonces.{begins_with_cookie, front, letter, nonce_of, security_bits}
-use Rattle.stun_auth.specs.Nonces.{security_byte, spelled_bits, without_cookie}
-use Rattle.stun_auth.specs.declared.algorithm_set.AlgorithmSet.{AlgorithmSet}
-use Rattle.stun_auth.specs.declared.feature.Feature.{Feature}
+use Rattle.stun_auth.specs.Nonces.{front, letter, security_bits, security_byte, spelled_bits}
 use Rattle.stun_auth.specs.declared.server.reason.VerdictRefusal.TheVariants.{StaleNonce}
 use Rattle.stun_auth.specs.Handed.{Named, named_in}
 use Rattle.stun_auth.specs.Reading.{Reading}
@@ -25,61 +20,22 @@ use Rattle.stun_auth.specs.Server.{verified_named}
 use Rattle.stun_auth.proofs.VerdictLemmas.{by_rows, verdict-rows}
 use Rattle.stun_endpoint.specs.Lookups.{accepted_nonces, has_one_of, is_ready, nonces_of}
 use Rattle.stun_endpoint.specs.Lookups.{previous_nonces, waits_for}
-use Rattle.stun_endpoint.specs.Nonces.{nonce_in, nonce_text, words_of}
+use Rattle.stun_endpoint.specs.Nonces.{nonce_in, words_of}
 use Rattle.stun_endpoint.specs.Settings.{Settings}
 use Rattle.stun_endpoint.specs.code.Waiting.{is_stale}
 use Rattle.stun_endpoint.proofs.UnnamedLemmas.{one_of_both, ready_rows}
 
 -- ---- a nonce is never empty
 
-sha1-length : (m : List ℕ) → length (sha1 m) ≡ 20
-unfolding sha1 digest_bytes
-sha1-length m = refl
-
-hmac-length : (key text : List ℕ) → length (hmac sha1 key text) ≡ 20
-unfolding hmac
-hmac-length key text = sha1-length _
-
-first_taken : (xs : List ℕ) → 0 < length xs → 0 < length (take 16 xs)
-first_taken [] h = absurd (omega (arith, h))
-first_taken (x ∷ xs) h = omega arith
-
-words_are_there : (set : AlgorithmSet) (secret : List ℕ) (from : SocketAddr) (e : ℕ)
-    → 0 < length (words_of set secret from e)
-words_are_there set secret from e =
-    first_taken (hmac sha1 secret (nonce_text set from e))
-    (omega (arith, hmac-length secret (nonce_text set from e)))
-
 spelled_there : (byte : ℕ) (letters : List ℕ) → bytes_eq [] (front byte ++ letters) ≡ false
 unfolding spelled_bits
 spelled_there byte letters = refl
 
-uncookied_there : (word : ℕ) (words : List ℕ)
-    → bytes_eq [] (without_cookie (map letter (word ∷ words))) ≡ false
-uncookied_there word words = by (begins_with_cookie (map letter (word ∷ words)))
-  where
-    by : (b : Bool)
-        → bytes_eq [] (cond b (112 ∷ drop 1 (map letter (word ∷ words)))
-        (map letter (word ∷ words))) ≡ false
-    by true = refl
-    by false = refl
-
-nonce_of-there : (set : AlgorithmSet) (feature : Feature) (words : List ℕ) → 0 < length words
-    → bytes_eq [] (nonce_of set feature words) ≡ false
-nonce_of-there set feature [] h = absurd (omega (arith, h))
-nonce_of-there set feature (word ∷ words) h = by (security_byte set feature == 0)
-  where
-    by : (b : Bool)
-        → bytes_eq [] (cond b (without_cookie (map letter (word ∷ words)))
-        (front (security_byte set feature) ++ map letter (word ∷ words))) ≡ false
-    by true = uncookied_there word words
-    by false = spelled_there (security_byte set feature) (map letter (word ∷ words))
-
 pub nonce_in-there : (s : Settings) (secret : List ℕ) (from : SocketAddr) (e : ℕ)
     → bytes_eq [] (nonce_in s secret from e) ≡ false
 nonce_in-there s secret from e =
-    nonce_of-there s.algorithms s.feature (words_of s.algorithms secret from e)
-    (words_are_there s.algorithms secret from e)
+    spelled_there (security_byte s.algorithms s.feature)
+    (map letter (words_of s.algorithms secret from e))
 
 -- ---- the empty nonce is one that no request has
 

@@ -5,7 +5,7 @@ use Rattle.std.specs.Prelude.{cond, unwrap_or}
 use Rattle.std.specs.Cmp.{eq_by_cmp_equiv}
 use Rattle.std.specs.Cmp.Lexicographic.{nat_list_cmp_total}
 use Rattle.std.specs.FinMap as map
-use Rattle.std.specs.Option.{is_some, option_and_then, option_map}
+use Rattle.std.specs.Option.{option_and_then, option_map}
 use Rattle.std.specs.declared.net.socket_addr.SocketAddr.{SocketAddr}
 use Rattle.std.specs.declared.result.Result.{Result}
 use Rattle.stun_base.specs.MessageType.{class_in}
@@ -13,7 +13,6 @@ use Rattle.stun_base.specs.declared.wire.message_type.MessageClass.{MessageClass
 use Rattle.stun_base.specs.declared.wire.message_type.MessageClass.TheVariants.{Request}
 use Rattle.stun_base.specs.declared.wire.message_type.MessageClass.TheVariants.{Indication}
 use Rattle.stun_base.specs.declared.wire.message_type.MessageClass.TheVariants.{Success, Error}
-use Rattle.stun_types.specs.Message.{refusal}
 use Rattle.stun_auth.specs.declared.algorithm_set.AlgorithmSet.{AlgorithmSet}
 use Rattle.stun_auth.specs.declared.feature.Feature.{Feature}
 use Rattle.stun_auth.specs.declared.server.reason.VerdictRefusal.{VerdictRefusal}
@@ -25,17 +24,16 @@ use Rattle.stun_auth.specs.Registered.{Registered, RegisteredUser, UserSecret, k
 use Rattle.stun_auth.specs.Registered.{name_cmp, user_with_hash}
 use Rattle.stun_auth.specs.Seen.{ClientSeen}
 use Rattle.stun_auth.specs.Server.{named_by, verdict}
-use Rattle.stun_extra.specs.Fingerprint.{fingerprint_in}
 use Rattle.stun_endpoint.specs.Judged.{IsAcceptedAt, IsAcceptedBy, IsAcceptedByPrevious}
 use Rattle.stun_endpoint.specs.Judged.{IsAcceptedUnder, Realm, judged, judged_under, key_of_client}
 use Rattle.stun_endpoint.specs.Judged.{or_previous, realm_of_table, realm_of_user, verdict_under}
 use Rattle.stun_endpoint.specs.Lookups.{LookupSeen, identified_by, looked_up, users_with}
 use Rattle.stun_endpoint.specs.Nonces.{epoch_of, nonce_in}
 use Rattle.stun_endpoint.specs.Realm.{table_of}
-use Rattle.stun_endpoint.specs.Received.{by_class, by_verdict, dropped, is_wrong, no_message}
-use Rattle.stun_endpoint.specs.Received.{outcome_of_accepted, received_by}
+use Rattle.stun_endpoint.specs.Received.{by_class, by_verdict, outcome_of_accepted}
+use Rattle.stun_endpoint.specs.Received.{received_by, unless_dropped}
+use Rattle.stun_endpoint.specs.Responding.{drop_reason}
 use Rattle.stun_endpoint.specs.Settings.{Settings}
-use Rattle.stun_endpoint.specs.declared.received.DropReason.TheVariants.{WrongFingerprint}
 use Rattle.stun_endpoint.proofs.AcceptedLemmas.{accepted_at}
 use Rattle.stun_endpoint.proofs.IdentifiedLemmas.{waits_under}
 
@@ -177,6 +175,5 @@ module _ (enough : IsEnough) (s : Settings) (secrets : map.FinMap name_cmp UserS
       ap (λ b. named_in (reading_of b).userhash (reading_of b).username s.feature) (sym w.0)
       ∙ w.3.user in
       (λ i. received_by s one (w.1 i) (w.2 i) (w.0 i))
-      ∙ ap (λ x. cond (is_some (refusal bytes)) (dropped (no_message bytes))
-      (cond (is_wrong (fingerprint_in bytes)) (dropped WrongFingerprint) x))
+      ∙ ap (λ x. unless_dropped x (drop_reason s.requires_fingerprint bytes))
       (same_class from now bytes lookup.user names (class_in bytes))

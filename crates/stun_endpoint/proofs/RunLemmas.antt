@@ -1,7 +1,7 @@
 -- The calls for each datagram give the endpoint's verdict, and leave no record.
-use Rattle.std.proofs.Common.{◌≡◌, ◌≤◌, ℕ, zero, suc, List, [], ◌∷◌, map, Option, Some, None}
+use Rattle.std.proofs.Common.{◌≡◌, ◌≤◌, ℕ, zero, suc, List, [], ◌∷◌, ◌++◌, Option, Some, None}
 use Rattle.std.proofs.Common.{Bool, true, false, refl, sym, ◌∙◌, ap, Ok, Err, arith}
-use Rattle.std.specs.Prelude.{cond, not, nat_le, ◌||◌, ◌&&◌}
+use Rattle.std.specs.Prelude.{cond, map, not, nat_le, ◌||◌, ◌&&◌}
 use Rattle.std.proofs.lemmas.Bool.{le-leb}
 use Rattle.std.specs.FinMap as fin
 use Rattle.std.specs.Option.{is_some, is_none}
@@ -16,7 +16,6 @@ use Rattle.stun_base.specs.declared.wire.message_type.MessageClass.{MessageClass
 use Rattle.stun_base.specs.declared.wire.message_type.MessageClass.TheVariants.{Request}
 use Rattle.stun_base.specs.declared.wire.message_type.MessageClass.TheVariants.{Indication}
 use Rattle.stun_base.specs.declared.wire.message_type.MessageClass.TheVariants.{Success, Error}
-use Rattle.stun_types.specs.Message.{refusal}
 use Rattle.stun_auth.specs.declared.algorithm_set.AlgorithmSet.{AlgorithmSet}
 use Rattle.stun_auth.specs.declared.feature.Feature.{Feature}
 use Rattle.stun_auth.specs.declared.server.reason.LongTermServerValidation.TheVariants.{Validated}
@@ -27,7 +26,7 @@ use Rattle.stun_auth.specs.declared.server.reason.VerdictRefusal.TheVariants.{St
 use Rattle.stun_auth.specs.Epochs.{or_before}
 use Rattle.stun_auth.specs.Handed.{with_users}
 use Rattle.stun_auth.specs.Judged.{offered_after}
-use Rattle.stun_auth.specs.Nonces.{nonce_of}
+use Rattle.stun_auth.specs.Nonces.{letter, nonce_of}
 use Rattle.stun_auth.specs.Reading.{Reading, reading_of}
 use Rattle.stun_auth.specs.Registered.{Registered, UserSecret, name_cmp}
 use Rattle.stun_auth.specs.Seen.{ClientSeen}
@@ -38,21 +37,22 @@ use Rattle.stun_auth.specs.Validation.{is_malformed, sight}
 use Rattle.stun_auth.proofs.Accepting.{unresponded}
 use Rattle.stun_auth.proofs.JudgedRuns.{run-answer, run-forgotten}
 use Rattle.stun_auth.proofs.VerdictLemmas.{by_rows, verdict-rows}
-use Rattle.stun_extra.specs.Fingerprint.{fingerprint_in}
 use Rattle.stun_extra.specs.Unknown.{unknown_types}
 use Rattle.stun_endpoint.specs.Judged.{Realm, judged, judged_under, or_previous}
-use Rattle.stun_endpoint.specs.Judged.{realm_of_user}
-use Rattle.stun_endpoint.specs.Nonces.{epoch_of, words_of}
+use Rattle.stun_endpoint.specs.Judged.{realm_of_user, verdict_under}
+use Rattle.stun_endpoint.specs.Nonces.{epoch_of, front_of, nonce_in, uses_features, words_of}
 use Rattle.stun_endpoint.specs.Realm.{table_of}
-use Rattle.stun_endpoint.specs.Received.{AcceptedRequest, Outcome, dropped, is_empty, is_wrong}
-use Rattle.stun_endpoint.specs.Received.{no_message, received_by, requested}
+use Rattle.stun_endpoint.specs.Received.{AcceptedRequest, Outcome, is_empty, received_by}
+use Rattle.stun_endpoint.specs.Received.{requested, unless_dropped}
 use Rattle.stun_endpoint.specs.Received.{by_class as by_class_of}
 use Rattle.stun_endpoint.specs.Runs.{Arrival, after_run, asked, asked_previous}
 use Rattle.stun_endpoint.specs.Runs.{asked_under, or_next, run, served, served_by_class, told}
 use Rattle.stun_endpoint.specs.Runs.{users_at, verdict_by_class, verdict_on}
+use Rattle.stun_endpoint.specs.Responding.{drop_reason}
 use Rattle.stun_endpoint.specs.Settings.{Settings, registered_of}
-use Rattle.stun_endpoint.specs.declared.received.DropReason.TheVariants.{WrongFingerprint}
+use Rattle.stun_endpoint.specs.declared.received.DropReason.{DropReason}
 use Rattle.stun_endpoint.proofs.HandedLemmas.{judged_of_handed, not_indicated}
+use Rattle.stun_endpoint.proofs.NonceLemmas.{nonce_of-front}
 
 -- ---- verdicts as answers
 
@@ -111,6 +111,56 @@ module _ (s : Settings) (secrets : fin.FinMap name_cmp UserSecret) where
   abbrev realm : Realm
   realm = realm_of_user s (Some users)
 
+  module _ (from : SocketAddr) (r : Reading) where
+    -- the answers under the nonces that the other server makes of the numbers
+    abbrev pub answer_with : List ℕ → Validation
+    answer_with words =
+        answer_to (verdict users s.feature (nonce_of s.algorithms s.feature words)
+        (Some s.algorithms) r)
+
+    abbrev answers_under : List ℕ → ℕ → Validation
+    answers_under secret zero = answer_with (words_of s.algorithms secret from 0)
+    answers_under secret (suc e) =
+        or_next (answer_with (words_of s.algorithms secret from (suc e)))
+        (answer_with (words_of s.algorithms secret from e))
+
+    abbrev answers : Option (List ℕ) → ℕ → Validation
+    answers None e = answers_under s.secret e
+    answers (Some secret) e = or_next (answers_under s.secret e) (answers_under secret e)
+
+    -- with a security feature, those are the nonces of the endpoint
+    module _ (uses : uses_features s ≡ true) where
+      same_nonce : (words : List ℕ)
+          → answer_with words
+          ≡ answer_to (verdict users s.feature
+          (front_of s.algorithms s.feature ++ map letter words) (Some s.algorithms) r)
+      same_nonce words =
+          ap (λ nonce. answer_to (verdict users s.feature nonce (Some s.algorithms) r))
+          (nonce_of-front s uses words)
+
+      under_is : (secret : List ℕ) (e : ℕ)
+          → answers_under secret e ≡ answer_to (judged_under s realm secret from e r)
+      under_is secret zero = same_nonce (words_of s.algorithms secret from 0)
+      under_is secret (suc e) =
+          let before = words_of s.algorithms secret from e in
+          let now = words_of s.algorithms secret from (suc e) in
+          ap (λ a. or_next a (answer_with before)) (same_nonce now)
+          ∙ ap (or_next (answer_to (verdict_under realm (nonce_in s secret from (suc e)) r)))
+          (same_nonce before)
+          ∙ next_of_verdicts (verdict_under realm (nonce_in s secret from (suc e)) r)
+          (verdict_under realm (nonce_in s secret from e) r)
+
+      answers_are : (previous : Option (List ℕ)) (e : ℕ)
+          → answers previous e
+          ≡ answer_to (or_previous s realm previous from e r
+          (judged_under s realm s.secret from e r))
+      answers_are None e = under_is s.secret e
+      answers_are (Some secret) e =
+          ap (λ a. or_next a (answers_under secret e)) (under_is s.secret e)
+          ∙ ap (or_next (answer_to (judged_under s realm s.secret from e r))) (under_is secret e)
+          ∙ next_of_verdicts (judged_under s realm s.secret from e r)
+          (judged_under s realm secret from e r)
+
   module _ (from : SocketAddr) (moment : ℕ) (r : Reading) (within : moment ≤ last_moment)
       (plain : is_response r.class ≡ false) where
     answer_by : (m : Bool) → is_malformed r ≡ m → (words : List ℕ)
@@ -142,8 +192,7 @@ module _ (s : Settings) (secrets : fin.FinMap name_cmp UserSecret) where
     )
 
     under : (secret : List ℕ) (e : ℕ)
-        → asked_under s secret server from moment e r
-        ≡ (answer_to (judged_under s realm secret from e r), server)
+        → asked_under s secret server from moment e r ≡ (answers_under from r secret e, server)
     under secret zero = asked_once (words_of s.algorithms secret from 0)
     under secret (suc e) =
         let now = words_of s.algorithms secret from (suc e) in
@@ -151,22 +200,12 @@ module _ (s : Settings) (secrets : fin.FinMap name_cmp UserSecret) where
         ap (λ (one : Validation × ServerSeen).
         (or_next one.0 (asked one.1 from moment before r).0, (asked one.1 from moment before r).1))
         (asked_once now)
-        ∙ ap (λ (two : Validation × ServerSeen). (
-          or_next (answer_to (verdict users s.feature (nonce_of s.algorithms s.feature now)
-              (Some s.algorithms) r)) two.0,
-          two.1,
-        )) (asked_once before)
-        ∙ ap (λ (a : Validation). (a, server)) (next_of_verdicts
-        (verdict users s.feature (nonce_of s.algorithms s.feature now) (Some s.algorithms) r)
-        (verdict users s.feature (nonce_of s.algorithms s.feature before) (Some s.algorithms) r))
+        ∙ ap (λ (two : Validation × ServerSeen).
+        (or_next (answer_with from r now) two.0, two.1)) (asked_once before)
 
     previous : (secret : Option (List ℕ)) (e : ℕ)
         → asked_previous s secret (asked_under s s.secret server from moment e r) from moment e r
-        ≡ (
-          answer_to (or_previous s realm secret from e r
-              (judged_under s realm s.secret from e r)),
-          server,
-        )
+        ≡ (answers from r secret e, server)
     previous None e = under s.secret e
     previous (Some secret) e =
         ap (λ (one : Validation × ServerSeen). (
@@ -174,10 +213,7 @@ module _ (s : Settings) (secrets : fin.FinMap name_cmp UserSecret) where
           (asked_under s secret one.1 from moment e r).1,
         )) (under s.secret e)
         ∙ ap (λ (two : Validation × ServerSeen).
-        (or_next (answer_to (judged_under s realm s.secret from e r)) two.0, two.1))
-        (under secret e)
-        ∙ ap (λ (a : Validation). (a, server)) (next_of_verdicts
-        (judged_under s realm s.secret from e r) (judged_under s realm secret from e r))
+        (or_next (answers_under from r s.secret e) two.0, two.1)) (under secret e)
 
 -- ---- the calls for a list of datagrams
 
@@ -190,12 +226,26 @@ module _ (s : Settings) (clock : ℕ → ℕ) (within : (now : ℕ) → clock no
   left_by_class secrets d Success = secrets
   left_by_class secrets d Error = secrets
 
+  -- the answer to a datagram
+  abbrev given_by_class : Arrival → MessageClass → Option Validation
+  given_by_class d Request =
+      Some (answers s d.users d.from (reading_of d.bytes) s.previous (epoch_of s d.now))
+  given_by_class d Indication = None
+  given_by_class d Success = None
+  given_by_class d Error = None
+
+  abbrev is_dropped : Arrival → Bool
+  is_dropped d = is_some (drop_reason s.requires_fingerprint d.bytes)
+
+  abbrev given_on : Arrival → Option Validation
+  given_on d = cond (is_dropped d) None (given_by_class d (class_in d.bytes))
+
   by_class : (secrets : fin.FinMap name_cmp UserSecret) (d : Arrival) (class : MessageClass)
       → class_in d.bytes ≡ class
       → served_by_class s clock (with_users (table_of s)
       (record (registered_of s) { secrets = secrets })) d class
       ≡ (
-        verdict_by_class s d class,
+        given_by_class d class,
         with_users (table_of s)
             (record (registered_of s) { secrets = left_by_class secrets d class }),
       )
@@ -211,12 +261,11 @@ module _ (s : Settings) (clock : ℕ → ℕ) (within : (now : ℕ) → clock no
       × (served s clock (with_users (table_of s)
       (record (registered_of s) { secrets = secrets })) d
       ≡ (
-        verdict_on s d,
+        given_on d,
         with_users (table_of s)
             (record (registered_of s) { secrets = left }),
       ))
-  one secrets d =
-      by (is_some (refusal d.bytes)) (is_wrong (fingerprint_in d.bytes))
+  one secrets d = by (is_dropped d)
     where
       server : ServerSeen
       server = with_users (table_of s) (record (registered_of s) { secrets = secrets })
@@ -224,29 +273,48 @@ module _ (s : Settings) (clock : ℕ → ℕ) (within : (now : ℕ) → clock no
       rest : Option Validation × ServerSeen
       rest = served_by_class s clock server d (class_in d.bytes)
 
-      by : (a b : Bool) → (left : fin.FinMap name_cmp UserSecret)
-          × (cond a (None, server) (cond b (None, server) rest)
+      by : (a : Bool) → (left : fin.FinMap name_cmp UserSecret)
+          × (cond a (None, server) rest
           ≡ (
-            cond a None (cond b None (verdict_by_class s d (class_in d.bytes))),
+            cond a None (given_by_class d (class_in d.bytes)),
             with_users (table_of s) (record (registered_of s) { secrets = left }),
           ))
-      by true b = (secrets, refl)
-      by false true = (secrets, refl)
-      by false false = (
+      by true = (secrets, refl)
+      by false = (
         left_by_class secrets d (class_in d.bytes),
         by_class secrets d (class_in d.bytes) refl,
       )
 
-  pub run_is_judging : (datagrams : List Arrival) (secrets : fin.FinMap name_cmp UserSecret)
+  run_is_given : (datagrams : List Arrival) (secrets : fin.FinMap name_cmp UserSecret)
+      → run s clock (with_users (table_of s)
+      (record (registered_of s) { secrets = secrets })) datagrams
+      ≡ map given_on datagrams
+  run_is_given [] secrets = refl
+  run_is_given (d ∷ later) secrets =
+      let step = one secrets d in
+      ap (λ (o : Option Validation × ServerSeen). o.0 ∷ run s clock o.1 later) step.1
+      ∙ ap (λ (given : List (Option Validation)). given_on d ∷ given)
+      (run_is_given later step.0)
+
+  -- with a security feature, the answers are the endpoint's verdicts
+  given_is : uses_features s ≡ true → (d : Arrival) → given_on d ≡ verdict_on s d
+  given_is uses d = ap (cond (is_dropped d) None) (by_its_class (class_in d.bytes))
+    where
+      by_its_class : (class : MessageClass) → given_by_class d class ≡ verdict_by_class s d class
+      by_its_class Request =
+          ap (λ a. Some a) (answers_are s d.users d.from (reading_of d.bytes) uses s.previous
+          (epoch_of s d.now))
+      by_its_class Indication = refl
+      by_its_class Success = refl
+      by_its_class Error = refl
+
+  pub run_is_judging : uses_features s ≡ true → (datagrams : List Arrival)
+      (secrets : fin.FinMap name_cmp UserSecret)
       → run s clock (with_users (table_of s)
       (record (registered_of s) { secrets = secrets })) datagrams
       ≡ map (verdict_on s) datagrams
-  run_is_judging [] secrets = refl
-  run_is_judging (d ∷ later) secrets =
-      let step = one secrets d in
-      ap (λ (o : Option Validation × ServerSeen). o.0 ∷ run s clock o.1 later) step.1
-      ∙ ap (λ (given : List (Option Validation)). verdict_on s d ∷ given)
-      (run_is_judging later step.0)
+  run_is_judging uses datagrams secrets =
+      run_is_given datagrams secrets ∙ λ i. map (λ d. given_is uses d i) datagrams
 
   pub run_leaves_nothing : (datagrams : List Arrival) (secrets : fin.FinMap name_cmp UserSecret)
       → (after_run s clock (with_users (table_of s)
@@ -259,15 +327,11 @@ module _ (s : Settings) (clock : ℕ → ℕ) (within : (now : ℕ) → clock no
 
 -- ---- what is handed out
 
-cond_requested : (a b : Bool) (x y : Outcome) (rest : Outcome) (v : Option Validation)
-    (q : AcceptedRequest) (given : Option Validation)
-    → (rest ≡ requested q → v ≡ given)
-    → (x ≡ requested q → cond a None (cond b None v) ≡ given)
-    → (y ≡ requested q → cond a None (cond b None v) ≡ given)
-    → cond a x (cond b y rest) ≡ requested q → cond a None (cond b None v) ≡ given
-cond_requested true b x y rest v q given same first second h = first h
-cond_requested false true x y rest v q given same first second h = second h
-cond_requested false false x y rest v q given same first second h = same h
+undropped_requested : (why : Option DropReason) (rest : Outcome) (v : Option Validation)
+    (q : AcceptedRequest) (given : Option Validation) → (rest ≡ requested q → v ≡ given)
+    → unless_dropped rest why ≡ requested q → cond (is_some why) None v ≡ given
+undropped_requested None rest v q given same h = same h
+undropped_requested (Some why) rest v q given same h = cc
 
 requested_class : (s : Settings) (realm : Realm) (d : Arrival) (class : MessageClass)
     (q : AcceptedRequest)
@@ -289,9 +353,7 @@ pub handed_is_validated : (s : Settings) (d : Arrival) (q : AcceptedRequest)
 handed_is_validated s d q h =
     let realm = realm_of_user s (Some (users_at s d)) in
     let is = judged_of_handed s realm d.from d.now d.bytes q h in
-    cond_requested (is_some (refusal d.bytes)) (is_wrong (fingerprint_in d.bytes))
-    (dropped (no_message d.bytes)) (dropped WrongFingerprint)
+    undropped_requested (drop_reason s.requires_fingerprint d.bytes)
     (by_class_of s realm d.from d.now d.bytes (class_in d.bytes))
     (verdict_by_class s d (class_in d.bytes)) q (Some (Ok (Validated q.client.algorithm)))
-    (λ e. requested_class s realm d (class_in d.bytes) q e is refl)
-    (λ e. cc) (λ e. cc) h
+    (λ e. requested_class s realm d (class_in d.bytes) q e is refl) h

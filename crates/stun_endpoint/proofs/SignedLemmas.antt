@@ -152,7 +152,9 @@ module _ (s : Responding) (users : Keys) (from : SocketAddr) (bytes : List ℕ) 
   pub requested_is_signed : (q : AcceptedRequest) → received_signed s users from bytes ≡ requested q
       → (key : List ℕ) × IsSignedBy users bytes (record { client = q.client; key = key })
   requested_is_signed q h =
-      let one = class_of_request q (class_in bytes) (kept_request _ (drop_reason bytes) q h) in
+      let one =
+      class_of_request q (class_in bytes)
+      (kept_request _ (drop_reason s.requires_fingerprint bytes) q h) in
       (one.0, (signed-iff users bytes (record { client = q.client; key = one.0 })).0 one.1)
 
   -- ---- indications
@@ -196,7 +198,8 @@ module _ (s : Responding) (users : Keys) (from : SocketAddr) (bytes : List ℕ) 
       → (key : List ℕ) × IsSignedBy users bytes (record { client = i.client; key = key })
   indicated_is_signed i h =
       let one =
-      class_of_indication i (class_in bytes) (kept_indication _ (drop_reason bytes) i h) in
+      class_of_indication i (class_in bytes)
+      (kept_indication _ (drop_reason s.requires_fingerprint bytes) i h) in
       (one.0, (signed-iff users bytes (record { client = i.client; key = one.0 })).0 one.1)
 
   -- ---- responses
@@ -235,17 +238,18 @@ module _ (s : Responding) (users : Keys) (from : SocketAddr) (bytes : List ℕ) 
       → IsGivenToAccepted a.refusal → (signer : Signer) × IsSignedBy users bytes signer
   answered_is_signed a h given =
       let one =
-      class_of_answer a (class_in bytes) (kept_answer _ (drop_reason bytes) a h) given in
+      class_of_answer a (class_in bytes)
+      (kept_answer _ (drop_reason s.requires_fingerprint bytes) a h) given in
       (one.0, (signed-iff users bytes one.0).0 one.1)
 
   -- ---- a request that is not dropped
-  request_comes_to : drop_reason bytes ≡ None → class_in bytes ≡ Request
+  request_comes_to : drop_reason s.requires_fingerprint bytes ≡ None → class_in bytes ≡ Request
       → received_signed s users from bytes ≡ by_signer s from bytes (signer_of users bytes)
   request_comes_to kept request =
       ap (unless_dropped (by_class_signed s users from bytes (class_in bytes))) kept
       ∙ ap (by_class_signed s users from bytes) request
 
-  pub signed_comes_to : (signer : Signer) → drop_reason bytes ≡ None → class_in bytes ≡ Request
+  pub signed_comes_to : (signer : Signer) → drop_reason s.requires_fingerprint bytes ≡ None → class_in bytes ≡ Request
       → IsSignedBy users bytes signer
       → received_signed s users from bytes
       ≡ or_handed s from bytes signer (own_answer s (Some (signature_of signer)) from bytes)
@@ -260,7 +264,7 @@ module _ (s : Responding) (users : Keys) (from : SocketAddr) (bytes : List ℕ) 
   by_refused (Ok signer) is nobody = absurd (nobody signer ((signed-iff users bytes signer).0 is))
   by_refused (Err why) is nobody = (why, ap (by_signer s from bytes) is)
 
-  pub unsigned_comes_to : drop_reason bytes ≡ None → class_in bytes ≡ Request
+  pub unsigned_comes_to : drop_reason s.requires_fingerprint bytes ≡ None → class_in bytes ≡ Request
       → ((signer : Signer) → IsSignedBy users bytes signer → ⊥)
       → (why : Refusal)
       × (received_signed s users from bytes ≡ answered (refusal_by s why from bytes))

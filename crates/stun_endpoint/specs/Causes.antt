@@ -100,7 +100,7 @@ cause_by_class s realm from now bytes Error = None
 -- why a datagram is refused, if it is a request that is
 abbrev pub cause_of : Settings → Realm → SocketAddr → ℕ → List ℕ → Option Cause
 cause_of s realm from now bytes =
-    if is_some (drop_reason bytes) then None
+    if is_some (drop_reason s.requires_fingerprint bytes) then None
     else cause_by_class s realm from now bytes (class_in bytes)
 
 -- ---- the response

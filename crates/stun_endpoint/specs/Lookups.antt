@@ -11,16 +11,15 @@ use Rattle.stun_base.specs.declared.wire.message_type.MessageClass.{MessageClass
 use Rattle.stun_base.specs.declared.wire.message_type.MessageClass.TheVariants.{Request}
 use Rattle.stun_base.specs.declared.wire.message_type.MessageClass.TheVariants.{Indication}
 use Rattle.stun_base.specs.declared.wire.message_type.MessageClass.TheVariants.{Success, Error}
-use Rattle.stun_types.specs.Message.{refusal}
 use Rattle.stun_auth.specs.Handed.{Named, named_in}
 use Rattle.stun_auth.specs.Reading.{Reading, reading_of}
 use Rattle.stun_auth.specs.Registered.{Registered, UserSecret, name_cmp}
 use Rattle.stun_auth.specs.Server.{agreement, their_nonce}
 use Rattle.stun_auth.specs.Validation.{is_complete}
-use Rattle.stun_extra.specs.Fingerprint.{fingerprint_in}
 use Rattle.stun_endpoint.specs.Judged.{realm_of_user}
 use Rattle.stun_endpoint.specs.Nonces.{epoch_of, nonce_in}
-use Rattle.stun_endpoint.specs.Received.{Outcome, is_wrong, received_by}
+use Rattle.stun_endpoint.specs.Received.{Outcome, received_by}
+use Rattle.stun_endpoint.specs.Responding.{drop_reason}
 use Rattle.stun_endpoint.specs.Settings.{Settings, registered_of}
 
 -- ---- the nonces that are accepted
@@ -70,8 +69,7 @@ waiting_by_class s from now bytes Error = None
 -- whom a datagram waits for
 abbrev pub awaited : Settings → SocketAddr → ℕ → List ℕ → Option Named
 awaited s from now bytes =
-    if is_some (refusal bytes) then None
-    else if is_wrong (fingerprint_in bytes) then None
+    if is_some (drop_reason s.requires_fingerprint bytes) then None
     else waiting_by_class s from now bytes (class_in bytes)
 
 -- ---- the first of two steps

@@ -1,15 +1,19 @@
 -- The nonce of an address in an epoch. It is a function of the secret, the address and the epoch, so
 -- a server stores no nonce (RFC 8489, section 9.2).
-use Rattle.std.specs.Prelude.{ℕ, ◌/◌, List, [], ◌∷◌, ◌++◌, take}
+use Rattle.std.specs.Prelude.{ℕ, ◌/◌, Bool, ◌||◌, List, [], ◌∷◌, ◌++◌, map, take}
 use Rattle.std.specs.Net.Socket.{socket_ip, socket_port}
 use Rattle.std.specs.declared.net.socket_addr.SocketAddr.{SocketAddr}
 use Rattle.byteorder.specs.Endian.{big_bytes}
 use Rattle.sha1.specs.Sha1.{sha1}
 use Rattle.stun_base.specs.Hmac.{hmac}
+use Rattle.stun_base.specs.declared.keys.algorithm.IntegrityAlgorithm.TheVariants.{Sha256}
 use Rattle.stun_auth.specs.declared.algorithm_set.AlgorithmSet.{AlgorithmSet}
 use Rattle.stun_auth.specs.declared.algorithm_set.AlgorithmSet.TheVariants.{OnlySha1}
 use Rattle.stun_auth.specs.declared.algorithm_set.AlgorithmSet.TheVariants.{OnlySha256, Both}
-use Rattle.stun_auth.specs.Nonces.{nonce_of}
+use Rattle.stun_auth.specs.declared.feature.Feature.{Feature}
+use Rattle.stun_auth.specs.Algorithms.{contains}
+use Rattle.stun_auth.specs.Feature.{is_possible}
+use Rattle.stun_auth.specs.Nonces.{letter, security_byte, spelled_bits}
 use Rattle.stun_extra.specs.CanonicalAddress.{address_octets}
 use Rattle.stun_endpoint.specs.Settings.{Settings}
 
@@ -35,10 +39,24 @@ abbrev pub words_of : AlgorithmSet → List ℕ → SocketAddr → ℕ → List 
 words_of algorithms secret from epoch =
     take 16 (hmac sha1 secret (nonce_text algorithms from epoch))
 
--- the nonce of an address in an epoch, under a secret
+-- the 24 security bits of a server, in three bytes (section 18.1): the first bit is set if it supports
+-- HMAC-SHA256, and the second if users may be named by a hash
+abbrev pub security_bytes : AlgorithmSet → Feature → List ℕ
+security_bytes algorithms feature = security_byte algorithms feature ∷ 0 ∷ 0 ∷ []
+
+-- whether one of them is set
+abbrev pub uses_features : Settings → Bool
+uses_features s = contains Sha256 s.algorithms || is_possible s.feature
+
+-- what each nonce of a server begins with: the nonce cookie, and the security bits in base64. They are
+-- zero if the server uses no security feature (section 9.2)
+abbrev pub front_of : AlgorithmSet → Feature → List ℕ
+front_of algorithms feature = spelled_bits (security_bytes algorithms feature)
+
+-- the nonce of an address in an epoch, under a secret: sixteen letters follow
 abbrev pub nonce_in : Settings → List ℕ → SocketAddr → ℕ → List ℕ
 nonce_in s secret from epoch =
-    nonce_of s.algorithms s.feature (words_of s.algorithms secret from epoch)
+    front_of s.algorithms s.feature ++ map letter (words_of s.algorithms secret from epoch)
 
 -- the epoch of a time
 abbrev pub epoch_of : Settings → ℕ → ℕ

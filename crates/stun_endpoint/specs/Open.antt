@@ -49,4 +49,4 @@ unless_dropped outcome (Some reason) = dropped reason
 
 abbrev pub received_openly : Responding → SocketAddr → List ℕ → OpenOutcome
 received_openly s from bytes =
-    unless_dropped (by_class_openly s from bytes (class_in bytes)) (drop_reason bytes)
+    unless_dropped (by_class_openly s from bytes (class_in bytes)) (drop_reason s.requires_fingerprint bytes)

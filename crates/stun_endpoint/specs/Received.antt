@@ -1,7 +1,7 @@
 -- What a datagram comes to at a server (RFC 8489, sections 6.3 and 9.2.4). It is a function of the
 -- settings, the users, the source, the time and the datagram, and so of no earlier datagram.
 use Rattle.std.specs.Prelude.{ℕ, List, if◌then◌else◌, Option, Some, None}
-use Rattle.std.specs.Option.{is_some, option_map}
+use Rattle.std.specs.Option.{option_map}
 use Rattle.std.specs.declared.net.socket_addr.SocketAddr.{SocketAddr}
 use Rattle.std.specs.declared.result.Result.{Result}
 use Rattle.std.specs.declared.result.Result.TheVariants.{Ok, Err}
@@ -11,25 +11,22 @@ use Rattle.stun_base.specs.declared.wire.message_type.MessageClass.TheVariants.{
 use Rattle.stun_base.specs.declared.wire.message_type.MessageClass.TheVariants.{Indication}
 use Rattle.stun_base.specs.declared.wire.message_type.MessageClass.TheVariants.{Success, Error}
 use Rattle.stun_types.specs.Integrity.{deciding_algorithm}
-use Rattle.stun_types.specs.Message.{refusal}
 use Rattle.stun_auth.specs.Datagrams.{told_refusal}
 use Rattle.stun_auth.specs.Reading.{reading_of}
 use Rattle.stun_auth.specs.Seen.{ClientSeen}
 use Rattle.stun_auth.specs.declared.server.reason.VerdictRefusal.{VerdictRefusal}
 use Rattle.stun_auth.specs.declared.server.reason.VerdictRefusal.TheVariants as verdict
-use Rattle.stun_extra.specs.Fingerprint.{fingerprint_in}
 use Rattle.stun_extra.specs.Unknown.{unknown_types}
 use Rattle.stun_endpoint.specs.Answers.{Signature, challenge_page, with_end}
 use Rattle.stun_endpoint.specs.Judged.{Realm, judged, key_of_client}
 use Rattle.stun_endpoint.specs.Nonces.{current_nonce}
 use Rattle.stun_endpoint.specs.Refusals.{code_of, phrase_of}
-use Rattle.stun_endpoint.specs.Responding.{Responding, ending_by, own_answer, refusal_by}
-use Rattle.stun_endpoint.specs.Responding.{reply_by}
-pub use Rattle.stun_endpoint.specs.Responding.{Answer, Reply, is_binding, is_empty, is_wrong}
+use Rattle.stun_endpoint.specs.Responding.{Responding, drop_reason, ending_by, own_answer}
+use Rattle.stun_endpoint.specs.Responding.{refusal_by, reply_by}
+pub use Rattle.stun_endpoint.specs.Responding.{Answer, Reply, is_binding, is_empty}
 pub use Rattle.stun_endpoint.specs.Responding.{no_message}
 use Rattle.stun_endpoint.specs.Settings.{Settings}
 use Rattle.stun_endpoint.specs.declared.received.DropReason.{DropReason}
-use Rattle.stun_endpoint.specs.declared.received.DropReason.TheVariants.{WrongFingerprint}
 use Rattle.stun_endpoint.specs.declared.received.DropReason.TheVariants.{UnknownAttribute}
 use Rattle.stun_endpoint.specs.declared.received.Refusal.{Refusal}
 use Rattle.stun_endpoint.specs.declared.received.Refusal.TheVariants as refused
@@ -52,8 +49,12 @@ pub data Outcome : Type 0 where
 
 -- what the settings say of responses
 abbrev pub responding_of : Settings → Responding
-responding_of s =
-    record { known = s.known; software = s.software; answers_binding = s.answers_binding }
+responding_of s = record {
+  known = s.known;
+  software = s.software;
+  answers_binding = s.answers_binding;
+  requires_fingerprint = s.requires_fingerprint;
+}
 
 -- what the responses to an accepted request are signed by: the integrity attribute that the request
 -- has, under the key of its user (section 9.2.4)
@@ -123,9 +124,13 @@ by_class s realm from now bytes Indication =
 by_class s realm from now bytes Success = responded bytes
 by_class s realm from now bytes Error = responded bytes
 
+-- a message may be dropped before
+abbrev pub unless_dropped : Outcome → Option DropReason → Outcome
+unless_dropped outcome None = outcome
+unless_dropped outcome (Some why) = dropped why
+
 -- what a datagram comes to
 abbrev pub received_by : Settings → Realm → SocketAddr → ℕ → List ℕ → Outcome
 received_by s realm from now bytes =
-    if is_some (refusal bytes) then dropped (no_message bytes)
-    else if is_wrong (fingerprint_in bytes) then dropped WrongFingerprint
-    else by_class s realm from now bytes (class_in bytes)
+    unless_dropped (by_class s realm from now bytes (class_in bytes))
+    (drop_reason s.requires_fingerprint bytes)

@@ -1,6 +1,6 @@
 -- How a server responds, whatever its credentials are: why it drops a datagram, what it understands,
 -- and the responses that it writes by itself (RFC 8489, sections 6.3 and 14.8).
-use Rattle.std.specs.Prelude.{ℕ, List, Bool, true, false, ◌&&◌}
+use Rattle.std.specs.Prelude.{ℕ, List, Bool, ◌&&◌}
 use Rattle.std.specs.Prelude.{if◌then◌else◌, Option, Some, None}
 use Rattle.std.specs.Option.{is_none, is_some}
 use Rattle.std.specs.declared.net.socket_addr.SocketAddr.{SocketAddr}
@@ -21,6 +21,7 @@ use Rattle.stun_endpoint.specs.Refusals.{code_of, phrase_of}
 use Rattle.stun_endpoint.specs.declared.received.DropReason.{DropReason}
 use Rattle.stun_endpoint.specs.declared.received.DropReason.TheVariants.{NotStun, Malformed}
 use Rattle.stun_endpoint.specs.declared.received.DropReason.TheVariants.{WrongFingerprint}
+use Rattle.stun_endpoint.specs.declared.received.DropReason.TheVariants.{MissingFingerprint}
 use Rattle.stun_endpoint.specs.declared.received.Refusal.{Refusal}
 use Rattle.stun_endpoint.specs.declared.received.Refusal.TheVariants as refused
 
@@ -40,27 +41,30 @@ pub record Reply : Type 0 where
 
 -- ---- why a datagram is dropped, whatever its class is
 
--- whether a FINGERPRINT is there and is wrong
-abbrev pub is_wrong : Fingerprint → Bool
-is_wrong Wrong = true
-is_wrong Right = false
-is_wrong Misplaced = false
-is_wrong Absent = false
+-- why a message is dropped by what its FINGERPRINT is (sections 7.3 and 14.7). One that is not the
+-- last attribute, or has no value of 4 bytes, is as wrong as one with another CRC. There must be one
+-- if the server requires it
+abbrev pub fault_of : Bool → Fingerprint → Option DropReason
+fault_of required Right = None
+fault_of required Wrong = Some WrongFingerprint
+fault_of required Misplaced = Some WrongFingerprint
+fault_of required Absent = if required then Some MissingFingerprint else None
 
 -- why a datagram that is no message is dropped: it has no header, or is not what its header says
 abbrev pub no_message : List ℕ → DropReason
 no_message bytes = if is_some (header_refusal bytes) then NotStun else Malformed
 
--- why a datagram is dropped, if it is no message, or has a wrong FINGERPRINT (section 7.3)
-abbrev pub drop_reason : List ℕ → Option DropReason
-drop_reason bytes =
+-- why a datagram is dropped, if it is no message, or for its FINGERPRINT (section 7.3), at a server
+-- that requires FINGERPRINT or does not
+abbrev pub drop_reason : Bool → List ℕ → Option DropReason
+drop_reason required bytes =
     if is_some (refusal bytes) then Some (no_message bytes)
-    else if is_wrong (fingerprint_in bytes) then Some WrongFingerprint
-    else None
+    else fault_of required (fingerprint_in bytes)
 
 -- whether a datagram is a request that is not dropped: all others get no response
-abbrev pub is_undropped_request : List ℕ → Bool
-is_undropped_request bytes = is_none (drop_reason bytes) && is_request (class_in bytes)
+abbrev pub is_undropped_request : Bool → List ℕ → Bool
+is_undropped_request required bytes =
+    is_none (drop_reason required bytes) && is_request (class_in bytes)
 
 -- ---- what a server understands, and what it adds to its responses
 
@@ -71,6 +75,8 @@ pub record Responding : Type 0 where
   pub software : Option (List ℕ)
   -- whether a Binding request gets its answer without the caller
   pub answers_binding : Bool
+  -- whether a message without FINGERPRINT is dropped
+  pub requires_fingerprint : Bool
 
 -- the end of each response to a request, which is signed by this, or by nothing
 abbrev pub ending_by : Responding → Option Signature → List ℕ → Ending

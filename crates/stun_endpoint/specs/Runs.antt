@@ -13,7 +13,6 @@ use Rattle.stun_base.specs.declared.wire.message_type.MessageClass.{MessageClass
 use Rattle.stun_base.specs.declared.wire.message_type.MessageClass.TheVariants.{Request}
 use Rattle.stun_base.specs.declared.wire.message_type.MessageClass.TheVariants.{Indication}
 use Rattle.stun_base.specs.declared.wire.message_type.MessageClass.TheVariants.{Success, Error}
-use Rattle.stun_types.specs.Message.{refusal}
 use Rattle.stun_auth.specs.declared.server.reason.LongTermServerAuthErrorReason.{
   LongTermServerAuthErrorReason,
 }
@@ -25,10 +24,9 @@ use Rattle.stun_auth.specs.Reading.{Reading, reading_of}
 use Rattle.stun_auth.specs.Registered.{Registered, UserSecret, name_cmp}
 use Rattle.stun_auth.specs.Validation.{Answer as Validation, ServerSeen, after_validation, answer}
 use Rattle.stun_auth.specs.Validation.{answer_to, sight}
-use Rattle.stun_extra.specs.Fingerprint.{fingerprint_in}
 use Rattle.stun_endpoint.specs.Judged.{judged, realm_of_user}
 use Rattle.stun_endpoint.specs.Nonces.{epoch_of, words_of}
-use Rattle.stun_endpoint.specs.Received.{is_wrong}
+use Rattle.stun_endpoint.specs.Responding.{drop_reason}
 use Rattle.stun_endpoint.specs.Settings.{Settings, registered_of}
 
 -- a datagram: its source, when it arrived, its bytes, and the users at that time
@@ -56,8 +54,7 @@ verdict_by_class s d Error = None
 -- the verdict on a datagram, if it is a request that is judged
 abbrev pub verdict_on : Settings → Arrival → Option Validation
 verdict_on s d =
-    if is_some (refusal d.bytes) then None
-    else if is_wrong (fingerprint_in d.bytes) then None
+    if is_some (drop_reason s.requires_fingerprint d.bytes) then None
     else verdict_by_class s d (class_in d.bytes)
 
 -- ---- what a server that keeps records says
@@ -120,11 +117,10 @@ served_by_class s clock server d Indication = (None, server)
 served_by_class s clock server d Success = (None, server)
 served_by_class s clock server d Error = (None, server)
 
--- the calls for a datagram. For one that is no message or no request there are none
+-- the calls for a datagram. For one that is dropped or no request there are none
 abbrev pub served : Settings → (ℕ → ℕ) → ServerSeen → Arrival → Option Validation × ServerSeen
 served s clock server d =
-    if is_some (refusal d.bytes) then (None, server)
-    else if is_wrong (fingerprint_in d.bytes) then (None, server)
+    if is_some (drop_reason s.requires_fingerprint d.bytes) then (None, server)
     else served_by_class s clock server d (class_in d.bytes)
 
 -- one datagram after another

@@ -23,6 +23,8 @@ pub record Settings : Type 0 where
   pub software : Option (List ℕ)
   -- whether a Binding request gets its answer without the caller
   pub answers_binding : Bool
+  -- whether a message without FINGERPRINT is dropped
+  pub requires_fingerprint : Bool
 
 -- the realm without users
 abbrev pub registered_of : Settings → Registered

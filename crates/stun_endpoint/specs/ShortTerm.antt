@@ -144,4 +144,4 @@ unless_dropped outcome (Some reason) = dropped reason
 -- what a datagram comes to
 abbrev pub received_signed : Responding → Keys → SocketAddr → List ℕ → ShortTermOutcome
 received_signed s users from bytes =
-    unless_dropped (by_class_signed s users from bytes (class_in bytes)) (drop_reason bytes)
+    unless_dropped (by_class_signed s users from bytes (class_in bytes)) (drop_reason s.requires_fingerprint bytes)

@@ -1,4 +1,5 @@
 -- Definitions that no clause of a public call cites.
+pub mod Bits
 pub mod Judges
 pub mod Waiting
 pub mod Judgements

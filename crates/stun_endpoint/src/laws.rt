@@ -1,7 +1,8 @@
 //! Laws over the definitions that the contracts of this crate cite. They do nothing when they run.
 ghost use Rattle.std.specs.FinMap as fin;
-ghost use Rattle.std.specs.Prelude.{◌≡◌, ◌↔◌, ◌⊎◌, ◌≤◌, ℕ, List, None, Ok, Option, Some, map, true};
-ghost use Rattle.std.specs.Option.{option_map};
+ghost use Rattle.std.specs.Prelude.{◌≡◌, ◌↔◌, ◌⊎◌, ◌≤◌, ◌+◌, ◌++◌, ℕ, Bool, List, None, Ok, Option};
+ghost use Rattle.std.specs.Prelude.{IsUtf8, Some, false, length, map, true};
+ghost use Rattle.std.specs.Option.{is_none, option_map};
 ghost use Rattle.std.specs.Str.{bytes_eq};
 ghost use Rattle.std.specs.declared.net.socket_addr.SocketAddr.{SocketAddr};
 ghost use Rattle.stun_auth.specs.declared.server.reason.LongTermServerValidation.TheVariants.{Validated};
@@ -11,8 +12,10 @@ ghost use Rattle.stun_auth.specs.Handed.{just, user_of, with_users};
 ghost use Rattle.stun_auth.specs.Registered.{Registered, UserSecret, name_cmp};
 ghost use Rattle.stun_auth.specs.Seen.{ClientSeen};
 ghost use Rattle.stun_auth.specs.Server.{their_nonce};
-ghost use Rattle.stun_auth.specs.Validation.{is_malformed};
-ghost use Rattle.stun_endpoint.specs.Causes.{cause_of, code_of_cause, refused_code};
+ghost use Rattle.stun_auth.specs.Nonces.{begins_with_cookie, letter, security_bits};
+ghost use Rattle.stun_auth.specs.Validation.{is_complete, is_malformed};
+ghost use Rattle.stun_endpoint.specs.Causes.{cause_of, code_of_cause, credential_cause};
+ghost use Rattle.stun_endpoint.specs.Causes.{has_other_bits, is_agreed, refused_code};
 ghost use Rattle.stun_endpoint.specs.Judged.{IsAcceptedAt, Realm, judged, key_of_client};
 ghost use Rattle.stun_endpoint.specs.Judged.{realm_of_table, realm_of_user};
 ghost use Rattle.stun_endpoint.specs.Lookups.{LookupSeen, WaitsUnderItsNonce, done};
@@ -20,7 +23,8 @@ ghost use Rattle.stun_endpoint.specs.Lookups.{identified_by, looked_up, users_wi
 ghost use Rattle.stun_base.specs.MessageType.{class_in};
 ghost use Rattle.stun_base.specs.Moments.{last_moment};
 ghost use Rattle.stun_base.specs.declared.wire.message_type.MessageClass.TheVariants as MessageClass;
-ghost use Rattle.stun_endpoint.specs.Nonces.{current_nonce};
+ghost use Rattle.stun_endpoint.specs.Nonces.{current_nonce, front_of, nonce_in};
+ghost use Rattle.stun_endpoint.specs.Nonces.{security_bytes, uses_features};
 ghost use Rattle.stun_endpoint.specs.Realm.{table_of};
 ghost use Rattle.stun_endpoint.specs.Received.{AcceptedRequest, Answer as TheAnswer, Outcome};
 ghost use Rattle.stun_endpoint.specs.Received.{answered, outcome_of_accepted, received_by};
@@ -28,12 +32,15 @@ ghost use Rattle.stun_endpoint.specs.Received.{refused_with, requested};
 ghost use Rattle.stun_endpoint.specs.Responding.{Responding, drop_reason, own_answer, refusal_by};
 ghost use Rattle.stun_endpoint.specs.Runs.{Arrival, after_run, run, users_at, verdict_on};
 ghost use Rattle.stun_endpoint.specs.Settings.{Settings};
+ghost use Rattle.stun_extra.specs.Fingerprint.{fingerprint_in};
+ghost use Rattle.stun_extra.specs.declared.fingerprint.Fingerprint.TheVariants as Fingerprint;
 ghost use Rattle.stun_endpoint.specs.ShortTerm as short_term;
 ghost use Rattle.stun_endpoint.specs.ShortTerm.{IsSignedBy, Keys, SignedIndication, Signer};
 ghost use Rattle.stun_endpoint.specs.ShortTerm.{or_handed, received_signed, signature_of};
 ghost use Rattle.stun_endpoint.specs.ShortTerm.{signer_of};
 ghost use Rattle.stun_endpoint.specs.declared.received.Refusal.{Refusal};
 ghost use Rattle.stun_endpoint.specs.declared.received.Refusal.TheVariants as refused;
+ghost use Rattle.stun_endpoint.specs.declared.server.causes.Cause.TheVariants.{OtherFeatures};
 
 /// A client is accepted at a time if and only if it is accepted under one of the nonces of its
 /// address: that of the epoch or of the epoch before, of the secret or of the previous secret
@@ -46,15 +53,43 @@ pub fn requests_are_accepted_under_their_nonces()
         (client : ClientSeen)
         → (judged s realm from now r ≡ Ok client) ↔ IsAcceptedAt s realm from now r client }
     ensures accepted { (s : Settings) (realm : Realm) (from : SocketAddr) (now : ℕ) (bytes : List ℕ)
-        (client : ClientSeen) → drop_reason bytes ≡ None → class_in bytes ≡ MessageClass.Request
+        (client : ClientSeen) → drop_reason s.requires_fingerprint bytes ≡ None → class_in bytes ≡ MessageClass.Request
         → IsAcceptedAt s realm from now (reading_of bytes) client
         → received_by s realm from now bytes
         ≡ outcome_of_accepted s (key_of_client realm client) from bytes client }
     ensures refused { (s : Settings) (realm : Realm) (from : SocketAddr) (now : ℕ) (bytes : List ℕ)
-        → drop_reason bytes ≡ None → class_in bytes ≡ MessageClass.Request
+        → drop_reason s.requires_fingerprint bytes ≡ None → class_in bytes ≡ MessageClass.Request
         → ((client : ClientSeen) → IsAcceptedAt s realm from now (reading_of bytes) client → ⊥)
         → (why : VerdictRefusal) × (received_by s realm from now bytes
         ≡ refused_with s (current_nonce s from now) from bytes why) }
+{}
+
+/// Each nonce of a server begins with the nonce cookie (`cookie`) and has exactly the security bits of
+/// the server's settings (`bits`): the first if it supports HMAC-SHA256, the second if users may be
+/// named by a hash, and no other. If it uses neither feature, all 24 bits are zero (RFC 8489, sections
+/// 9.2 and 18.1). A nonce is a text of at most 13 bytes more than it has letters (`text`, `short`).
+///
+/// So a request whose nonce has other security bits is told from one whose nonce is stale: if it is
+/// signed and complete, and its algorithms agree with its nonce, the cause is `OtherFeatures`
+/// (`other_bits`). One whose nonce has no such bits is never refused for that cause (`no_bits`).
+pub fn nonces_have_the_bits_of_their_server()
+    ensures cookie { (s : Settings) (secret : List ℕ) (from : SocketAddr) (epoch : ℕ)
+        → begins_with_cookie (nonce_in s secret from epoch) ≡ true }
+    ensures bits { (s : Settings) (secret : List ℕ) (from : SocketAddr) (epoch : ℕ)
+        → security_bits (nonce_in s secret from epoch)
+        ≡ Some (security_bytes s.algorithms s.feature) }
+    ensures text { (s : Settings) (words : List ℕ)
+        → IsUtf8 (front_of s.algorithms s.feature ++ map letter words) }
+    ensures short { (s : Settings) (words : List ℕ)
+        → length (front_of s.algorithms s.feature ++ map letter words) ≤ 13 + length words }
+    ensures other_bits { (s : Settings) (realm : Realm) (from : SocketAddr) (now : ℕ) (r : Reading)
+        (bits : List ℕ) → is_none r.integrity ≡ false → is_complete r ≡ true
+        → is_agreed realm r ≡ true → security_bits (their_nonce r) ≡ Some bits
+        → bytes_eq (security_bytes s.algorithms s.feature) bits ≡ false
+        → credential_cause s realm from now r ≡ Some OtherFeatures }
+    ensures no_bits { (s : Settings) (from : SocketAddr) (now : ℕ) (r : Reading)
+        → security_bits (their_nonce r) ≡ None
+        → has_other_bits (current_nonce s from now) r ≡ false }
 {}
 
 /// What `received_by` says of a datagram, in three sentences:
@@ -78,6 +113,15 @@ pub fn outcomes_are_of_accepted_clients()
         → answer.refusal ≡ Some refused.BadRequest
         → (is_malformed (reading_of bytes) ≡ true)
         ⊎ (bytes_eq (their_nonce (reading_of bytes)) (current_nonce s from now) ≡ true) }
+{}
+
+/// A datagram that is not dropped is a message whose FINGERPRINT is right, or that has none although
+/// the server does not require one (RFC 8489, sections 7.3 and 14.7). One that is not the last
+/// attribute, or whose value does not have 4 bytes, is dropped like one with a wrong value.
+pub fn undropped_messages_are_whole()
+    ensures { (required : Bool) (bytes : List ℕ) → drop_reason required bytes ≡ None
+        → (fingerprint_in bytes ≡ Fingerprint.Right)
+        ⊎ ((fingerprint_in bytes ≡ Fingerprint.Absent) × (required ≡ false)) }
 {}
 
 /// The cause of a refusal tells what `received_by` does: there is a cause if and only if the datagram
@@ -125,12 +169,15 @@ pub fn lookups_have_accepted_nonces()
 /// accepted, the request is validated, a response is signed, the request is validated again, and
 /// its address is forgotten. The clock of that server may be any.
 ///
-/// - `verdicts`: the answers of that run are the endpoint's verdicts.
+/// - `verdicts`: the answers of that run are the endpoint's verdicts, if the server uses a security
+///   feature. Then both servers make the same nonces. Without a feature the nonces of the endpoint
+///   begin with the nonce cookie, as RFC 8489 says in section 9.2, and those of the other server do
+///   not.
 /// - `left`: the run leaves no record of an address.
 /// - `handed`: a request that the endpoint hands out was `Validated` in the run, with its algorithm.
 pub fn datagrams_are_a_run_of_calls()
     ensures verdicts { (s : Settings) (clock : ℕ → ℕ) (datagrams : List Arrival)
-        → ((now : ℕ) → clock now ≤ last_moment)
+        → uses_features s ≡ true → ((now : ℕ) → clock now ≤ last_moment)
         → run s clock (table_of s) datagrams ≡ map (verdict_on s) datagrams }
     ensures left { (s : Settings) (clock : ℕ → ℕ) (datagrams : List Arrival)
         → ((now : ℕ) → clock now ≤ last_moment)
@@ -151,12 +198,12 @@ pub fn signers_are_known_exactly()
     ensures signer { (users : Keys) (bytes : List ℕ) (signer : Signer)
         → (signer_of users bytes ≡ Ok signer) ↔ IsSignedBy users bytes signer }
     ensures accepted { (s : Responding) (users : Keys) (from : SocketAddr) (bytes : List ℕ)
-        (signer : Signer) → drop_reason bytes ≡ None → class_in bytes ≡ MessageClass.Request
+        (signer : Signer) → drop_reason s.requires_fingerprint bytes ≡ None → class_in bytes ≡ MessageClass.Request
         → IsSignedBy users bytes signer
         → received_signed s users from bytes
         ≡ or_handed s from bytes signer (own_answer s (Some (signature_of signer)) from bytes) }
     ensures refused { (s : Responding) (users : Keys) (from : SocketAddr) (bytes : List ℕ)
-        → drop_reason bytes ≡ None → class_in bytes ≡ MessageClass.Request
+        → drop_reason s.requires_fingerprint bytes ≡ None → class_in bytes ≡ MessageClass.Request
         → ((signer : Signer) → IsSignedBy users bytes signer → ⊥)
         → (why : Refusal)
         × (received_signed s users from bytes ≡ short_term.answered (refusal_by s why from bytes)) }

@@ -5,6 +5,7 @@ ghost use Rattle.stun_auth.specs.Handed.{named_seen};
 ghost use Rattle.stun_base.specs.Header.{transaction_id_field};
 ghost use Rattle.stun_endpoint.specs.Answers.{is_fingerprinted};
 ghost use Rattle.stun_endpoint.specs.code.Waiting.{IsWaiting};
+ghost use Rattle.stun_extra.specs.CanonicalAddress.{IsCanonical};
 
 use crate::received::Received;
 use crate::unix_time::UnixTime;
@@ -12,6 +13,7 @@ use std::alloc::{Allocator, Global};
 use std::marker::Model;
 use std::net::SocketAddr;
 use stun_auth::auth::NamedUser;
+use stun_extra::canonical_address::canonical;
 use stun_types::message::{Message, TransactionId};
 
 /// What `Server::identify` says of a datagram.
@@ -105,8 +107,15 @@ impl<'a> Lookup<'a> {
         self.message.transaction_id()
     }
 
-    /// Returns the address that the request came from, as it was passed to `identify`.
+    /// Returns the address that the request came from, an IPv4 address as IPv4 in either spelling.
     pub fn from(&self) -> SocketAddr
+        ensures { IsCanonical self.now.from result }
+    {
+        canonical(self.from)
+    }
+
+    /// Returns that address as it was passed to `identify`.
+    pub(crate) fn source(&self) -> SocketAddr
         ensures { result ≡ self.now.from }
     {
         self.from

@@ -1,13 +1,85 @@
-//! The sixteen numbers that the nonce of an address is made of.
+//! The nonce of an address: its security bits, and the sixteen numbers that its letters are made of
+//! (RFC 8489, sections 9.2 and 18.1).
 
-ghost use Rattle.std.specs.Prelude.{◌≡◌, take};
-ghost use Rattle.stun_endpoint.specs.Nonces.{algorithms_number, words_of};
-ghost use Rattle.stun_endpoint.specs.Realm.{algorithms_for};
+ghost use Rattle.std.specs.Prelude.{◌≡◌, ◌++◌, IfOk, OnOk, map, take};
+ghost use Rattle.std.specs.String.{string_bytes};
+ghost use Rattle.stun_auth.specs.Nonces.{letter};
+ghost use Rattle.stun_endpoint.specs.Nonces.{algorithms_number, front_of, words_of};
+ghost use Rattle.stun_endpoint.specs.Realm.{algorithms_for, feature_for};
+ghost use Rattle.stun_endpoint.specs.code.Bits.{bits_text};
 
-use std::alloc::Allocator;
+use std::alloc::{AllocError, Allocator};
 use std::net::SocketAddr;
+use stun_auth::auth::LONG_TERM_RFC8489_NONCE_COOKIE;
 use stun_base::prepared_key::PreparedKey;
 use stun_extra::canonical_address::address_octets;
+
+/// The number of bytes of a nonce: the cookie, four characters for the security bits, and a letter
+/// for each of sixteen numbers.
+const NONCE_LENGTH: usize = 29;
+
+/// Returns the security bits of a server's nonces, as four characters of base64. The first bit asks for
+/// a choice of password algorithms, the second allows hashed names, and all others are zero.
+fn spelled_bits(hmac_sha256: bool, user_hashes: bool) -> &'static str
+    ensures { result.now ≡ bits_text hmac_sha256 user_hashes }
+{
+    match (hmac_sha256, user_hashes) {
+        (true, true) => "wAAA",
+        (true, false) => "gAAA",
+        (false, true) => "QAAA",
+        (false, false) => "AAAA",
+    }
+}
+
+/// Returns the letter of a number: A to Z, a to z, 0 to 9.
+fn letter(number: u32) -> u8
+    ensures { result ≡ letter number }
+{
+    let n = (number % 62) as u8;
+    if n < 26 {
+        b'A' + n
+    } else if n < 52 {
+        b'a' + (n - 26)
+    } else {
+        b'0' + (n - 52)
+    }
+}
+
+/// Appends the letters of numbers.
+fn push_letters<A: Allocator>(text: &mut String<A>, numbers: &[u32]) -> Result<(), AllocError>
+    ensures { OnOk result (string_bytes text.new
+        ≡ string_bytes text.old ++ map letter numbers.now) }
+{
+    for number in numbers {
+        text.push(char::from(letter(*number)))?;
+    }
+    Ok(())
+}
+
+/// Returns the nonce of an address in an epoch, under a secret, at a server with these settings: the
+/// nonce cookie, the security bits and a letter for each of sixteen numbers. If the server uses no
+/// security feature, all bits are zero (section 9.2). Fails if the one allocation fails.
+#[tactic(auto, using(crate::proofs::FrontLemmas::spelled_front))]
+pub(crate) fn nonce_of<A: Allocator>(
+    alloc: A,
+    secret: &PreparedKey<A>,
+    from: SocketAddr,
+    epoch: u64,
+    hmac_sha1: bool,
+    hmac_sha256: bool,
+    user_hashes: bool,
+) -> Result<String<A>, AllocError>
+    ensures { IfOk result (λ nonce. string_bytes nonce
+        ≡ front_of (algorithms_for hmac_sha1 hmac_sha256) (feature_for user_hashes)
+        ++ map letter (words_of (algorithms_for hmac_sha1 hmac_sha256) secret.now from epoch)) }
+{
+    let words = words_of(secret, from, epoch, hmac_sha1, hmac_sha256);
+    let mut nonce = String::with_capacity(alloc, NONCE_LENGTH)?;
+    nonce.push_str(LONG_TERM_RFC8489_NONCE_COOKIE)?;
+    nonce.push_str(spelled_bits(hmac_sha256, user_hashes))?;
+    push_letters(&mut nonce, &words)?;
+    Ok(nonce)
+}
 
 /// Returns a number for the supported algorithms.
 fn algorithms_number(hmac_sha1: bool, hmac_sha256: bool) -> u8
@@ -23,7 +95,7 @@ fn algorithms_number(hmac_sha1: bool, hmac_sha256: bool) -> u8
 
 /// Returns the numbers that the nonce of an address in an epoch is made of: the first sixteen bytes
 /// of an HMAC-SHA1 of the address, the port, the epoch and the supported algorithms.
-pub(crate) fn words_of<A: Allocator>(
+fn words_of<A: Allocator>(
     secret: &PreparedKey<A>,
     from: SocketAddr,
     epoch: u64,

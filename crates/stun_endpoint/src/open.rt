@@ -18,16 +18,18 @@ ghost use Rattle.stun_endpoint.specs.Open.{by_class_openly, dropped, indicated, 
 ghost use Rattle.stun_endpoint.specs.Open.{received_openly};
 ghost use Rattle.stun_endpoint.specs.OpenOutcomes.{open_outcome_of};
 ghost use Rattle.stun_endpoint.specs.Responding.{is_empty, is_undropped_request, own_answer};
+ghost use Rattle.stun_extra.specs.CanonicalAddress.{IsCanonical};
 ghost use Rattle.stun_extra.specs.Unknown.{unknown_types};
 
 use crate::received::{Answer, DropReason};
 use crate::reply::Reply;
-use crate::responder::{Responder, ResponseSettings, read};
+use crate::responder::{Responder, ResponseSettings};
 use crate::server::{BuildError, STUN_ATTRIBUTES};
 use std::alloc::{AllocError, Allocator, Global};
 use std::fmt;
 use std::marker::Model;
 use std::net::SocketAddr;
+use stun_extra::canonical_address::canonical;
 use stun_types::message::{Message, MessageClass, Method};
 
 /// A STUN server without credentials: it answers everybody. It stores nothing about its clients, and
@@ -117,11 +119,12 @@ impl<'a, A: Allocator> OpenRequest<'a, A> {
         self.message.method()
     }
 
-    /// Returns the address that the request came from, as it was passed to `receive`.
+    /// Returns the address that the request came from, an IPv4 address as IPv4 in either spelling. The
+    /// address that was passed to `receive`, which the response goes to, is `reply().to()`.
     pub fn from(&self) -> SocketAddr
-        ensures { result ≡ self.now.reply.to }
+        ensures { IsCanonical self.now.reply.to result }
     {
-        self.reply.to()
+        canonical(self.reply.to())
     }
 
     /// Returns the means to respond. Responses are not signed.
@@ -151,6 +154,7 @@ impl<A: Allocator> OpenServer<A> {
           known = settings.understood.items ++ STUN_ATTRIBUTES;
           software = option_map string_bytes settings.software;
           answers_binding = settings.answers_binding;
+          requires_fingerprint = settings.requires_fingerprint;
         }) }
     {
         let responder = Responder::new(alloc, settings)?;
@@ -164,7 +168,8 @@ impl<A: Allocator + Copy> OpenServer<A> {
     /// `from` is the address that it came from. An IPv4 address is the same in both spellings,
     /// `a.b.c.d` and `::ffff:a.b.c.d`.
     ///
-    /// - Bytes that are no message, or have a wrong FINGERPRINT, are dropped.
+    /// - Bytes are dropped that are no message, whose FINGERPRINT is wrong, is not the last attribute
+    ///   or does not have 4 bytes, or that have no FINGERPRINT if the settings require one.
     /// - A request gets a 420 if it has an attribute that is not understood, and the answer to
     ///   Binding if the server is to give it. All others are for you. Signatures are not looked at.
     /// - An indication with an attribute that is not understood is dropped. Others, and responses,
@@ -179,9 +184,10 @@ impl<A: Allocator + Copy> OpenServer<A> {
     ) -> Result<OpenReceived<'a, A>, AllocError>
         ensures received { IfOk result (λ received. open_outcome_of received
             ≡ received_openly self.now from bytes.now) }
-        ensures no_memory { is_undropped_request bytes.now ≡ false → IsOk result }
+        ensures no_memory { is_undropped_request self.now.requires_fingerprint bytes.now
+            ≡ false → IsOk result }
     {
-        match read(bytes) {
+        match self.responder.read(bytes) {
             Ok((message, has_fingerprint)) => self.by_class(message, from, has_fingerprint),
             Err(reason) => Ok(OpenReceived::Dropped(reason)),
         }

@@ -5,6 +5,7 @@ ghost use Rattle.std.specs.Fmt.{WritesOnOk, WritesStyledOnOk};
 ghost use Rattle.stun_base.specs.Header.{type_field};
 ghost use Rattle.stun_base.specs.MessageType.{method_of};
 ghost use Rattle.stun_endpoint.specs.Refusals.{code_of, phrase_of};
+ghost use Rattle.stun_extra.specs.CanonicalAddress.{IsCanonical};
 
 use crate::reply::Reply;
 use std::alloc::{Allocator, Global};
@@ -12,6 +13,7 @@ use std::fmt;
 use std::marker::Model;
 use std::net::SocketAddr;
 use stun_base::algorithm::IntegrityAlgorithm;
+use stun_extra::canonical_address::canonical;
 use stun_types::message::{Message, Method};
 
 /// What a datagram comes to.
@@ -39,8 +41,11 @@ pub enum DropReason {
     NotStun,
     /// Its length or its attributes are not what its header says.
     Malformed,
-    /// It has a FINGERPRINT that is wrong: it is damaged, or belongs to another protocol.
+    /// It has a FINGERPRINT that is wrong, is not the last attribute, or does not have 4 bytes: it is
+    /// damaged, or belongs to another protocol (RFC 8489, section 14.7).
     WrongFingerprint,
+    /// It has no FINGERPRINT, although the settings require one (RFC 8489, section 7.3).
+    MissingFingerprint,
     /// It is an indication with an attribute that must be understood and is not.
     UnknownAttribute,
 }
@@ -216,11 +221,12 @@ impl<'a, A: Allocator> Request<'a, A> {
         self.message.method()
     }
 
-    /// Returns the address that the request came from, as it was passed to `receive`.
+    /// Returns the address that the request came from, an IPv4 address as IPv4 in either spelling. The
+    /// address that was passed to `receive`, which the response goes to, is `reply().to()`.
     pub fn from(&self) -> SocketAddr
-        ensures { result ≡ self.now.reply.to }
+        ensures { IsCanonical self.now.reply.to result }
     {
-        self.reply.to()
+        canonical(self.reply.to())
     }
 
     /// Returns the name of the user who sent the request, also if the request has a hash of it.

@@ -39,44 +39,49 @@ pub struct ResponseSettings<A: Allocator = Global> {
     pub software: Option<String<A>>,
     /// Whether the server responds to each accepted Binding request by itself.
     pub answers_binding: bool,
+    /// Whether a message without FINGERPRINT is dropped (RFC 8489, section 7.3).
+    pub requires_fingerprint: bool,
 }
 
 impl<A: Allocator> ResponseSettings<A> {
     /// Returns settings without further attributes and without SOFTWARE, which leave Binding
-    /// requests to you.
+    /// requests to you and require no FINGERPRINT.
     pub fn new(alloc: A) -> ResponseSettings<A>
         ensures understood { result.understood.items ≡ [] }
         ensures software { result.software ≡ None }
         ensures binding { result.answers_binding ≡ false }
+        ensures fingerprint { result.requires_fingerprint ≡ false }
     {
         ResponseSettings {
             understood: Vec::new(alloc),
             software: None,
             answers_binding: false,
+            requires_fingerprint: false,
         }
     }
 }
 
-/// Reads a datagram. Returns the message and whether it has a right FINGERPRINT, or why the datagram
-/// is dropped.
-pub(crate) fn read(bytes: &[u8]) -> Result<(Message<'_>, bool), DropReason>
+/// Reads a datagram, which must have a FINGERPRINT if that is required. Returns the message and
+/// whether it has a right FINGERPRINT, or why the datagram is dropped.
+fn read(bytes: &[u8], is_required: bool) -> Result<(Message<'_>, bool), DropReason>
     ensures read { IfOk result (λ read. (read.0 ≡ bytes.now)
-        × (read.1 ≡ is_fingerprinted bytes.now) × (drop_reason bytes.now ≡ None)) }
-    ensures dropped { IfErr result (λ reason. drop_reason bytes.now ≡ Some reason) }
+        × (read.1 ≡ is_fingerprinted bytes.now) × (drop_reason is_required bytes.now ≡ None)) }
+    ensures dropped { IfErr result (λ reason. drop_reason is_required bytes.now ≡ Some reason) }
 {
     let Ok(message) = Message::from_bytes(bytes) else {
         return Err(no_message(bytes));
     };
     match check_fingerprint(&message) {
-        Fingerprint::Wrong => Err(DropReason::WrongFingerprint),
         Fingerprint::Right => Ok((message, true)),
-        Fingerprint::Misplaced => Ok((message, false)),
+        Fingerprint::Wrong => Err(DropReason::WrongFingerprint),
+        Fingerprint::Misplaced => Err(DropReason::WrongFingerprint),
+        Fingerprint::Absent if is_required => Err(DropReason::MissingFingerprint),
         Fingerprint::Absent => Ok((message, false)),
     }
 }
 
 /// Why bytes that are no message are dropped.
-pub(crate) fn no_message(bytes: &[u8]) -> DropReason
+fn no_message(bytes: &[u8]) -> DropReason
     ensures { result ≡ no_message bytes.now }
 {
     match MessageHeader::from_bytes(bytes) {
@@ -92,6 +97,7 @@ pub(crate) struct Responder<A: Allocator> {
     known: Vec<AttributeType, A>,
     software: Option<String<A>>,
     answers_binding: bool,
+    requires_fingerprint: bool,
 }
 
 impl<A: Allocator> Model for Responder<A> {
@@ -105,6 +111,7 @@ impl<A: Allocator> Model for Responder<A> {
       known = responder.known.items;
       software = option_map string_bytes responder.software;
       answers_binding = responder.answers_binding;
+      requires_fingerprint = responder.requires_fingerprint;
     } };
 }
 
@@ -117,6 +124,7 @@ impl<A: Allocator> Responder<A> {
           known = settings.understood.items ++ STUN_ATTRIBUTES;
           software = option_map string_bytes settings.software;
           answers_binding = settings.answers_binding;
+          requires_fingerprint = settings.requires_fingerprint;
         }) }
     {
         if text_length(&settings.software) > TEXT_LIMIT {
@@ -128,6 +136,7 @@ impl<A: Allocator> Responder<A> {
                 known,
                 settings.software,
                 settings.answers_binding,
+                settings.requires_fingerprint,
             )),
             Err(_) => Err(BuildError::OutOfMemory),
         }
@@ -139,11 +148,13 @@ impl<A: Allocator> Responder<A> {
         known: Vec<AttributeType, A>,
         software: Option<String<A>>,
         answers_binding: bool,
+        requires_fingerprint: bool,
     ) -> Responder<A>
         ensures { result ≡ record {
           known = known.items;
           software = option_map string_bytes software;
           answers_binding = answers_binding;
+          requires_fingerprint = requires_fingerprint;
         } }
     {
         Responder {
@@ -151,7 +162,27 @@ impl<A: Allocator> Responder<A> {
             known,
             software,
             answers_binding,
+            requires_fingerprint,
         }
+    }
+
+    /// Reads a datagram. Returns the message and whether it has a right FINGERPRINT, or why the
+    /// datagram is dropped.
+    pub(crate) fn read<'a>(&self, bytes: &'a [u8]) -> Result<(Message<'a>, bool), DropReason>
+        ensures read { IfOk result (λ read. (read.0 ≡ bytes.now)
+            × (read.1 ≡ is_fingerprinted bytes.now)
+            × (drop_reason self.now.requires_fingerprint bytes.now ≡ None)) }
+        ensures dropped { IfErr result (λ reason.
+            drop_reason self.now.requires_fingerprint bytes.now ≡ Some reason) }
+    {
+        read(bytes, self.requires_fingerprint)
+    }
+
+    /// Whether a message without FINGERPRINT is dropped.
+    pub(crate) fn requires_fingerprint(&self) -> bool
+        ensures { result ≡ self.now.requires_fingerprint }
+    {
+        self.requires_fingerprint
     }
 
     /// Whether the attributes of a message are understood, as far as they must be.

@@ -13,7 +13,7 @@ ghost use Rattle.stun_endpoint.specs.Nonces.{current_nonce, nonce_in};
 ghost use Rattle.stun_endpoint.specs.Realm.{table_of};
 ghost use Rattle.stun_endpoint.specs.Settings.{registered_of};
 
-use crate::nonces::words_of;
+use crate::nonces::nonce_of;
 use crate::responder::Responder;
 use crate::server::settings::empty_realm;
 use crate::unix_time::UnixTime;
@@ -78,6 +78,7 @@ impl<A: Allocator> Model for Server<A> {
       known = server.responder.known;
       software = server.responder.software;
       answers_binding = server.responder.answers_binding;
+      requires_fingerprint = server.responder.requires_fingerprint;
     } };
 
     ghost invariant = { λ server. (0 < server.lifetime)
@@ -146,7 +147,9 @@ impl<A: Allocator + Copy> Server<A> {
 
     /// Returns the nonce that is current for an address at a time: the one that a 401 or a 438
     /// carries. It is a function of the secret, the address and the time, and is accepted for one
-    /// to two lifetimes. Fails if an allocation fails.
+    /// to two lifetimes. It begins with the nonce cookie and the security bits of the settings, which
+    /// are zero if only HMAC-SHA1 is supported and names are never hashed (RFC 8489, section 9.2).
+    /// Fails if an allocation fails.
     pub fn nonce_for(&self, from: SocketAddr, now: UnixTime) -> Result<String<A>, AllocError>
         ensures { IfOk result (λ nonce. string_bytes nonce
             ≡ current_nonce self.now from now) }
@@ -168,7 +171,14 @@ impl<A: Allocator + Copy> Server<A> {
         ensures offer { IfOk result (λ nonce. asks_for_algorithms (string_bytes nonce)
             ≡ contains Sha256 self.now.algorithms) }
     {
-        let words = words_of(secret, from, epoch, self.hmac_sha1, self.hmac_sha256);
-        self.auth.nonce_of_words(&words)
+        nonce_of(
+            self.alloc,
+            secret,
+            from,
+            epoch,
+            self.hmac_sha1,
+            self.hmac_sha256,
+            self.user_hashes,
+        )
     }
 }

@@ -19,7 +19,7 @@ ghost use Rattle.stun_endpoint.specs.ShortTerm.{received_signed, signature_of, s
 ghost use Rattle.stun_endpoint.specs.ShortTermOutcomes.{short_term_outcome_of};
 
 use crate::received::{Answer, DropReason, Refusal, Request};
-use crate::responder::{Responder, ResponseSettings, read};
+use crate::responder::{Responder, ResponseSettings};
 use crate::server::{BuildError, STUN_ATTRIBUTES};
 use std::alloc::{AllocError, Allocator, Global};
 use std::fmt;
@@ -141,6 +141,7 @@ impl<A: Allocator> ShortTermServer<A> {
           known = settings.understood.items ++ STUN_ATTRIBUTES;
           software = option_map string_bytes settings.software;
           answers_binding = settings.answers_binding;
+          requires_fingerprint = settings.requires_fingerprint;
         }) }
     {
         let responder = Responder::new(alloc, settings)?;
@@ -154,7 +155,8 @@ impl<A: Allocator + Copy> ShortTermServer<A> {
     /// `from` is the address that it came from. An IPv4 address is the same in both spellings,
     /// `a.b.c.d` and `::ffff:a.b.c.d`. `users` are the users at this time.
     ///
-    /// - Bytes that are no message, or have a wrong FINGERPRINT, are dropped.
+    /// - Bytes are dropped that are no message, whose FINGERPRINT is wrong, is not the last attribute
+    ///   or does not have 4 bytes, or that have no FINGERPRINT if the settings require one.
     /// - A request gets a 400 if it has no MESSAGE-INTEGRITY and no MESSAGE-INTEGRITY-SHA256, or no
     ///   USERNAME before it; a 401 if USERNAME is not the name of one of these users, or the
     ///   signature is not made with the user's password; a 420, which is signed, if it has an
@@ -175,9 +177,10 @@ impl<A: Allocator + Copy> ShortTermServer<A> {
     ) -> Result<ShortTermReceived<'a, A>, AllocError>
         ensures received { IfOk result (λ received. short_term_outcome_of received
             ≡ received_signed self.now users.now from bytes.now) }
-        ensures no_memory { is_undropped_request bytes.now ≡ false → IsOk result }
+        ensures no_memory { is_undropped_request self.now.requires_fingerprint bytes.now
+            ≡ false → IsOk result }
     {
-        match read(bytes) {
+        match self.responder.read(bytes) {
             Ok((message, has_fingerprint)) => {
                 self.by_class(message, from, users, has_fingerprint)
             }

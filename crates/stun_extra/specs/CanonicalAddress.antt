@@ -1,10 +1,12 @@
 -- Socket addresses, whose two spellings of IPv4 are one (RFC 4291, section 2.5.5.2).
-use Rattle.std.specs.Prelude.{ℕ, List, [], ◌∷◌, ◌++◌, Bool, ◌&&◌, ◌==◌, take}
+use Rattle.std.specs.Prelude.{◌≡◌, ℕ, List, [], ◌∷◌, ◌++◌, Bool, ◌&&◌, ◌==◌, take}
 use Rattle.std.specs.Prelude.{if◌then◌else◌}
-use Rattle.std.specs.Net.Addr.{ipv4_octets, ipv6_octets, ipv6_segments, low_octets}
+use Rattle.std.specs.Net.Addr.{IsIpv4Mapped, MatchIp, ipv4_octets, ipv6_octets, ipv6_segments}
+use Rattle.std.specs.Net.Addr.{low_octets}
 use Rattle.std.specs.Net.Socket.{socket_ip, socket_port}
 use Rattle.std.specs.Str.{bytes_eq}
 use Rattle.std.specs.declared.net.ip_addr.IpAddr.{IpAddr}
+use Rattle.std.specs.declared.net.ipv6_addr.Ipv6Addr.{Ipv6Addr}
 use Rattle.std.specs.declared.net.ip_addr.IpAddr.TheVariants.{V4, V6}
 use Rattle.std.specs.declared.net.socket_addr.SocketAddr.{SocketAddr}
 use Rattle.stun_base.specs.Attributes.{XOR_MAPPED_ADDRESS}
@@ -24,6 +26,19 @@ abbrev pub is_same_address : SocketAddr → SocketAddr → Bool
 is_same_address one other =
     (socket_port one == socket_port other)
     && bytes_eq (address_octets (socket_ip one)) (address_octets (socket_ip other))
+
+-- the IPv4 address inside an IPv6 address, or the address itself
+abbrev pub IsUnmapped : SocketAddr → SocketAddr → Ipv6Addr → Type 0
+IsUnmapped given canonical a =
+    MatchIp (socket_ip canonical)
+    (λ ip. IsIpv4Mapped (ipv6_segments a) × (ipv4_octets ip ≡ low_octets a))
+    (λ ip. ¬ (IsIpv4Mapped (ipv6_segments a)) × (canonical ≡ given))
+
+-- An address in the spelling of its family. It has the same port. An IPv4 address that is spelled as
+-- IPv6 becomes IPv4; each other address stays as it is, with its scope
+pub record IsCanonical (given canonical : SocketAddr) : Type 0 where
+  pub port : socket_port canonical ≡ socket_port given
+  pub ip : MatchIp (socket_ip given) (λ ip. canonical ≡ given) (IsUnmapped given canonical)
 
 -- whether segments are those of ::ffff:a.b.c.d
 abbrev pub is_mapped : List ℕ → Bool

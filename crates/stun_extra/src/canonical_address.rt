@@ -2,7 +2,7 @@
 //! `::ffff:a.b.c.d` are the same address.
 ghost use Rattle.std.specs.Net.Socket.{socket_ip, socket_port};
 ghost use Rattle.std.specs.Prelude.{◌≡◌};
-ghost use Rattle.stun_extra.specs.CanonicalAddress.{address_octets, is_same_address};
+ghost use Rattle.stun_extra.specs.CanonicalAddress.{IsCanonical, address_octets, is_same_address};
 ghost use Rattle.stun_extra.specs.CanonicalAddress.{xored_canonical};
 
 use std::net::{IpAddr, Ipv4Addr, SocketAddr};
@@ -33,6 +33,32 @@ pub fn is_same_address(one: SocketAddr, other: SocketAddr) -> bool
     ensures { result ≡ is_same_address one other }
 {
     one.port() == other.port() && address_octets(one.ip()) == address_octets(other.ip())
+}
+
+/// Returns an address in the spelling of its family: `::ffff:a.b.c.d` as the IPv4 address `a.b.c.d`
+/// with the same port, and each other address as it is. Compare addresses in this spelling, such as
+/// with a list of networks, because `::ffff:127.0.0.1` is in no IPv4 network.
+///
+/// # Examples
+///
+/// ```
+/// use seatcrane_stun::extra::canonical;
+/// use std::net::SocketAddr;
+///
+/// let mapped: SocketAddr = "[::ffff:127.0.0.1]:3478".parse().unwrap();
+/// assert!(!mapped.ip().is_loopback());
+/// assert!(canonical(mapped).ip().is_loopback());
+/// ```
+pub fn canonical(address: SocketAddr) -> SocketAddr
+    ensures { IsCanonical address result }
+{
+    match address.ip() {
+        IpAddr::V4(_) => address,
+        IpAddr::V6(ip) => match ip.to_ipv4_mapped() {
+            Some(mapped) => SocketAddr::new(IpAddr::V4(mapped), address.port()),
+            None => address,
+        },
+    }
 }
 
 /// Returns XOR-MAPPED-ADDRESS with the address that a request came from, for the response to the

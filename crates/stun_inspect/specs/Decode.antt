@@ -2,7 +2,12 @@
 use Rattle.std.specs.Prelude.{◌≡◌, ℕ, List, [], ◌∷◌, ◌++◌, codes, length, Option, Some, None}
 use Rattle.std.specs.Fmt.{decimal}
 use Rattle.std.specs.Io.KnownBytes.{Appends}
+use Rattle.stun_base.specs.Header.{header_refusal}
 use Rattle.stun_base.specs.declared.wire.error.StunParseError.{StunParseError}
+use Rattle.stun_base.specs.declared.wire.error.StunParseError.TheVariants.{Truncated, NotStun}
+use Rattle.stun_base.specs.declared.wire.error.StunParseError.TheVariants.{TooLarge}
+use Rattle.stun_base.specs.declared.wire.error.StunParseError.TheVariants.{MissingAttribute}
+use Rattle.stun_base.specs.declared.wire.error.StunParseError.TheVariants.{InvalidAttributeData}
 use Rattle.stun_base.specs.AttributeText.{type_text}
 use Rattle.stun_cli.specs.Line.{IsLine}
 use Rattle.stun_cli.specs.Verdict.{refusal_line}
@@ -53,13 +58,35 @@ Describes message text =
     (header : List ℕ) × (lines : List ℕ) × IsHeader header
     × AreLinesOn message (told_attributes message) lines × (text ≡ header ++ lines)
 
--- the description of the message is printed, or the line that says why the bytes are not a message
+-- the text that `decode` prints for a truncated message, up to the cut: nothing if its header is
+-- cut, and otherwise the lines for its header and for each whole attribute
+abbrev pub DescribesBeforeCut : Option StunParseError → List ℕ → List ℕ → Type 0
+DescribesBeforeCut None bytes text = Describes bytes text
+DescribesBeforeCut (Some error) bytes text = text ≡ []
+
+-- what comes before the line that says why bytes are not a message: what comes before the cut of a
+-- truncated message, and otherwise nothing
+abbrev pub DescribesBeforeRefusal : StunParseError → List ℕ → List ℕ → Type 0
+DescribesBeforeRefusal Truncated bytes text = DescribesBeforeCut (header_refusal bytes) bytes text
+DescribesBeforeRefusal NotStun bytes text = text ≡ []
+DescribesBeforeRefusal TooLarge bytes text = text ≡ []
+DescribesBeforeRefusal (MissingAttribute kind) bytes text = text ≡ []
+DescribesBeforeRefusal InvalidAttributeData bytes text = text ≡ []
+
+-- the text that `decode` prints for bytes that are not a message
+abbrev pub DescribesRefused : StunParseError → List ℕ → List ℕ → Type 0
+DescribesRefused error bytes text =
+    (front : List ℕ) × DescribesBeforeRefusal error bytes front
+    × (text ≡ front ++ refusal_line error)
+
+-- the description of the message is printed, or that of bytes that are not one
 abbrev pub PrintsUnlessRefused : Option StunParseError → List ℕ → Status → Option (List ℕ)
     → Option (List ℕ) → Type 0
 PrintsUnlessRefused None bytes status before after =
     (status ≡ Good) × (text : List ℕ) × Describes bytes text × Appends before after text
 PrintsUnlessRefused (Some error) bytes status before after =
-    (status ≡ Bad) × Appends before after (refusal_line error)
+    (status ≡ Bad) × (text : List ℕ) × DescribesRefused error bytes text
+    × Appends before after text
 
 -- what is printed for these bytes, and the status that goes with it
 abbrev pub PrintsDecoded : List ℕ → Status → Option (List ℕ) → Option (List ℕ) → Type 0

@@ -10,10 +10,16 @@ pub mod Fingerprint
 pub mod Decode
 -- the names of attributes in what it prints
 pub mod Names
+-- what `list` prints
+pub mod Listed
 -- what `verify` prints
 pub mod Verify
 -- the line that `verify` prints for each verdict
 pub mod Verdict
+-- what `verify` finds in a message, and the status for the only message of an input
+pub mod Found
+-- the counts of what it finds in several messages, and the status for them
+pub mod Counts
 -- which inputs are read as a raw message
 pub mod Input
 -- the offset at the front of a row of a dump

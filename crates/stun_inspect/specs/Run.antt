@@ -8,6 +8,7 @@ use Rattle.stun_base.specs.Keys.{short_term_key, long_term_key, userhash_of}
 use Rattle.stun_base.specs.declared.keys.algorithm.IntegrityAlgorithm.{IntegrityAlgorithm}
 use Rattle.stun_inspect.specs.declared.command.Command.{Command}
 use Rattle.stun_inspect.specs.declared.command.Command.TheVariants.{Help, Version, Decode}
+use Rattle.stun_inspect.specs.declared.command.Command.TheVariants.{List as Listing}
 use Rattle.stun_inspect.specs.declared.command.Command.TheVariants.{Verify, Key, Userhash, Nonce}
 use Rattle.stun_inspect.specs.declared.command.User.{User}
 use Rattle.stun_inspect.specs.declared.failure.Failure.{Failure}
@@ -15,6 +16,7 @@ use Rattle.stun_cli.specs.declared.status.Status.{Status}
 use Rattle.stun_cli.specs.declared.status.Status.TheVariants.{Good}
 use Rattle.stun_inspect.specs.Decode.{PrintsDecoded}
 use Rattle.stun_inspect.specs.Input.{is_raw}
+use Rattle.stun_inspect.specs.Listed.{PrintsListed}
 use Rattle.stun_cli.specs.Line.{IsLine}
 use Rattle.stun_cli.specs.Verdict.{verdict_of}
 use Rattle.stun_inspect.specs.Verify.{PrintsVerdictAndNotes}
@@ -49,6 +51,9 @@ Answers Version given result before after =
 Answers Decode given result before after =
     IfSome given
     (λ input. IfOk result (λ status. is_raw input ≡ true → PrintsDecoded input status before after))
+Answers Listing given result before after =
+    IfSome given
+    (λ input. IfOk result (λ status. is_raw input ≡ true → PrintsListed input status before after))
 Answers (Verify who) given result before after =
     who.password.now ≢ codes "-" → IfSome given (λ input. IfOk result (λ status. is_raw input ≡ true
     → PrintsVerdictAndNotes (verdict_of input (keys_for who.user who.password.now)) status before

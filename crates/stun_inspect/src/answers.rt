@@ -7,15 +7,17 @@ ghost use Rattle.stun_inspect.specs.Input.{is_raw};
 ghost use Rattle.stun_inspect.specs.Run.{Answers, PrintsDigits, PrintsLine, PrintsText, keys_for};
 ghost use Rattle.stun_cli.specs.Line.{IsLine};
 ghost use Rattle.stun_cli.specs.Verdict.{verdict_of};
-ghost use Rattle.stun_inspect.specs.Verify.{PrintsVerdictAndNotes};
+ghost use Rattle.stun_inspect.specs.Listed.{PrintsListed};
+ghost use Rattle.stun_inspect.specs.Verify.{PrintsVerdictAndNotes, PrintsWithNotes};
 
 use crate::command::{Command, User, Who};
-use crate::decode::describe;
+use crate::decode::{describe, describe_refused};
 use crate::digits::bad_input;
-use crate::each::{Decoding, Verifying, tell_capture, tell_input};
+use crate::each::{Decoding, Listing, Verifying, tell_capture, tell_input};
 use crate::failure::{Failure, INPUT_LIMIT, Wanted};
 use crate::input::{Input, begin};
 use crate::layout::{is_raw, within_limit};
+use crate::list::{line_of, refusal_of, status_of};
 use crate::notes::notes_on;
 use crate::usage::{HELP, VERSION};
 use crate::value::push_security_bits;
@@ -26,7 +28,7 @@ use stun_cli::input::{CountedRead, read_to_end, read_up_to};
 use stun_cli::line::Line;
 use stun_cli::output::write_text;
 use stun_cli::status::Status;
-use stun_cli::verdict::refusal_line;
+use stun_cli::verdict::Verdict;
 use stun_types::attribute::Userhash;
 use stun_types::message::{
     IntegrityAlgorithm, LongTermCredentials, Message, MessageIntegrityCredentials,
@@ -48,6 +50,7 @@ pub fn run_command<R: CountedRead, W: Write, A: Allocator + Copy>(
         Command::Help => print(writer, HELP.as_bytes()),
         Command::Version => print(writer, VERSION.as_bytes()),
         Command::Decode => decode_input(alloc, reader, writer),
+        Command::List => list_input(alloc, reader, writer),
         Command::Verify(who) => verify_input(alloc, who, reader, writer),
         Command::Key(algorithm, user, password) => {
             print_key(alloc, algorithm, user, password, reader, writer)
@@ -115,6 +118,40 @@ fn decode_all<W: Write, A: Allocator + Copy>(
     tell_input(alloc, &Decoding, input, writer)
 }
 
+/// Prints a line for each message that the reader has.
+fn list_input<R: CountedRead, W: Write, A: Allocator + Copy>(
+    alloc: A,
+    reader: &mut R,
+    writer: &mut W,
+) -> Result<Status, Failure>
+    ensures { IfSome (R.remaining reader.old) (λ input. IfOk result (λ status.
+        is_raw input ≡ true
+        → PrintsListed input status (W.contents writer.old) (W.contents writer.new))) }
+{
+    match begin(alloc, reader)? {
+        Input::Capture(capture, begun) => {
+            tell_capture(alloc, &Listing, capture, begun, reader, writer)
+        }
+        Input::Bytes(input) => list_all(alloc, input.as_slice(), writer),
+    }
+}
+
+/// Prints a line for each message that an input has.
+fn list_all<W: Write, A: Allocator + Copy>(
+    alloc: A,
+    input: &[u8],
+    writer: &mut W,
+) -> Result<Status, Failure>
+    ensures { is_raw input.now ≡ true → IfOk result (λ status.
+        PrintsListed input.now status (W.contents writer.old) (W.contents writer.new)) }
+{
+    if is_raw(input) {
+        within_limit(input)?;
+        return list(alloc, input, writer);
+    }
+    tell_input(alloc, &Listing, input, writer)
+}
+
 /// Verifies the signature of each message that the reader has, and prints the results. If the
 /// password is `-`, it is read from the first line of the reader.
 fn verify_input<R: CountedRead, W: Write, A: Allocator + Copy>(
@@ -175,7 +212,8 @@ fn verify_each<W: Write, A: Allocator + Copy>(
 {
     if is_raw(input) {
         within_limit(input)?;
-        return verify(alloc, input, user, credentials, writer);
+        let verdict = verify(alloc, input, user, credentials, writer)?;
+        return Ok(verdict.status());
     }
     tell_input(alloc, &Verifying { user, credentials }, input, writer)
 }
@@ -215,7 +253,8 @@ fn print_key<R: CountedRead, W: Write, A: Allocator + Copy>(
     print_digits(alloc, key.as_bytes(), writer)
 }
 
-/// Prints each attribute of the message, or why the bytes are not a message.
+/// Prints each attribute of the message, or why the bytes are not a message. Of a truncated message
+/// it first prints the attributes before the cut.
 pub fn decode<W: Write, A: Allocator + Copy>(
     alloc: A,
     bytes: &[u8],
@@ -226,35 +265,52 @@ pub fn decode<W: Write, A: Allocator + Copy>(
 {
     match Message::from_bytes(bytes) {
         Ok(message) => {
-            let text = describe(alloc, &message)?;
+            let text = describe(alloc, bytes, message.get_type(), message.transaction_id())?;
             write_text(writer, text.as_bytes())?;
             Ok(Status::Good)
         }
         Err(error) => {
-            write_text(writer, refusal_line(error).as_bytes())?;
+            let text = describe_refused(alloc, bytes, error)?;
+            write_text(writer, text.as_bytes())?;
             Ok(Status::Bad)
         }
     }
 }
 
-/// Verifies the signature of the message, and prints the result and how the message differs from
-/// the user.
+/// Prints a line for the message, or for why the bytes are not one.
+pub fn list<W: Write, A: Allocator + Copy>(
+    alloc: A,
+    bytes: &[u8],
+    writer: &mut W,
+) -> Result<Status, Failure>
+    ensures { IfOk result (λ status. PrintsListed bytes.now status (W.contents writer.old)
+        (W.contents writer.new)) }
+{
+    let refusal = refusal_of(bytes);
+    let line = line_of(alloc, bytes, refusal)?;
+    write_text(writer, line.as_bytes())?;
+    Ok(status_of(refusal))
+}
+
+/// Verifies the signature of the message, and prints the verdict and how the message differs from
+/// the user. Returns the verdict.
 pub fn verify<W: Write, A: Allocator + Copy, B: Allocator>(
     alloc: A,
     bytes: &[u8],
     user: Option<User<'_>>,
     credentials: &MessageIntegrityCredentials<B>,
     writer: &mut W,
-) -> Result<Status, Failure>
-    ensures { IfOk result (λ status. PrintsVerdictAndNotes
-        (verdict_of bytes.now (keys_of credentials.now)) status
-        (W.contents writer.old) (W.contents writer.new)) }
+) -> Result<Verdict, Failure>
+    ensures verdict { IfOk result (λ verdict.
+        verdict ≡ verdict_of bytes.now (keys_of credentials.now)) }
+    ensures prints { IfOk result (λ verdict.
+        PrintsWithNotes verdict (W.contents writer.old) (W.contents writer.new)) }
 {
     let notes = notes_on(alloc, bytes, user)?;
     let verdict = verdict_on(bytes, credentials);
     write_text(writer, line(verdict).as_bytes())?;
     write_text(writer, notes.as_bytes())?;
-    Ok(verdict.status())
+    Ok(verdict)
 }
 
 /// Returns the credentials of a user, or those of a password alone.

@@ -8,6 +8,7 @@ pub enum Command<'a> {
     Help,
     Version,
     Decode,
+    List,
     Verify(Who<'a>),
     /// Prints the long-term key of a user for a password. The password may be `-`, as in `Who`.
     Key(IntegrityAlgorithm, User<'a>, &'a str),
@@ -44,7 +45,8 @@ pub struct User<'a> {
 pub fn asked_of(words: &[String]) -> Option<Asked<'_>> {
     let (command, others) = words.split_first()?;
     match command.as_str() {
-        "decode" => decode_of(others),
+        "decode" => reading(Command::Decode, others),
+        "list" => reading(Command::List, others),
         "verify" => verify_of(others),
         other => Some(Asked {
             command: command_of(other, others)?,
@@ -68,16 +70,14 @@ fn command_of<'a>(name: &str, words: &'a [String]) -> Option<Command<'a>> {
     }
 }
 
-fn decode_of(words: &[String]) -> Option<Asked<'_>> {
+/// Returns a command whose only argument is the file that it reads.
+fn reading<'a>(command: Command<'a>, words: &'a [String]) -> Option<Asked<'a>> {
     let file = match words {
         [] => None,
         [file] => Some(file.as_str()),
         _ => return None,
     };
-    Some(Asked {
-        command: Command::Decode,
-        file,
-    })
+    Some(Asked { command, file })
 }
 
 fn verify_of(words: &[String]) -> Option<Asked<'_>> {

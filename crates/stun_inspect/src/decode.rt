@@ -1,7 +1,10 @@
 //! The command `decode`: what it prints about a message.
 ghost use Rattle.std.specs.Prelude.{◌≡◌, false, IfOk, length, string_bytes};
 ghost use Rattle.stun_cli.specs.Line.{has_line_feed, IsLine};
-ghost use Rattle.stun_inspect.specs.Decode.{AreLinesOn, Describes, IsHeader, IsLineOn, NAME_LENGTH};
+ghost use Rattle.stun_base.specs.Header.{header_refusal};
+ghost use Rattle.stun_inspect.specs.Decode.{AreLinesOn, Describes, DescribesBeforeCut};
+ghost use Rattle.stun_inspect.specs.Decode.{DescribesBeforeRefusal, DescribesRefused};
+ghost use Rattle.stun_inspect.specs.Decode.{IsHeader, IsLineOn, NAME_LENGTH};
 ghost use Rattle.stun_inspect.specs.Names.{IsName};
 
 use crate::fingerprint::ending_of;
@@ -10,25 +13,75 @@ use crate::telling::{Told, tell};
 use crate::value::{push_digits, push_value};
 use std::alloc::{AllocError, Allocator};
 use stun_cli::line::Line;
-use stun_types::message::{Message, MessageClass, TransactionId};
+use stun_cli::verdict::refusal_line;
+use stun_types::message::{
+    MessageClass, MessageHeader, MessageType, StunParseError, TransactionId,
+};
 
-/// Returns the text that is printed for a message: a line each for its class, its method and its
-/// transaction ID, and then a line for each attribute. Fails if an allocation fails.
+/// Returns the text that is printed for a message of this type and with this transaction ID: a line
+/// each for its class, its method and its transaction ID, and then a line for each attribute. Of a
+/// truncated message these are the attributes before the cut. Fails if an allocation fails.
 pub fn describe<A: Allocator + Copy>(
     alloc: A,
-    message: &Message<'_>,
+    bytes: &[u8],
+    kind: MessageType,
+    id: TransactionId,
 ) -> Result<String<A>, AllocError>
-    ensures { IfOk result (λ text. Describes message.now (string_bytes text)) }
+    ensures { IfOk result (λ text. Describes bytes.now (string_bytes text)) }
 {
-    let told = tell(alloc, message)?;
-    let bytes = message.as_bytes();
-    let lines = lines_on(alloc, bytes, told.as_slice(), message.transaction_id())?;
-    let mut text = header_text(alloc, message)?;
+    let told = tell(alloc, bytes)?;
+    let lines = lines_on(alloc, bytes, told.as_slice(), id)?;
+    let mut text = header_text(alloc, kind, id)?;
     text.push_str(lines.as_str())?;
     Ok(text)
 }
 
-fn class_name(class: MessageClass) -> &'static str
+/// Returns the text that is printed for bytes that are not a message for this reason: a line that
+/// says so, and before it what comes before the cut of a truncated message. Fails if an allocation
+/// fails.
+pub fn describe_refused<A: Allocator + Copy>(
+    alloc: A,
+    bytes: &[u8],
+    error: StunParseError,
+) -> Result<String<A>, AllocError>
+    ensures { IfOk result (λ text. DescribesRefused error bytes.now (string_bytes text)) }
+{
+    let mut text = describe_before_refusal(alloc, bytes, error)?;
+    text.push_str(refusal_line(error))?;
+    Ok(text)
+}
+
+fn describe_before_refusal<A: Allocator + Copy>(
+    alloc: A,
+    bytes: &[u8],
+    error: StunParseError,
+) -> Result<String<A>, AllocError>
+    ensures { IfOk result (λ text.
+        DescribesBeforeRefusal error bytes.now (string_bytes text)) }
+{
+    match error {
+        StunParseError::Truncated => describe_before_cut(alloc, bytes),
+        StunParseError::NotStun => Ok(String::new(alloc)),
+        StunParseError::TooLarge => Ok(String::new(alloc)),
+        StunParseError::MissingAttribute(_) => Ok(String::new(alloc)),
+        StunParseError::InvalidAttributeData => Ok(String::new(alloc)),
+    }
+}
+
+/// Returns the text that is printed for the part of a truncated message before its cut, which is
+/// empty if the header is cut.
+fn describe_before_cut<A: Allocator + Copy>(alloc: A, bytes: &[u8]) -> Result<String<A>, AllocError>
+    ensures { IfOk result (λ text.
+        DescribesBeforeCut (header_refusal bytes.now) bytes.now (string_bytes text)) }
+{
+    match MessageHeader::from_bytes(bytes) {
+        Ok(header) => describe(alloc, bytes, header.get_type(), header.transaction_id()),
+        Err(_) => Ok(String::new(alloc)),
+    }
+}
+
+/// Returns the name of a class.
+pub fn class_name(class: MessageClass) -> &'static str
     ensures { has_line_feed result.now ≡ false }
 {
     match class {
@@ -42,20 +95,30 @@ fn class_name(class: MessageClass) -> &'static str
 /// Returns the lines for the header.
 fn header_text<A: Allocator + Copy>(
     alloc: A,
-    message: &Message<'_>,
+    kind: MessageType,
+    id: TransactionId,
 ) -> Result<String<A>, AllocError>
     ensures { IfOk result (λ text. IsHeader (string_bytes text)) }
 {
-    let kind = class_name(message.class());
-    let first = header_line(alloc, "class", kind)?;
-    let method = method_text(alloc, message.method().value())?;
+    let class = class_name(kind.class());
+    let first = header_line(alloc, "class", class)?;
+    let method = method_text(alloc, kind.method().value())?;
     let second = header_line(alloc, "method", method.as_str())?;
-    let mut id = Line::new(alloc);
-    let bytes = message.transaction_id().as_u128().to_be_bytes();
-    push_digits(&mut id, &bytes[4..])?;
-    let third = header_line(alloc, "id", id.as_str())?;
+    let mut digits = Line::new(alloc);
+    push_id(&mut digits, id)?;
+    let third = header_line(alloc, "id", digits.as_str())?;
     let text = format!(in alloc; "{first}{second}{third}")?;
     Ok(text)
+}
+
+/// Appends the 24 digits of a transaction ID.
+pub fn push_id<A: Allocator + Copy>(
+    line: &mut Line<A>,
+    id: TransactionId,
+) -> Result<(), AllocError> {
+    let bytes = id.as_u128().to_be_bytes();
+    push_digits(line, &bytes[4..])?;
+    Ok(())
 }
 
 /// Returns the line for a field of the header.
@@ -76,13 +139,22 @@ fn header_line<A: Allocator + Copy>(
 
 /// Returns the name and the number of a method.
 fn method_text<A: Allocator + Copy>(alloc: A, method: u16) -> Result<Line<A>, AllocError> {
-    let [high, low] = method.to_be_bytes();
     let mut line = Line::new(alloc);
     line.push_str(method_name(method))?;
-    line.push_str(" 0x")?;
-    line.push_hexadecimal(u32::from(high))?;
-    line.push_byte(low)?;
+    line.push(' ')?;
+    push_method_number(&mut line, method)?;
     Ok(line)
+}
+
+/// Appends the number of a method as three digits in hexadecimal.
+pub fn push_method_number<A: Allocator + Copy>(
+    line: &mut Line<A>,
+    method: u16,
+) -> Result<(), AllocError> {
+    let [high, low] = method.to_be_bytes();
+    line.push_str("0x")?;
+    line.push_hexadecimal(u32::from(high))?;
+    line.push_byte(low)
 }
 
 /// Returns a line for each attribute of a message.

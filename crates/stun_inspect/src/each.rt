@@ -1,12 +1,14 @@
 //! Prints the messages of an input that is not a raw message: the only message of a text, or each
 //! of several after a line that says where it is.
 
-use crate::answers::{decode, verify};
+use crate::answers::{decode, list, verify};
 use crate::command::User;
 use crate::digits::bad_input;
 use crate::failure::{Failure, Wanted};
+use crate::found::Found;
 use crate::frames::{ChannelData, Part, Read, cut_of, part_of, read_of};
 use crate::layout::{Spelled, is_raw, message_of, read_text};
+use crate::list::{line_of, refusal_of, status_of};
 use crate::tally::{Tally, Unread};
 use crate::value::push_digits;
 use captures::capture::{Capture, Packet, Step};
@@ -22,22 +24,49 @@ use stun_types::message::MessageIntegrityCredentials;
 
 /// What a command does with each message.
 pub trait Teller {
-    /// Prints the result for a message, and returns how that ended.
+    /// Prints the result for the only message of an input, and returns what was found.
     fn tell<W: Write, A: Allocator + Copy>(
         &self,
         alloc: A,
         message: &[u8],
         writer: &mut W,
-    ) -> Result<Status, Failure>;
+    ) -> Result<Found, Failure>;
 
-    /// Prints ChannelData that carries no message, after the line `heading`.
+    /// Prints the result for one of several messages, and before it `place`, which says where the
+    /// message is. Returns what was found.
+    fn tell_at<W: Write, A: Allocator + Copy>(
+        &self,
+        alloc: A,
+        place: &str,
+        message: &[u8],
+        writer: &mut W,
+    ) -> Result<Found, Failure>;
+
+    /// Prints ChannelData that carries no message, and before it `place`.
     fn tell_channel<W: Write, A: Allocator + Copy>(
         &self,
         alloc: A,
-        heading: &str,
+        place: &str,
         data: ChannelData<'_>,
         writer: &mut W,
     ) -> Result<(), Failure>;
+
+    /// Returns the last line after several messages, or an empty text.
+    fn summary<A: Allocator + Copy>(
+        &self,
+        alloc: A,
+        tally: &Tally,
+    ) -> Result<String<A>, AllocError>;
+}
+
+/// Prints a line that says where a message is.
+fn print_place<W: Write, A: Allocator>(
+    alloc: A,
+    place: &str,
+    writer: &mut W,
+) -> Result<(), Failure> {
+    let heading = format!(in alloc; "{place}\n")?;
+    Ok(write_text(writer, heading.as_bytes())?)
 }
 
 /// Prints the attributes of a message.
@@ -50,14 +79,28 @@ impl Teller for Decoding {
         alloc: A,
         message: &[u8],
         writer: &mut W,
-    ) -> Result<Status, Failure> {
-        decode(alloc, message, writer)
+    ) -> Result<Found, Failure> {
+        let status = decode(alloc, message, writer)?;
+        Ok(Found::of_status(status))
+    }
+
+    fn tell_at<W: Write, A: Allocator + Copy>(
+        &self,
+        alloc: A,
+        place: &str,
+        message: &[u8],
+        writer: &mut W,
+    ) -> Result<Found, Failure> {
+        print_place(alloc, place, writer)?;
+        let status = decode(alloc, message, writer)?;
+        write_text(writer, b"\n")?;
+        Ok(Found::of_status(status))
     }
 
     fn tell_channel<W: Write, A: Allocator + Copy>(
         &self,
         alloc: A,
-        heading: &str,
+        place: &str,
         data: ChannelData<'_>,
         writer: &mut W,
     ) -> Result<(), Failure> {
@@ -66,9 +109,68 @@ impl Teller for Decoding {
         let mut digits = Line::new(alloc);
         push_digits(&mut digits, bytes)?;
         let digits = digits.as_str();
-        let mut text = format!(in alloc; "{heading}{:<28} 0x{channel:04x}\n", "channel")?;
+        let mut text = format!(in alloc; "{place}\n{:<28} 0x{channel:04x}\n", "channel")?;
         write!(text, "{:<28} {length} bytes  {digits}\n\n", "data")?;
         Ok(write_text(writer, text.as_bytes())?)
+    }
+
+    fn summary<A: Allocator + Copy>(
+        &self,
+        alloc: A,
+        _tally: &Tally,
+    ) -> Result<String<A>, AllocError> {
+        Ok(String::new(alloc))
+    }
+}
+
+/// Prints a line for a message.
+#[derive(Clone, Copy)]
+pub struct Listing;
+
+impl Teller for Listing {
+    fn tell<W: Write, A: Allocator + Copy>(
+        &self,
+        alloc: A,
+        message: &[u8],
+        writer: &mut W,
+    ) -> Result<Found, Failure> {
+        let status = list(alloc, message, writer)?;
+        Ok(Found::of_status(status))
+    }
+
+    fn tell_at<W: Write, A: Allocator + Copy>(
+        &self,
+        alloc: A,
+        place: &str,
+        message: &[u8],
+        writer: &mut W,
+    ) -> Result<Found, Failure> {
+        let refusal = refusal_of(message);
+        let line = line_of(alloc, message, refusal)?;
+        let text = format!(in alloc; "{place}: {line}")?;
+        write_text(writer, text.as_bytes())?;
+        Ok(Found::of_status(status_of(refusal)))
+    }
+
+    fn tell_channel<W: Write, A: Allocator + Copy>(
+        &self,
+        alloc: A,
+        place: &str,
+        data: ChannelData<'_>,
+        writer: &mut W,
+    ) -> Result<(), Failure> {
+        let ChannelData { channel, bytes } = data;
+        let length = bytes.len();
+        let text = format!(in alloc; "{place}: channel 0x{channel:04x}, {length} bytes\n")?;
+        Ok(write_text(writer, text.as_bytes())?)
+    }
+
+    fn summary<A: Allocator + Copy>(
+        &self,
+        alloc: A,
+        _tally: &Tally,
+    ) -> Result<String<A>, AllocError> {
+        Ok(String::new(alloc))
     }
 }
 
@@ -85,19 +187,41 @@ impl<'a, B: Allocator> Teller for Verifying<'a, B> {
         alloc: A,
         message: &[u8],
         writer: &mut W,
-    ) -> Result<Status, Failure> {
-        verify(alloc, message, self.user, self.credentials, writer)
+    ) -> Result<Found, Failure> {
+        let verdict = verify(alloc, message, self.user, self.credentials, writer)?;
+        Ok(Found::of_verdict(verdict))
+    }
+
+    fn tell_at<W: Write, A: Allocator + Copy>(
+        &self,
+        alloc: A,
+        place: &str,
+        message: &[u8],
+        writer: &mut W,
+    ) -> Result<Found, Failure> {
+        print_place(alloc, place, writer)?;
+        let verdict = verify(alloc, message, self.user, self.credentials, writer)?;
+        write_text(writer, b"\n")?;
+        Ok(Found::of_verdict(verdict))
     }
 
     /// Prints nothing, because ChannelData has no signature.
     fn tell_channel<W: Write, A: Allocator + Copy>(
         &self,
         _alloc: A,
-        _heading: &str,
+        _place: &str,
         _data: ChannelData<'_>,
         _writer: &mut W,
     ) -> Result<(), Failure> {
         Ok(())
+    }
+
+    fn summary<A: Allocator + Copy>(
+        &self,
+        alloc: A,
+        tally: &Tally,
+    ) -> Result<String<A>, AllocError> {
+        tally.summary(alloc)
     }
 }
 
@@ -115,25 +239,24 @@ pub fn tell_input<T: Teller, W: Write, A: Allocator + Copy>(
     match spelled.as_slice() {
         [only] => {
             let message = message_of(only.bytes.as_slice())?;
-            teller.tell(alloc, message, writer)
+            let found = teller.tell(alloc, message, writer)?;
+            Ok(found.status())
         }
         several => tell_spelled(alloc, teller, several, writer),
     }
 }
 
-/// Prints the result for a message after a heading line, and counts the message.
-fn tell_after<T: Teller, W: Write, A: Allocator + Copy>(
+/// Prints the result for one of several messages, and counts the message.
+fn tell_at<T: Teller, W: Write, A: Allocator + Copy>(
     alloc: A,
     teller: &T,
-    heading: &str,
+    place: &str,
     message: &[u8],
     tally: &mut Tally,
     writer: &mut W,
 ) -> Result<(), Failure> {
-    write_text(writer, heading.as_bytes())?;
-    let status = teller.tell(alloc, message, writer)?;
-    write_text(writer, b"\n")?;
-    tally.count_message(status);
+    let found = teller.tell_at(alloc, place, message, writer)?;
+    tally.count_message(found);
     Ok(())
 }
 
@@ -149,13 +272,15 @@ fn tell_spelled<T: Teller, W: Write, A: Allocator + Copy>(
     for part in spelled {
         let message = message_of(part.bytes.as_slice())?;
         if is_raw(message) {
-            let heading = line_heading(alloc, tally.next(), part.line)?;
-            tell_after(alloc, teller, heading.as_str(), message, &mut tally, writer)?;
+            let place = place_of_line(alloc, tally.next(), part.line)?;
+            tell_at(alloc, teller, place.as_str(), message, &mut tally, writer)?;
         } else {
             tally.count_other();
         }
     }
-    let ending = tally.ending_of_text(alloc)?;
+    let mut ending = tally.ending_of_text(alloc)?;
+    let summary = teller.summary(alloc, &tally)?;
+    ending.push_str(summary.as_str())?;
     write_text(writer, ending.as_bytes())?;
     Ok(tally.status())
 }
@@ -170,12 +295,12 @@ fn check_lengths<A: Allocator + Copy>(spelled: &[Spelled<A>]) -> Result<(), Fail
     Ok(())
 }
 
-fn line_heading<A: Allocator + Copy>(
+fn place_of_line<A: Allocator + Copy>(
     alloc: A,
     number: usize,
     line: usize,
 ) -> Result<String<A>, AllocError> {
-    format!(in alloc; "message {number}, line {line}\n")
+    format!(in alloc; "message {number}, line {line}")
 }
 
 /// Prints the result for each message of a capture, record by record. The bytes of the first record
@@ -215,7 +340,9 @@ pub fn tell_capture<T: Teller, R: CountedRead, W: Write, A: Allocator + Copy>(
         }
         record.clear();
     }
-    let ending = tally.ending_of_capture(alloc)?;
+    let mut ending = tally.ending_of_capture(alloc)?;
+    let summary = teller.summary(alloc, &tally)?;
+    ending.push_str(summary.as_str())?;
     write_text(writer, ending.as_bytes())?;
     match damage {
         Some(failure) => Err(Failure::from(failure)),
@@ -304,23 +431,23 @@ fn tell_part<T: Teller, W: Write, A: Allocator + Copy>(
     let number = tally.next();
     match part {
         Part::Message(message) => {
-            let heading = format!(in alloc; "message {number}, {way}\n")?;
-            tell_after(alloc, teller, heading.as_str(), message, tally, writer)
+            let place = format!(in alloc; "message {number}, {way}")?;
+            tell_at(alloc, teller, place.as_str(), message, tally, writer)
         }
         Part::Channel(data) if is_raw(data.bytes) => {
             let channel = data.channel;
-            let heading = format!(in alloc; "message {number}, {way}, channel 0x{channel:04x}\n")?;
-            tell_after(alloc, teller, heading.as_str(), data.bytes, tally, writer)
+            let place = format!(in alloc; "message {number}, {way}, channel 0x{channel:04x}")?;
+            tell_at(alloc, teller, place.as_str(), data.bytes, tally, writer)
         }
         Part::Channel(data) => {
             tally.count_channel();
-            let heading = format!(in alloc; "channel data, {way}\n")?;
-            teller.tell_channel(alloc, heading.as_str(), data, writer)
+            let place = format!(in alloc; "channel data, {way}")?;
+            teller.tell_channel(alloc, place.as_str(), data, writer)
         }
     }
 }
 
-/// Returns the heading of a packet: its number, its time, and the addresses that it went from and
+/// Returns where a packet is and where it went: its number, its time, and the addresses that it went from and
 /// to.
 fn way_of<A: Allocator + Copy>(
     alloc: A,

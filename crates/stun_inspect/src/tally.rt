@@ -1,5 +1,8 @@
 //! Counts the messages of an input, and what the input has beside them.
+ghost use Rattle.std.specs.Prelude.{◌≡◌};
+ghost use Rattle.stun_inspect.specs.Counts.{counted, status_of_counts};
 
+use crate::found::Found;
 use std::alloc::{AllocError, Allocator};
 use stun_cli::status::Status;
 
@@ -55,12 +58,55 @@ impl Missed {
     }
 }
 
+/// How many messages each result was found in. A count that reaches the greatest number stays
+/// there.
+#[derive(Clone, Copy)]
+pub struct Counts {
+    good: usize,
+    invalid: usize,
+    unsigned: usize,
+    not_messages: usize,
+}
+
+impl Counts {
+    const NONE: Counts = Counts {
+        good: 0,
+        invalid: 0,
+        unsigned: 0,
+        not_messages: 0,
+    };
+
+    /// Counts what was found in a message.
+    fn count(&mut self, found: Found)
+        ensures { self.new ≡ counted found self.old }
+    {
+        match found {
+            Found::Good => self.good = self.good.saturating_add(1),
+            Found::Invalid => self.invalid = self.invalid.saturating_add(1),
+            Found::Unsigned => self.unsigned = self.unsigned.saturating_add(1),
+            Found::NotAMessage => self.not_messages = self.not_messages.saturating_add(1),
+        }
+    }
+
+    /// Returns how the command ends: `Good` if there is a good message, and each other message is
+    /// good or unsigned.
+    fn status(&self) -> Status
+        ensures { result ≡ status_of_counts self.now }
+    {
+        if self.good > 0 && self.invalid == 0 && self.not_messages == 0 {
+            Status::Good
+        } else {
+            Status::Bad
+        }
+    }
+}
+
 /// The counts of an input.
 #[derive(Clone, Copy)]
 pub struct Tally {
     messages: usize,
-    /// The messages that are malformed or have no valid signature.
-    bad: usize,
+    /// What was found in the messages.
+    found: Counts,
     /// The datagrams, or parts of a text, that are not messages.
     others: usize,
     without_udp: usize,
@@ -77,7 +123,7 @@ pub struct Tally {
 impl Tally {
     pub const NONE: Tally = Tally {
         messages: 0,
-        bad: 0,
+        found: Counts::NONE,
         others: 0,
         without_udp: 0,
         channels: 0,
@@ -93,13 +139,12 @@ impl Tally {
         self.messages.saturating_add(1)
     }
 
-    /// Counts a message for which the command ended with this status.
-    pub fn count_message(&mut self, status: Status) {
+    /// Counts a message in which this was found.
+    pub fn count_message(&mut self, found: Found)
+        ensures { self.new.found ≡ counted found self.old.found }
+    {
         self.messages = self.messages.saturating_add(1);
-        match status {
-            Status::Good => {}
-            _ => self.bad = self.bad.saturating_add(1),
-        }
+        self.found.count(found);
     }
 
     /// Counts a datagram, or a part of a text, that is not a message.
@@ -130,22 +175,36 @@ impl Tally {
         }
     }
 
-    /// Returns how the command ends: `Good` if there are messages, and each of them was `Good`.
-    pub fn status(&self) -> Status {
-        if self.messages > 0 && self.bad == 0 {
-            Status::Good
-        } else {
-            Status::Bad
-        }
+    /// Returns how the command ends.
+    pub fn status(&self) -> Status
+        ensures { result ≡ status_of_counts self.now.found }
+    {
+        self.found.status()
     }
 
-    /// Returns the last line of output for a text.
+    /// Returns the last line of `verify`, which sums up what it found in the messages.
+    pub fn summary<A: Allocator + Copy>(&self, alloc: A) -> Result<String<A>, AllocError> {
+        let Counts {
+            good,
+            invalid,
+            unsigned,
+            not_messages,
+        } = self.found;
+        let mut text = format!(in alloc; "valid: {good}, invalid: {invalid}, ")?;
+        write!(
+            text,
+            "unsigned: {unsigned}, not a message: {not_messages}\n"
+        )?;
+        Ok(text)
+    }
+
+    /// Returns the line that counts the parts of a text.
     pub fn ending_of_text<A: Allocator + Copy>(&self, alloc: A) -> Result<String<A>, AllocError> {
         let (messages, others) = (self.messages, self.others);
         format!(in alloc; "messages: {messages}, other: {others}\n")
     }
 
-    /// Returns the last lines of output for a capture.
+    /// Returns the lines that count the packets of a capture.
     pub fn ending_of_capture<A: Allocator + Copy>(
         &self,
         alloc: A,

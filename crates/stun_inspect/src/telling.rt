@@ -6,7 +6,7 @@ ghost use Rattle.stun_inspect.specs.Telling.{told_attributes, unhidden_members};
 use std::alloc::{AllocError, Allocator};
 use stun_base::header::HEADER_LENGTH;
 use stun_types::attribute::{AttributeType, RawAttribute};
-use stun_types::message::{Message, Visibility};
+use stun_types::message::Visibility;
 
 /// An attribute of a message.
 #[derive(Debug, Drop)]
@@ -20,17 +20,13 @@ pub struct Told<'a> {
     pub hidden_by: Option<AttributeType>,
 }
 
-/// Lists each attribute of the message, in order, with its offset and the attribute that hides it.
-/// Those that nothing hides are the visible ones, which the iterator of the message returns. Fails
-/// if an allocation fails.
-pub fn tell<'a, A: Allocator>(
-    alloc: A,
-    message: &Message<'a>,
-) -> Result<Vec<Told<'a>, A>, AllocError>
-    ensures told { IfOk result (λ told. told.items ≡ told_attributes message.now) }
-    ensures visible { IfOk result (λ told. unhidden_members told.items ≡ visible message.now) }
+/// Lists each attribute of a message, in order, with its offset and the attribute that hides it.
+/// Those that nothing hides are the visible ones, which the iterator of the message returns. Of a
+/// truncated message these are the attributes before the cut. Fails if an allocation fails.
+pub fn tell<'a, A: Allocator>(alloc: A, bytes: &'a [u8]) -> Result<Vec<Told<'a>, A>, AllocError>
+    ensures told { IfOk result (λ told. told.items ≡ told_attributes bytes.now) }
+    ensures visible { IfOk result (λ told. unhidden_members told.items ≡ visible bytes.now) }
 {
-    let bytes = message.as_bytes();
     let mut told = Vec::new(alloc);
     let mut place = HEADER_LENGTH;
     let mut visibility = Visibility::Everything;

@@ -3,6 +3,7 @@
 /// What `--help` prints.
 pub const HELP: &str = "\
 stun_inspect decode [FILE]                      messages, attribute by attribute
+stun_inspect list [FILE]                        messages, one in each line
 stun_inspect verify PASSWORD [FILE]             their integrity under a password
 stun_inspect verify NAME REALM PASSWORD [FILE]  their integrity under a long-term key
 stun_inspect key sha1|sha256 NAME REALM PASSWORD
@@ -12,7 +13,8 @@ FILE, or standard input without one, is a capture (pcap, pcapng), or has a messa
 raw, in hexadecimal, in base64, one message a line, or dumped by xxd, hexdump -Cv,
 od -v -A x -t x1, tcpdump -x, tshark -x or Wireshark. The password - is the first
 line of standard input.
-Status: 0 good, 1 not a message or invalid, 2 not judged or not read to the end.
+Status: 0 good, 1 not a message, invalid or none signed, 2 not judged or not read
+to the end.
 ";
 
 /// What `--version` prints.
@@ -26,6 +28,7 @@ pub fn usage_of(words: &[String]) -> &'static str {
     };
     match command.as_str() {
         "decode" => "usage: stun_inspect decode [FILE]\n",
+        "list" => "usage: stun_inspect list [FILE]\n",
         "verify" => "usage: stun_inspect verify [NAME REALM] PASSWORD [FILE]\n",
         "key" => "usage: stun_inspect key sha1|sha256 NAME REALM PASSWORD\n",
         "userhash" => "usage: stun_inspect userhash NAME REALM\n",
@@ -35,4 +38,4 @@ pub fn usage_of(words: &[String]) -> &'static str {
 }
 
 /// The usage of all commands.
-const ALL: &str = "usage: stun_inspect decode|verify|key|userhash|nonce ..; -h tells more\n";
+const ALL: &str = "usage: stun_inspect decode|list|verify|key|userhash|nonce ..; -h tells more\n";

@@ -16,7 +16,7 @@ pub fn line(verdict: Verdict) -> &'static str
         Verdict::Valid(IntegrityAlgorithm::Sha1) => "valid MESSAGE-INTEGRITY\n",
         Verdict::Valid(IntegrityAlgorithm::Sha256) => "valid MESSAGE-INTEGRITY-SHA256\n",
         Verdict::OtherDigest => "invalid: the signature does not match\n",
-        Verdict::NoIntegrity => "invalid: no integrity attribute is visible\n",
+        Verdict::NoIntegrity => "unsigned\n",
         Verdict::MalformedIntegrity => "invalid: the integrity attribute is malformed\n",
         Verdict::NotAMessage(error) => refusal_line(error),
         Verdict::BadInput => "bad input\n",

@@ -30,21 +30,6 @@
 //! let algorithm = message.validate_integrity(&user.into())?;   // Sha1 or Sha256, or an error
 //! ```
 //!
-//! A request, from the first transmission until it is answered or ends:
-//!
-//! ```text
-//! let mut agent = StunAgent::builder(alloc, TransportType::Udp, local).build();
-//! socket.send(agent.send_request(request, server, now)?);
-//! while let Some(again) = agent.poll_transmit(now) {       // whenever one is due
-//!     socket.send(again)
-//! }
-//! match agent.poll(now) {
-//!     StunAgentPollRet::WaitUntil(until) => .. ,           // until then, or until bytes arrive
-//!     StunAgentPollRet::TransactionTimedOut(id) => .. ,    // no response arrived
-//!     StunAgentPollRet::TransactionCancelled(id) => .. ,
-//! }
-//! ```
-//!
 //! | Path | What it has |
 //! |---|---|
 //! | `types` | messages, attributes, writers, credentials, digests (the crate `stun_types`) |

@@ -2,6 +2,8 @@
 
 -- what `check` prints
 pub mod Check
+-- what `serve` prints for a script that has a wrong line
+pub mod Serve
 -- the verdict of `check` on an input, and the line for it
 pub mod Verdict
 -- the bytes that the digits of an input spell

@@ -1,4 +1,4 @@
-//! Parses the lines of `serve`. Each line that is not empty is a call of a server.
+//! The script of `serve`. Each line that is not empty is a call of a server.
 
 use crate::words::{address, algorithm, feature, moment, number};
 use hex::FromHexError;
@@ -6,9 +6,40 @@ use std::alloc::{AllocError, Global};
 use std::time::Duration;
 use stun_proto::replay::ServerCall;
 
+/// A script that was parsed.
+#[derive(Debug, Drop)]
+pub enum Script {
+    /// The calls of its lines.
+    Calls(Vec<ServerCall>),
+    /// The number of its first line that is not a call, counted from 1, empty lines too.
+    WrongLine(usize),
+}
+
+/// Parses a script. Its lines end with a line feed or the end of the input, and empty ones are
+/// skipped.
+///
+/// # Errors
+///
+/// `AllocError`: an allocation failed.
+pub fn read_script(alloc: Global, script: &[u8]) -> Result<Script, AllocError> {
+    let mut calls = Vec::new(alloc);
+    let mut number: usize = 0;
+    for line in script.split(|byte| *byte == b'\n') {
+        number = number.saturating_add(1);
+        if line.is_empty() {
+            continue;
+        }
+        match read_line(alloc, line)? {
+            Some(call) => calls.push(call)?,
+            None => return Ok(Script::WrongLine(number)),
+        }
+    }
+    Ok(Script::Calls(calls))
+}
+
 /// Parses the call of a line, whose words are separated by single spaces. Returns `None` if the
 /// line is not a call.
-pub fn read_line(alloc: Global, line: &[u8]) -> Result<Option<ServerCall>, AllocError> {
+fn read_line(alloc: Global, line: &[u8]) -> Result<Option<ServerCall>, AllocError> {
     let Ok(text) = str::from_utf8(line) else {
         return Ok(None);
     };

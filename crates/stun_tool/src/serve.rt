@@ -1,12 +1,13 @@
 //! The command `serve`.
-ghost use Rattle.std.specs.Prelude.{◌≡◌, ◌≢◌, ◌≤◌, ◌+◌, ◌↔◌, length};
+ghost use Rattle.std.specs.Prelude.{◌≡◌, ◌≢◌, ◌≤◌, ◌+◌, ◌↔◌, length, true, false, IfOk};
 ghost use Rattle.stun_cli.specs.Input.{most_tries};
+ghost use Rattle.stun_tool.specs.Serve.{PrintsWrongLineAlone};
 
-use crate::script::read_line;
+use crate::script::{Script, read_script};
 use std::alloc::{AllocError, Allocator, Global};
-use std::io::{ErrorKind, Write};
+use std::io::Write;
 use stun_cli::failure::Failure;
-use stun_cli::input::{CountedRead, MAX_READS, READ_SIZE};
+use stun_cli::input::{CountedRead, read_to_end};
 use stun_cli::output::write_text;
 use stun_cli::status::Status;
 use stun_cli::verdict::refusal_line;
@@ -15,15 +16,15 @@ use stun_proto::replay;
 use stun_proto::replay::{ServerCall, ServerReply};
 use stun_types::message::StunWriteError;
 
-/// Makes the calls of a script at a new long-term server, whose realm is the only argument, and
-/// prints a line for each reply when the line of its call is complete (RFC 8489, section 9.2.4).
+/// Reads a script of calls whole, makes the calls at a new long-term server, whose realm is the
+/// only argument, and prints a line for each reply (RFC 8489, section 9.2.4).
 ///
-/// If a line is not a call, it prints `wrong line N` and ends with `Bad`. Refusals by the server are
-/// good results.
+/// If a line is not a call, it makes no call, prints only `wrong line N` for the first such line,
+/// and returns `Bad`. Refusals by the server are good results.
 ///
 /// Returns `NotJudged` for other arguments, and prints nothing. Returns `Failed` if a read, a write
-/// or an allocation fails, or if the input does not end within 1048576 reads. It then prints
-/// nothing more.
+/// or an allocation fails, or if the input does not end within 1048576 reads. After a failed read
+/// nothing is printed, and after another failure nothing more.
 pub fn serve<R: CountedRead, W: Write>(
     alloc: Global,
     words: &[String],
@@ -33,111 +34,79 @@ pub fn serve<R: CountedRead, W: Write>(
     ensures wrong_words { (result ≡ Status.NotJudged) ↔ (length words.now ≢ 1) }
     ensures untouched { result ≡ Status.NotJudged → (reader.new ≡ reader.old)
         × (writer.new ≡ writer.old) }
+    ensures wrong_line { result ≡ Status.Bad
+        → PrintsWrongLineAlone (W.contents writer.old) (W.contents writer.new) }
+    ensures failed_read { R.failed reader.new ≡ true → length words.now ≡ 1
+        → (result ≡ Status.Failed) × (writer.new ≡ writer.old) }
     ensures asked { R.asked reader.new ≤ R.asked reader.old + most_tries }
 {
     let [realm] = words else {
         return Status::NotJudged;
     };
-    match converse(alloc, realm.as_str(), reader, writer) {
+    let Ok(input) = read_to_end(alloc, reader, usize::MAX) else {
+        return Status::Failed;
+    };
+    match print_script(alloc, realm.as_str(), input.as_slice(), writer) {
         Ok(true) => Status::Good,
         Ok(false) => Status::Bad,
         Err(_) => Status::Failed,
     }
 }
 
-/// Reads the script to its end, or up to the first line that is not a call, and answers each line
-/// when it is complete. Returns whether all lines were calls.
-fn converse<R: CountedRead, W: Write>(
+/// Prints the replies to a script, or the number of its first wrong line. Returns whether the calls
+/// of the script were made.
+fn print_script<W: Write>(
     alloc: Global,
     realm: &str,
-    reader: &mut R,
+    script: &[u8],
     writer: &mut W,
 ) -> Result<bool, Failure>
-    ensures { R.asked reader.new ≤ R.asked reader.old + most_tries }
+    ensures { IfOk result (λ is_run. is_run ≡ false
+        → PrintsWrongLineAlone (W.contents writer.old) (W.contents writer.new)) }
 {
-    let mut dialogue = Dialogue::new(alloc, realm)?;
-    let mut buffer = [0u8; READ_SIZE];
-    for _turn in 0..MAX_READS {
-        match reader.ask(&mut buffer) {
-            Ok(0) => return dialogue.answer_line(writer),
-            Ok(count) => {
-                if !dialogue.hear(&buffer[..count], writer)? {
-                    return Ok(false);
-                }
-            }
-            Err(error) => {
-                if error.kind() != ErrorKind::Interrupted {
-                    return Err(Failure::Io);
-                }
-            }
+    match read_script(alloc, script)? {
+        Script::Calls(calls) => {
+            print_replies(alloc, realm, calls.as_slice(), writer)?;
+            Ok(true)
+        }
+        Script::WrongLine(number) => {
+            print_wrong_line(alloc, number, writer)?;
+            Ok(false)
         }
     }
-    Err(Failure::NoEnd)
 }
 
-/// A server, and the line that is being read.
-#[derive(Drop)]
-struct Dialogue {
-    alloc: Global,
-    server: LongTermServerAuth<Global>,
-    line: Vec<u8>,
+/// Prints that the line with this number is wrong.
+fn print_wrong_line<W: Write, A: Allocator>(
+    alloc: A,
     number: usize,
+    writer: &mut W,
+) -> Result<(), Failure>
+    ensures { IfOk result
+        (λ _. PrintsWrongLineAlone (W.contents writer.old) (W.contents writer.new)) }
+{
+    let line = format!(in alloc; "wrong line {number}\n")?;
+    write_text(writer, line.as_bytes())?;
+    Ok(())
 }
 
-impl Dialogue {
-    /// Creates a server with this realm that has read no line.
-    fn new(alloc: Global, realm: &str) -> Result<Dialogue, AllocError> {
-        let realm = String::from_str(alloc, realm)?;
-        Ok(Dialogue {
-            alloc,
-            server: LongTermServerAuth::new(alloc, realm),
-            line: Vec::new(alloc),
-            number: 0,
-        })
+/// Makes the calls at a new server, and prints a line for each reply.
+fn print_replies<W: Write, A: Allocator + Copy>(
+    alloc: A,
+    realm: &str,
+    calls: &[ServerCall],
+    writer: &mut W,
+) -> Result<(), Failure> {
+    let realm = String::from_str(alloc, realm)?;
+    let mut server = LongTermServerAuth::new(alloc, realm);
+    let Ok(replies) = replay::serve(alloc, &mut server, calls) else {
+        return Err(Failure::Memory);
+    };
+    for reply in replies.as_slice() {
+        let line = line_of(alloc, reply)?;
+        write_text(writer, line.as_bytes())?;
     }
-
-    /// Reads these bytes, and answers each line that ends in them. Returns whether all lines were
-    /// calls; after the first line that is not a call, no further bytes are read.
-    fn hear<W: Write>(&mut self, bytes: &[u8], writer: &mut W) -> Result<bool, Failure> {
-        for (line_feeds, piece) in bytes.split(|byte| *byte == b'\n').enumerate() {
-            if line_feeds > 0 && !self.answer_line(writer)? {
-                return Ok(false);
-            }
-            self.line.extend_from_slice(piece)?;
-        }
-        Ok(true)
-    }
-
-    /// Answers the line that was read, and begins the next one. An empty line has no answer.
-    /// Returns whether the line was a call or empty.
-    fn answer_line<W: Write>(&mut self, writer: &mut W) -> Result<bool, Failure> {
-        self.number = self.number.saturating_add(1);
-        if self.line.is_empty() {
-            return Ok(true);
-        }
-        let call = read_line(self.alloc, self.line.as_slice())?;
-        self.line.clear();
-        let Some(call) = call else {
-            let number = self.number;
-            let line = format!(in self.alloc; "wrong line {number}\n")?;
-            write_text(writer, line.as_bytes())?;
-            return Ok(false);
-        };
-        self.print_reply(call, writer)?;
-        Ok(true)
-    }
-
-    /// Makes a call, and prints the line for its reply.
-    fn print_reply<W: Write>(&mut self, call: ServerCall, writer: &mut W) -> Result<(), Failure> {
-        let Ok(replies) = replay::serve(self.alloc, &mut self.server, &[call]) else {
-            return Err(Failure::Memory);
-        };
-        for reply in replies.as_slice() {
-            let line = line_of(self.alloc, reply)?;
-            write_text(writer, line.as_bytes())?;
-        }
-        Ok(())
-    }
+    Ok(())
 }
 
 /// Returns the line for a reply.

@@ -2,6 +2,7 @@
 
 use crate::copies::granted;
 use crate::exported::stun_client_endpoint::body::{Body as Core, is_reserved};
+use crate::exported::stun_extra::canonical_address::canonical;
 use crate::exported::stun_types::attribute::Attribute;
 use crate::kit::alloc::Global;
 use crate::message::Message;
@@ -99,7 +100,8 @@ impl Body {
         Ok(self)
     }
 
-    /// Adds XOR-PEER-ADDRESS with this address (RFC 8656, section 18.3).
+    /// Adds XOR-PEER-ADDRESS with this address (RFC 8656, section 18.3). An IPv4 address is written as
+    /// IPv4 in either spelling, `a.b.c.d` and `::ffff:a.b.c.d`.
     ///
     /// # Errors
     ///
@@ -107,7 +109,7 @@ impl Body {
     ///   XOR-PEER-ADDRESS counts as 24.
     /// - [`BodyError::OutOfMemory`]: an allocation failed.
     pub fn add_xor_peer_address(mut self, peer: SocketAddr) -> Result<Body, BodyError> {
-        self.core.add_xor_peer_address(peer)?;
+        self.core.add_xor_peer_address(canonical(peer))?;
         Ok(self)
     }
 }

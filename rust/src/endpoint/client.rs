@@ -13,7 +13,9 @@ use crate::exported::stun_types::message::Method;
 use crate::kit::alloc::Global;
 use crate::message::Message;
 use crate::stats::StunAgentStats;
+#[cfg(feature = "tracing")]
 use crate::trace::event;
+use crate::trace::record;
 use core::fmt;
 use core::net::SocketAddr;
 
@@ -34,19 +36,27 @@ use core::net::SocketAddr;
 /// with [`DropReason::OutOfMemory`](super::DropReason::OutOfMemory). `poll` and `cancel` do not
 /// allocate. Only [`build`](ClientBuilder::build) aborts the program then.
 ///
+/// # Servers that sign no Binding response
+///
+/// Many TURN servers, such as coturn, answer a Binding request without asking for credentials, and
+/// sign neither that response nor a 300. A client with long-term credentials drops both as
+/// [`DropReason::NotVerified`](super::DropReason::NotVerified), and the request times out. So ask
+/// for your address by a second client without credentials. Both may use one socket: pass each
+/// datagram to one client, and to the other if the first returns [`Input::NotOurs`].
+///
 /// # Examples
 ///
 /// ```no_run
-/// use seatcrane_stun::endpoint::{Body, Client, Clock, Credentials, Output};
+/// use seatcrane_stun::endpoint::{Body, Client, Clock, Output};
 /// use seatcrane_stun::types::message::BINDING;
+/// use std::error::Error;
+/// use std::io::ErrorKind::{Interrupted, TimedOut, WouldBlock};
 /// use std::net::{SocketAddr, UdpSocket};
 ///
-/// # fn random_bytes() -> [u8; 32] { [7; 32] }
-/// fn my_address(server: SocketAddr) -> Result<SocketAddr, Box<dyn std::error::Error>> {
-///     let socket = UdpSocket::bind("0.0.0.0:0")?;
-///     socket.connect(server)?;
-///     let alice = Credentials::long_term("alice", "wonderland");
-///     let mut client = Client::builder(server).credentials(alice).build(random_bytes())?;
+/// fn my_address(server: SocketAddr, seed: [u8; 32]) -> Result<SocketAddr, Box<dyn Error>> {
+///     let socket = UdpSocket::bind(if server.is_ipv4() { "0.0.0.0:0" } else { "[::]:0" })?;
+///     socket.connect(server)?; // so that a closed port is reported, as an error of `recv`
+///     let mut client = Client::builder(server).build(seed)?;
 ///     let (clock, mut buffer) = (Clock::start(), [0; 2048]);
 ///     client.request(BINDING, Body::new(), clock.now())?;
 ///     loop {
@@ -55,8 +65,10 @@ use core::net::SocketAddr;
 ///             Output::Ended(_, result) => return Ok(result?.message().xor_mapped_address()?),
 ///             Output::Wait(until) => {
 ///                 socket.set_read_timeout(clock.timeout(until))?;
-///                 if let Ok(length) = socket.recv(&mut buffer) {
-///                     client.receive(&buffer[..length], server, clock.now());
+///                 match socket.recv(&mut buffer) {
+///                     Ok(n) => drop(client.receive(&buffer[..n], server, clock.now())),
+///                     Err(e) if matches!(e.kind(), WouldBlock | TimedOut | Interrupted) => {}
+///                     Err(e) => return Err(e.into()), // nobody serves that port
 ///                 }
 ///             }
 ///             _ => {}
@@ -121,15 +133,14 @@ impl Client {
     /// datagram to the next client on the socket. If it is [`Input::Consumed`], `poll` returns what
     /// comes of it.
     pub fn receive<'a>(&mut self, bytes: &'a [u8], from: SocketAddr, now: Instant) -> Input<'a> {
-        match self.core.receive(bytes, from, now) {
-            Received::Consumed => {
-                event!(id = crate::trace::id_in(bytes), "got a response");
-                Input::Consumed
-            }
+        let input = match self.core.receive(bytes, from, now) {
+            Received::Consumed => Input::Consumed,
             Received::Indication(message) => Input::Indication(Message(message)),
             Received::NotOurs => Input::NotOurs,
             Received::Dropped(why) => Input::Dropped(why.into()),
-        }
+        };
+        record!(bytes, from, input, || None);
+        input
     }
 
     /// Returns the next thing to do. Call it until it returns [`Output::Wait`]: after each `request`,
@@ -151,9 +162,8 @@ impl Client {
             }
             Polled::Ended(ended) => {
                 let (request, result) = (RequestId(ended.number()), result_of(ended));
-                if let Err(RequestError::TimedOut(_)) = result {
-                    event!(?request, "a request timed out");
-                }
+                #[cfg(feature = "tracing")]
+                super::verdict::record_end(request, &result);
                 Output::Ended(request, result)
             }
             Polled::Wait(until) => Output::Wait(until),
@@ -186,14 +196,13 @@ impl Client {
     /// Records that the bytes of a request are returned: again, if the agent has counted them now.
     #[cfg(feature = "tracing")]
     fn record_sent(&self, number: u64, sent_before: u64) {
-        let (to, bytes) = (
-            self.server,
-            self.core.bytes_of(number).map_or(0, <[u8]>::len),
-        );
+        let (request, to) = (RequestId(number), self.server);
+        let sent = self.core.bytes_of(number).unwrap_or_default();
+        let (id, bytes) = (crate::trace::id_in(sent), sent.len());
         if self.stats().bytes_sent() > sent_before {
-            event!(%to, bytes, "sent a request again");
+            event!(id, ?request, %to, bytes, "sent a request again");
         } else {
-            event!(%to, bytes, "sent a request");
+            event!(id, ?request, %to, bytes, "sent a request");
         }
     }
 }

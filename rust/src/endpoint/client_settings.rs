@@ -132,8 +132,9 @@ pub enum Transport {
     /// says, and up to seven times unless you call that.
     #[default]
     Datagram,
-    /// A stream: a request is sent once, and the client waits as long as for a datagram in total
-    /// (39.5 seconds, unless you set other timeouts).
+    /// A stream: a request is sent once, and the client waits as long as it would for datagrams
+    /// (39.5 seconds, unless you set other timeouts), and as long again after each challenge that
+    /// it answers.
     Stream,
 }
 
@@ -150,6 +151,7 @@ pub struct ClientBuilder {
     understood: Vec<AttributeType>,
     software: Option<String>,
     has_fingerprint: bool,
+    requires_fingerprint: bool,
 }
 
 /// Why a client was not built.
@@ -193,6 +195,7 @@ impl ClientBuilder {
             understood: understood(),
             software: None,
             has_fingerprint: false,
+            requires_fingerprint: false,
         }
     }
 
@@ -267,6 +270,15 @@ impl ClientBuilder {
         self
     }
 
+    /// Drops responses without FINGERPRINT (RFC 8489, section 7.3). Unless you call this, a response
+    /// may have none; one whose FINGERPRINT is wrong, is not the last attribute or does not have 4
+    /// bytes is dropped always. Call it if your protocol requires FINGERPRINT, because responses of
+    /// other servers are then dropped until their requests time out.
+    pub fn require_fingerprint(mut self) -> ClientBuilder {
+        self.requires_fingerprint = true;
+        self
+    }
+
     /// Builds the client.
     ///
     /// `seed` must be 32 unpredictable bytes that are used for this client alone, because the
@@ -306,6 +318,7 @@ impl ClientBuilder {
         let understood = granted(KitVec::from_slice(Global, &self.understood));
         let settings = Settings {
             form: Form::new(self.software.map(text), self.has_fingerprint),
+            requires_fingerprint: self.requires_fingerprint,
             understood,
             challenges: self.challenges,
         };

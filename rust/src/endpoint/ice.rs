@@ -62,6 +62,7 @@ use crate::exported::stun_base::attribute_type::AttributeType;
 use crate::exported::stun_ice::{check, checker, received};
 use crate::kit::alloc::Global;
 use crate::message::Message;
+use crate::trace::{event, record};
 use crate::transaction::TransactionId;
 use alloc::vec::Vec;
 use core::fmt;
@@ -129,7 +130,9 @@ impl Checker {
     /// candidate would have that the peer learns from this check (section 7.1.1). The check
     /// nominates its pair if `nominate` is true and this agent controls.
     pub fn check(&self, id: TransactionId, to: SocketAddr, priority: u32, nominate: bool) -> Check {
-        Check(granted(self.0.check(id.0, to, priority, nominate)))
+        let check = Check(granted(self.0.check(id.0, to, priority, nominate)));
+        event!(%id, %to, nominates = check.nominates(), "wrote a check");
+        check
     }
 
     /// Judges a datagram, and writes the answer if it is a check.
@@ -156,7 +159,7 @@ impl Checker {
         from: SocketAddr,
         check: Option<&Check>,
     ) -> Received<'a> {
-        match self.0.receive(bytes, from, check.map(|check| &check.0)) {
+        let received = match self.0.receive(bytes, from, check.map(|check| &check.0)) {
             Ok(received::Received::Check { answer, judged }) => Received::Check {
                 answer: answer.into_std(),
                 judged,
@@ -165,7 +168,9 @@ impl Checker {
             Ok(received::Received::Indication(message)) => Received::Indication(Message(message)),
             Ok(received::Received::Dropped(why)) => Received::Dropped(why.into()),
             Err(_) => Received::Dropped(DropReason::OutOfMemory),
-        }
+        };
+        record!(bytes, from, received, || None);
+        received
     }
 }
 

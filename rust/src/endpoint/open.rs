@@ -6,10 +6,12 @@ use crate::copies::text;
 use crate::credentials::ShortTermCredentials;
 use crate::exported::stun_base::attribute_type::AttributeType;
 use crate::exported::stun_endpoint::{open, responder, short_term};
+use crate::exported::stun_extra::canonical_address::canonical;
 use crate::exported::stun_types::message::{IntegrityAlgorithm, Method};
 use crate::kit::alloc::Global;
 use crate::kit::prelude::Vec as KitVec;
 use crate::message::Message;
+use crate::trace::record;
 use alloc::string::String;
 use alloc::vec::Vec;
 use core::fmt;
@@ -22,6 +24,7 @@ pub struct ResponseSettings {
     understood: Vec<AttributeType>,
     software: Option<String>,
     answers_binding: bool,
+    requires_fingerprint: bool,
 }
 
 impl ResponseSettings {
@@ -37,6 +40,14 @@ impl ResponseSettings {
         self
     }
 
+    /// Removes types from those that you understand: a request with one of them gets a 420. Call it
+    /// after [`understands`](Self::understands), to leave a type out of a list of
+    /// [`types`](super::types). The types of STUN itself are always understood.
+    pub fn does_not_understand(mut self, types: &[AttributeType]) -> ResponseSettings {
+        self.understood.retain(|kind| !types.contains(kind));
+        self
+    }
+
     /// Sets the text of SOFTWARE in each response.
     pub fn software(mut self, text: impl Into<String>) -> ResponseSettings {
         self.software = Some(text.into());
@@ -46,6 +57,14 @@ impl ResponseSettings {
     /// Makes the server respond to each accepted Binding request by itself.
     pub fn answer_binding(mut self) -> ResponseSettings {
         self.answers_binding = true;
+        self
+    }
+
+    /// Drops messages without FINGERPRINT (RFC 8489, section 7.3), as a protocol may require. Unless
+    /// you call this, a message may have none; one whose FINGERPRINT is wrong, is not the last
+    /// attribute or does not have 4 bytes is dropped always.
+    pub fn require_fingerprint(mut self) -> ResponseSettings {
+        self.requires_fingerprint = true;
         self
     }
 
@@ -59,6 +78,7 @@ impl ResponseSettings {
             understood,
             software: self.software.map(text),
             answers_binding: self.answers_binding,
+            requires_fingerprint: self.requires_fingerprint,
         })
     }
 }
@@ -120,7 +140,7 @@ impl OpenServer {
     /// - An indication with an attribute that is not understood is dropped. Other indications, and
     ///   responses, are for you.
     pub fn receive<'a>(&self, bytes: &'a [u8], from: SocketAddr) -> OpenReceived<'a> {
-        match self.0.receive(bytes, from) {
+        let received = match self.0.receive(bytes, from) {
             Ok(open::OpenReceived::Answer(answer)) => OpenReceived::Answer(answer_of(answer)),
             Ok(open::OpenReceived::Request(request)) => {
                 let message = Message(crate::copies::copy(request.message()));
@@ -138,7 +158,9 @@ impl OpenServer {
             Ok(open::OpenReceived::Response(message)) => OpenReceived::Response(Message(message)),
             Ok(open::OpenReceived::Dropped(why)) => OpenReceived::Dropped(why.into()),
             Err(_) => OpenReceived::Dropped(DropReason::OutOfMemory),
-        }
+        };
+        record!(bytes, from, received, || None);
+        received
     }
 }
 
@@ -176,9 +198,11 @@ impl<'a> OpenRequest<'a> {
         self.message.method()
     }
 
-    /// Returns the address that the request came from.
+    /// Returns the address that the request came from, an IPv4 address as IPv4 in either spelling,
+    /// `a.b.c.d` and `::ffff:a.b.c.d`. The response goes to [`Reply::to`], which is the address that
+    /// you passed to `receive`: a socket of IPv6 needs it in that spelling.
     pub fn from(&self) -> SocketAddr {
-        self.reply.to()
+        canonical(self.reply.to())
     }
 
     /// Returns the means to respond, without a signature. Clone it to respond later.
@@ -265,7 +289,7 @@ impl ShortTermServer {
     ) -> ShortTermReceived<'a> {
         use short_term::ShortTermReceived as Core;
 
-        match self.0.receive(bytes, from, &users.0) {
+        let received = match self.0.receive(bytes, from, &users.0) {
             Ok(Core::Answer(answer)) => ShortTermReceived::Answer(answer_of(answer)),
             Ok(Core::Request(request)) => match request_of(request) {
                 Some(request) => ShortTermReceived::Request(request),
@@ -282,7 +306,9 @@ impl ShortTermServer {
             Ok(Core::NotSigned(refusal)) => ShortTermReceived::NotSigned(refusal),
             Ok(Core::Dropped(why)) => ShortTermReceived::Dropped(why.into()),
             Err(_) => ShortTermReceived::Dropped(DropReason::OutOfMemory),
-        }
+        };
+        record!(bytes, from, received, || None);
+        received
     }
 }
 

@@ -7,6 +7,7 @@ use crate::exported::stun_auth::auth::{LongTermServerUser, NamedUser, StoredKeys
 use crate::exported::stun_base::attribute_type::AttributeType;
 use crate::exported::stun_endpoint::{lookup, received, reply, server, users};
 use crate::exported::stun_extra::attribute as further;
+use crate::exported::stun_extra::canonical_address::canonical;
 use crate::exported::stun_types::attribute::{Attribute, XorMappedAddress};
 use crate::exported::stun_types::message::{
     self as proved, IntegrityAlgorithm, Method, StunWriteError,
@@ -15,6 +16,7 @@ use crate::exported::stun_types::prelude::{MessageWrite, MessageWriteExt as Prov
 use crate::kit::alloc::{AllocError, Global};
 use crate::kit::prelude::Vec as KitVec;
 use crate::message::Message;
+use crate::trace::record;
 use crate::transaction::TransactionId;
 use crate::write::check_appended;
 use alloc::string::String;
@@ -100,12 +102,37 @@ pub struct ServerBuilder {
     understood: Vec<AttributeType>,
     software: Option<String>,
     answers_binding: bool,
+    requires_fingerprint: bool,
 }
 
 impl ServerBuilder {
     /// Adds types of attributes that you understand, beside those of STUN. [`types`](super::types) has lists.
     pub fn understands(mut self, types: &[AttributeType]) -> ServerBuilder {
         self.understood.extend_from_slice(types);
+        self
+    }
+
+    /// Removes types from those that you understand: a request with one of them gets a 420. Call it
+    /// after [`understands`](Self::understands), to leave a type out of a list of
+    /// [`types`](super::types). The types of STUN itself are always understood.
+    ///
+    /// # Examples
+    ///
+    /// A TURN server that cannot set the DF bit of what it relays:
+    ///
+    /// ```
+    /// use seatcrane_stun::endpoint::{LongTerm, Server, types};
+    /// use seatcrane_stun::types::attribute::AttributeType;
+    ///
+    /// # let secret = [1; 32]; // yours must be random
+    /// let server = Server::builder(LongTerm::new("example.org", secret))
+    ///     .understands(types::TURN)
+    ///     .does_not_understand(&[AttributeType::DONT_FRAGMENT])
+    ///     .build();
+    /// # assert!(server.is_ok());
+    /// ```
+    pub fn does_not_understand(mut self, types: &[AttributeType]) -> ServerBuilder {
+        self.understood.retain(|kind| !types.contains(kind));
         self
     }
 
@@ -118,6 +145,14 @@ impl ServerBuilder {
     /// Makes the server respond to each accepted Binding request by itself.
     pub fn answer_binding(mut self) -> ServerBuilder {
         self.answers_binding = true;
+        self
+    }
+
+    /// Drops messages without FINGERPRINT (RFC 8489, section 7.3), as a protocol may require. Unless
+    /// you call this, a message may have none; one whose FINGERPRINT is wrong, is not the last
+    /// attribute or does not have 4 bytes is dropped always.
+    pub fn require_fingerprint(mut self) -> ServerBuilder {
+        self.requires_fingerprint = true;
         self
     }
 
@@ -156,6 +191,7 @@ impl ServerBuilder {
             understood,
             software: self.software.map(text),
             answers_binding: self.answers_binding,
+            requires_fingerprint: self.requires_fingerprint,
         };
         server::Server::new(Global, settings).map(Server)
     }
@@ -186,6 +222,7 @@ impl Server {
             understood: Vec::new(),
             software: None,
             answers_binding: false,
+            requires_fingerprint: false,
         }
     }
 
@@ -226,7 +263,9 @@ impl Server {
         now: UnixTime,
         users: &'a Users,
     ) -> Received<'a> {
-        of_core(self.0.receive(bytes, from, now, &users.0))
+        let received = of_core(self.0.receive(bytes, from, now, &users.0));
+        record!(bytes, from, received, || self.cause(bytes, from, now, users));
+        received
     }
 
     /// Derives the keys of a user, for [`receive_for`](Self::receive_for). Cache the result.
@@ -252,8 +291,10 @@ impl Server {
         now: UnixTime,
         user: Option<&'a User>,
     ) -> Received<'a> {
-        let user = user.map(|user| &user.0);
-        of_core(self.0.receive_for(bytes, from, now, user))
+        let core = user.map(|user| &user.0);
+        let received = of_core(self.0.receive_for(bytes, from, now, core));
+        record!(bytes, from, received, || self.cause_for(bytes, from, now, user));
+        received
     }
 
     /// Returns why [`receive`](Self::receive) refuses a datagram, to count or to log it. Pass what you
@@ -345,14 +386,20 @@ impl Server {
         from: SocketAddr,
         now: UnixTime,
     ) -> Identified<'a> {
-        match self.0.identify(bytes, from, now) {
-            Ok(lookup::Identified::Done(received)) => Identified::Done(of_core(Ok(received))),
-            Ok(lookup::Identified::Lookup(lookup)) => Identified::Lookup(Lookup {
-                message: Message(copy(lookup.message())),
-                lookup,
-            }),
-            Err(error) => Identified::Done(of_core(Err(error))),
-        }
+        let received = match self.0.identify(bytes, from, now) {
+            Ok(lookup::Identified::Done(received)) => of_core(Ok(received)),
+            Ok(lookup::Identified::Lookup(lookup)) => {
+                #[cfg(feature = "tracing")]
+                super::verdict::record_look_up(bytes, from);
+                return Identified::Lookup(Lookup {
+                    message: Message(copy(lookup.message())),
+                    lookup,
+                });
+            }
+            Err(error) => of_core(Err(error)),
+        };
+        record!(bytes, from, received, || self.cause_for(bytes, from, now, None));
+        Identified::Done(received)
     }
 
     /// Judges the request of a look-up by the user that you found, or by nobody if there is no such
@@ -362,7 +409,11 @@ impl Server {
     /// If `user` has another name than the one in the request, as after a look-up that ignores
     /// case, the client gets a 401.
     pub fn resume<'a>(&'a self, lookup: Lookup<'a>, user: Option<&'a User>) -> Received<'a> {
-        of_core(self.0.resume(lookup.lookup, user.map(|user| &user.0)))
+        #[cfg(feature = "tracing")]
+        let (bytes, from, now) = (lookup.message.as_bytes(), lookup.from(), lookup.arrived());
+        let received = of_core(self.0.resume(lookup.lookup, user.map(|user| &user.0)));
+        record!(bytes, from, received, || self.cause_for(bytes, from, now, user));
+        received
     }
 }
 
@@ -397,9 +448,9 @@ impl<'a> Lookup<'a> {
         TransactionId(self.lookup.transaction_id())
     }
 
-    /// Returns the address that the request came from.
+    /// Returns the address that the request came from, an IPv4 address as IPv4 in either spelling.
     pub fn from(&self) -> SocketAddr {
-        self.lookup.from()
+        canonical(self.lookup.from())
     }
 
     /// Returns the time that was passed to [`Server::identify`].
@@ -621,9 +672,11 @@ impl<'a> Request<'a> {
         self.message.method()
     }
 
-    /// Returns the address that the request came from.
+    /// Returns the address that the request came from, an IPv4 address as IPv4 in either spelling,
+    /// `a.b.c.d` and `::ffff:a.b.c.d`. The response goes to [`Reply::to`], which is the address that
+    /// you passed to `receive`: a socket of IPv6 needs it in that spelling.
     pub fn from(&self) -> SocketAddr {
-        self.reply.to()
+        canonical(self.reply.to())
     }
 
     /// Returns the name of the user who sent the request, also if the request has a hash of it.
@@ -786,22 +839,26 @@ impl ReplyWriter {
         self
     }
 
-    /// Adds XOR-MAPPED-ADDRESS with this address.
+    /// Adds XOR-MAPPED-ADDRESS with this address. An IPv4 address is written as IPv4 in either
+    /// spelling, `a.b.c.d` and `::ffff:a.b.c.d`.
     pub fn add_xor_mapped_address(self, address: SocketAddr) -> ReplyWriter {
         let id = self.reply.0.transaction_id();
-        self.add(&XorMappedAddress::new(address, id))
+        self.add(&XorMappedAddress::new(canonical(address), id))
     }
 
-    /// Adds XOR-RELAYED-ADDRESS with this address.
+    /// Adds XOR-RELAYED-ADDRESS with this address, also if the response has one already: a server
+    /// that allocates for two families returns two (RFC 8656, section 7.2). An IPv4 address is
+    /// written as IPv4 in either spelling.
     pub fn add_xor_relayed_address(self, address: SocketAddr) -> ReplyWriter {
         let id = self.reply.0.transaction_id();
-        self.add(&further::XorRelayedAddress::new(address, id))
+        self.add_another(&further::XorRelayedAddress::new(canonical(address), id))
     }
 
-    /// Adds XOR-PEER-ADDRESS with this address.
+    /// Adds XOR-PEER-ADDRESS with this address, also if the response has one already (RFC 8656,
+    /// section 18.3). An IPv4 address is written as IPv4 in either spelling.
     pub fn add_xor_peer_address(self, address: SocketAddr) -> ReplyWriter {
         let id = self.reply.0.transaction_id();
-        self.add(&further::XorPeerAddress::new(address, id))
+        self.add_another(&further::XorPeerAddress::new(canonical(address), id))
     }
 
     /// Ends the response, and returns the bytes to send to [`Reply::to`].

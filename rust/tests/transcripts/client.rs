@@ -151,6 +151,7 @@ fn set(builder: ClientBuilder, name: &str, words: &[&str]) -> Option<ClientBuild
         ("understands", [word]) => builder.understands(&understood(word)?),
         ("software", [word]) => builder.software(text(word)),
         ("fingerprint", []) => builder.fingerprint(),
+        ("requires-fingerprint", []) => builder.require_fingerprint(),
         _ => return None,
     })
 }

@@ -5,6 +5,7 @@ use crate::stage::{Around, until_enough};
 use crate::words::*;
 use seatcrane_stun::auth::{NamedUser, StoredKeys};
 use seatcrane_stun::endpoint::*;
+use seatcrane_stun::extra::canonical;
 use seatcrane_stun::types::attribute::AttributeType;
 use seatcrane_stun::types::message::{IntegrityAlgorithm, LongTermCredentials};
 use std::net::SocketAddr;
@@ -15,7 +16,7 @@ pub struct LookupStage {
     settings: Option<Settings>,
     server: Option<&'static Server>,
     user: Option<&'static User>,
-    waiting: Option<(Lookup<'static>, &'static [u8])>,
+    waiting: Option<(Lookup<'static>, &'static [u8], SocketAddr)>,
     reply: Option<Reply>,
 }
 
@@ -29,13 +30,14 @@ struct Settings {
     understood: Vec<AttributeType>,
     software: Option<String>,
     answers_binding: bool,
+    requires_fingerprint: bool,
 }
 
 impl Settings {
     fn new(realm: String) -> Settings {
         Settings {
             realm,
-            secret: [0; 32],
+            secret: drawn(1),
             previous: None,
             algorithms: vec![IntegrityAlgorithm::Sha1, IntegrityAlgorithm::Sha256],
             hashes: true,
@@ -43,6 +45,7 @@ impl Settings {
             understood: Vec::new(),
             software: None,
             answers_binding: false,
+            requires_fingerprint: false,
         }
     }
 
@@ -56,6 +59,7 @@ impl Settings {
             "understands" => self.understood = understood(word)?,
             "software" => self.software = Some(text(word)),
             "binding" => self.answers_binding = yes(word)?,
+            "requires-fingerprint" => self.requires_fingerprint = yes(word)?,
             _ => return None,
         }
         Some(())
@@ -75,6 +79,9 @@ impl Settings {
         }
         if self.answers_binding {
             builder = builder.answer_binding();
+        }
+        if self.requires_fingerprint {
+            builder = builder.require_fingerprint();
         }
         builder.build()
     }
@@ -153,7 +160,7 @@ impl LookupStage {
         match until_enough(call, is_done_without_memory) {
             Identified::Done(received) => Some(self.received(received, bytes, from)),
             Identified::Lookup(lookup) => {
-                let is_so = lookup.from() == from
+                let is_so = lookup.from() == canonical(from)
                     && lookup.arrived() == now
                     && lookup.transaction_id() == lookup.message().transaction_id()
                     && is_of(lookup.message(), bytes);
@@ -161,7 +168,7 @@ impl LookupStage {
                     NamedUser::ByName(name) => name.to_string(),
                     NamedUser::ByHash(hash) => format!("0x{}", hex(&hash)),
                 };
-                self.waiting = Some((lookup, bytes));
+                self.waiting = Some((lookup, bytes, from));
                 Some(format!("looks up {user}{}", unless(is_so)))
             }
         }
@@ -169,9 +176,9 @@ impl LookupStage {
 
     /// Resumes the request that waits: first look-ups of the same datagram, with too little memory.
     fn resume(&mut self) -> Option<String> {
-        let (lookup, bytes) = self.waiting.take()?;
+        let (lookup, bytes, from) = self.waiting.take()?;
         let (server, user) = (self.server?, self.user);
-        let (from, arrived) = (lookup.from(), lookup.arrived());
+        let arrived = lookup.arrived();
         for blocks in 0.. {
             let Identified::Lookup(again) = server.identify(bytes, from, arrived) else {
                 break;

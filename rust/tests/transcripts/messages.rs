@@ -276,10 +276,13 @@ fn shown_value(name: &str, value: &[u8], id: &[u8; 12]) -> String {
             }
         }
         "PASSWORD-ALGORITHMS" => {
-            let names = value
-                .chunks(4)
-                .map(|one| ["?", "MD5", "SHA256"][one[1] as usize]);
-            names.collect::<Vec<_>>().join(",")
+            let names = value.chunks(4).map(|entry| match entry {
+                [0, 1, 0, 0] => Some("MD5"),
+                [0, 2, 0, 0] => Some("SHA256"),
+                _ => None,
+            });
+            let names: Option<Vec<_>> = names.collect();
+            names.map_or_else(|| format!("0x{}", hex(value)), |names| names.join(","))
         }
         "XOR-MAPPED-ADDRESS" => {
             address_in(value, id).map_or_else(|| hex(value), |address| address.to_string())

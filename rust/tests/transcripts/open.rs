@@ -5,6 +5,7 @@ use crate::servers::*;
 use crate::stage::{Around, until_enough};
 use crate::words::{text, yes};
 use seatcrane_stun::endpoint::*;
+use seatcrane_stun::extra::canonical;
 use seatcrane_stun::types::message::ShortTermCredentials;
 
 /// Sets what a line says. The settings have no call that takes one back.
@@ -14,6 +15,7 @@ fn set(settings: &mut ResponseSettings, name: &str, word: &str) -> Option<String
         "software" => old.software(text(word)),
         "understands" => old.understands(&understood(word)?),
         "binding" if yes(word)? => old.answer_binding(),
+        "requires-fingerprint" if yes(word)? => old.require_fingerprint(),
         _ => return None,
     };
     Some(String::new())
@@ -58,7 +60,7 @@ impl OpenStage {
             OpenReceived::Request(request) => {
                 let is_so = is_of(request.message(), bytes)
                     && request.method() == request.message().method()
-                    && request.from() == from;
+                    && request.from() == canonical(from);
                 self.reply = Some(request.reply().clone());
                 format!("request{}", unless(is_so))
             }

@@ -4,6 +4,7 @@ use crate::messages::{attributes, in_words};
 use crate::stage::{Around, until_enough};
 use crate::words::{number, text};
 use seatcrane_stun::endpoint::{Answer, Reply, ReplyWriter, Request};
+use seatcrane_stun::extra::canonical;
 use seatcrane_stun::types::attribute::{AttributeType, RawAttribute};
 use seatcrane_stun::types::message::{Message, StunWriteError};
 use std::net::SocketAddr;
@@ -28,7 +29,7 @@ pub fn of_request(request: &Request<'_>, bytes: &[u8], from: SocketAddr) -> Stri
     let (user, algorithm) = (request.user(), request.algorithm());
     let is_so = is_of(request.message(), bytes)
         && request.method() == request.message().method()
-        && request.from() == from
+        && request.from() == canonical(from)
         && request.reply().transaction_id() == request.message().transaction_id();
     format!("request {user} {algorithm:?}{}", unless(is_so))
 }

@@ -47,10 +47,17 @@ pub fn hex(bytes: &[u8]) -> String {
     bytes.iter().map(|byte| format!("{byte:02x}")).collect()
 }
 
-/// 32 bytes, or one byte that is repeated.
+/// A secret with this first byte, which zeros follow.
+pub fn drawn(byte: u8) -> [u8; 32] {
+    let mut secret = [0; 32];
+    secret[0] = byte;
+    secret
+}
+
+/// 32 bytes, or the first of them, which zeros follow.
 pub fn secret(word: &str) -> Option<[u8; 32]> {
     match unhex(word)?.as_slice() {
-        [byte] => Some([*byte; 32]),
+        [byte] => Some(drawn(*byte)),
         bytes => bytes.try_into().ok(),
     }
 }

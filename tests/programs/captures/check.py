@@ -167,6 +167,15 @@ def decoded(message):
     return lines
 
 
+def cut_at(message, length):
+    """What `decode` prints of the first bytes of a message: what comes before the cut, and that it
+    is truncated."""
+    whole = [place for place, _, value in attributes(message)
+             if place + 4 + len(value) + -len(value) % 4 <= length]
+    before = decoded(message)[:3 + len(whole)] if length >= 20 else []
+    return [*before, "not a message: truncated"]
+
+
 def fingerprint(message, place, value):
     if len(value) != 4 or place + 8 != len(message):
         return "misplaced"
@@ -185,7 +194,7 @@ def verified(message, words):
             is_right = hmac.new(key, covered, hashlib.sha1).digest() == value
             lines.append("valid MESSAGE-INTEGRITY" if is_right
                          else "invalid: the signature does not match")
-    lines = lines or ["invalid: no integrity attribute is visible"]
+    lines = lines or ["unsigned"]
     for _, kind, value in attributes(message):
         if kind == INTEGRITY:
             break
@@ -280,7 +289,7 @@ def try_message(runs, what, message, words):
     lines = decoded(message)
     for given in layouts(message):
         runs.wants(what, ["decode"], given, 0, lines)
-    runs.wants(what, ["decode"], message[:-1], 1, ["not a message: truncated"])
+    runs.wants(what, ["decode"], message[:-1], 1, cut_at(message, len(message) - 1))
     changed = message[:19] + bytes([message[19] ^ 1]) + message[20:]
     runs.wants(what, ["decode"], changed, 0, decoded(changed))
     if words:
@@ -292,7 +301,7 @@ def try_message(runs, what, message, words):
             runs.wants(what, ["verify", *wrong], message, 1, verified(message, wrong))
     else:
         runs.wants(what, ["verify", "password"], message, 1,
-                   ["invalid: no integrity attribute is visible"])
+                   ["unsigned"])
 
 
 # ---- Several messages
@@ -395,7 +404,7 @@ def try_headers(runs, what, message):
         blocks = packets.section() + packets.interface(101)
         for given, place in ((packets.pcap(101, [snapped], whole=whole), 24),
                              (blocks + packets.enhanced(snapped, 1, whole=whole), len(blocks))):
-            wanted = [f"{heading}, cut, at byte {place}", "not a message: truncated", "", ending]
+            wanted = [f"{heading}, cut, at byte {place}", *cut_at(message, length), "", ending]
             wants("snapped", given, 1, wanted)
 
 

@@ -1,15 +1,16 @@
 #!/usr/bin/env python3
 """Runs the built program on the transcripts of this folder: every command, script line, word,
 refusal and exit status. Input and output are closed or fail. Each allocation is refused in turn,
-and so each with all after it. It also talks to `serve`, line by line.
+and so each with all after it.
 
     tests/programs/tool/check.py [--exported] [PROGRAM ..]
 
 With --exported each PROGRAM is one of the exported crate, and what Rust's standard library hides of
-standard files is left out (tests/programs/play.py). Without a PROGRAM it builds crates/stun_tool/out/stun_tool by `rt run`, which proves what has
-changed since. After `rt ci` the two programs that it built are there:
-crates/stun_tool/out/stun_tool and crates/stun_tool/out/stun_tool.by-rattle. It needs Python 3.8 and
-/dev/full, and to make reads, writes and allocations fail by their number a C compiler and glibc.
+standard files is left out (tests/programs/play.py). Without a PROGRAM it builds
+crates/stun_tool/out/stun_tool by `rt run`, which proves what has changed since. After `rt ci` the
+two programs that it built are there: crates/stun_tool/out/stun_tool and
+crates/stun_tool/out/stun_tool.by-rattle. It needs Python 3.8 and /dev/full, and to make reads,
+writes and allocations fail by their number a C compiler and glibc.
 What must be printed is worked out from RFC 8489, the digests by Python's hmac and hashlib, and
 never taken from the program. How the files are written says tests/programs/play.py. The last line
 counts the runs.
@@ -17,7 +18,6 @@ counts the runs.
 
 import glob
 import os
-import select
 import subprocess
 import sys
 
@@ -73,29 +73,6 @@ def refuses_space(program):
             raise play.Wrong(f"{words}: in each space that was tried it had memory, or in none")
 
 
-def converses(program):
-    """Each line of `serve` is answered before the next one is written."""
-    program.count += 1
-    talk = [("user user pass", "ok"), ("", None), ("expiry 29", "too short"),
-            ("remove-user user", "ok"), ("user", "wrong line 5")]
-    with subprocess.Popen([program.path, "serve", "realm"], stdin=subprocess.PIPE,
-                          stdout=subprocess.PIPE) as running:
-        for line, answer in talk:
-            running.stdin.write(line.encode() + b"\n")
-            running.stdin.flush()
-            if answer is None:
-                continue
-            if not select.select([running.stdout], [], [], 20)[0]:
-                running.kill()
-                raise play.Wrong(f"serve: no answer to {line!r}")
-            told = os.read(running.stdout.fileno(), 100)
-            if told != answer.encode() + b"\n":
-                raise play.Wrong(f"serve: {told!r} to {line!r}")
-        running.stdin.close()
-        if running.wait(20) != 1:
-            raise play.Wrong(f"serve: status {running.returncode}")
-
-
 def built():
     """The program, proved and built by `rt run`."""
     ran = subprocess.run(["rt", "run", "--", "negotiate", "sha1", "auto", "sha1", "auto"],
@@ -113,12 +90,11 @@ def main(words):
     for path in words[is_exported:] or [built()]:
         program = play.Program(path, REFUSED, is_exported)
         wrong += play.play(program, sorted(glob.glob(os.path.join(HERE, "*.txt"))))
-        for case in (refuses_space, converses):
-            try:
-                case(program)
-            except play.Wrong as failure:
-                print(failure, file=sys.stderr)
-                wrong += 1
+        try:
+            refuses_space(program)
+        except play.Wrong as failure:
+            print(failure, file=sys.stderr)
+            wrong += 1
         count += program.count
     print(f"tool: {wrong} runs came otherwise" if wrong
           else f"tool: passed, {count} runs of the built program")

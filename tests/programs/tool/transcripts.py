@@ -6,10 +6,12 @@ Messages are spelled by tests/spelling.py, outside the library. What `serve` has
 out and counted: a call that only reads something alone, and any other together with the rest of its
 paragraph. The status is 1 if an answer is wrong.
 
-One server serves all paragraphs of the realm `realm`; between them its users, records and settings
-are removed. With --write, if each answer is right, its lines become crates/stun_tool/stdin and its
-answers crates/stun_tool/stdout. `rt ci` runs the program once with these, as two compilers build
-it."""
+Because a message may hold what an earlier call returned, each call is the last line of a script of
+its own, after the lines of its paragraph before it. All paragraphs of the realm `realm` then make
+one long script, in which users, records and settings are removed between two paragraphs, and which
+must have the same answers. With --write, if each answer is right, that script becomes
+crates/stun_tool/stdin and its answers crates/stun_tool/stdout. `rt ci` runs the program once with
+these, as two compilers build it."""
 
 import os
 import string
@@ -37,19 +39,29 @@ class Left(Exception):
     """What `serve` has no line for."""
 
 
+def replies(program, realm, lines):
+    """The lines that the program prints for a script."""
+    script = b"".join(line + b"\n" for line in lines)
+    ran = subprocess.run([program, "serve", realm], input=script, stdout=subprocess.PIPE)
+    if ran.returncode != 0:
+        raise SystemExit(f"stun_tool serve ends with status {ran.returncode}: {ran.stdout[-200:]!r}")
+    return ran.stdout.decode().split("\n")[:-1]
+
+
 class Server:
-    """A program that serves a realm."""
+    """A server of a realm, for one paragraph after another."""
 
     def __init__(self, program, realm):
-        self.running = subprocess.Popen([program, "serve", realm], stdin=subprocess.PIPE,
-                                        stdout=subprocess.PIPE)
+        self.program, self.realm = program, realm
         self.lines, self.printed, self.undone = [], [], {}
+        self.first = 0
 
     def ask(self, line):
-        self.running.stdin.write(line + b"\n")
-        self.running.stdin.flush()
-        printed = self.running.stdout.readline().decode().rstrip("\n")
         self.lines.append(line)
+        printed = replies(self.program, self.realm, self.lines[self.first:])
+        if len(printed) != len(self.lines) - self.first:
+            raise SystemExit(f"stun_tool serve: {len(printed)} replies to {line[:200]!r}")
+        printed = printed[-1]
         self.printed.append(printed)
         self.note(line.split(b" "))
         for front in FRONTS:
@@ -68,16 +80,15 @@ class Server:
 
     def undo(self):
         """Makes the server a new one again, as far as its answers show."""
-        undone, self.undone = self.undone, {}
-        for line in undone:
-            self.ask(line)
-        self.undone = {}
+        for line in self.undone:
+            self.lines.append(line)
+            self.printed.append("ok")
+        self.undone, self.first = {}, len(self.lines)
 
-    def end(self):
-        self.running.stdin.close()
-        self.running.stdout.close()
-        if self.running.wait() != 0:
-            raise SystemExit("stun_tool serve does not end with status 0")
+    def check(self):
+        """All lines as one script have the answers of the scripts of the paragraphs."""
+        if replies(self.program, self.realm, self.lines) != self.printed:
+            raise SystemExit("stun_tool serve: other replies where all paragraphs are one script")
 
 
 def word(value):
@@ -104,8 +115,6 @@ class Stage:
     def end(self):
         if self.server is self.shared:
             self.shared.undo()
-        elif self.server:
-            self.server.end()
         self.server = None
 
     def ask(self, *words):
@@ -284,11 +293,10 @@ class Played:
 def write(program, shared):
     """Writes the lines of a server but the longest ones, without which its answers are the same."""
     pairs = [pair for pair in zip(shared.lines, shared.printed) if len(pair[0]) < 4000]
+    if replies(program, shared.realm, [line for line, _ in pairs]) != [one for _, one in pairs]:
+        raise SystemExit("the answers depend on the lines that are left out")
     lines = b"".join(line + b"\n" for line, _ in pairs)
     printed = "".join(answer + "\n" for _, answer in pairs).encode()
-    ran = subprocess.run([program, "serve", "realm"], input=lines, stdout=subprocess.PIPE)
-    if ran.stdout != printed:
-        raise SystemExit("the answers depend on the lines that are left out")
     crate = os.path.join(TESTS, "..", "crates", "stun_tool")
     for name, content in (("stdin", lines), ("stdout", printed)):
         with open(os.path.join(crate, name), "wb") as file:
@@ -304,7 +312,7 @@ def main(words):
         if name.endswith(".txt"):
             played.play(os.path.join(folder, name))
     shared = played.shared
-    shared.end()
+    shared.check()
     print(f"transcripts over {os.path.basename(words[-1])}: {played.right} calls right, "
           f"{played.wrong} wrong, {played.left} left out; {len(shared.lines)} lines of one server")
     if played.wrong or played.right < 500:

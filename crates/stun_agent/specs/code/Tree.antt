@@ -1,5 +1,5 @@
 -- Transactions in a tree: which it holds, in which order, and what its links tell.
-use Rattle.std.specs.Prelude.{ℕ, ◌≡◌, ◌+◌, ◌-◌, ◌/◌, ◌^◌, ◌<◌, ◌≤◌, [], ◌∷◌, ◌++◌}
+use Rattle.std.specs.Prelude.{ℕ, max, ◌≡◌, ◌+◌, ◌-◌, ◌/◌, ◌^◌, ◌<◌, ◌≤◌, [], ◌∷◌, ◌++◌}
 use Rattle.std.specs.Prelude.{Option, Some, None}
 use Rattle.stun_base.specs.declared.wire.transport.TransportType.{TransportType}
 use Rattle.stun_agent.specs.declared.state.tree.Fork.{Fork}
@@ -51,6 +51,16 @@ IsOrderedHalf low high half =
 abbrev pub IsOrderedFork : {A : Type 0} → ℕ → ℕ → Fork A → Type 0
 IsOrderedFork low high fork =
     IsOrderedHalf low (middle low high) fork.left × IsOrderedHalf (middle low high) high fork.right
+
+-- ---- its depth
+-- how many forks are one below another at most
+abbrev pub levels : {A : Type 0} → Link A → ℕ
+levels Empty = 0
+levels (Leaf awaited leaf) = 0
+levels (Fork' awaited p a b c d) = 1 + max (max (levels a) (levels b)) (max (levels c) (levels d))
+
+abbrev pub half_levels : {A : Type 0} → Half A → ℕ
+half_levels half = max (levels half.left) (levels half.right)
 
 -- ---- its times
 -- what a link tells of those below it

@@ -7,6 +7,7 @@ ghost use Rattle.stun_agent.specs.Agent.{takes_message, after_message, after_res
 ghost use Rattle.stun_agent.specs.Peers.{is_peer};
 
 use crate::agent::StunAgent;
+use crate::calls::uncounted::Uncounted;
 use crate::stats::counting;
 use std::alloc::{AllocError, Allocator};
 use std::net::SocketAddr;
@@ -156,7 +157,7 @@ impl<A: Allocator + Copy> StunAgent<A> {
             (is_some (answered_request msg.now from self.old))) → IsOk result }
     {
         let id = msg.transaction_id();
-        let round_trip = match self.outstanding.get(id) {
+        let round_trip = match self.outstanding.get(id, Uncounted::new()) {
             Some(request) => {
                 if !request.went_to(from) {
                     return Ok(false);

@@ -10,6 +10,7 @@ ghost use Rattle.stun_agent.specs.Transactions.{with_cancellation, with_settings
 ghost use Rattle.stun_agent.specs.code.Transactions.{changed_transaction};
 
 use crate::agent::StunAgent;
+use crate::calls::uncounted::Uncounted;
 use crate::state::rto::RequestRto;
 use crate::state::transaction::Change;
 use std::alloc::{AllocError, Allocator, Global};
@@ -48,7 +49,7 @@ impl<A: Allocator + Copy> StunAgent<A> {
             ≡ option_map peer_and_integrity (at id self.now.transactions) }
         ensures agent { IfSome result (λ r. r.agent.now ≡ self.now) }
     {
-        let request = self.outstanding.get(id)?;
+        let request = self.outstanding.get(id, Uncounted::new())?;
         Some(StunRequest {
             agent: self,
             peer_address: request.to(),
@@ -80,7 +81,7 @@ impl<A: Allocator + Copy> StunAgent<A> {
     fn peer_of(&self, id: TransactionId) -> Option<(SocketAddr, Option<IntegrityAlgorithm>)>
         ensures { result ≡ option_map peer_and_integrity (at id self.now.transactions) }
     {
-        let request = self.outstanding.get(id)?;
+        let request = self.outstanding.get(id, Uncounted::new())?;
         Some((request.to(), request.integrity()))
     }
 

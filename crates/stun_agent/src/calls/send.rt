@@ -12,6 +12,7 @@ ghost use Rattle.stun_agent.specs.Transactions.{IsRequestOf, at};
 
 use crate::agent::StunAgent;
 use crate::calls::transmit::Transmit;
+use crate::calls::uncounted::Uncounted;
 use crate::error::StunError;
 use crate::state::address::is_same;
 use crate::state::transaction::Transaction;
@@ -137,7 +138,7 @@ impl<A: Allocator + Copy> StunAgent<A> {
         let id = self.keep_request(msg.bytes(), to, now)?;
         let transport = self.outstanding.transport();
         let from = self.local_addr;
-        let request = self.outstanding.get(id).unwrap();
+        let request = self.outstanding.get(id, Uncounted::new()).unwrap();
         Ok(Transmit {
             data: request.bytes(),
             transport,
@@ -195,7 +196,7 @@ impl<A: Allocator + Copy> StunAgent<A> {
         }
         self.check_address(to)?;
         let id = header.transaction_id();
-        if self.outstanding.get(id).is_some() {
+        if self.outstanding.get(id, Uncounted::new()).is_some() {
             return Err(StunError::AlreadyInProgress);
         }
         Ok(id)

@@ -2,14 +2,15 @@
 ghost use Rattle.std.specs.Prelude.{◌≡◌, ◌+◌, ◌≤◌, ◌<◌, [], length, Some, None};
 ghost use Rattle.std.specs.Prelude.{IfSome, IsSomeAnd, IfOk, OnOk, IfErr, OnErr};
 ghost use Rattle.std.specs.Option.{option_map, option_copied};
-ghost use Rattle.stun_agent.specs.Deadlines.{early_requests, most_reads};
+ghost use Rattle.stun_agent.specs.Deadlines.{early_requests, most_reads, most_looks};
 ghost use Rattle.stun_agent.specs.Transactions.{AreKept, at, with, without, with_change_at};
 ghost use Rattle.stun_agent.specs.Transactions.{first_over, wake_up, next_awaited};
 ghost use Rattle.stun_agent.specs.Transactions.{next_sent, after_slots, IsNamed};
 ghost use Rattle.stun_agent.specs.code.Transactions.{contents, id_and_repeats, changed_transaction};
 
-use crate::calls::poll::reads::{Reads, Uncounted};
+use crate::calls::uncounted::Uncounted;
 use crate::error::NoRoom;
+use crate::poll::reads::Reads;
 use crate::state::search;
 use crate::state::transaction::{Change, Transaction};
 use crate::state::tree::change::{change, fits, pass_all, pass_slots};
@@ -19,13 +20,9 @@ use crate::state::tree::{IDS, Leaf, Link, lookups};
 use std::alloc::{AllocError, Allocator, Global};
 use std::marker::Model;
 use std::sync::ledger::Ledger;
-use std::time::Duration;
 use stun_base::instant::Instant;
 use stun_base::transaction_id::TransactionId;
 use stun_base::transport::TransportType;
-
-/// The longest wait that `poll` returns, in seconds.
-const LONGEST_WAIT_SECONDS: u64 = 3600;
 
 /// The outstanding requests in a tree by their IDs, and the transport that carries them. A contract
 /// sees the requests by ascending IDs.
@@ -33,6 +30,7 @@ const LONGEST_WAIT_SECONDS: u64 = 3600;
 #[derive_where(Debug)]
 pub(crate) struct Outstanding<A: Allocator = Global> {
     transport: TransportType,
+    #[derive_where(skip(Debug))]
     root: Link<A>,
 }
 
@@ -47,6 +45,47 @@ impl<A: Allocator> Model for Outstanding<A> {
     ghost invariant = { λ o. IsTree o.transport o.root };
 }
 
+/// What a poll may call. These calls stand apart, because their bodies know nothing of `A: Copy`,
+/// which all others want.
+impl<A: Allocator> Outstanding<A> {
+    pub(crate) fn transport(&self) -> TransportType
+        ensures { result ≡ self.now.transport }
+    {
+        self.transport
+    }
+
+    /// Returns the ID of the request to end and whether it was still being retransmitted. If none
+    /// ends, returns the time of the next poll. Counts each request that it reads, and each link
+    /// that it looks at.
+    pub(crate) fn find_over<L: Ledger>(
+        &self,
+        now: Instant,
+        reads: &mut Reads<L>,
+    ) -> Result<(TransactionId, bool), Instant>
+        ensures over { IfOk result (λ ended. Some ended ≡ option_map id_and_repeats
+            (first_over self.now.transport now self.now.requests)) }
+        ensures none { OnErr result
+            (first_over self.now.transport now self.now.requests ≡ None) }
+        ensures until { IfErr result (λ until. until
+            ≡ wake_up self.now.transport now self.now.requests) }
+        ensures work { reads.new.entries ≤ reads.old.entries
+            + early_requests self.now.transport now self.now.requests }
+        ensures path { reads.new.entries ≤ reads.old.entries + most_reads }
+        ensures looks { reads.old ≡ record { entries = 0; looks = 0 }
+            → reads.new.looks ≤ most_looks reads.new.entries }
+    {
+        search::decide(&self.root, now, reads)
+    }
+
+    /// Removes the request with this ID.
+    pub(crate) fn remove(&mut self, id: TransactionId) -> Option<Transaction<A>>
+        ensures answer { result ≡ at id self.old.requests }
+        ensures after { self.new ≡ record self.old { requests = without id self.old.requests } }
+    {
+        remove(&mut self.root, 0, IDS, id)
+    }
+}
+
 impl<A: Allocator + Copy> Outstanding<A> {
     pub(crate) fn new(transport: TransportType) -> Self
         ensures { result ≡ record { transport = transport; requests = [] } }
@@ -57,16 +96,10 @@ impl<A: Allocator + Copy> Outstanding<A> {
         }
     }
 
-    pub(crate) fn transport(&self) -> TransportType
-        ensures { result ≡ self.now.transport }
-    {
-        self.transport
-    }
-
-    pub(crate) fn get(&self, id: TransactionId) -> Option<&Transaction<A>>
+    pub(crate) fn get(&self, id: TransactionId, leave: Uncounted) -> Option<&Transaction<A>>
         ensures { option_copied result ≡ at id self.now.requests }
     {
-        lookups::get(&self.root, 0, IDS, id)
+        lookups::get(&self.root, 0, IDS, id, leave)
     }
 
     /// Stores a request whose ID has none. If an allocation fails, the requests stay as they were,
@@ -90,56 +123,12 @@ impl<A: Allocator + Copy> Outstanding<A> {
         insert(&mut self.root, 0, IDS, alloc, &awaited, leaf)
     }
 
-    /// Removes the request with this ID.
-    pub(crate) fn remove(&mut self, id: TransactionId) -> Option<Transaction<A>>
-        ensures answer { result ≡ at id self.old.requests }
-        ensures after { self.new ≡ record self.old { requests = without id self.old.requests } }
-    {
-        remove(&mut self.root, 0, IDS, id)
-    }
-
-    /// Returns the ID of the request to end and whether it was still being retransmitted. If none
-    /// ends, returns the time of the next poll. Counts each entry that it reads.
-    pub(crate) fn find_over<L: Ledger>(
-        &self,
-        now: Instant,
-        reads: &mut Reads<L>,
-    ) -> Result<(TransactionId, bool), Instant>
-        ensures over { IfOk result (λ ended. Some ended ≡ option_map id_and_repeats
-            (first_over self.now.transport now self.now.requests)) }
-        ensures none { OnErr result
-            (first_over self.now.transport now self.now.requests ≡ None) }
-        ensures until { IfErr result (λ until. until
-            ≡ wake_up self.now.transport now self.now.requests) }
-        ensures work { reads.new ≤ reads.old
-            + early_requests self.now.transport now self.now.requests }
-        ensures path { reads.new ≤ reads.old + most_reads }
-    {
-        match search::find_ended(&self.root, now, reads) {
-            Some(ended) => Ok(ended),
-            None => Err(self.wake_up(now)),
-        }
-    }
-
-    /// Returns the time of the next poll if no request is over.
-    fn wake_up(&self, now: Instant) -> Instant
-        ensures { first_over self.now.transport now self.now.requests ≡ None
-            → result ≡ wake_up self.now.transport now self.now.requests }
-    {
-        let longest = now + Duration::from_secs(LONGEST_WAIT_SECONDS);
-        let first = match self.root.awaited().first() {
-            Some(first) => first.min(longest),
-            None => longest,
-        };
-        now.max(first)
-    }
-
     /// Returns the next time that a request awaits. Canceled requests do not count.
-    pub(crate) fn next_awaited(&self) -> Option<Instant>
+    pub(crate) fn next_awaited(&self, leave: Uncounted) -> Option<Instant>
         ensures least { result ≡ next_awaited self.now.transport self.now.requests }
         ensures kept { AreKept self.now.requests }
     {
-        self.root.awaited().first()
+        lookups::next_awaited(&self.root, leave)
     }
 
     /// Advances requests whose slot is due, in order of their IDs, up to and including the first

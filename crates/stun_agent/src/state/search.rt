@@ -1,41 +1,99 @@
-//! Finds the request that a poll ends.
-ghost use Rattle.std.specs.Prelude.{◌≡◌, ◌+◌, MatchOption};
+//! Decides what a poll does: which request ends, or how long to wait.
+//!
+//! What stands here is a function of the time and of the index, which is a `&Link`. It is passed
+//! nothing else, and can learn nothing of a request that is not counted (`tree`).
+ghost use Rattle.std.specs.Prelude.{◌≡◌, ◌≤◌, ◌+◌, ◌*◌, Some, None, MatchOption};
+ghost use Rattle.std.specs.Prelude.{IfOk, OnErr, IfErr};
 ghost use Rattle.std.specs.Option.{option_map};
 ghost use Rattle.stun_base.specs.declared.wire.transport.TransportType.{TransportType};
-ghost use Rattle.stun_agent.specs.Transactions.{first_over};
+ghost use Rattle.stun_agent.specs.Deadlines.{early_requests, most_reads, most_looks};
+ghost use Rattle.stun_agent.specs.Transactions.{first_over, wake_up};
 ghost use Rattle.stun_agent.specs.code.Transactions.{id_and_repeats};
-ghost use Rattle.stun_agent.specs.code.Tree.{items, half_items, IsTimed, IsTimedHalf};
+ghost use Rattle.stun_agent.specs.code.Tree.{items, half_items, IsTimed, IsTimedHalf, IsTree};
+ghost use Rattle.stun_agent.specs.code.Tree.{levels, half_levels};
 
-use crate::calls::poll::reads::Reads;
+use crate::poll::reads::Reads;
 use crate::state::tree::{Half, Link, read_entry};
 use std::alloc::Allocator;
 use std::sync::ledger::Ledger;
+use std::time::Duration;
 use stun_base::instant::Instant;
 use stun_base::transaction_id::TransactionId;
 
+/// The longest wait that `poll` returns, in seconds.
+const LONGEST_WAIT_SECONDS: u64 = 3600;
+
+/// Returns the ID of the request to end and whether it was still being retransmitted. If none ends,
+/// returns the time of the next poll.
+pub(crate) fn decide<A: Allocator, L: Ledger>(
+    index: &Link<A>,
+    now: Instant,
+    reads: &mut Reads<L>,
+) -> Result<(TransactionId, bool), Instant>
+    ensures over { (transport : TransportType) → IsTree transport index.now
+        → IfOk result (λ ended. Some ended ≡ option_map id_and_repeats
+        (first_over transport now (items index.now))) }
+    ensures none { (transport : TransportType) → IsTree transport index.now
+        → OnErr result (first_over transport now (items index.now) ≡ None) }
+    ensures until { (transport : TransportType) → IsTree transport index.now
+        → IfErr result (λ until. until ≡ wake_up transport now (items index.now)) }
+    ensures work { (transport : TransportType) → IsTree transport index.now
+        → reads.new.entries ≤ reads.old.entries
+        + early_requests transport now (items index.now) }
+    ensures path { reads.new.entries ≤ reads.old.entries + most_reads }
+    ensures looks { (transport : TransportType) → IsTree transport index.now
+        → reads.old ≡ record { entries = 0; looks = 0 }
+        → reads.new.looks ≤ most_looks reads.new.entries }
+{
+    match find_ended(index, now, reads) {
+        Some(ended) => Ok(ended),
+        None => Err(wake_up(index, now, reads)),
+    }
+}
+
+/// Returns the time of the next poll if no request is over.
+fn wake_up<A: Allocator, L: Ledger>(index: &Link<A>, now: Instant, reads: &mut Reads<L>) -> Instant
+    ensures until { (transport : TransportType) → IsTimed transport index.now
+        → first_over transport now (items index.now) ≡ None
+        → result ≡ wake_up transport now (items index.now) }
+    ensures counts { reads.new ≡ record reads.old { looks = reads.old.looks + 1 } }
+{
+    let longest = now + Duration::from_secs(LONGEST_WAIT_SECONDS);
+    let first = match index.first(reads) {
+        Some(first) => first.min(longest),
+        None => longest,
+    };
+    now.max(first)
+}
+
 /// Returns the least ID among the requests that are over, and whether its request was still being
 /// retransmitted. Goes only to links that tell of a request that is over, so it reads one entry,
-/// and only if it finds one.
+/// and only if it finds one. Otherwise it looks at this link alone.
 #[cycle(find_ended)]
-pub(crate) fn find_ended<A: Allocator, L: Ledger>(
+fn find_ended<A: Allocator, L: Ledger>(
     link: &Link<A>,
     now: Instant,
     reads: &mut Reads<L>,
 ) -> Option<(TransactionId, bool)>
     ensures answer { (transport : TransportType) → IsTimed transport link.now
         → result ≡ option_map id_and_repeats (first_over transport now (items link.now)) }
-    ensures counts { MatchOption result (reads.new ≡ reads.old) (λ _. reads.new ≡ reads.old + 1) }
+    ensures counts { MatchOption result (reads.new.entries ≡ reads.old.entries)
+        (λ _. reads.new.entries ≡ reads.old.entries + 1) }
+    ensures looks { (transport : TransportType) → IsTimed transport link.now
+        → MatchOption result (reads.new.looks ≤ reads.old.looks + 1)
+        (λ _. reads.new.looks ≤ reads.old.looks + 1 + 4 * levels link.now) }
 {
     match link {
         Link::Empty => None,
         Link::Leaf(awaited, leaf) => {
-            if !awaited.is_over(now) {
+            if !awaited.is_over(now, reads) {
                 return None;
             }
-            Some(read_entry(leaf, reads))
+            let (_awaited, id, sending) = read_entry(awaited, leaf, reads);
+            Some((id, sending.repeats()))
         }
         Link::Fork(awaited, fork) => {
-            if !awaited.is_over(now) {
+            if !awaited.is_over(now, reads) {
                 return None;
             }
             match find_ended_in(&fork.left, now, reads) {
@@ -55,7 +113,11 @@ fn find_ended_in<A: Allocator, L: Ledger>(
 ) -> Option<(TransactionId, bool)>
     ensures answer { (transport : TransportType) → IsTimedHalf transport half.now
         → result ≡ option_map id_and_repeats (first_over transport now (half_items half.now)) }
-    ensures counts { MatchOption result (reads.new ≡ reads.old) (λ _. reads.new ≡ reads.old + 1) }
+    ensures counts { MatchOption result (reads.new.entries ≡ reads.old.entries)
+        (λ _. reads.new.entries ≡ reads.old.entries + 1) }
+    ensures looks { (transport : TransportType) → IsTimedHalf transport half.now
+        → MatchOption result (reads.new.looks ≤ reads.old.looks + 2)
+        (λ _. reads.new.looks ≤ reads.old.looks + 2 + 4 * half_levels half.now) }
 {
     match find_ended(&half.left, now, reads) {
         Some(ended) => Some(ended),

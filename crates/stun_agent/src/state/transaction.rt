@@ -9,9 +9,9 @@ ghost use Rattle.stun_agent.specs.Transactions.{new_transaction, has_slots, awai
 ghost use Rattle.stun_agent.specs.Transactions.{after_slot, round_trip};
 
 use crate::state::address::is_same;
-use crate::state::awaited::Awaited;
 use crate::state::rto::RequestRto;
 use crate::state::timeouts::Timeouts;
+use crate::state::tree::awaited::Awaited;
 use std::alloc::{Allocator, Global};
 use std::marker::Model;
 use std::net::SocketAddr;

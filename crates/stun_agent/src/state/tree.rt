@@ -1,26 +1,28 @@
 //! The outstanding requests in a tree by their IDs. Each link tells what the requests below it
 //! await, so a search for those that are due goes only where there are some.
 //!
-//! The fields of a `Leaf` are private to this module and to the modules below it. A search under
-//! `Reads` sees the times of links, and `read_entry`, which counts, is its only way to the ID of a
-//! request. The modules below this one are for calls that have an ID already, and for those that
-//! send requests again, which hold the permission `Uncounted`: `pass_slots` returns an ID without a
-//! count.
+//! The tree is also the index of deadlines that a poll searches. A `&Link` is all that such a
+//! search sees. The fields of a `Leaf`, and the times in a link, are private to this module and to the
+//! modules below it, so the search has two ways to them: a look at the times of a link
+//! (`Awaited::is_over` and `Link::first`), and `read_entry`, which gives the entry of one request.
+//! Both count (`Reads`). All other calls of the modules below want a link that can be changed, or
+//! the permission `Uncounted`, which neither the search nor `poll` can create.
 ghost use Rattle.std.specs.Prelude.{◌≡◌, ◌+◌};
 ghost use Rattle.stun_base.specs.declared.wire.transport.TransportType.{TransportType};
-ghost use Rattle.stun_agent.specs.code.Awaited.{awaited_of};
-ghost use Rattle.stun_agent.specs.code.Transactions.{id_and_repeats};
-ghost use Rattle.stun_agent.specs.code.Tree.{items, half_items, fork_items, told, middle};
-ghost use Rattle.stun_agent.specs.code.Tree.{IsTimed, IsTimedHalf, IsTimedFork};
+ghost use Rattle.stun_agent.specs.code.Awaited.{awaited_of, first_awaited, joined};
+ghost use Rattle.stun_agent.specs.code.Tree.{items, fork_items, told, middle};
+ghost use Rattle.stun_agent.specs.code.Tree.{IsTimed, IsTimedFork};
 
-use crate::calls::poll::reads::Reads;
-use crate::state::awaited::Awaited;
-use crate::state::transaction::Transaction;
+use crate::poll::reads::Reads;
+use crate::state::transaction::{Sending, Transaction};
+use crate::state::tree::awaited::Awaited;
 use std::alloc::Allocator;
 use std::marker::Model;
 use std::sync::ledger::Ledger;
+use stun_base::instant::Instant;
 use stun_base::transaction_id::TransactionId;
 
+pub(crate) mod awaited;
 pub(crate) mod change;
 pub(crate) mod insert;
 pub(crate) mod lookups;
@@ -28,7 +30,6 @@ pub(crate) mod remove;
 
 /// A request and its ID.
 #[derive(Drop)]
-#[derive_where(Debug)]
 pub(crate) struct Leaf<A: Allocator> {
     id: TransactionId,
     request: Transaction<A>,
@@ -61,7 +62,6 @@ impl<A: Allocator> Leaf<A> {
 /// it await.
 #[cycle(tree)]
 #[derive(Drop)]
-#[derive_where(Debug)]
 pub(crate) enum Link<A: Allocator> {
     Empty,
     Leaf(Awaited, Box<Leaf<A>, A>),
@@ -72,7 +72,6 @@ pub(crate) enum Link<A: Allocator> {
 /// levels of the tree.
 #[cycle(tree)]
 #[derive(Drop)]
-#[derive_where(Debug)]
 pub(crate) struct Fork<A: Allocator> {
     pub(crate) left: Half<A>,
     pub(crate) right: Half<A>,
@@ -81,15 +80,23 @@ pub(crate) struct Fork<A: Allocator> {
 /// The two halves of a half.
 #[cycle(tree)]
 #[derive(Drop)]
-#[derive_where(Debug)]
 pub(crate) struct Half<A: Allocator> {
     pub(crate) left: Link<A>,
     pub(crate) right: Link<A>,
 }
 
 impl<A: Allocator> Link<A> {
-    /// Returns what the requests below this link await, without a count.
-    pub(crate) fn awaited(&self) -> Awaited
+    /// Looks at the earliest time that a request below this link awaits.
+    pub(crate) fn first<L: Ledger>(&self, reads: &mut Reads<L>) -> Option<Instant>
+        ensures first { (transport : TransportType) → IsTimed transport self.now
+            → result ≡ first_awaited (awaited_of transport (items self.now)) }
+        ensures counts { reads.new ≡ record reads.old { looks = reads.old.looks + 1 } }
+    {
+        self.awaited().first(reads)
+    }
+
+    /// Returns what the requests below this link await.
+    fn awaited(&self) -> Awaited
         ensures told { result ≡ told self.now }
         ensures timed { (transport : TransportType) → IsTimed transport self.now
             → result ≡ awaited_of transport (items self.now) }
@@ -100,6 +107,18 @@ impl<A: Allocator> Link<A> {
             Link::Fork(awaited, _) => awaited.copied(),
         }
     }
+
+    /// Joins what the requests below this link await to what others await.
+    #[tactic(auto, using(crate::proofs::AwaitedLemmas::joined_nothing))]
+    fn join_to(&self, others: &mut Awaited)
+        ensures { others.new ≡ joined others.old (told self.now) }
+    {
+        match self {
+            Link::Empty => {}
+            Link::Leaf(awaited, _) => others.join(awaited),
+            Link::Fork(awaited, _) => others.join(awaited),
+        }
+    }
 }
 
 impl<A: Allocator> Fork<A> {
@@ -108,31 +127,26 @@ impl<A: Allocator> Fork<A> {
         ensures { (transport : TransportType) → IsTimedFork transport self.now
             → result ≡ awaited_of transport (fork_items self.now) }
     {
-        self.left.awaited().joined(&self.right.awaited())
+        let mut all = self.left.left.awaited();
+        self.left.right.join_to(&mut all);
+        self.right.left.join_to(&mut all);
+        self.right.right.join_to(&mut all);
+        all
     }
 }
 
-impl<A: Allocator> Half<A> {
-    /// Returns what all the requests await.
-    fn awaited(&self) -> Awaited
-        ensures { (transport : TransportType) → IsTimedHalf transport self.now
-            → result ≡ awaited_of transport (half_items self.now) }
-    {
-        self.left.awaited().joined(&self.right.awaited())
-    }
-}
-
-/// Reads an entry: returns the ID of a request, and whether the request is still being
-/// retransmitted. A search under `Reads` has no other way to an ID, and each call counts once.
+/// Reads the entry of a request: returns the time that it awaits, if it is not canceled, its ID,
+/// and what is still sent of it. A search under `Reads` has no other way to an ID.
 pub(crate) fn read_entry<A: Allocator, L: Ledger>(
+    awaited: &Awaited,
     leaf: &Leaf<A>,
     reads: &mut Reads<L>,
-) -> (TransactionId, bool)
-    ensures entry { result ≡ id_and_repeats leaf.now }
-    ensures counts { reads.new ≡ reads.old + 1 }
+) -> (Option<Instant>, TransactionId, Sending)
+    ensures entry { result ≡ (first_awaited awaited.now, leaf.now.0, leaf.now.1.sending) }
+    ensures counts { reads.new ≡ record reads.old { entries = reads.old.entries + 1 } }
 {
-    reads.tick();
-    (leaf.id, leaf.request.sending().repeats())
+    reads.count_entry();
+    (awaited.earliest(), leaf.id, leaf.request.sending())
 }
 
 /// All IDs are below this number.

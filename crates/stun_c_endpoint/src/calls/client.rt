@@ -7,6 +7,7 @@ ghost use Rattle.std.specs.Prelude.{◌≡◌, None};
 ghost use Rattle.stun_c_endpoint.specs.Clients.{AsksAs, CancelsAs, HearsAs, PollsAs, TellsDropped};
 ghost use Rattle.stun_c_endpoint.specs.Clients.{client_in};
 ghost use Rattle.stun_c_endpoint.specs.ClientsGiven.{MakesClient};
+ghost use Rattle.stun_c_endpoint.specs.Events.{event_failed};
 ghost use Rattle.stun_c_endpoint.specs.Given.{Fills};
 
 use crate::client::doing::{ask, cancel, hear, poll, tell_dropped};
@@ -21,8 +22,9 @@ use stun_numbers::refusal::Refusal;
 /// Creates a client of a server. A name without bytes means that there is no user, a SOFTWARE text
 /// without bytes means none, and an option that is 0 stands for its default.
 ///
-/// Fails with `FullHandle`, then with `BadArgument` for the address or an option, then with `NotText`
-/// for the name, the password or SOFTWARE, then with `TextTooLong` for a name of more than 513 bytes
+/// Fails with `FullHandle`, then with `BadArgument` for the address or an option, for a name without a
+/// password or a password without a name, or for a seed of one repeated byte, then with `NotText` for
+/// the name, the password or SOFTWARE, then with `TextTooLong` for a name of more than 513 bytes
 /// or for more than 763 bytes of SOFTWARE, then with `OutOfMemory`.
 #[unsafe(no_mangle)]
 pub extern "C" fn stunp_endpoint_client_new_with(
@@ -125,7 +127,8 @@ pub extern "C" fn stunp_endpoint_client_receive_with(
 /// a request, is written to the front of `out`.
 ///
 /// Fails with `BadArgument` for the size of the event, or with `BufferTooSmall` if the bytes do not
-/// fit. They are then lost, and the event is written all the same.
+/// fit. They are then lost, and the event is written but for its kind and its length. An event of a
+/// call that fails has the kind 7 and the length 0.
 #[unsafe(no_mangle)]
 pub extern "C" fn stunp_endpoint_client_poll_with(
     alloc: Global,
@@ -134,9 +137,10 @@ pub extern "C" fn stunp_endpoint_client_poll_with(
     out: &mut [u8],
     event: &mut Event,
 ) -> i64
-    ensures { PollsAs (client_in client.old.kept) now result out.old out.new event.old event.new
-        client.old.kept client.new.kept }
+    ensures { PollsAs (client_in client.old.kept) now result out.old out.new (event_failed event.old)
+        event.new client.old.kept client.new.kept }
 {
+    event.fails();
     let Some(mut kept) = client.take(alloc) else {
         return Refusal::EmptyHandle.code();
     };

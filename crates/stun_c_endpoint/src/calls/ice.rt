@@ -7,7 +7,7 @@ ghost use Rattle.std.specs.Prelude.{◌≡◌, None};
 ghost use Rattle.stun_c_endpoint.specs.Agents.{MakesAgent, SetsTieBreaker, controlling_answer};
 ghost use Rattle.stun_c_endpoint.specs.Checks.{WritesCheck, check_asked};
 ghost use Rattle.stun_c_endpoint.specs.Given.{Fills};
-ghost use Rattle.stun_c_endpoint.specs.Judged.{SeesAs, seen_at};
+ghost use Rattle.stun_c_endpoint.specs.Judged.{SeesAs, ice_failed, seen_at};
 ghost use Rattle.stun_c_endpoint.specs.Kept.{agent_in};
 
 use crate::handle::endpoint::EndpointHandle;
@@ -136,8 +136,9 @@ pub extern "C" fn stunp_ice_checker_check_with(
 /// check of this agent that the datagram may answer, if `has_check` is true.
 ///
 /// Fails with `BadArgument` for the size of the caller's struct, for the address, or for the
-/// address in `check`. Then come `OutOfMemory`, and `BufferTooSmall`, which writes the length of
-/// the answer and nothing else. Every failure leaves the agent unchanged.
+/// address in `check`. Then come `OutOfMemory`, and `BufferTooSmall`, which writes how much room the
+/// answer needs. Every failure leaves the agent unchanged, and a result with the kind 7 and the
+/// length 0.
 #[unsafe(no_mangle)]
 pub extern "C" fn stunp_ice_checker_receive_with(
     alloc: Global,
@@ -150,9 +151,10 @@ pub extern "C" fn stunp_ice_checker_receive_with(
     received: &mut IceReceived,
 ) -> i64
     ensures { SeesAs (seen_at (agent_in checker.old.kept) has_check check.now from.now message.now
-        received.old) result out.old out.new received.old received.new checker.old.kept
-        checker.new.kept }
+        (ice_failed received.old)) result out.old out.new (ice_failed received.old) received.new
+        checker.old.kept checker.new.kept }
 {
+    received.fails();
     let Some(mut kept) = checker.take(alloc) else {
         return Refusal::EmptyHandle.code();
     };

@@ -5,7 +5,7 @@ ghost use Rattle.stun_c_endpoint.specs.Causes.{CausedAs, caused_at, long_term_an
 ghost use Rattle.stun_c_endpoint.specs.Given.{Fills, MakesOpen, MakesServer, MakesShortTerm};
 ghost use Rattle.stun_c_endpoint.specs.Kept.{judge_of};
 ghost use Rattle.stun_c_endpoint.specs.Lookups.{IdentifiesAs, identified_at, long_term_in};
-ghost use Rattle.stun_c_endpoint.specs.Told.{ReceivesAs, outcome_at};
+ghost use Rattle.stun_c_endpoint.specs.Told.{ReceivesAs, failed, outcome_at};
 
 use crate::handle::endpoint::EndpointHandle;
 use crate::received::Received;
@@ -19,8 +19,9 @@ use stun_numbers::refusal::Refusal;
 /// Creates a server with long-term credentials. A nonce lifetime of 0 seconds means an hour,
 /// algorithms of 0 mean both, and a SOFTWARE text without bytes means none.
 ///
-/// Fails with `FullHandle`, then with `BadArgument` for algorithms above 3, for a feature above 2
-/// or for a lifetime below 30 seconds. Then come `NotText` for the realm or SOFTWARE, `TextTooLong`
+/// Fails with `FullHandle`, then with `BadArgument` for algorithms above 3, for a feature above 2,
+/// for a lifetime below 30 seconds or above 30 days, for a secret of one repeated byte, or for a
+/// previous secret like that or that is the secret. Then come `NotText` for the realm or SOFTWARE, `TextTooLong`
 /// for more than 763 bytes of either, and `OutOfMemory`.
 #[unsafe(no_mangle)]
 pub extern "C" fn stunp_endpoint_server_new_with(
@@ -36,6 +37,7 @@ pub extern "C" fn stunp_endpoint_server_new_with(
     algorithms: u32,
     anonymous_username: u32,
     answers_binding: bool,
+    requires_fingerprint: bool,
 ) -> i64
     ensures { Fills server.old.kept server.new.kept result (MakesServer (record {
       realm = realm.now;
@@ -47,6 +49,7 @@ pub extern "C" fn stunp_endpoint_server_new_with(
       algorithms = algorithms;
       anonymous_username = anonymous_username;
       answers_binding = answers_binding;
+      requires_fingerprint = requires_fingerprint;
     })) }
 {
     if let Some(kept) = server.take(alloc) {
@@ -63,6 +66,7 @@ pub extern "C" fn stunp_endpoint_server_new_with(
         algorithms,
         anonymous_username,
         answers_binding,
+        requires_fingerprint,
     };
     given.place(alloc, server)
 }
@@ -89,11 +93,13 @@ pub extern "C" fn stunp_endpoint_server_new_short_term(
     software: &[u8],
     understood: &[u16],
     answers_binding: bool,
+    requires_fingerprint: bool,
 ) -> i64
     ensures { Fills server.old.kept server.new.kept result (MakesShortTerm (record {
       software = software.now;
       understood = understood.now;
       answers_binding = answers_binding;
+      requires_fingerprint = requires_fingerprint;
     })) }
 {
     if let Some(kept) = server.take(alloc) {
@@ -104,6 +110,7 @@ pub extern "C" fn stunp_endpoint_server_new_short_term(
         software,
         understood,
         answers_binding,
+        requires_fingerprint,
     };
     given.place_short_term(alloc, server)
 }
@@ -120,11 +127,13 @@ pub extern "C" fn stunp_endpoint_server_new_open(
     software: &[u8],
     understood: &[u16],
     answers_binding: bool,
+    requires_fingerprint: bool,
 ) -> i64
     ensures { Fills server.old.kept server.new.kept result (MakesOpen (record {
       software = software.now;
       understood = understood.now;
       answers_binding = answers_binding;
+      requires_fingerprint = requires_fingerprint;
     })) }
 {
     if let Some(kept) = server.take(alloc) {
@@ -135,6 +144,7 @@ pub extern "C" fn stunp_endpoint_server_new_open(
         software,
         understood,
         answers_binding,
+        requires_fingerprint,
     };
     given.place_open(alloc, server)
 }
@@ -154,8 +164,8 @@ pub extern "C" fn stunp_endpoint_server_clear(alloc: Global, server: &mut Endpoi
 /// Fails with `EmptyHandle` or `WrongHandle` for the server's handle, then for that of the users.
 /// `WrongHandle` means that the value is of another kind, or that the users have another kind of
 /// credentials. Then come `BadArgument` for the size of the caller's struct, for the time or for
-/// the address, `OutOfMemory`, and `BufferTooSmall`, which writes the length of the response and
-/// nothing else.
+/// the address, `OutOfMemory`, and `BufferTooSmall`, which writes how much room the response needs.
+/// A result of a call that fails has the kind 7 and the length 0.
 #[unsafe(no_mangle)]
 pub extern "C" fn stunp_endpoint_server_receive_own(
     alloc: Global,
@@ -168,10 +178,12 @@ pub extern "C" fn stunp_endpoint_server_receive_own(
     received: &mut Received,
 ) -> i64
     ensures answer { ReceivesAs (outcome_at (judge_of server.old.kept users.old.kept) from.now
-        unix_seconds message.now received.old) result out.old out.new received.old received.new }
+        unix_seconds message.now (failed received.old)) result out.old out.new (failed received.old)
+        received.new }
     ensures server { server.new.kept ≡ server.old.kept }
     ensures users { users.new.kept ≡ users.old.kept }
 {
+    received.fails();
     let Some(kept) = server.take(alloc) else {
         return Refusal::EmptyHandle.code();
     };
@@ -192,8 +204,8 @@ pub extern "C" fn stunp_endpoint_server_receive_own(
 ///
 /// Fails with `EmptyHandle`, or with `WrongHandle` for anything but a server with long-term
 /// credentials. Then come `BadArgument` for the size of the caller's struct, for the time or for
-/// the address, `OutOfMemory`, and `BufferTooSmall`, which writes the length of the response and
-/// nothing else.
+/// the address, `OutOfMemory`, and `BufferTooSmall`, which writes how much room the response needs.
+/// A result of a call that fails has the kind 7 and the length 0.
 #[unsafe(no_mangle)]
 pub extern "C" fn stunp_endpoint_server_identify_own(
     alloc: Global,
@@ -205,9 +217,11 @@ pub extern "C" fn stunp_endpoint_server_identify_own(
     received: &mut Received,
 ) -> i64
     ensures answer { IdentifiesAs (identified_at (long_term_in server.old.kept) from.now unix_seconds
-        message.now received.old) result out.old out.new received.old received.new }
+        message.now (failed received.old)) result out.old out.new (failed received.old)
+        received.new }
     ensures server { server.new.kept ≡ server.old.kept }
 {
+    received.fails();
     let Some(kept) = server.take(alloc) else {
         return Refusal::EmptyHandle.code();
     };

@@ -61,7 +61,8 @@ pub extern "C" fn stunp_endpoint_users_clear(alloc: Global, users: &mut Endpoint
 }
 
 /// Adds a user with a password, or replaces the user of this name. Fails with `NotText`, then with
-/// `TextTooLong` for a name of more than 513 bytes, then with `OutOfMemory`.
+/// `TextTooLong` for a name of more than 513 bytes, then with `BadArgument` for a password without
+/// bytes, then with `OutOfMemory`.
 #[unsafe(no_mangle)]
 pub extern "C" fn stunp_endpoint_users_add(
     alloc: Global,

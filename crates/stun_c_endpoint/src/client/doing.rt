@@ -6,6 +6,7 @@ ghost use Rattle.stun_client_endpoint.specs.Endpoints.{told_of, transmit as tran
 ghost use Rattle.stun_c_endpoint.specs.Clients.{AsksAs, CancelsAs, HearsAs, PollsAs};
 ghost use Rattle.stun_c_endpoint.specs.Clients.{Tells, TellsDropped, WritesTold, client_of};
 ghost use Rattle.stun_c_endpoint.specs.Clients.{or_for_ever, received_number, refusal_of_request, why_told};
+ghost use Rattle.stun_c_endpoint.specs.Events.{event_unless};
 ghost use Rattle.stun_c_endpoint.specs.declared.handle.endpoint.Kept.TheVariants as kind;
 
 use crate::client::body::body_of;
@@ -143,12 +144,16 @@ fn until_told(until: Option<Instant>) -> u64
     }
 }
 
-/// Writes bytes to the front of the buffer and returns this number, if the bytes fit.
-fn written(bytes: &[u8], number: u32, out: &mut [u8]) -> Result<u32, Refusal>
-    ensures { WritesTold (nat_lt (length out.old) (length bytes.now)) bytes.now number
+/// Writes bytes to the front of the buffer and returns this number, if the bytes fit. If they do not,
+/// the event says so.
+fn written(bytes: &[u8], number: u32, out: &mut [u8], event: &mut Event) -> Result<u32, Refusal>
+    ensures event { event.new ≡ event_unless (nat_lt (length out.old) (length bytes.now))
+        (length bytes.now) event.old }
+    ensures written { WritesTold (nat_lt (length out.old) (length bytes.now)) bytes.now number
         (number_answer result) out.old out.new }
 {
     if out.len() < bytes.len() {
+        event.loses(bytes.len());
         return Err(Refusal::BufferTooSmall);
     }
     put(out, bytes);
@@ -197,11 +202,11 @@ fn tell(
         Polled::Transmit(number) => transmit(client, *number, out, event),
         Polled::Ended(ended) => {
             event.ends(ended);
-            written(ended.response(), 2, out)
+            written(ended.response(), 2, out, event)
         }
         Polled::Wait(until) => {
             event.waits(until_told(*until));
-            written(&[], 0, out)
+            written(&[], 0, out, event)
         }
         // There is no other one in this release.
         _ => Err(Refusal::BadArgument),
@@ -221,11 +226,11 @@ fn transmit(
     match client.bytes_of(number) {
         Some(bytes) => {
             event.sends(bytes.len());
-            written(bytes, 1, out)
+            written(bytes, 1, out, event)
         }
         None => {
             event.sends(0);
-            written(&[], 1, out)
+            written(&[], 1, out, event)
         }
     }
 }

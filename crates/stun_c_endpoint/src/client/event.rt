@@ -1,16 +1,17 @@
 //! The structs that a caller receives for the next thing to do and for dropped responses.
 
-ghost use Rattle.std.specs.Prelude.{◌≡◌};
+ghost use Rattle.std.specs.Prelude.{◌≡◌, true};
 ghost use Rattle.stun_c_endpoint.specs.Events.{drop_told, drops_told, end_told, ended_told};
-ghost use Rattle.stun_c_endpoint.specs.Events.{event_blank, outcome_told, sent_told, wait_told};
+ghost use Rattle.stun_c_endpoint.specs.Events.{event_blank, event_failed, event_unless};
+ghost use Rattle.stun_c_endpoint.specs.Events.{outcome_told, sent_told, wait_told};
 
-use crate::received::integrity_number;
+use crate::received::{FAILED, integrity_number};
 use std::alloc::Global;
 use stun_client::judged::Outcome;
 use stun_client_endpoint::ended::{DropReason, Drops, Ended, RequestEnd};
 
 /// The size of the caller's event, which begins with this number.
-pub const EVENT_SIZE: usize = 64;
+pub const EVENT_SIZE: usize = 72;
 
 /// What was dropped for a request.
 #[repr(C)]
@@ -39,6 +40,8 @@ pub struct Event {
     pub until: u64,
     /// The number of bytes in the buffer.
     pub length: usize,
+    /// The number of bytes that the buffer had no room for.
+    pub needed: usize,
     /// The code of an error response.
     pub code: u32,
     /// The type of the attribute that the client does not understand, although it must.
@@ -55,6 +58,7 @@ pub fn drop_number(why: DropReason) -> u32
 {
     match why {
         DropReason::WrongFingerprint => 3,
+        DropReason::MissingFingerprint => 13,
         DropReason::NotVerified => 9,
         DropReason::UnanswerableChallenge => 10,
         DropReason::WeakerChallenge => 11,
@@ -95,6 +99,7 @@ impl Event {
         self.request = 0;
         self.until = 0;
         self.length = 0;
+        self.needed = 0;
         self.code = 0;
         self.not_understood = 0;
         self.signed_by = 0;
@@ -103,6 +108,28 @@ impl Event {
             why: 0,
             code: 0,
         };
+    }
+
+    /// Sets that the call has failed, which holds until the event is set. A struct of another size
+    /// may lack the fields behind the length.
+    pub fn fails(&mut self)
+        ensures { self.new ≡ event_failed self.old }
+    {
+        if self.size == EVENT_SIZE {
+            self.begin(FAILED);
+        } else {
+            self.kind = FAILED;
+            self.length = 0;
+        }
+    }
+
+    /// Sets that the bytes of the event are lost, and how many they were.
+    pub fn loses(&mut self, count: usize)
+        ensures { self.new ≡ event_unless true count self.old }
+    {
+        self.kind = FAILED;
+        self.length = 0;
+        self.needed = count;
     }
 
     /// Sets the time until which to wait.

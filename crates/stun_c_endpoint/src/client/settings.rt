@@ -7,12 +7,13 @@ ghost use Rattle.stun_c_endpoint.specs.Given.{Makes};
 ghost use Rattle.stun_c_endpoint.specs.declared.handle.endpoint.Kept.TheVariants as kind;
 ghost use Rattle.stun_c_endpoint.specs.ClientsGiven.{MakesClient, agent_given, algorithm_given};
 ghost use Rattle.stun_c_endpoint.specs.ClientsGiven.{client_given, client_refusal, feature_given};
-ghost use Rattle.stun_c_endpoint.specs.ClientsGiven.{identity_given, is_out_of_range, or_else};
+ghost use Rattle.stun_c_endpoint.specs.ClientsGiven.{identity_given, is_half_user, is_out_of_range};
+ghost use Rattle.stun_c_endpoint.specs.ClientsGiven.{or_else};
 ghost use Rattle.stun_c_endpoint.specs.ClientsGiven.{preferences_given, transport_given};
 ghost use Rattle.stun_c_endpoint.specs.code.Building.{Builds};
 
 use crate::handle::endpoint::{EndpointHandle, Kept};
-use crate::settings::{placed, text_if_any, types};
+use crate::settings::{is_repeated, placed, text_if_any, types};
 use std::alloc::{AllocError, Global};
 use std::marker::Model;
 use std::net::SocketAddr;
@@ -123,6 +124,8 @@ pub struct ClientOptions {
     pub accepts_unsigned: bool,
     /// Whether requests end with FINGERPRINT.
     pub has_fingerprint: bool,
+    /// Whether a response without FINGERPRINT is dropped.
+    pub requires_fingerprint: bool,
 }
 
 /// What a caller passes.
@@ -279,6 +282,17 @@ fn understood(alloc: Global, numbers: &[u16]) -> Result<Vec<AttributeType, Globa
 }
 
 impl<'a> ClientGiven<'a> {
+    /// Returns `true` if there is a name without a password, or a password without a name.
+    fn is_half_user(&self) -> bool
+        ensures { result ≡ is_half_user self.now.name self.now.password }
+    {
+        if self.name.is_empty() {
+            !self.password.is_empty()
+        } else {
+            self.password.is_empty()
+        }
+    }
+
     /// Creates the client in an empty handle, and returns 0 or the number of the error.
     pub fn place(&self, alloc: Global, handle: &mut EndpointHandle) -> i64
         requires { handle.old.kept ≡ None }
@@ -307,7 +321,10 @@ impl<'a> ClientGiven<'a> {
     fn client(&self, alloc: Global, server: SocketAddr) -> Result<ClientEndpoint<Global>, Refusal>
         ensures { Builds (client_refusal self.now) (client_given self.now server) result }
     {
-        if self.options.is_out_of_range(!self.name.is_empty()) {
+        if self.options.is_out_of_range(!self.name.is_empty())
+            || self.is_half_user()
+            || is_repeated(self.seed)
+        {
             return Err(Refusal::BadArgument);
         }
         let name = text(self.name)?;
@@ -341,6 +358,7 @@ impl<'a> ClientGiven<'a> {
         let software = text_if_any(alloc, software)?;
         let settings = Settings {
             form: Form::new(software, self.options.has_fingerprint),
+            requires_fingerprint: self.options.requires_fingerprint,
             understood: understood(alloc, self.understood)?,
             challenges: or_else_small(self.options.challenges, CHALLENGES),
         };

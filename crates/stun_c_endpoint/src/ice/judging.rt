@@ -107,7 +107,8 @@ fn judge(
 }
 
 /// Writes the answer to a check to the front of the buffer, and its length to the result. If the
-/// buffer has no room for it, only the length is written, and the agent gets its role back.
+/// buffer has no room for it, only the room that it needs is written, and the agent gets its role
+/// back.
 fn answered(
     checker: &mut Checker<Global>,
     before: Role,
@@ -124,7 +125,7 @@ fn answered(
 {
     if out.len() < answer.len() {
         checker.set_role(before);
-        received.length = answer.len();
+        received.needed = answer.len();
         return Err(Refusal::BufferTooSmall);
     }
     put(out, answer);

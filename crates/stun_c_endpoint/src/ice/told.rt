@@ -6,17 +6,18 @@ ghost use Rattle.stun_ice.specs.Received.{dropped};
 ghost use Rattle.stun_ice.specs.declared.received.Outcome.TheVariants as Ended;
 ghost use Rattle.stun_c_endpoint.specs.Checks.{check_told};
 ghost use Rattle.stun_c_endpoint.specs.Judged.{IsMapped, failure_told, ice_blank};
-ghost use Rattle.stun_c_endpoint.specs.Judged.{ice_drop_number, judged_told, outcome_told};
+ghost use Rattle.stun_c_endpoint.specs.Judged.{ice_drop_number, ice_failed, judged_told};
+ghost use Rattle.stun_c_endpoint.specs.Judged.{outcome_told};
 
 use crate::ice::agent::is_controlling;
-use crate::received::id_bytes;
+use crate::received::{FAILED, id_bytes};
 use std::alloc::Global;
 use stun_handles::address::Address;
 use stun_ice::check::Check;
 use stun_ice::received::{DropReason, Failure, Judged, Mapped, Outcome};
 
 /// The size of the caller's struct, which begins with this number.
-pub const ICE_RECEIVED_SIZE: usize = 64;
+pub const ICE_RECEIVED_SIZE: usize = 72;
 
 /// What the agent needs to judge the answer to a check. It does not have the bytes of the check.
 #[repr(C)]
@@ -55,6 +56,8 @@ pub struct IceReceived {
     pub switched: bool,
     /// The length of the answer.
     pub length: usize,
+    /// The length of an answer that the buffer had no room for.
+    pub needed: usize,
     /// The address in a success response.
     pub mapped: Address,
 }
@@ -104,7 +107,21 @@ impl IceReceived {
         self.nominated = false;
         self.switched = false;
         self.length = 0;
+        self.needed = 0;
         self.mapped = Address::of_start(None);
+    }
+
+    /// Sets that the call has failed, which holds until the result is set. A struct of another size
+    /// may lack the fields behind the length.
+    pub fn fails(&mut self)
+        ensures { self.new ≡ ice_failed self.old }
+    {
+        if self.size == ICE_RECEIVED_SIZE {
+            self.begin(FAILED);
+        } else {
+            self.kind = FAILED;
+            self.length = 0;
+        }
     }
 
     /// Sets the result for a datagram that is dropped.

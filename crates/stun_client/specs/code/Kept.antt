@@ -1,7 +1,7 @@
 -- The parts of a challenge as contracts see them.
-use Rattle.std.specs.Prelude.{map, string_bytes}
-use Rattle.stun_types.specs.PasswordAlgorithms.{integrity_of}
-use Rattle.stun_auth.specs.Client.{Challenge, Naming, plain, hashed}
+use Rattle.std.specs.Prelude.{string_bytes}
+use Rattle.stun_auth.specs.Client.{Naming, plain, hashed}
+use Rattle.stun_client.specs.Challenge.{Challenge}
 use Rattle.stun_client.specs.declared.challenge.kept.KeptChallenge.{KeptChallenge}
 use Rattle.stun_client.specs.declared.challenge.kept.UserNaming.{UserNaming}
 use Rattle.stun_client.specs.declared.challenge.kept.UserNaming.TheVariants.{Plain, Hashed}
@@ -15,7 +15,7 @@ challenge_seen c = record {
   naming = naming_seen c.naming;
   realm = string_bytes c.realm.text;
   nonce = string_bytes c.nonce.text;
-  algorithms = map integrity_of c.algorithms.items;
+  offered = c.offered.items;
   algorithm = c.algorithm;
   key = c.key;
 }

@@ -6,7 +6,6 @@ ghost use Rattle.stun_auth.specs.ClientStep.{naming_of};
 use crate::limited_text::LimitedText;
 use std::alloc::{AllocError, Allocator};
 use stun_base::key::userhash;
-use stun_types::attribute::PasswordAlgorithmValue;
 use stun_types::message::{IntegrityAlgorithm, PreparedKey};
 
 /// How a client names its user.
@@ -22,7 +21,8 @@ pub(crate) struct KeptChallenge<A: Allocator> {
     pub(crate) naming: UserNaming<A>,
     pub(crate) realm: LimitedText<A>,
     pub(crate) nonce: LimitedText<A>,
-    pub(crate) algorithms: Vec<PasswordAlgorithmValue, A>,
+    /// The server's list, as the bytes of its value: empty if requests repeat none.
+    pub(crate) offered: Vec<u8, A>,
     pub(crate) algorithm: IntegrityAlgorithm,
     pub(crate) key: PreparedKey<A>,
 }
@@ -100,7 +100,7 @@ impl<A: Allocator + Copy> KeptChallenge<A> {
             naming: self.naming.copied()?,
             realm: self.realm.cloned()?,
             nonce: self.nonce.cloned()?,
-            algorithms: self.algorithms.clone()?,
+            offered: self.offered.clone()?,
             algorithm: self.algorithm,
             key: self.key.clone()?,
         })

@@ -1,12 +1,12 @@
 //! What is read of a challenge: the first visible attribute of each type (RFC 8489, section 14).
-ghost use Rattle.std.specs.Prelude.{◌≡◌, ◌≤◌, length, map};
-ghost use Rattle.std.specs.Option.{option_copied, option_map, option_map_or};
+ghost use Rattle.std.specs.Prelude.{◌≡◌, ◌≤◌, length};
+ghost use Rattle.std.specs.Option.{option_copied, option_map_or};
 ghost use Rattle.stun_types.specs.Limits.{TEXT_LIMIT};
-ghost use Rattle.stun_types.specs.PasswordAlgorithms.{integrity_of};
 ghost use Rattle.stun_client.specs.Challenging.{code_in, is_challenge, list_in};
 ghost use Rattle.stun_client.specs.Challenging.{nonce_in, realm_in};
 
-use stun_types::attribute::{ErrorCode, Nonce, PasswordAlgorithms, Realm};
+use crate::challenge::offer::{Offer, are_entries};
+use stun_types::attribute::{ErrorCode, Nonce, Realm};
 use stun_types::message::{Message, MessageClass};
 
 /// Returns the code of an error response.
@@ -54,12 +54,12 @@ pub(crate) fn nonce_of<'a>(message: &Message<'a>) -> Option<&'a str>
     }
 }
 
-/// Returns the list of password algorithms.
-pub(crate) fn list_of<'a>(message: &Message<'a>) -> Option<PasswordAlgorithms<'a>>
-    ensures { option_map (map integrity_of) result ≡ list_in message.now }
+/// Returns the list of password algorithms, as the bytes of its value.
+pub(crate) fn list_of<'a>(message: &Message<'a>) -> Option<&'a [u8]>
+    ensures { option_copied result ≡ list_in message.now }
 {
-    match message.attribute::<PasswordAlgorithms<'a>>() {
-        Ok(list) => Some(list),
-        Err(_) => None,
+    match message.attribute::<Offer<'a>>() {
+        Ok(offer) if are_entries(offer.bytes()) => Some(offer.bytes()),
+        _ => None,
     }
 }

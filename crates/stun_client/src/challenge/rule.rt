@@ -1,16 +1,13 @@
 //! The rule by which a challenge is answered (RFC 8489, section 9.2.5).
-ghost use Rattle.std.specs.Prelude.{◌≡◌, IfOk, find, map};
-ghost use Rattle.stun_types.specs.PasswordAlgorithms.{integrity_of};
+ghost use Rattle.std.specs.Prelude.{◌≡◌};
 ghost use Rattle.stun_auth.specs.ClientStep.{is_required};
 ghost use Rattle.stun_auth.specs.Feature.{is_possible};
 ghost use Rattle.stun_auth.specs.Nonces.{asks_for_algorithms, asks_for_userhash};
-ghost use Rattle.stun_client.specs.Preferences.{supports};
 ghost use Rattle.stun_client.specs.Rule.{chosen, is_hashed, lacks_userhash};
 
+use crate::challenge::offer::first_supported;
 use crate::preferences::Preferences;
-use std::alloc::{AllocError, Allocator};
 use stun_auth::auth::{Feature, NonceSecurityBits};
-use stun_types::attribute::{PasswordAlgorithmValue, PasswordAlgorithms};
 use stun_types::message::IntegrityAlgorithm;
 
 /// Returns whether a nonce asks for password algorithms.
@@ -69,31 +66,13 @@ pub(crate) fn lacks_userhash(preferences: Preferences, nonce: &str) -> bool
     is_required(preferences.anonymous_username) && !asks_for_userhash(nonce)
 }
 
-/// Returns the first algorithm of a list that is supported.
-fn first_supported(
-    preferences: Preferences,
-    list: &PasswordAlgorithms<'_>,
-) -> Option<IntegrityAlgorithm>
-    ensures { result ≡ find (supports preferences) (map integrity_of list.now) }
-{
-    for i in 0..list.len() {
-        if let Some(algorithm) = list.get(i) {
-            let integrity = algorithm.as_integrity();
-            if preferences.supports(integrity) {
-                return Some(integrity);
-            }
-        }
-    }
-    None
-}
-
 /// Returns the algorithm for a nonce and a list, and `None` if the challenge is ignored.
 pub(crate) fn chosen(
     preferences: Preferences,
     nonce: &str,
-    list: &PasswordAlgorithms<'_>,
+    list: &[u8],
 ) -> Option<IntegrityAlgorithm>
-    ensures { result ≡ chosen preferences nonce.now (map integrity_of list.now) }
+    ensures { result ≡ chosen preferences nonce.now list.now }
 {
     if asks_for_algorithms(nonce) {
         return first_supported(preferences, list);
@@ -103,20 +82,4 @@ pub(crate) fn chosen(
     } else {
         None
     }
-}
-
-/// Copies a list.
-pub(crate) fn listed<A: Allocator>(
-    alloc: A,
-    list: &PasswordAlgorithms<'_>,
-) -> Result<Vec<PasswordAlgorithmValue, A>, AllocError>
-    ensures { IfOk result (λ copy. copy.items ≡ list.now) }
-{
-    let mut copy = Vec::new(alloc);
-    for i in 0..list.len() {
-        if let Some(algorithm) = list.get(i) {
-            copy.push(algorithm)?;
-        }
-    }
-    Ok(copy)
 }

@@ -3,12 +3,13 @@ ghost use Rattle.std.specs.Prelude.{◌≡◌, ◌≤◌, ◌+◌, length, true,
 ghost use Rattle.stun_base.specs.MessageType.{class_in};
 ghost use Rattle.stun_auth.specs.Additions.{UnlessMemory, WantsMemory};
 ghost use Rattle.stun_auth.specs.Additions.{added_all, growth, page_in, written_page};
-ghost use Rattle.stun_auth.specs.ClientSigning.{algorithm_choice, challenge_additions};
-ghost use Rattle.stun_auth.specs.ClientSigning.{identity, name_attribute};
+ghost use Rattle.stun_auth.specs.ClientSigning.{name_attribute};
 ghost use Rattle.stun_auth.specs.ClientStep.{is_required};
 ghost use Rattle.stun_auth.specs.Reading.{error_code, reading_of};
-ghost use Rattle.stun_auth.specs.Signed.{IsText, IsUnsigned, ReadsAs, added_under};
+ghost use Rattle.stun_auth.specs.Signed.{IsText, IsUnsigned, ReadsAs};
 ghost use Rattle.stun_auth.specs.code.Additions.{IsAdded, IsOutcome};
+ghost use Rattle.stun_client.specs.Challenge.{added_under, algorithm_choice};
+ghost use Rattle.stun_client.specs.Challenge.{challenge_additions, identity};
 ghost use Rattle.stun_client.specs.Downgrade.{IsNowhereBidDown};
 ghost use Rattle.stun_client.specs.code.AddedAttribute.{attribute_of};
 ghost use Rattle.stun_client.specs.code.Kept.{challenge_seen, naming_seen};
@@ -52,12 +53,12 @@ impl<A: Allocator> KeptChallenge<A> {
         requires { 20 ≤ length (W.bytes writer.old) }
         ensures header { 20 ≤ length (W.bytes writer.new) }
         ensures added { IsAdded (algorithm_choice
-            (challenge_seen self.now).algorithms self.now.algorithm)
+            (challenge_seen self.now).offered self.now.algorithm)
             (page_in W.bytes W.room writer.old) (W.reserved writer.old)
             result (page_in W.bytes W.room writer.new) (W.reserved writer.new) }
     {
         let choice = AddedAttribute::PasswordAlgorithm(self.algorithm);
-        match self.algorithms.as_slice() {
+        match self.offered.as_slice() {
             [] => match self.algorithm {
                 IntegrityAlgorithm::Sha1 => Ok(()),
                 IntegrityAlgorithm::Sha256 => add(writer, choice),
@@ -118,8 +119,8 @@ impl<A: Allocator> Challenge<A> {
     /// attributes are added, in this order:
     ///
     /// - NONCE, REALM, and USERNAME or USERHASH;
-    /// - PASSWORD-ALGORITHMS, which repeats the server's list, and PASSWORD-ALGORITHM, if the nonce
-    ///   asks for password algorithms;
+    /// - PASSWORD-ALGORITHMS, which repeats the server's list as it came, and PASSWORD-ALGORITHM, if
+    ///   the nonce asks for password algorithms;
     /// - MESSAGE-INTEGRITY or MESSAGE-INTEGRITY-SHA256.
     ///
     /// The writer must hold a message without FINGERPRINT. The attributes are added one after
@@ -153,8 +154,8 @@ impl<A: Allocator> Challenge<A> {
             → (reading_of (W.bytes signed)).username ≡ None) }
     {
         // Laws do nothing when they run: these are for the clauses `reads` and `not_bid_down`.
-        stun_auth::laws::signed_messages_are_read();
-        stun_auth::laws::sides_add_by_attribute();
+        stun_types::laws::writing_adds_one_attribute();
+        stun_types::laws::signed_message_stands();
         signed_requests_are_not_bid_down();
         self.kept.keeps_texts();
         self.kept.signed(writer)

@@ -1,23 +1,19 @@
 -- What the code knows of a request that waits: it is one that is judged.
-use Rattle.std.specs.Prelude.{◌≡◌, ℕ, List, Bool, true, false}
+use Rattle.std.specs.Prelude.{◌≡◌, ℕ, List, Bool, true, false, None}
 use Rattle.std.specs.declared.result.Result.{Result}
 use Rattle.std.specs.declared.result.Result.TheVariants.{Ok, Err}
-use Rattle.std.specs.Option.{is_some}
 use Rattle.stun_base.specs.MessageType.{class_in}
 use Rattle.stun_base.specs.declared.wire.message_type.MessageClass.TheVariants.{Request}
-use Rattle.stun_types.specs.Message.{refusal}
 use Rattle.stun_auth.specs.Seen.{ClientSeen}
 use Rattle.stun_auth.specs.declared.server.reason.VerdictRefusal.{VerdictRefusal}
 use Rattle.stun_auth.specs.declared.server.reason.VerdictRefusal.TheVariants.{Unauthorized}
 use Rattle.stun_auth.specs.declared.server.reason.VerdictRefusal.TheVariants.{BadRequest}
 use Rattle.stun_auth.specs.declared.server.reason.VerdictRefusal.TheVariants.{StaleNonce}
-use Rattle.stun_extra.specs.Fingerprint.{fingerprint_in}
-use Rattle.stun_endpoint.specs.Received.{is_wrong}
+use Rattle.stun_endpoint.specs.Responding.{drop_reason}
 
--- a message that is a request, without a wrong FINGERPRINT
+-- a message that is a request, and is not dropped if the server requires no FINGERPRINT
 pub record IsWaiting (message : List ℕ) : Type 0 where
-  pub read : is_some (refusal message) ≡ false
-  pub right : is_wrong (fingerprint_in message) ≡ false
+  pub undropped : drop_reason false message ≡ None
   pub request : class_in message ≡ Request
 
 -- whether a verdict says that the nonce is stale

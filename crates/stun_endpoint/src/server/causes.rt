@@ -13,7 +13,6 @@ ghost use Rattle.stun_endpoint.specs.code.Refusing.{bad_cause, cause_by_refusal,
 ghost use Rattle.stun_endpoint.specs.code.Refusing.{unauthorized_cause, verdict_under_none};
 ghost use Rattle.stun_extra.specs.Unknown.{unknown_types};
 
-use crate::responder::read;
 use crate::server::Server;
 use crate::server::judges::Judges;
 use crate::unix_time::UnixTime;
@@ -93,7 +92,8 @@ impl<A: Allocator + Copy> Server<A> {
     ) -> Result<Option<Cause>, AllocError>
         ensures cause { IfOk result (λ cause. cause
             ≡ cause_of self.now (realm_of_table users.now) from now bytes.now) }
-        ensures no_memory { is_undropped_request bytes.now ≡ false → IsOk result }
+        ensures no_memory { is_undropped_request self.now.requires_fingerprint bytes.now
+            ≡ false → IsOk result }
     {
         self.cause_by(bytes, from, now, &Judges::Table(&users.auth))
     }
@@ -114,12 +114,10 @@ impl<A: Allocator + Copy> Server<A> {
         ensures cause { IfOk result (λ cause. cause
             ≡ cause_of self.now (realm_of_user self.now (option_copied user.entry)) from now
             bytes.now) }
-        ensures no_memory { is_undropped_request bytes.now ≡ false → IsOk result }
+        ensures no_memory { is_undropped_request self.now.requires_fingerprint bytes.now
+            ≡ false → IsOk result }
     {
-        match user {
-            Some(user) => self.cause_by(bytes, from, now, &Judges::User(&self.auth, user)),
-            None => self.cause_by(bytes, from, now, &Judges::Table(&self.auth)),
-        }
+        self.cause_by(bytes, from, now, &self.judges(user))
     }
 
     /// Why a datagram is refused, if it is.
@@ -132,9 +130,10 @@ impl<A: Allocator + Copy> Server<A> {
     ) -> Result<Option<Cause>, AllocError>
         ensures cause { IfOk result (λ cause. cause
             ≡ cause_of self.now (realm_of judges.now) from now bytes.now) }
-        ensures no_memory { is_undropped_request bytes.now ≡ false → IsOk result }
+        ensures no_memory { is_undropped_request self.now.requires_fingerprint bytes.now
+            ≡ false → IsOk result }
     {
-        match read(bytes) {
+        match self.read(bytes) {
             Ok((message, _)) => self.cause_by_class(&message, from, now, judges),
             Err(_) => Ok(None),
         }

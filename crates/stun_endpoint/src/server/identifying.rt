@@ -1,7 +1,7 @@
 //! The two steps of a server whose users are looked up elsewhere (RFC 8489, section 9.2.4).
 
 ghost use Rattle.std.specs.Option.{is_some, option_copied, option_map};
-ghost use Rattle.std.specs.Prelude.{◌≡◌, ◌&&◌, [], IfOk, IsOk, Some, false, not};
+ghost use Rattle.std.specs.Prelude.{◌≡◌, ◌&&◌, [], IfOk, IsOk, None, Some, false, not};
 ghost use Rattle.std.specs.Str.{bytes_eq};
 ghost use Rattle.stun_auth.specs.Handed.{named_seen};
 ghost use Rattle.stun_auth.specs.Judged.{client_judged};
@@ -16,17 +16,14 @@ ghost use Rattle.stun_endpoint.specs.Lookups.{identified_by, is_ready, nonces_of
 ghost use Rattle.stun_endpoint.specs.Lookups.{waiting_by_class, waits_for};
 ghost use Rattle.stun_endpoint.specs.Nonces.{epoch_of, nonce_in};
 ghost use Rattle.stun_endpoint.specs.Outcomes.{outcome_of};
-ghost use Rattle.stun_endpoint.specs.Received.{is_wrong, received_by};
-ghost use Rattle.stun_endpoint.specs.Responding.{is_undropped_request};
+ghost use Rattle.stun_endpoint.specs.Received.{received_by};
+ghost use Rattle.stun_endpoint.specs.Responding.{drop_reason, is_undropped_request};
 ghost use Rattle.stun_endpoint.specs.Settings.{registered_of};
 ghost use Rattle.stun_endpoint.specs.code.Judges.{realm_of};
 ghost use Rattle.stun_endpoint.specs.code.Waiting.{IsWaiting, is_stale};
-ghost use Rattle.stun_extra.specs.Fingerprint.{fingerprint_in};
-ghost use Rattle.stun_types.specs.Message.{refusal};
 
 use crate::lookup::{Identified, Lookup};
 use crate::received::{DropReason, Received};
-use crate::responder::no_message;
 use crate::server::Server;
 use crate::server::judges::Judges;
 use crate::unix_time::UnixTime;
@@ -34,7 +31,6 @@ use std::alloc::{AllocError, Allocator};
 use std::net::SocketAddr;
 use stun_auth::auth::{Accepted, LongTermServerUser, NamedUser, VerdictRefusal, has_nonce};
 use stun_base::prepared_key::PreparedKey;
-use stun_extra::fingerprint::{Fingerprint, check_fingerprint};
 use stun_types::message::{Message, MessageClass};
 
 /// Whether a verdict says that the nonce is stale.
@@ -74,18 +70,14 @@ impl<A: Allocator + Copy> Server<A> {
     ) -> Result<Identified<'a, A>, AllocError>
         ensures identified { IfOk result (λ identified. identification_of identified
             ≡ identified_by self.now from now bytes.now) }
-        ensures no_memory { is_undropped_request bytes.now ≡ false → IsOk result }
+        ensures no_memory { is_undropped_request self.now.requires_fingerprint bytes.now
+            ≡ false → IsOk result }
     {
-        let Ok(message) = Message::from_bytes(bytes) else {
-            return Ok(Identified::Done(Received::Dropped(no_message(bytes))));
-        };
-        match check_fingerprint(&message) {
-            Fingerprint::Wrong => {
-                Ok(Identified::Done(Received::Dropped(DropReason::WrongFingerprint)))
+        match self.read(bytes) {
+            Ok((message, has_fingerprint)) => {
+                self.identified(message, from, now, has_fingerprint)
             }
-            Fingerprint::Right => self.identified(message, from, now, true),
-            Fingerprint::Misplaced => self.identified(message, from, now, false),
-            Fingerprint::Absent => self.identified(message, from, now, false),
+            Err(reason) => Ok(Identified::Done(Received::Dropped(reason))),
         }
     }
 
@@ -106,13 +98,11 @@ impl<A: Allocator + Copy> Server<A> {
             ≡ received_by self.now (realm_of_user self.now (option_copied user.entry))
             lookup.entry.from lookup.entry.arrived lookup.entry.message) }
     {
-        match user {
-            Some(user) => self.resumed(lookup, &Judges::User(&self.auth, user)),
-            None => self.resumed(lookup, &Judges::Table(&self.auth)),
-        }
+        self.resumed(lookup, &self.judges(user))
     }
 
-    /// What a message comes to that is read, and has no wrong FINGERPRINT.
+    /// What a message comes to that is not dropped.
+    #[tactic(auto, using(crate::proofs::DroppedLemmas::undropped_anywhere))]
     fn identified<'a>(
         &'a self,
         message: Message<'a>,
@@ -120,8 +110,7 @@ impl<A: Allocator + Copy> Server<A> {
         now: UnixTime,
         has_fingerprint: bool,
     ) -> Result<Identified<'a, A>, AllocError>
-        requires read { is_some (refusal message) ≡ false }
-        requires right { is_wrong (fingerprint_in message) ≡ false }
+        requires undropped { drop_reason self.now.requires_fingerprint message ≡ None }
         requires fingerprint { has_fingerprint ≡ is_fingerprinted message }
         ensures identified { IfOk result (λ identified. identification_of identified
             ≡ identified_as self.now from now message.entry
@@ -144,6 +133,7 @@ impl<A: Allocator + Copy> Server<A> {
         now: UnixTime,
         has_fingerprint: bool,
     ) -> Result<Identified<'a, A>, AllocError>
+        requires undropped { drop_reason self.now.requires_fingerprint message ≡ None }
         requires waits { IsWaiting message }
         requires fingerprint { has_fingerprint ≡ is_fingerprinted message }
         ensures { IfOk result (λ identified. identification_of identified
@@ -275,7 +265,7 @@ impl<A: Allocator + Copy> Server<A> {
     }
 
     /// What the request of a look-up comes to.
-    #[tactic(auto, using(crate::proofs::JudgementLemmas::waiting_received))]
+    #[tactic(auto, using(crate::proofs::JudgementLemmas::resumed_received, crate::proofs::JudgementLemmas::resumed_dropped))]
     fn resumed<'a>(
         &self,
         lookup: Lookup<'a>,
@@ -285,10 +275,21 @@ impl<A: Allocator + Copy> Server<A> {
             ≡ received_by self.now (realm_of judges.now) lookup.entry.from lookup.entry.arrived
             lookup.entry.message) }
     {
-        let from = lookup.from();
+        let from = lookup.source();
         let now = lookup.arrived();
         let has_fingerprint = lookup.has_fingerprint();
         let message = lookup.into_message();
+        // The server that made the look-up may not have required it.
+        if self.lacks_fingerprint(has_fingerprint) {
+            return Ok(Received::Dropped(DropReason::MissingFingerprint));
+        }
         self.request(message, from, now, judges, has_fingerprint)
+    }
+
+    /// Whether a message is dropped because it has no FINGERPRINT.
+    fn lacks_fingerprint(&self, has_fingerprint: bool) -> bool
+        ensures { result ≡ (self.now.requires_fingerprint && not has_fingerprint) }
+    {
+        self.responder.requires_fingerprint() && !has_fingerprint
     }
 }

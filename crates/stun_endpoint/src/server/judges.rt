@@ -1,11 +1,13 @@
 //! By whom a request is judged: a table of users, or one user.
 
+ghost use Rattle.std.specs.Option.{option_copied};
 ghost use Rattle.std.specs.Prelude.{◌≡◌, IfOk};
 ghost use Rattle.stun_auth.specs.Judged.{HasVerifyingKey, client_judged};
 ghost use Rattle.stun_auth.specs.Reading.{reading_of};
-ghost use Rattle.stun_endpoint.specs.Judged.{verdict_under};
+ghost use Rattle.stun_endpoint.specs.Judged.{realm_of_user, verdict_under};
 ghost use Rattle.stun_endpoint.specs.code.Judges.{realm_of};
 
+use crate::server::Server;
 use std::alloc::Allocator;
 use stun_auth::auth::{Accepted, LongTermServerAuth, LongTermServerUser, VerdictRefusal};
 use stun_types::message::Message;
@@ -34,6 +36,18 @@ impl<'a, A: Allocator + Copy> Judges<'a, A> {
         match self {
             Judges::Table(table) => table.judge(message, nonce),
             Judges::User(realm, user) => realm.judge_of(message, nonce, user),
+        }
+    }
+}
+
+impl<A: Allocator + Copy> Server<A> {
+    /// By what the requests of one user are judged, or of nobody.
+    pub(crate) fn judges<'a>(&'a self, user: Option<&'a LongTermServerUser<A>>) -> Judges<'a, A>
+        ensures { realm_of result ≡ realm_of_user self.now (option_copied user.entry) }
+    {
+        match user {
+            Some(user) => Judges::User(&self.auth, user),
+            None => Judges::Table(&self.auth),
         }
     }
 }

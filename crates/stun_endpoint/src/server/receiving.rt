@@ -1,7 +1,8 @@
 //! What a datagram comes to (RFC 8489, sections 6.3 and 9.2.4).
 
 ghost use Rattle.std.specs.Option.{option_copied};
-ghost use Rattle.std.specs.Prelude.{◌≡◌, IfOk, IsOk, false, if◌then◌else◌};
+ghost use Rattle.std.specs.Prelude.{◌≡◌, IfErr, IfOk, IsOk, None, Some, false};
+ghost use Rattle.std.specs.Prelude.{if◌then◌else◌};
 ghost use Rattle.stun_auth.specs.Algorithms.{contains};
 ghost use Rattle.stun_auth.specs.Nonces.{asks_for_algorithms};
 ghost use Rattle.stun_auth.specs.Reading.{reading_of};
@@ -14,14 +15,14 @@ ghost use Rattle.stun_endpoint.specs.Outcomes.{outcome_of};
 ghost use Rattle.stun_endpoint.specs.Received.{by_class, by_verdict, dropped, indicated};
 ghost use Rattle.stun_endpoint.specs.Received.{is_empty, outcome_of_accepted, received_by};
 ghost use Rattle.stun_endpoint.specs.Received.{responding_of, signature_for};
-ghost use Rattle.stun_endpoint.specs.Responding.{is_undropped_request, own_answer, reply_by};
+ghost use Rattle.stun_endpoint.specs.Responding.{drop_reason, is_undropped_request, own_answer};
+ghost use Rattle.stun_endpoint.specs.Responding.{reply_by};
 ghost use Rattle.stun_endpoint.specs.code.Judgements.{by_judgement};
 ghost use Rattle.stun_endpoint.specs.code.Judges.{realm_of};
 ghost use Rattle.stun_extra.specs.Unknown.{unknown_types};
 
 use crate::received::{Answer, DropReason, Received, Request};
 use crate::reply::{Reply, Signature};
-use crate::responder::no_message;
 use crate::server::Server;
 use crate::server::judges::Judges;
 use crate::unix_time::UnixTime;
@@ -30,7 +31,6 @@ use std::alloc::{AllocError, Allocator};
 use std::net::SocketAddr;
 use stun_auth::auth::{Accepted, LongTermServerUser, VerdictRefusal};
 use stun_base::prepared_key::PreparedKey;
-use stun_extra::fingerprint::{Fingerprint, check_fingerprint};
 use stun_types::message::{Message, MessageClass, deciding_algorithm};
 
 impl<A: Allocator + Copy> Server<A> {
@@ -39,7 +39,8 @@ impl<A: Allocator + Copy> Server<A> {
     /// `from` is the address that it came from. An IPv4 address is the same in both spellings,
     /// `a.b.c.d` and `::ffff:a.b.c.d`. `users` are the users at this time.
     ///
-    /// - Bytes that are no message, or have a wrong FINGERPRINT, are dropped.
+    /// - Bytes are dropped that are no message, whose FINGERPRINT is wrong, is not the last attribute
+    ///   or does not have 4 bytes, or that have no FINGERPRINT if the settings require one.
     /// - A request is judged first, and its attributes are looked at then. It gets a 401 if it is not
     ///   signed, or not by one of these users; a 438 if its nonce is not accepted, or a 401 if that
     ///   has other security bits; a 400 if it is malformed, or its algorithms are not those that were
@@ -59,7 +60,8 @@ impl<A: Allocator + Copy> Server<A> {
     ) -> Result<Received<'a, A>, AllocError>
         ensures received { IfOk result (λ received. outcome_of received
             ≡ received_by self.now (realm_of_table users.now) from now bytes.now) }
-        ensures no_memory { is_undropped_request bytes.now ≡ false → IsOk result }
+        ensures no_memory { is_undropped_request self.now.requires_fingerprint bytes.now
+            ≡ false → IsOk result }
     {
         self.received(bytes, from, now, &Judges::Table(&users.auth))
     }
@@ -80,12 +82,22 @@ impl<A: Allocator + Copy> Server<A> {
         ensures received { IfOk result (λ received. outcome_of received
             ≡ received_by self.now (realm_of_user self.now (option_copied user.entry)) from now
             bytes.now) }
-        ensures no_memory { is_undropped_request bytes.now ≡ false → IsOk result }
+        ensures no_memory { is_undropped_request self.now.requires_fingerprint bytes.now
+            ≡ false → IsOk result }
     {
-        match user {
-            Some(user) => self.received(bytes, from, now, &Judges::User(&self.auth, user)),
-            None => self.received(bytes, from, now, &Judges::Table(&self.auth)),
-        }
+        self.received(bytes, from, now, &self.judges(user))
+    }
+
+    /// Reads a datagram. Returns the message and whether it has a right FINGERPRINT, or why the
+    /// datagram is dropped.
+    pub(crate) fn read<'a>(&self, bytes: &'a [u8]) -> Result<(Message<'a>, bool), DropReason>
+        ensures read { IfOk result (λ read. (read.0 ≡ bytes.now)
+            × (read.1 ≡ is_fingerprinted bytes.now)
+            × (drop_reason self.now.requires_fingerprint bytes.now ≡ None)) }
+        ensures dropped { IfErr result (λ reason.
+            drop_reason self.now.requires_fingerprint bytes.now ≡ Some reason) }
+    {
+        self.responder.read(bytes)
     }
 
     /// What a datagram comes to.
@@ -98,16 +110,14 @@ impl<A: Allocator + Copy> Server<A> {
     ) -> Result<Received<'a, A>, AllocError>
         ensures received { IfOk result (λ received. outcome_of received
             ≡ received_by self.now (realm_of judges.now) from now bytes.now) }
-        ensures no_memory { is_undropped_request bytes.now ≡ false → IsOk result }
+        ensures no_memory { is_undropped_request self.now.requires_fingerprint bytes.now
+            ≡ false → IsOk result }
     {
-        let Ok(message) = Message::from_bytes(bytes) else {
-            return Ok(Received::Dropped(no_message(bytes)));
-        };
-        match check_fingerprint(&message) {
-            Fingerprint::Wrong => Ok(Received::Dropped(DropReason::WrongFingerprint)),
-            Fingerprint::Right => self.by_class(message, from, now, judges, true),
-            Fingerprint::Misplaced => self.by_class(message, from, now, judges, false),
-            Fingerprint::Absent => self.by_class(message, from, now, judges, false),
+        match self.read(bytes) {
+            Ok((message, has_fingerprint)) => {
+                self.by_class(message, from, now, judges, has_fingerprint)
+            }
+            Err(reason) => Ok(Received::Dropped(reason)),
         }
     }
 

@@ -71,6 +71,8 @@ pub struct LongTerm<A: Allocator = Global> {
     pub software: Option<String<A>>,
     /// Whether an accepted Binding request gets its response without you.
     pub answers_binding: bool,
+    /// Whether a message without FINGERPRINT is dropped (section 7.3).
+    pub requires_fingerprint: bool,
 }
 
 /// Why a server is not built.
@@ -96,7 +98,7 @@ pub enum BuildError {
 
 impl<A: Allocator + Copy> LongTerm<A> {
     /// Returns the settings of a realm with this secret: both algorithms, hashed names, nonces of one
-    /// hour, no further attributes, no SOFTWARE, and Binding requests for you.
+    /// hour, no further attributes, no SOFTWARE, Binding requests for you, and no FINGERPRINT required.
     pub fn new(alloc: A, realm: String<A>, secret: [u8; 32]) -> LongTerm<A>
         ensures realm { result.realm ≡ realm }
         ensures secret { result.secret ≡ secret }
@@ -106,6 +108,7 @@ impl<A: Allocator + Copy> LongTerm<A> {
         ensures lifetime { result.nonce_lifetime ≡ DEFAULT_NONCE_LIFETIME }
         ensures others { (result.understood.items ≡ []) × (result.software ≡ None) }
         ensures binding { result.answers_binding ≡ false }
+        ensures fingerprint { result.requires_fingerprint ≡ false }
     {
         LongTerm {
             realm,
@@ -118,6 +121,7 @@ impl<A: Allocator + Copy> LongTerm<A> {
             understood: Vec::new(alloc),
             software: None,
             answers_binding: false,
+            requires_fingerprint: false,
         }
     }
 
@@ -212,6 +216,7 @@ impl<A: Allocator + Copy> Server<A> {
           known = settings.understood.items ++ STUN_ATTRIBUTES;
           software = option_map string_bytes settings.software;
           answers_binding = settings.answers_binding;
+          requires_fingerprint = settings.requires_fingerprint;
         }) }
     {
         if let Some(refusal) = settings.refusal() {
@@ -236,10 +241,17 @@ impl<A: Allocator + Copy> Server<A> {
           known = settings.understood.items ++ STUN_ATTRIBUTES;
           software = option_map string_bytes settings.software;
           answers_binding = settings.answers_binding;
+          requires_fingerprint = settings.requires_fingerprint;
         }) }
     {
         let known = with_stun_attributes(settings.understood)?;
-        let responder = Responder::of(alloc, known, settings.software, settings.answers_binding);
+        let responder = Responder::of(
+            alloc,
+            known,
+            settings.software,
+            settings.answers_binding,
+            settings.requires_fingerprint,
+        );
         let auth = empty_realm(
             alloc,
             settings.realm,

@@ -37,7 +37,7 @@ fn counted<L: Ledger, A: Allocator + Copy>(
 
 /// Polls, and counts what is read.
 fn poll(agent: &mut StunAgent, now: Instant) -> StunAgentPollRet {
-    counted::<Brand, _>(agent, now, Blank::new(1))
+    counted::<Brand, _>(agent, now, Blank::new(2))
 }
 
 fn udp_agent(alloc: Global) -> StunAgent {

@@ -5,6 +5,7 @@ mod respond;
 mod settings;
 
 use super::stage::Stage;
+use super::words::drawn;
 use super::{Answer, Heap, OUT_OF_MEMORY};
 use crate::exported::stun_base::instant::Instant;
 use crate::exported::stun_endpoint::reply::Reply;
@@ -33,7 +34,7 @@ impl Endpoint<'_> {
     /// Creates the settings for an empty realm, without a server.
     pub fn new() -> Self {
         Endpoint {
-            settings: LongTerm::new(Global, HeapString::new(Global), [0; 32]),
+            settings: LongTerm::new(Global, HeapString::new(Global), drawn(1)),
             built: None,
             reply: None,
         }

@@ -10,9 +10,9 @@ ghost use Rattle.stun_agent.specs.code.Tree.{items, half_items, fork_items, IsOr
 ghost use Rattle.stun_agent.specs.code.Tree.{IsOrderedHalf, IsOrderedFork, IsTimed, IsTimedHalf};
 ghost use Rattle.stun_agent.specs.code.Tree.{IsTimedFork};
 
-use crate::calls::poll::reads::Uncounted;
-use crate::state::awaited::Awaited;
+use crate::calls::uncounted::Uncounted;
 use crate::state::transaction::Change;
+use crate::state::tree::awaited::Awaited;
 use crate::state::tree::{Fork, Half, Leaf, Link, middle};
 use std::alloc::Allocator;
 use stun_base::instant::Instant;

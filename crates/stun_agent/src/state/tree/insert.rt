@@ -7,7 +7,7 @@ ghost use Rattle.stun_agent.specs.code.Tree.{items, half_items, fork_items, IsPl
 ghost use Rattle.stun_agent.specs.code.Tree.{IsLeaf, IsOrdered, IsOrderedHalf, IsOrderedFork};
 ghost use Rattle.stun_agent.specs.code.Tree.{IsTimed, IsTimedHalf, IsTimedFork};
 
-use crate::state::awaited::Awaited;
+use crate::state::tree::awaited::Awaited;
 use crate::state::tree::{Fork, Half, Leaf, Link, middle};
 use std::alloc::{AllocError, Allocator};
 use std::mem;
@@ -68,15 +68,38 @@ fn insert_below<A: Allocator + Copy>(
     let Link::Fork(before, fork) = link else {
         return Ok(());
     };
-    let fork = &mut **fork;
+    insert_into(fork, low, high, alloc, awaited, leaf)?;
+    before.join(awaited);
+    Ok(())
+}
+
+/// Like `insert`, but for the requests below a fork.
+#[cycle(insert)]
+fn insert_into<A: Allocator + Copy>(
+    fork: &mut Fork<A>,
+    low: u128,
+    high: u128,
+    alloc: A,
+    awaited: &Awaited,
+    leaf: Box<Leaf<A>, A>,
+) -> Result<(), AllocError>
+    requires wide { low + 2 ≤ high }
+    requires ordered { IsOrderedFork low high fork.old }
+    requires placed { IsPlaced low high leaf.value }
+    requires absent { at leaf.value.0 (fork_items fork.old) ≡ None }
+    ensures ok { OnOk result
+        (fork_items fork.new ≡ with leaf.value.0 leaf.value.1 (fork_items fork.old)) }
+    ensures err { OnErr result (fork_items fork.new ≡ fork_items fork.old) }
+    ensures ordered { IsOrderedFork low high fork.new }
+    ensures timed { (transport : TransportType) → awaited.now ≡ awaited_by transport leaf.value.1
+        → IsTimedFork transport fork.old → IsTimedFork transport fork.new }
+{
     let middle = middle(low, high);
     if leaf.id.as_u128() < middle {
-        insert_in(&mut fork.left, low, middle, alloc, awaited, leaf)?;
+        insert_in(&mut fork.left, low, middle, alloc, awaited, leaf)
     } else {
-        insert_in(&mut fork.right, middle, high, alloc, awaited, leaf)?;
+        insert_in(&mut fork.right, middle, high, alloc, awaited, leaf)
     }
-    *before = fork.awaited();
-    Ok(())
 }
 
 /// Like `insert`, but for the requests below a half of a fork.

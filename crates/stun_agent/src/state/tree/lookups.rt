@@ -1,12 +1,13 @@
-//! Finds requests in a tree: the one with an ID, and the one to send again.
+//! Finds requests in a tree without a count: the one with an ID, and the one to send again.
 ghost use Rattle.std.specs.Prelude.{◌≡◌};
 ghost use Rattle.std.specs.Option.{option_map, option_copied};
 ghost use Rattle.stun_base.specs.declared.wire.transport.TransportType.{TransportType};
 ghost use Rattle.stun_agent.specs.Transactions.{at, next_sent};
+ghost use Rattle.stun_agent.specs.code.Awaited.{awaited_of, first_awaited};
 ghost use Rattle.stun_agent.specs.code.Tree.{items, half_items, IsOrdered, IsOrderedHalf};
 ghost use Rattle.stun_agent.specs.code.Tree.{IsTimed, IsTimedHalf};
 
-use crate::calls::poll::reads::Uncounted;
+use crate::calls::uncounted::Uncounted;
 use crate::state::transaction::Transaction;
 use crate::state::tree::{Half, Link, middle};
 use std::alloc::Allocator;
@@ -20,6 +21,7 @@ pub(crate) fn get<A: Allocator>(
     low: u128,
     high: u128,
     id: TransactionId,
+    leave: Uncounted,
 ) -> Option<&Transaction<A>>
     requires { IsOrdered low high link.now }
     ensures { option_copied result ≡ at id (items link.now) }
@@ -36,9 +38,9 @@ pub(crate) fn get<A: Allocator>(
         Link::Fork(_, fork) => {
             let middle = middle(low, high);
             if id.as_u128() < middle {
-                get_in(&fork.left, low, middle, id)
+                get_in(&fork.left, low, middle, id, leave)
             } else {
-                get_in(&fork.right, middle, high, id)
+                get_in(&fork.right, middle, high, id, leave)
             }
         }
     }
@@ -51,16 +53,25 @@ fn get_in<A: Allocator>(
     low: u128,
     high: u128,
     id: TransactionId,
+    leave: Uncounted,
 ) -> Option<&Transaction<A>>
     requires { IsOrderedHalf low high half.now }
     ensures { option_copied result ≡ at id (half_items half.now) }
 {
     let middle = middle(low, high);
     if id.as_u128() < middle {
-        get(&half.left, low, middle, id)
+        get(&half.left, low, middle, id, leave)
     } else {
-        get(&half.right, middle, high, id)
+        get(&half.right, middle, high, id, leave)
     }
+}
+
+/// Returns the earliest time that a request awaits.
+pub(crate) fn next_awaited<A: Allocator>(link: &Link<A>, _leave: Uncounted) -> Option<Instant>
+    ensures { (transport : TransportType) → IsTimed transport link.now
+        → result ≡ first_awaited (awaited_of transport (items link.now)) }
+{
+    link.awaited().earliest()
 }
 
 /// Returns the request with the least ID among those that are due and still retransmitted.

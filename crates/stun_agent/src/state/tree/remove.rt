@@ -9,8 +9,8 @@ ghost use Rattle.stun_agent.specs.code.Tree.{items, half_items, fork_items, firs
 ghost use Rattle.stun_agent.specs.code.Tree.{IsLone, IsOrdered, IsOrderedHalf, IsOrderedFork};
 ghost use Rattle.stun_agent.specs.code.Tree.{IsTimed, IsTimedHalf, IsTimedFork};
 
-use crate::state::awaited::Awaited;
 use crate::state::transaction::Transaction;
+use crate::state::tree::awaited::Awaited;
 use crate::state::tree::{Fork, Half, Link, middle};
 use std::alloc::Allocator;
 use std::mem;

@@ -1,9 +1,8 @@
--- A text past its limit is refused, and a list of algorithms is the one of their digests.
+-- A text past its limit is refused.
 use Rattle.std.proofs.Common.{Err, ap, ◌∙◌}
 use Rattle.std.proofs.lemmas.Result.{err_from_is_err_and}
 use Rattle.stun_auth.specs.AddedAttribute.{nonce, realm, username}
-use Rattle.stun_auth.proofs.AdditionLemmas.{all_named_again, long_nonce}
-use Rattle.stun_auth.proofs.AdditionLemmas.{long_realm, long_username, too_long}
+use Rattle.stun_auth.proofs.AdditionLemmas.{long_nonce, long_realm, long_username, too_long}
 use Rattle.stun_client.proofs.addition.add.Goals as goal
 
 pub returns-in_err-new-in-Nonce-clause-added : goal.returns-in_err-new-in-Nonce-clause-added
@@ -45,11 +44,3 @@ returns-in_err-new-in-Username-clause-added g c =
       refused.1,
       c.in-Username.is,
     ) (too_long (username c.in-Username.text.now) _ _ _ _ refused.0 (refused.2 ∙ is_large) long)
-
-pub returns-in-PasswordAlgorithms-clause-added : goal.returns-in-PasswordAlgorithms-clause-added
-returns-in-PasswordAlgorithms-clause-added g c =
-    rw (
-      c.in-PasswordAlgorithms.is,
-      all_named_again c.in-PasswordAlgorithms.list.now,
-      ← c.new-in-PasswordAlgorithms.ensures,
-    ) c.add_made-in-PasswordAlgorithms.ensures.added

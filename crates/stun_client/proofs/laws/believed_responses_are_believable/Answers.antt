@@ -1,6 +1,9 @@
--- What is believed may be.
-use Rattle.stun_client.proofs.JudgingLemmas.{believable}
+-- What is believed may be, and has no faulty FINGERPRINT.
+use Rattle.stun_client.proofs.JudgingLemmas.{believable, faultless}
 use Rattle.stun_client.proofs.laws.believed_responses_are_believable.Goals as goal
 
-pub returns : goal.returns
-returns c = λ identity standing before bytes by is. believable identity standing before bytes by is
+pub returns-clause-signed : goal.returns-clause-signed
+returns-clause-signed c = believable
+
+pub returns-clause-whole : goal.returns-clause-whole
+returns-clause-whole c = faultless

@@ -14,10 +14,6 @@ returns c = signed_are_accepted (record {
     page_after (additions_of a) (record { bytes = message; room = room }),
     c.signing_succeeds_with_room.ensures.succeeds a message room unsigned within fits,
   );
-  text = λ s words.
-      c.nonces_ask_for_what_is_supported.ensures.text s.algorithms s.feature words;
-  asks = λ s words.
-      c.nonces_ask_for_what_is_supported.ensures.algorithms s.algorithms s.feature words;
-  short = λ s words.
-      c.nonces_ask_for_what_is_supported.ensures.short s.algorithms s.feature words;
+  text = c.nonces_have_the_bits_of_their_server.ensures.text;
+  short = c.nonces_have_the_bits_of_their_server.ensures.short;
 })

@@ -5,8 +5,8 @@ use Rattle.stun_endpoint.proofs.RunLemmas.{run_leaves_nothing}
 use Rattle.stun_endpoint.proofs.laws.datagrams_are_a_run_of_calls.Goals as goal
 
 pub returns-clause-verdicts : goal.returns-clause-verdicts
-returns-clause-verdicts c = λ s clock datagrams within. run_is_judging s clock within datagrams
-    fin.empty
+returns-clause-verdicts c = λ s clock datagrams uses within. run_is_judging s clock within uses
+    datagrams fin.empty
 
 pub returns-clause-left : goal.returns-clause-left
 returns-clause-left c = λ s clock datagrams within. run_leaves_nothing s clock within datagrams

@@ -2,7 +2,6 @@
 use Rattle.std.proofs.Common.{◌∙◌, subst, rules}
 use Rattle.std.specs.Prelude.{string_bytes}
 use Rattle.stun_inspect.specs.Decode.{AreLinesOn}
-use Rattle.stun_inspect.specs.Telling.{told_attributes}
 use Rattle.stun_inspect.proofs.decode.describe.Goals as goal
 
 pub returns : goal.returns
@@ -11,10 +10,7 @@ returns g c =
       string_bytes c.in_ok-text.text,
       lines,
       c.in_ok-text.ensures,
-      subst (λ message. AreLinesOn message (told_attributes c.args.message.now) lines)
-          c.as_bytes-bytes.ensures.bytes
-          (subst (λ told. AreLinesOn c.as_bytes-bytes.result.now told lines)
-          (c.as_slice.ensures.value ∙ c.in_ok-told.ensures.told)
-          c.in_ok-lines.ensures),
+      subst (λ told. AreLinesOn c.args.bytes.now told lines)
+          (c.as_slice.ensures.value ∙ c.in_ok-told.ensures.told) c.in_ok-lines.ensures,
       search rules,
     )

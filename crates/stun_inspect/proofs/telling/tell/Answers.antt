@@ -12,7 +12,7 @@ use Rattle.stun_inspect.proofs.telling.tell.Goals as goal
 pub loop-attribute-init : goal.loop-attribute-init
 loop-attribute-init g c =
     let none =
-    before-walk_from HEADER_LENGTH HEADER_LENGTH c.as_bytes-bytes.result.now (omega arith) in
+    before-walk_from HEADER_LENGTH HEADER_LENGTH c.args.bytes.now (omega arith) in
     record {
       passed = rw none refl;
       seen = rw none refl;
@@ -22,7 +22,7 @@ loop-attribute-init g c =
 pub loop-attribute-preserved : goal.loop-attribute-preserved
 loop-attribute-preserved g c =
     let at = c.loop-attribute in
-    let stands : StandsAt at.place c.as_bytes-bytes.result.now c.in-Some.attribute
+    let stands : StandsAt at.place c.args.bytes.now c.in-Some.attribute
     c.get_type-kind.result.0 (at.place + c.padded_len-length.result) = record {
       whole = c.in-Some.ensures.whole;
       attribute_is = c.in-Some.ensures.value;
@@ -42,15 +42,14 @@ loop-attribute-preserved g c =
 pub returns-clause-told : goal.returns-clause-told
 returns-clause-told g c =
     let at = c.loop-attribute in
-    let bytes = c.as_bytes-bytes.result.now in
+    let bytes = c.args.bytes.now in
     let front = before at.place (walk bytes) in
     let whole : front ≡ walk bytes =
     sym (append-nil front)
     ∙ (ap (λ ms. front ++ ms) (sym (walk_from-end at.place bytes c.in_default.ensures.none))
     ∙ at.invariant.passed) in
-    rw (sym c.as_bytes-bytes.ensures.bytes)
-    (at.invariant.so_far ∙ ap (map (told_at (walk bytes))) whole)
+    at.invariant.so_far ∙ ap (map (told_at (walk bytes))) whole
 
 pub returns-clause-visible : goal.returns-clause-visible
 returns-clause-visible g c =
-    ap unhidden_members (returns-clause-told g c) ∙ unhidden_members-visible c.args.message.now
+    ap unhidden_members (returns-clause-told g c) ∙ unhidden_members-visible c.args.bytes.now

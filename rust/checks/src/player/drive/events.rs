@@ -11,7 +11,7 @@ use crate::player::values::{short_number, transaction_id};
 use crate::player::words::{address, hex, span};
 use std::net::SocketAddr;
 
-/// Parses an event. All messages go to the usual peer or come from it.
+/// Parses an event. All messages go to the usual peer or come from it, but those of `take-from`.
 pub fn event(stage: &Stage<'_>, words: &[&str]) -> Option<AgentEvent> {
     let message = |words| HeapVec::from_slice(Global, &stage.message(words)?).ok();
     let peer = usual_peer();
@@ -27,6 +27,10 @@ pub fn event(stage: &Stage<'_>, words: &[&str]) -> Option<AgentEvent> {
         ["take", words @ ..] => AgentEvent::Receive {
             bytes: message(words)?,
             from: peer,
+        },
+        ["take-from", from, words @ ..] => AgentEvent::Receive {
+            bytes: message(words)?,
+            from: address(from)?,
         },
         ["cancel", id] => AgentEvent::Cancel(transaction_id(id)?),
         ["cancel-retransmissions", id] => AgentEvent::CancelRetransmissions(transaction_id(id)?),

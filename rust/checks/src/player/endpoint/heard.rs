@@ -2,6 +2,7 @@
 
 use super::seconds;
 use crate::exported::stun_endpoint::received::{Answer as Sent, Received, Request};
+use crate::exported::stun_extra::canonical_address::canonical;
 use crate::exported::stun_types::message::Message;
 use crate::player::stage::Stage;
 use crate::player::{Answer, Heap, OUT_OF_MEMORY};
@@ -50,7 +51,7 @@ fn request_text(request: &Request<'_, &Heap>, bytes: &[u8], from: SocketAddr) ->
     let (message, reply) = (request.message(), request.reply());
     let is_of_request = message.as_bytes() == bytes
         && request.method() == message.method()
-        && request.from() == from;
+        && request.from() == canonical(from);
     let is_to_request = reply.to() == from
         && reply.method() == message.method()
         && reply.transaction_id() == message.transaction_id();

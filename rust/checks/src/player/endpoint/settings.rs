@@ -6,15 +6,15 @@ use crate::kit::alloc::Global;
 use crate::kit::prelude::{String as HeapString, Vec as HeapVec};
 use crate::player::Heap;
 use crate::player::stage::Stage;
-use crate::player::words::{secret, span, text, types, yes};
+use crate::player::words::{drawn, secret, span, text, types, yes};
 
-/// Plays a setting: `realm REALM`, which resets all settings, with a secret of zeros; `secret HEX`,
+/// Plays a setting: `realm REALM`, which resets all settings, with a secret of one 1 and zeros; `secret HEX`,
 /// `previous-secret HEX`, `algorithms sha1,sha256`, `hashes yes`, `lifetime SPAN`, `understands
-/// TYPE,TYPE`, `software TEXT` or `binding yes`.
+/// TYPE,TYPE`, `software TEXT`, `binding yes` or `requires-fingerprint yes`.
 pub fn set(settings: &mut LongTerm, name: &str, word: &str) -> Option<()> {
     let owned = |word| HeapString::from(text(word));
     match name {
-        "realm" => *settings = LongTerm::new(Global, owned(word), [0; 32]),
+        "realm" => *settings = LongTerm::new(Global, owned(word), drawn(1)),
         "secret" => settings.secret = secret(word)?,
         "previous-secret" => settings.previous_secret = Some(secret(word)?),
         "algorithms" => {
@@ -30,6 +30,7 @@ pub fn set(settings: &mut LongTerm, name: &str, word: &str) -> Option<()> {
         }
         "software" => settings.software = Some(owned(word)),
         "binding" => settings.answers_binding = yes(word)?,
+        "requires-fingerprint" => settings.requires_fingerprint = yes(word)?,
         _ => return None,
     }
     Some(())
@@ -45,6 +46,7 @@ pub fn on_heap<'a>(stage: &Stage<'a>, settings: &LongTerm) -> Option<LongTerm<&'
     copy.user_hashes = settings.user_hashes;
     copy.nonce_lifetime = settings.nonce_lifetime;
     copy.answers_binding = settings.answers_binding;
+    copy.requires_fingerprint = settings.requires_fingerprint;
     copy.understood = HeapVec::from_slice(stage.heap, &settings.understood).ok()?;
     if let Some(software) = &settings.software {
         copy.software = Some(stage.on_heap(software)?);

@@ -3,11 +3,12 @@ use Rattle.std.proofs.Common.{◌≡◌, ◌+◌, ◌∙◌, None, true, length,
 use Rattle.std.specs.Prelude.{IfOk}
 use Rattle.stun_base.specs.MessageType.{class_in}
 use Rattle.stun_auth.specs.Additions.{WantsMemory, growth, page_in}
-use Rattle.stun_auth.specs.ClientSigning.{challenge_additions}
 use Rattle.stun_auth.specs.ClientStep.{is_required}
 use Rattle.stun_auth.specs.Reading.{error_code, reading_of}
-use Rattle.stun_auth.specs.Signed.{IsUnsigned, ReadsAs, added_under}
+use Rattle.stun_auth.specs.Signed.{IsUnsigned, ReadsAs}
 use Rattle.stun_auth.proofs.Growth.{grown_answer}
+use Rattle.stun_auth.proofs.JoinedLemmas.{WritingLaws}
+use Rattle.stun_client.specs.Challenge.{added_under, challenge_additions}
 use Rattle.stun_client.specs.Challenges.{Answered}
 use Rattle.stun_client.specs.Downgrade.{IsNowhereBidDown}
 use Rattle.stun_client.specs.code.Kept.{challenge_seen}
@@ -32,12 +33,19 @@ returns-clause-reads g c =
     let bytes = g.W.MessageWrite.bytes in
     let room = g.W.MessageWrite.room in
     let kept = challenge_seen c.self.inside.kept in
+    let laws : WritingLaws = record {
+      shown = c.writing_adds_one_attribute.ensures.shown;
+      added = c.writing_adds_one_attribute.ensures.added;
+      opened = c.writing_adds_one_attribute.ensures.open;
+      stands_signed = c.signed_message_stands.ensures.stands;
+      signed = c.signed_message_stands.ensures.added;
+    } in
     subst (λ (v : Answered). IfOk c.signed.result
     (λ signed. IsUnsigned (bytes c.args.writer)
     → ReadsAs (class_in (bytes c.args.writer)) (error_code (bytes c.args.writer))
     (added_under true v.challenge) (reading_of (bytes signed))))
     c.self.view_is
-    (reads_signed c.signed_messages_are_read.ensures bytes room kept c.args.writer c.signed.result
+    (reads_signed laws bytes room kept c.args.writer c.signed.result
     (WantsMemory (challenge_additions true kept) (page_in bytes room c.args.writer)
     (g.W.MessageWrite.reserved c.args.writer))
     c.keeps_texts.ensures c.signed.ensures)
@@ -49,6 +57,13 @@ returns-clause-not_bid_down g c =
     let kept = challenge_seen c.self.inside.kept in
     let class = class_in (bytes c.args.writer) in
     let error = error_code (bytes c.args.writer) in
+    let laws : WritingLaws = record {
+      shown = c.writing_adds_one_attribute.ensures.shown;
+      added = c.writing_adds_one_attribute.ensures.added;
+      opened = c.writing_adds_one_attribute.ensures.open;
+      stands_signed = c.signed_message_stands.ensures.stands;
+      signed = c.signed_message_stands.ensures.added;
+    } in
     subst (λ (v : Answered). IfOk c.signed.result
     (λ signed. IsUnsigned (bytes c.args.writer)
     → IsNowhereBidDown v.preferences (reading_of (bytes signed))))
@@ -58,7 +73,7 @@ returns-clause-not_bid_down g c =
     (λ signed. IsNowhereBidDown c.self.inside.preferences (reading_of (bytes signed)))
     (λ signed reads. c.signed_requests_are_not_bid_down.ensures c.self.inside.preferences
     kept class error (bytes signed) c.self.invariant reads)
-    (reads_signed c.signed_messages_are_read.ensures bytes room kept c.args.writer c.signed.result
+    (reads_signed laws bytes room kept c.args.writer c.signed.result
     (WantsMemory (challenge_additions true kept) (page_in bytes room c.args.writer)
     (g.W.MessageWrite.reserved c.args.writer))
     c.keeps_texts.ensures c.signed.ensures))
@@ -70,6 +85,13 @@ returns-clause-hashed g c =
     let kept = challenge_seen c.self.inside.kept in
     let class = class_in (bytes c.args.writer) in
     let error = error_code (bytes c.args.writer) in
+    let laws : WritingLaws = record {
+      shown = c.writing_adds_one_attribute.ensures.shown;
+      added = c.writing_adds_one_attribute.ensures.added;
+      opened = c.writing_adds_one_attribute.ensures.open;
+      stands_signed = c.signed_message_stands.ensures.stands;
+      signed = c.signed_message_stands.ensures.added;
+    } in
     subst (λ (v : Answered). IfOk c.signed.result
     (λ signed. IsUnsigned (bytes c.args.writer)
     → is_required v.preferences.anonymous_username ≡ true
@@ -80,7 +102,7 @@ returns-clause-hashed g c =
     (λ signed. is_required c.self.inside.preferences.anonymous_username ≡ true
     → (reading_of (bytes signed)).username ≡ None)
     (λ signed reads. λ must. reads.username_is ∙ c.self.invariant.required must)
-    (reads_signed c.signed_messages_are_read.ensures bytes room kept c.args.writer c.signed.result
+    (reads_signed laws bytes room kept c.args.writer c.signed.result
     (WantsMemory (challenge_additions true kept) (page_in bytes room c.args.writer)
     (g.W.MessageWrite.reserved c.args.writer))
     c.keeps_texts.ensures c.signed.ensures))

@@ -21,7 +21,8 @@ returns g c =
     let again : two ≡ nonce_in s s.secret c.args.from (epoch_of s c.args.now) =
     first_of (search rules, grind arith) in
     let same =
-    unnamed_done s c.args.from c.args.now c.args.message one v c.requires.waits none made
+    unnamed_done s c.args.from c.args.now c.args.message one v
+    c.requires.undropped c.requires.waits.request none made
     c.judged_by_nobody-verdict.ensures in
     ap done (c.in_ok-received-in-None.ensures
     ∙ ap (λ n. by_judgement s n c.args.from c.args.message v) (again ∙ sym made) ∙ same)

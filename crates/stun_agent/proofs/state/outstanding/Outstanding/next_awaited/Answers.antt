@@ -1,7 +1,6 @@
 -- The root tells the earliest time that a request awaits.
 use Rattle.std.proofs.Common.{◌∙◌, ap, sym, subst}
 use Rattle.stun_agent.specs.Transactions.{AreKept, next_awaited}
-use Rattle.stun_agent.specs.code.Awaited.{first_awaited}
 use Rattle.stun_agent.specs.code.Transactions.{Outstanding}
 use Rattle.stun_agent.specs.code.Tree.{items}
 use Rattle.stun_agent.proofs.AwaitedLemmas.{next_awaited_is}
@@ -11,8 +10,7 @@ use Rattle.stun_agent.proofs.state.outstanding.Outstanding.next_awaited.Goals as
 pub returns-clause-least : goal.returns-clause-least
 returns-clause-least g c =
     let inside = c.self.inside in
-    c.first.ensures
-    ∙ ap first_awaited (c.awaited.ensures.timed inside.transport c.self.invariant.timed)
+    c.next_awaited.ensures inside.transport c.self.invariant.timed
     ∙ sym (next_awaited_is inside.transport (items inside.root))
     ∙ ap (λ (o : Outstanding). next_awaited o.transport o.requests) c.self.view_is
 

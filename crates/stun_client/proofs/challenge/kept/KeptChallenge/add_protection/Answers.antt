@@ -1,7 +1,7 @@
 -- The choice of the algorithm is added, or refused, and then the digest.
 use Rattle.std.proofs.Common.{Err, ap, ◌∙◌, refl}
 use Rattle.std.proofs.lemmas.Result.{err_from_is_err_and}
-use Rattle.stun_auth.specs.ClientSigning.{algorithm_choice, protection}
+use Rattle.stun_client.specs.Challenge.{algorithm_choice, protection}
 use Rattle.stun_client.specs.code.Kept.{challenge_seen}
 use Rattle.stun_auth.proofs.Wanting.{refused_outcome, then_outcome}
 use Rattle.stun_client.proofs.challenge.kept.KeptChallenge.add_protection.Goals as goal
@@ -10,13 +10,13 @@ pub returns-in_err-add_algorithm_choice : goal.returns-in_err-add_algorithm_choi
 returns-in_err-add_algorithm_choice g c =
     let refused = err_from_is_err_and c.from_residual.result c.from_residual.ensures.1 in
     let kept = challenge_seen c.args.self.now in
-    refused_outcome _ (algorithm_choice kept.algorithms kept.algorithm) (protection kept) _ _ _ _ _
+    refused_outcome _ (algorithm_choice kept.offered kept.algorithm) (protection kept) _ _ _ _ _
     _ _ (refused.1 ∙ ap (λ reason. Err reason) refused.2) refl
     c.in_err-add_algorithm_choice.ensures.added
 
 pub returns : goal.returns
 returns g c =
     let kept = challenge_seen c.args.self.now in
-    then_outcome _ (algorithm_choice kept.algorithms kept.algorithm) (protection kept) _ _ _ _ _ _
+    then_outcome _ (algorithm_choice kept.offered kept.algorithm) (protection kept) _ _ _ _ _ _
     _ refl
     c.in_ok-add_algorithm_choice.ensures.added c.add_integrity.ensures

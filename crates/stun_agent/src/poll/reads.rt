@@ -1,0 +1,111 @@
+//! The count of a poll: how many requests it reads, and at how many links of the tree it looks.
+//! Only `poll_counted` can begin a count. All that is done below it counts under that one.
+ghost use Rattle.std.specs.Prelude.{◌≡◌, ◌≤◌, ◌+◌, Some, codes};
+ghost use Rattle.std.specs.Fmt.{WritesOnOk};
+ghost use Rattle.stun_agent.specs.Agent.{poll_answer, after_poll};
+ghost use Rattle.stun_agent.specs.Deadlines.{early_requests, most_reads, most_looks, IsUnused};
+
+use crate::agent::{StunAgent, StunAgentPollRet};
+use std::alloc::Allocator;
+use std::fmt;
+use std::marker::Model;
+use std::sync::ledger::{Blank, Book, Ledger, Share};
+use stun_base::instant::Instant;
+
+/// The number of requests that a search has read, and the number of links whose times it has looked
+/// at. It takes no memory, and no program can read it.
+///
+/// Contracts: they see it as these two numbers.
+#[derive(Drop)]
+pub struct Reads<L: Ledger> {
+    book: Book<L>,
+    entries: Share<L>,
+    looks: Share<L>,
+}
+
+impl<L: Ledger> Model for Reads<L> {
+    ghost use Rattle.std.specs.Prelude.{◌<◌};
+    ghost use Rattle.stun_agent.specs.Deadlines.{Work};
+
+    ghost Value = { Work };
+
+    ghost view = { λ r. record { entries = r.entries.amount; looks = r.looks.amount } };
+
+    ghost invariant = { λ r. (0 < r.entries.parts) × (0 < r.looks.parts) };
+}
+
+impl<L: Ledger> fmt::Debug for Reads<L> {
+    ghost debug_output = { λ _. Some (codes "Reads") };
+
+    fn fmt<W: fmt::Write>(&self, f: &mut fmt::Formatter<W>) -> fmt::Result
+        ensures { WritesOnOk W.write_str_gives f.old result (codes "Reads") f.new }
+    {
+        f.write_str("Reads")
+    }
+}
+
+impl<L: Ledger> Reads<L> {
+    /// Begins a count at zero, under a ledger that nobody has used.
+    fn new(blank: Blank) -> Self
+        requires { IsUnused blank.name blank.parts L.name L.parts }
+        ensures { result ≡ record { entries = 0; looks = 0 } }
+    {
+        let (book, mut entries) = blank.open();
+        let looks = entries.split_off(1, 0);
+        Reads {
+            book,
+            entries,
+            looks,
+        }
+    }
+
+    /// Counts a request that is read.
+    pub(crate) fn count_entry(&mut self)
+        ensures { self.new ≡ record self.old { entries = self.old.entries + 1 } }
+    {
+        self.book.add(&mut self.entries, 1);
+    }
+
+    /// Counts a link whose times are looked at.
+    pub(crate) fn count_look(&mut self)
+        ensures { self.new ≡ record self.old { looks = self.old.looks + 1 } }
+    {
+        self.book.add(&mut self.looks, 1);
+    }
+}
+
+impl<A: Allocator> StunAgent<A> {
+    /// Like `poll`, but also returns how many requests it read, and at how many links of the tree
+    /// of requests it looked.
+    ///
+    /// The number of requests is at most the number of those that are canceled or whose next
+    /// deadline is at or before `now`, and at most one. A read gives the entry of a request: its
+    /// transaction ID, the time that it awaits, and whether it is still retransmitted. A look gives
+    /// the earliest times of the requests below one link, or the times of one request. A call that
+    /// ends no request looks twice, at the root, and a call that ends one looks at no more than
+    /// four links for each of the 48 levels of the tree, and two more, however many requests are
+    /// outstanding.
+    ///
+    /// The count takes no memory, and no program can read it.
+    ///
+    /// Contracts: they see the count as these two numbers. `poll` is this call under a ledger of
+    /// its own.
+    #[doc(hidden)]
+    pub fn poll_counted<L: Ledger>(
+        &mut self,
+        now: Instant,
+        blank: Blank,
+    ) -> (StunAgentPollRet, Reads<L>)
+        requires { IsUnused blank.name blank.parts L.name L.parts }
+        ensures answer { result.0 ≡ poll_answer now self.old }
+        ensures after { self.new ≡ after_poll now self.old }
+        ensures work { result.1.entries
+            ≤ early_requests self.old.transport now self.old.transactions }
+        ensures path { result.1.entries ≤ most_reads }
+        ensures looks { result.1.looks ≤ most_looks result.1.entries }
+    {
+        let mut reads = Reads::<L>::new(blank);
+        let answer = self.poll_under(now, &mut reads);
+        (answer, reads)
+    }
+}

@@ -1,0 +1,13 @@
+-- It is resumed by the realm of the one user.
+use Rattle.std.proofs.Common.{◌≡◌, subst}
+use Rattle.std.specs.Prelude.{IfOk}
+use Rattle.stun_endpoint.specs.Judged.{Realm}
+use Rattle.stun_endpoint.specs.Outcomes.{outcome_of}
+use Rattle.stun_endpoint.specs.Received.{received_by}
+use Rattle.stun_endpoint.proofs.server.Server.resume.Goals as goal
+
+pub returns : goal.returns
+returns g c =
+    subst (λ (realm : Realm). IfOk c.resumed.result (λ received. outcome_of received
+    ≡ received_by c.args.self.now realm c.args.lookup.from c.args.lookup.arrived
+    c.args.lookup.message)) c.judges.ensures c.resumed.ensures

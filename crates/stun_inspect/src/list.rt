@@ -1,0 +1,171 @@
+//! The command `list`: the line that it prints for a message.
+ghost use Rattle.std.specs.Prelude.{◌≡◌, false, IfOk, string_bytes};
+ghost use Rattle.stun_cli.specs.Line.{has_line_feed, IsLine};
+ghost use Rattle.stun_inspect.specs.Listed.{status_of_refusal};
+ghost use Rattle.stun_types.specs.Message.{refusal};
+
+use crate::decode::{class_name, push_id, push_method_number};
+use crate::registry::{attribute, method_name};
+use crate::telling::{Told, tell};
+use std::alloc::{AllocError, Allocator};
+use stun_base::header::HEADER_LENGTH;
+use stun_cli::line::Line;
+use stun_cli::status::Status;
+use stun_types::attribute::{AttributeType, ErrorCode, RawAttribute};
+use stun_types::message::{Message, MessageHeader, StunParseError};
+use stun_types::prelude::AttributeFromRaw;
+
+/// Returns why the bytes are not a message, or `None` if they are one.
+pub fn refusal_of(bytes: &[u8]) -> Option<StunParseError>
+    ensures { result ≡ refusal bytes.now }
+{
+    match Message::from_bytes(bytes) {
+        Ok(_) => None,
+        Err(error) => Some(error),
+    }
+}
+
+/// Returns how the command ends for a message, or for bytes that are not one.
+pub fn status_of(refusal: Option<StunParseError>) -> Status
+    ensures { result ≡ status_of_refusal refusal }
+{
+    match refusal {
+        None => Status::Good,
+        Some(_) => Status::Bad,
+    }
+}
+
+/// Returns the line for a message, or for bytes that are not one for this reason.
+///
+/// The line has class, method and transaction ID, and the name of each attribute, or its type if
+/// that has no name. After ERROR-CODE it has the code. The line for a truncated message has the
+/// attributes before the cut. Fails if an allocation fails.
+pub fn line_of<A: Allocator + Copy>(
+    alloc: A,
+    bytes: &[u8],
+    refusal: Option<StunParseError>,
+) -> Result<String<A>, AllocError>
+    ensures { IfOk result (λ line. IsLine (string_bytes line)) }
+{
+    let mut line = Line::new(alloc);
+    match refusal {
+        None => push_message(&mut line, alloc, bytes)?,
+        Some(error) => push_refused(&mut line, alloc, bytes, error)?,
+    }
+    line.end()
+}
+
+/// Appends why the bytes are not a message, after what comes before the cut of a truncated one.
+fn push_refused<A: Allocator + Copy>(
+    line: &mut Line<A>,
+    alloc: A,
+    bytes: &[u8],
+    error: StunParseError,
+) -> Result<(), AllocError> {
+    if error == StunParseError::Truncated && bytes.len() >= HEADER_LENGTH {
+        push_message(line, alloc, bytes)?;
+        line.push_str("; ")?;
+    }
+    line.push_str(refusal_text(error))
+}
+
+/// Returns why bytes are not a message.
+fn refusal_text(error: StunParseError) -> &'static str
+    ensures { has_line_feed result.now ≡ false }
+{
+    match error {
+        StunParseError::Truncated => "not a message: truncated",
+        StunParseError::NotStun => "not a message: not stun",
+        StunParseError::TooLarge => "not a message: too large",
+        StunParseError::MissingAttribute(_) => "not a message: missing attribute",
+        StunParseError::InvalidAttributeData => "not a message: malformed attribute",
+    }
+}
+
+/// Appends class, method, transaction ID and attributes of a message, or nothing if its header is
+/// cut.
+fn push_message<A: Allocator + Copy>(
+    line: &mut Line<A>,
+    alloc: A,
+    bytes: &[u8],
+) -> Result<(), AllocError> {
+    let Ok(header) = MessageHeader::from_bytes(bytes) else {
+        return Ok(());
+    };
+    let told = tell(alloc, bytes)?;
+    line.push_str(class_name(header.get_type().class()))?;
+    line.push(' ')?;
+    push_method(line, header.get_type().method().value())?;
+    line.push(' ')?;
+    push_id(line, header.transaction_id())?;
+    push_attributes(line, told.as_slice())
+}
+
+/// Appends the name of a method, or its number if it has no name.
+fn push_method<A: Allocator + Copy>(line: &mut Line<A>, method: u16) -> Result<(), AllocError> {
+    match method_name(method) {
+        "unregistered" => push_method_number(line, method),
+        name => line.push_str(name),
+    }
+}
+
+/// Appends the type of an attribute as four digits in hexadecimal.
+fn push_type<A: Allocator + Copy>(line: &mut Line<A>, number: u16) -> Result<(), AllocError> {
+    let [high, low] = number.to_be_bytes();
+    line.push_str("0x")?;
+    line.push_byte(high)?;
+    line.push_byte(low)
+}
+
+/// Appends a list of attributes.
+fn push_attributes<A: Allocator + Copy>(
+    line: &mut Line<A>,
+    told: &[Told<'_>],
+) -> Result<(), AllocError> {
+    for (index, attribute) in told.iter().enumerate() {
+        line.push_str(separator_before(index))?;
+        push_attribute(line, &attribute.attribute)?;
+    }
+    Ok(())
+}
+
+/// Returns what is printed before the attribute with this index.
+fn separator_before(index: usize) -> &'static str
+    ensures { has_line_feed result.now ≡ false }
+{
+    match index {
+        0 => ": ",
+        _ => ", ",
+    }
+}
+
+/// Appends the name of an attribute, or its type if that has no name, and the code of an
+/// ERROR-CODE.
+fn push_attribute<A: Allocator + Copy>(
+    line: &mut Line<A>,
+    raw: &RawAttribute<'_>,
+) -> Result<(), AllocError> {
+    let kind = raw.get_type();
+    match attribute(kind.value()) {
+        Some(registered) => line.push_str(registered.name)?,
+        None => push_type(line, kind.value())?,
+    }
+    match code_of(raw) {
+        Some(code) => {
+            line.push(' ')?;
+            line.push_number(u64::from(code))
+        }
+        None => Ok(()),
+    }
+}
+
+/// Returns the code of an attribute, if it is a well-formed ERROR-CODE.
+fn code_of(raw: &RawAttribute<'_>) -> Option<u16> {
+    if raw.get_type() != AttributeType::ERROR_CODE {
+        return None;
+    }
+    match ErrorCode::from_raw(RawAttribute::new(AttributeType::ERROR_CODE, raw.value())) {
+        Ok(error) => Some(error.code()),
+        Err(_) => None,
+    }
+}

@@ -1,0 +1,84 @@
+/* reload.h over POSIX threads. */
+#define _GNU_SOURCE
+#include "reload.h"
+#include <errno.h>
+#ifdef __GLIBC__
+#include <malloc.h>
+#endif
+#include <pthread.h>
+#include <semaphore.h>
+#include <signal.h>
+#include <stdio.h>
+#include <string.h>
+
+/* The thread makes a reload FILLED, or ENDED if there are no new users, and the loop all else. */
+enum step { NONE, READING, FILLED, TAKEN, ENDED };
+
+static struct {
+    pthread_t thread;
+    sem_t is_taken;
+    enum step step; /* of both, so it is read and written in one step */
+    fill_users *fill;
+    stunp_endpoint_users table; /* the new one and, when the loop has taken that, the old one */
+} reload;
+
+static enum step step(void) { return __atomic_load_n(&reload.step, __ATOMIC_ACQUIRE); }
+static void become(enum step next) { __atomic_store_n(&reload.step, next, __ATOMIC_RELEASE); }
+
+/* Gives what the old table had back to the system. A thread has memory apart from that of the loop,
+ * and what is free in one is of no use to the next reload in the other. */
+static void give_memory_back(void) {
+#ifdef __GLIBC__
+    malloc_trim(0);
+#endif
+}
+
+static void *read_users(void *unused) {
+    (void)unused;
+    if (reload.fill(&reload.table)) {
+        become(FILLED);
+        while (sem_wait(&reload.is_taken) != 0) continue;
+        stunp_endpoint_users_free(&reload.table);
+        give_memory_back();
+    }
+    become(ENDED);
+    return NULL;
+}
+
+/* Starts the thread with all signals blocked, because they are to wake the loop. */
+static int start_thread(void) {
+    sigset_t all, before;
+    sigfillset(&all);
+    pthread_sigmask(SIG_SETMASK, &all, &before);
+    int error = pthread_create(&reload.thread, NULL, read_users, NULL);
+    pthread_sigmask(SIG_SETMASK, &before, NULL);
+    return error;
+}
+
+bool start_reload(fill_users *fill) {
+    memset(&reload.table, 0, sizeof reload.table);
+    reload.fill = fill;
+    become(READING);
+    int error = sem_init(&reload.is_taken, 0, 0) == 0 ? start_thread() : errno;
+    if (error == 0) return true;
+    become(NONE);
+    fprintf(stderr, "udp_server: the users are unchanged: %s\n", strerror(error));
+    return false;
+}
+
+bool go_on_with_reload(stunp_endpoint_users *users) {
+    if (step() == FILLED) {
+        const stunp_endpoint_users old = *users;
+        *users = reload.table;
+        reload.table = old;
+        become(TAKEN);
+        sem_post(&reload.is_taken);
+    }
+    if (step() != ENDED) return false;
+    pthread_join(reload.thread, NULL);
+    sem_destroy(&reload.is_taken);
+    become(NONE);
+    return true;
+}
+
+bool is_reloading(void) { return step() != NONE; }

@@ -5,7 +5,7 @@ and tells which are found.
 usage: tests/export/export_plants.py [--look | --exporter | --turn | NUMBER ..]
 
 First it says which plants, of all, cannot be made in the files as they are, and ends with status 1
-if there are any. With --look it does no more than that. Nor does it plant anything if the files as
+if there are any. With --look it exports the copy as it is, too, and does no more than that. Nor does it plant anything if the files as
 they are cannot be exported and compiled, because then each plant would seem to be found.
 
 Each is planted in a copy in a scratch folder, which is exported, compiled and tested. (`rt ci`
@@ -186,7 +186,8 @@ def copy_anew():
     for folder in ("crates", "rust", "tools", "tests/export", "tests/transcripts"):
         shutil.copytree(ROOT / folder, COPY / folder, dirs_exist_ok=True,
                         ignore=shutil.ignore_patterns("out", "specs", "proofs", "must-fail"))
-    shutil.copy(ROOT / "crates.txt", COPY)
+    for file in ("crates.txt", "LICENSE-APACHE", "LICENSE-MIT"):
+        shutil.copy(ROOT / file, COPY)
     config = ROOT / "target" / "export" / ".cargo"
     if config.exists():
         shutil.copytree(config, COPY / "target" / "export" / ".cargo", dirs_exist_ok=True)
@@ -212,7 +213,10 @@ def main():
     if look():
         return 1
     if words == ["--look"]:
-        return 0
+        copy_anew()
+        step = refusing(STEPS[:2])
+        print(f"The copy does not pass: {step}" if step else "the copy is exported, as it is")
+        return 1 if step else 0
     wanted = (in_turn() if words == ["--turn"] else
               plants_of("tools/") if words == ["--exporter"] else
               [int(word) for word in words] or range(1, len(PLANTS) + 1))

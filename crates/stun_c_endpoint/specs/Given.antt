@@ -66,7 +66,7 @@ abbrev pub is_wrong_secret : Given → Bool
 is_wrong_secret g = is_repeated g.secret || is_wrong_previous g.secret g.previous_secret
 
 -- why no server is made, the first reason that holds
-abbrev pub given_refusal : Given → Option Refusal
+unfoldable pub given_refusal : Given → Option Refusal
 given_refusal g =
     if is_out_of_range g || is_wrong_secret g then Some BadArgument
     else if not (is_utf8 g.realm && is_utf8 g.software) then Some NotText

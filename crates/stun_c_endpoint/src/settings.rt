@@ -229,6 +229,7 @@ impl<'a> Given<'a> {
     }
 
     /// Builds the server.
+    #[tactic(auto, unfolding(crate::specs::Given::given_refusal))]
     fn server(&self, alloc: Global) -> Result<Server<Global>, Refusal>
         ensures { Builds (given_refusal self.now) (server_given self.now) result }
     {

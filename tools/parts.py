@@ -37,7 +37,7 @@ EXPORT = ("tools/export", "tools/rust.sh", "rust/Cargo.toml", "rust/capi/Cargo.t
 PARTS = {
     # What needs no proof.
     "rooms": (), "printed": (), "names": (), "lines": (), "links": (), "version": (),
-    "licenses": (), "exports": (), "refusals": (),
+    "licenses": (), "trusted": (), "exports": (), "refusals": (),
     "refusals-plants": ("tools/refusals.py", "tools/refusals.txt", "tests/refusals_plants.py"),
     "edits-look": (), "plants-look": (), "proof-record": (), "gate": (),
     "door": (), "make-help": (), "first-minute": (), "models": (),

@@ -53,7 +53,7 @@ fn by_endpoint(is_signed: bool, peer: &mut Peer<'_>) {
                 }
                 _ => break,
             };
-            client.receive(&response, server, now);
+            let _ = client.receive(&response, server, now);
         }
     }
 }

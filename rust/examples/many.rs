@@ -9,7 +9,8 @@
 //!
 //! On tokio one task does both: `tokio_client` of examples/rust.
 
-use seatcrane_stun::endpoint::{Body, Client, Clock, Credentials, Output, RequestError, Response};
+use seatcrane_stun::endpoint::{Body, Client, Clock, Credentials, Output, random_seed};
+use seatcrane_stun::endpoint::{RequestError, Response};
 use seatcrane_stun::types::message::{BINDING, Method};
 use std::collections::HashMap;
 use std::error::Error;
@@ -129,9 +130,7 @@ fn run(words: &[String]) -> Result<bool, Box<dyn Error>> {
     if let [name, password] = &words[4..] {
         settings = settings.credentials(Credentials::long_term(name, password));
     }
-    let mut seed = [0; 32];
-    getrandom::getrandom(&mut seed).map_err(|error| error.to_string())?;
-    let front = Front::start(server, settings.build(seed)?)?;
+    let front = Front::start(server, settings.build(random_seed())?)?;
     let begun = Instant::now();
     let (answered, all) = (ask_all(&front, callers, requests), callers * requests);
     println!(

@@ -13,7 +13,7 @@ mod asker;
 
 use asker::{Arguments, arguments, find};
 use seatcrane_stun::endpoint::{
-    Body, Client, Clock, Output, RequestError, Response, Retransmission,
+    Body, Client, Clock, Output, RequestError, Response, Retransmission, random_seed,
 };
 use seatcrane_stun::extra::attribute::{ChangeRequest, OtherAddress};
 use seatcrane_stun::types::message::BINDING;
@@ -105,9 +105,7 @@ impl Tests {
     ) -> Result<Option<Answer>, Box<dyn Error>> {
         let part = self.within / 6; // three transmissions, at 0, 1 and 3 parts
         let plan = Retransmission::new(part, Duration::MAX, 3, 3 * part);
-        let mut seed = [0; 32];
-        getrandom::getrandom(&mut seed).map_err(|error| error.to_string())?;
-        let mut client = Client::builder(to).retransmission(plan).build(seed)?;
+        let mut client = Client::builder(to).retransmission(plan).build(random_seed())?;
         let (clock, mut bytes) = (Clock::start(), [0; 4096]);
         client.request(BINDING, body, clock.now())?;
         loop {

@@ -27,7 +27,7 @@ mod users;
 use counts::{Counts, Outcome};
 use seatcrane_stun::endpoint::{
     DropReason, LongTerm, OpenReceived, OpenServer, Received, Reply, ResponseSettings, Server,
-    UnixTime, Users,
+    UnixTime, Users, random_seed,
 };
 use seatcrane_stun::extra::{Frame, next_frame};
 use seatcrane_stun::types::message::*;
@@ -276,10 +276,8 @@ impl Service<'_> {
 
 /// Reads the secret from its file, or from the system's random numbers if there is no file.
 fn secret(settings: &Settings) -> Result<[u8; 32], Box<dyn Error>> {
-    let mut secret = [0; 32];
     let Some(path) = &settings.secret else {
-        getrandom::getrandom(&mut secret).map_err(|error| error.to_string())?;
-        return Ok(secret);
+        return Ok(random_seed());
     };
     let bytes = fs::read(path).map_err(|error| format!("{path}: {error}"))?;
     let raw = <[u8; 32]>::try_from(&bytes[..]).ok();

@@ -123,6 +123,7 @@ pub enum StunAgentPollRet {
 /// assert_eq!(agent.send_data(b"media", other), Err(StunError::ProtocolViolation));
 /// assert_eq!(agent.stats().unwrap().requests_sent(), 0);
 /// ```
+#[must_use = "an agent is made by `build`"]
 #[derive(Debug)]
 pub struct StunAgentBuilder(proved::StunAgentBuilder);
 
@@ -504,6 +505,7 @@ impl StunAgent {
     ///
     /// Call [`poll_transmit`](StunAgent::poll_transmit) first, until it returns `None`. See the
     /// [module documentation](self) for the whole loop.
+    #[must_use = "the end of a request is returned once"]
     pub fn poll(&mut self, now: Instant) -> StunAgentPollRet {
         use proved::StunAgentPollRet as Proved;
         match self.0.poll(now) {
@@ -527,6 +529,7 @@ impl StunAgent {
     ///
     /// The bytes are borrowed from the agent and are not copied. The first transmission of a
     /// request comes from [`send_request`](StunAgent::send_request) and is not returned here.
+    #[must_use = "the bytes are returned once"]
     pub fn poll_transmit(&mut self, now: Instant) -> Option<Transmit<&[u8]>> {
         let sent = self.0.poll_transmit(now)?;
         event!(

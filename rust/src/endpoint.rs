@@ -11,13 +11,12 @@
 //! [`Client`] has an example of a client. A server that answers Binding requests of its users:
 //!
 //! ```no_run
-//! use seatcrane_stun::endpoint::{LongTerm, Received, Server, UnixTime};
+//! use seatcrane_stun::endpoint::{LongTerm, Received, Server, UnixTime, random_seed};
 //! use seatcrane_stun::types::message::LongTermCredentials;
 //! use std::net::UdpSocket;
 //!
-//! # fn random_bytes() -> [u8; 32] { [7; 32] }
 //! # fn main() -> Result<(), Box<dyn std::error::Error>> {
-//! let secret: [u8; 32] = random_bytes();
+//! let secret = random_seed(); // store it, so that a restart loses no client
 //! let server = Server::builder(LongTerm::new("example.org", secret)).answer_binding().build()?;
 //! let mut users = server.users(); // keys depend on the realm, so the server makes the table
 //! users.add(LongTermCredentials::new("alice".to_string(), "wonderland".to_string()))?;
@@ -114,6 +113,32 @@ pub mod types {
         AttributeType(0x001A),
         AttributeType(0x0022),
     ];
+}
+
+/// Returns 32 random bytes of the operating system: the seed of a [`Client`], or the secret of a
+/// server with [`LongTerm`] credentials.
+///
+/// # Panics
+///
+/// If the operating system provides no random numbers.
+///
+/// # Examples
+///
+/// ```
+/// use seatcrane_stun::endpoint::{Client, random_seed};
+///
+/// # fn main() -> Result<(), Box<dyn std::error::Error>> {
+/// let client = Client::builder("192.0.2.1:3478".parse()?).build(random_seed())?;
+/// # Ok(())
+/// # }
+/// ```
+#[cfg(feature = "rand")]
+#[cfg_attr(docsrs, doc(cfg(feature = "rand")))]
+#[must_use]
+pub fn random_seed() -> [u8; 32] {
+    let mut seed = [0; 32];
+    crate::random::system(&mut seed);
+    seed
 }
 
 impl UnixTime {

@@ -38,7 +38,7 @@
 //! # assert_eq!(bytes.len(), 2);
 //! ```
 
-use crate::exported::stun_extra::{fingerprint, unknown};
+use crate::exported::stun_extra::{fingerprint, framing, unknown};
 use crate::exported::stun_types::attribute::AttributeType;
 use crate::exported::stun_types::message::StunWriteError;
 use crate::exported::stun_types::prelude::MessageWrite;
@@ -51,8 +51,7 @@ pub use crate::exported::stun_extra::canonical_address::canonical;
 pub use crate::exported::stun_extra::crc32::crc32;
 pub use crate::exported::stun_extra::fingerprint::{FINGERPRINT_LENGTH, Fingerprint};
 pub use crate::exported::stun_extra::framing::{
-    CHANNEL_HEADER_LENGTH, Frame, PACKET_HEADER_LENGTH, is_stun, next_frame, next_packet_frame,
-    next_turn_frame,
+    CHANNEL_HEADER_LENGTH, Frame, PACKET_HEADER_LENGTH,
 };
 pub use crate::exported::stun_extra::turn;
 pub use crate::exported::stun_extra::unknown::{
@@ -93,6 +92,85 @@ pub mod attribute {
     };
 }
 
+/// Finds the message at the front of the bytes of a stream (RFC 8489, section 6.2.2). The bytes
+/// must begin where a message begins.
+///
+/// [`Frame::Need`] counts the bytes that the header lacks, or after a whole header those that the
+/// message lacks. [`Frame::NotStun`] is returned as soon as a byte decides it: the first, the
+/// fourth, or one of the magic cookie, which are the fifth to the eighth (section 5).
+///
+/// # Examples
+///
+/// ```
+/// use seatcrane_stun::extra::{Frame, next_frame};
+///
+/// // A header that states 8 more bytes, of which 2 have arrived.
+/// let bytes = b"\0\x01\0\x08\x21\x12\xa4\x42 any 12 byte\0\x24";
+/// assert_eq!(next_frame(bytes), Frame::Need(6));
+/// ```
+#[must_use]
+pub fn next_frame(bytes: &[u8]) -> Frame {
+    framing::next_frame(bytes)
+}
+
+/// Finds the message or the ChannelData at the front of the bytes of a stream, as TURN sends them
+/// over TCP (RFC 8656, sections 12.4 and 12.5). The bytes must begin where one of them begins.
+///
+/// [`Frame::Message`] is ChannelData if the first byte is 0x40 to 0x7F, and then it counts the
+/// header of 4 bytes and the padding. RFC 8656 uses channels with 0x40 to 0x4F alone, and RFC 5766
+/// with all. [`Frame::NotStun`] is returned as soon as a byte decides it, as [`next_frame`] does.
+///
+/// # Examples
+///
+/// ```
+/// use seatcrane_stun::extra::{Frame, next_turn_frame};
+///
+/// // Five bytes of data on the channel 0x4000, and three bytes of padding.
+/// let bytes = b"\x40\0\0\x05media\0\0\0";
+/// assert_eq!(next_turn_frame(bytes), Frame::Message(12));
+/// ```
+#[must_use]
+pub fn next_turn_frame(bytes: &[u8]) -> Frame {
+    framing::next_turn_frame(bytes)
+}
+
+/// Finds the packet at the front of the bytes of a stream in which each packet has its length in 2
+/// bytes in front, as ICE sends them over TCP (RFC 4571, section 2). The bytes must begin where a
+/// length begins.
+///
+/// [`Frame::Message`] counts these 2 bytes too, and the packet may be empty. It never returns
+/// [`Frame::NotStun`], because any packet may have any bytes.
+///
+/// # Examples
+///
+/// ```
+/// use seatcrane_stun::extra::{Frame, next_packet_frame};
+///
+/// let bytes = b"\0\x05mediamore";
+/// assert_eq!(next_packet_frame(bytes), Frame::Message(7)); // the packet is `bytes[2..7]`
+/// assert_eq!(next_packet_frame(&bytes[7..8]), Frame::Need(1));
+/// ```
+#[must_use]
+pub fn next_packet_frame(bytes: &[u8]) -> Frame {
+    framing::next_packet_frame(bytes)
+}
+
+/// Returns `true` if a packet is for STUN, on a port that other protocols share (RFC 8489, section
+/// 7; RFC 7983, section 7): its first byte is 0 to 3, and it begins with a header of STUN.
+///
+/// # Examples
+///
+/// ```
+/// use seatcrane_stun::extra::is_stun;
+///
+/// assert!(is_stun(b"\0\x01\0\0\x21\x12\xa4\x42 any 12 byte"));
+/// assert!(!is_stun(b"\x80 a packet of RTP, with its version"));
+/// ```
+#[must_use]
+pub fn is_stun(packet: &[u8]) -> bool {
+    framing::is_stun(packet)
+}
+
 /// Checks the FINGERPRINT of a message (RFC 8489, section 14.7).
 ///
 /// A FINGERPRINT tells STUN from other protocols on the same port. It is no protection, because
@@ -114,6 +192,7 @@ pub mod attribute {
 /// assert_eq!(check_fingerprint(&message), Fingerprint::Right);
 /// # Ok::<(), StunWriteError>(())
 /// ```
+#[must_use]
 pub fn check_fingerprint(message: &Message<'_>) -> Fingerprint {
     fingerprint::check_fingerprint(&message.0)
 }
@@ -167,6 +246,7 @@ pub fn finish_with_fingerprint<W: MessageWrite>(writer: W) -> Result<W::Output, 
 /// let unknown: Vec<AttributeType> = unknown_types(&request, &[AttributeType::USERNAME]).collect();
 /// assert_eq!(unknown, [AttributeType::PRIORITY]);
 /// ```
+#[must_use]
 pub fn unknown_types<'a>(message: &Message<'a>, known: &'a [AttributeType]) -> UnknownTypes<'a> {
     unknown::unknown_types(&message.0, known)
 }
@@ -187,6 +267,7 @@ pub fn unknown_types<'a>(message: &Message<'a>, known: &'a [AttributeType]) -> U
 /// assert!(has_unknown(&indication, &[AttributeType::USERNAME]));
 /// assert!(!has_unknown(&indication, &[AttributeType::PRIORITY]));
 /// ```
+#[must_use]
 pub fn has_unknown(message: &Message<'_>, known: &[AttributeType]) -> bool {
     unknown::has_unknown(&message.0, known)
 }
@@ -253,6 +334,7 @@ pub fn answer_unknown<W: MessageWrite>(
 /// let no_code = b"\x01\x11\0\0\x21\x12\xa4\x42 any 12 byte";
 /// assert!(ends_failed(&Message::from_bytes(no_code).unwrap(), &KNOWN));
 /// ```
+#[must_use]
 pub fn ends_failed(response: &Message<'_>, known: &[AttributeType]) -> bool {
     unknown::ends_failed(&response.0, known)
 }
@@ -277,6 +359,7 @@ pub fn ends_failed(response: &Message<'_>, known: &[AttributeType]) -> bool {
 /// # assert!(error.has_attribute(AttributeType::UNKNOWN_ATTRIBUTES));
 /// # Ok::<(), StunWriteError>(())
 /// ```
+#[must_use]
 pub fn unknown_attributes<'a>(
     message: &'a Message<'a>,
     known: &'a [AttributeType],

@@ -54,7 +54,6 @@
 #![cfg_attr(not(test), warn(clippy::pedantic))]
 #![allow(clippy::doc_markdown, reason = "names of the protocol, such as XOR-MAPPED-ADDRESS, are no code")]
 #![allow(clippy::must_use_candidate, reason = "whoever calls a getter in vain sees it")]
-#![allow(clippy::return_self_not_must_use, reason = "builders are taken and returned by value")]
 
 extern crate alloc;
 #[cfg(feature = "std")]

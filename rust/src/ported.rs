@@ -493,6 +493,7 @@ impl TcpBuffer {
 
     /// Removes the next packet and returns it without its length, or returns `None` if it is not whole
     /// yet.
+    #[must_use = "the data is returned once"]
     pub fn pull_data(&mut self) -> Option<Vec<u8>> {
         let rest = &self.bytes[self.returned..];
         let Frame::Message(length) = next_packet_frame(rest) else {

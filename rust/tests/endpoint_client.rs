@@ -75,7 +75,7 @@ fn all_of_many_first_requests_are_served() {
                     _ => match wire.pop_front() {
                         Some(bytes) => {
                             let answer = service.answer(&bytes, at(HERE), ms(0));
-                            client.receive(answer.bytes(), at(SERVER), ms(0));
+                            let _ = client.receive(answer.bytes(), at(SERVER), ms(0));
                         }
                         None => break,
                     },
@@ -226,7 +226,7 @@ fn with_credentials_an_unsigned_answer_is_accepted_only_if_you_say_so() {
         let bytes = sent(&mut client, 0).unwrap();
         let request = Message::from_bytes(&bytes).unwrap();
         let answer = Message::builder_success(&request, MessageWriteVec::new()).finish();
-        client.receive(&answer, at(SERVER), ms(0));
+        let _ = client.receive(&answer, at(SERVER), ms(0));
         let result = ended(&mut client, 0);
         assert_eq!(result.is_some(), accepts);
         assert!(result.is_none_or(|result| result.unwrap().signed_by().is_none()));
@@ -270,7 +270,7 @@ fn short_term_credentials_sign_each_request() {
     assert!(matches!(input, Input::Dropped(DropReason::NotVerified)));
     let mut answer = Message::builder_success(&request, MessageWriteVec::new());
     answer.add_message_integrity_with_key(key, SHA256).unwrap();
-    client.receive(&answer.finish(), at(SERVER), ms(0));
+    let _ = client.receive(&answer.finish(), at(SERVER), ms(0));
     assert_eq!(
         ended(&mut client, 0).unwrap().unwrap().signed_by(),
         Some(SHA256)
@@ -307,7 +307,7 @@ fn errors_say_what_the_server_said() {
         let request = Message::from_bytes(&bytes).unwrap();
         let mut answer = Message::builder_error(&request, MessageWriteVec::new());
         write(&mut answer);
-        client.receive(&answer.finish(), at(SERVER), ms(0));
+        let _ = client.receive(&answer.finish(), at(SERVER), ms(0));
         ended(&mut client, 0).unwrap().unwrap_err()
     };
     let refused = tell(&|page| page.add_error_code(500, "").unwrap());
@@ -374,7 +374,7 @@ fn a_body_is_written_again_under_each_id() {
             .receive(&bytes, at(HERE), wall(ms(0)), &service.users);
         match received {
             Received::Answer(answer) => {
-                client.receive(answer.bytes(), at(SERVER), ms(0));
+                let _ = client.receive(answer.bytes(), at(SERVER), ms(0));
             }
             other => panic!("{other:?}"),
         }

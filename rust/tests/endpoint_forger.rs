@@ -121,7 +121,7 @@ fn nobody_is_bid_down() {
                 requests += 1;
                 if rng.below(3) == 0 {
                     let forged = forged(&bytes, &mut rng, &seen);
-                    client.receive(&forged, at(SERVER), now);
+                    let _ = client.receive(&forged, at(SERVER), now);
                 }
                 let request = Message::from_bytes(&bytes).unwrap();
                 let answer = service.answer(&bytes, from, now);
@@ -225,12 +225,12 @@ fn a_forged_list_is_not_confirmed_by_a_success_under_the_true_one() {
     let list = [0, 2, 0, 0];
     page.add_attribute(&RawAttribute::new(AttributeType::PASSWORD_ALGORITHMS, &list))
         .unwrap();
-    client.receive(&page.finish(), at(SERVER), now);
+    let _ = client.receive(&page.finish(), at(SERVER), now);
     let _lost = sent(&mut client, now);
 
     // The second request gets the true challenge, and succeeds.
     let answer = service.answer(&second_bytes, from, now);
-    client.receive(answer.bytes(), at(SERVER), now);
+    let _ = client.receive(answer.bytes(), at(SERVER), now);
     let (codes, ended) = exchange(&mut client, &service, from, now);
     assert_eq!((codes, ended.len(), ended[0].0), (vec![200], 1, second));
 

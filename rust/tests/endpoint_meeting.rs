@@ -159,7 +159,7 @@ impl Run {
                 assert_eq!(code_of(&self.service.answer(&bytes, from, now)), 401);
             }
             Packet::Answer(i, bytes) => {
-                self.clients[i].receive(&bytes, at(SERVER), now);
+                let _ = self.clients[i].receive(&bytes, at(SERVER), now);
                 self.wake[i] = now;
             }
             Packet::Begin(i) => {

@@ -39,7 +39,7 @@ fn a_request_and_its_verdict_are_recorded() {
     let mut now = Instant::ZERO;
     while let StunAgentPollRet::WaitUntil(at) = agent.poll(now) {
         now = at;
-        agent.poll_transmit(now);
+        let _ = agent.poll_transmit(now);
     }
     let id = "id=0x070707070707070707070707";
     let expected = [

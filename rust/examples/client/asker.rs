@@ -5,7 +5,7 @@
 
 use seatcrane_stun::Instant;
 use seatcrane_stun::endpoint::{Body, Client, ClientBuilder, Clock, Input, Output, Response};
-use seatcrane_stun::endpoint::{RequestError, RequestId};
+use seatcrane_stun::endpoint::{RequestError, RequestId, random_seed};
 use seatcrane_stun::types::attribute::AttributeType;
 use seatcrane_stun::types::message::Method;
 use std::error::Error;
@@ -102,11 +102,9 @@ impl Asker {
         let any = ["0.0.0.0:0", "[::]:0"][usize::from(server.is_ipv6())];
         let socket = UdpSocket::bind(any)?;
         socket.connect(server)?;
-        let mut seed = [0; 32];
-        getrandom::getrandom(&mut seed).map_err(|error| error.to_string())?;
         Ok(Asker {
             socket,
-            client: settings.understands(&OLDER).build(seed)?,
+            client: settings.understands(&OLDER).build(random_seed())?,
             clock: Clock::start(),
             give_up: Instant::ZERO + within,
             bytes: [0; 4096],

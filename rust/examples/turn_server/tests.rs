@@ -159,7 +159,7 @@ impl Bench {
                 Output::Transmit(bytes) => {
                     let bytes = bytes.to_vec();
                     let answer = self.receive(link(of.1), &bytes);
-                    client.receive(&answer, server, self.now);
+                    let _ = client.receive(&answer, server, self.now);
                 }
                 Output::Ended(_, Ok(response)) => return Ok(response),
                 Output::Ended(_, Err(RequestError::Refused(error))) => return Err(error.code()),

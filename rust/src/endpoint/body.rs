@@ -34,6 +34,7 @@ pub use crate::exported::stun_client_endpoint::body::{BODY_LIMIT, BodyError};
 /// # Ok(())
 /// # }
 /// ```
+#[must_use = "a body is sent by `Client::request`"]
 pub struct Body {
     pub(super) core: Core<Global>,
 }

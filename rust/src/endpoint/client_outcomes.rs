@@ -252,6 +252,7 @@ pub(super) fn result_of(ended: ended::Ended<Global>) -> Result<Response, Request
 }
 
 /// What to do next.
+#[must_use = "the end of a request is returned once"]
 #[derive(Clone, Debug, PartialEq, Eq)]
 #[non_exhaustive]
 pub enum Output<'c> {
@@ -264,6 +265,7 @@ pub enum Output<'c> {
 }
 
 /// What a datagram was.
+#[must_use = "it says whether the datagram is for somebody else"]
 #[derive(Debug)]
 #[non_exhaustive]
 pub enum Input<'a> {

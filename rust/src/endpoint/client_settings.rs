@@ -24,6 +24,7 @@ use core::net::SocketAddr;
 use core::time::Duration;
 
 /// How a client proves who it is.
+#[must_use]
 #[derive(Clone)]
 pub struct Credentials(Kind);
 
@@ -96,6 +97,7 @@ impl Credentials {
 
 /// When a request is sent, and how long the client waits for its response (RFC 8489, section
 /// 6.2.1).
+#[must_use]
 #[derive(Clone, Copy, Debug, PartialEq, Eq)]
 pub struct Retransmission {
     first: Duration,
@@ -139,6 +141,7 @@ pub enum Transport {
 }
 
 /// Builds a [`Client`]. All calls but [`build`](Self::build) are optional.
+#[must_use = "a client is made by `build`"]
 #[derive(Clone, Debug)]
 pub struct ClientBuilder {
     server: SocketAddr,

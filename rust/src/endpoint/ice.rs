@@ -176,6 +176,7 @@ impl Checker {
 
 /// A check: the bytes to send, and what is needed to judge the answer. Store it until its answer
 /// arrives or it times out. [`Checker::check`] makes it.
+#[must_use = "a check is to be sent, and stored until its answer arrives"]
 pub struct Check(check::Check<Global>);
 
 impl Clone for Check {
@@ -223,6 +224,7 @@ impl Check {
 }
 
 /// The result of [`Checker::receive`].
+#[must_use = "it may be an answer to send"]
 #[derive(Debug)]
 #[non_exhaustive]
 pub enum Received<'a> {

@@ -19,6 +19,7 @@ use core::net::SocketAddr;
 
 /// What an [`OpenServer`] or a [`ShortTermServer`] understands, and what it adds to its responses:
 /// no further attributes, no SOFTWARE, and Binding requests for you, unless you change them.
+#[must_use = "settings are passed to a server"]
 #[derive(Clone, Debug, Default)]
 pub struct ResponseSettings {
     understood: Vec<AttributeType>,
@@ -165,6 +166,7 @@ impl OpenServer {
 }
 
 /// What a datagram comes to at an [`OpenServer`].
+#[must_use = "it may be a response to send, or a request to respond to"]
 #[derive(Debug)]
 #[non_exhaustive]
 pub enum OpenReceived<'a> {
@@ -181,6 +183,7 @@ pub enum OpenReceived<'a> {
 }
 
 /// A request to an [`OpenServer`]. Anybody may have sent it.
+#[must_use = "the request waits for a response"]
 #[derive(Debug)]
 pub struct OpenRequest<'a> {
     message: Message<'a>,
@@ -313,6 +316,7 @@ impl ShortTermServer {
 }
 
 /// What a datagram comes to at a [`ShortTermServer`].
+#[must_use = "it may be a response to send, or a request to respond to"]
 #[derive(Debug)]
 #[non_exhaustive]
 pub enum ShortTermReceived<'a> {

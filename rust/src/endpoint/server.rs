@@ -33,6 +33,7 @@ use core::net::SocketAddr;
 /// nonces, except that a server refuses a nonce of a period that has not begun on its own clock. If
 /// clocks differ by less than a nonce lifetime, a client then gets a 438 and continues with the
 /// nonce in it. A server that starts again with the same secret serves its old clients at once.
+#[must_use = "settings are passed to `Server::builder`"]
 #[derive(Clone)]
 pub struct LongTerm {
     realm: String,
@@ -96,6 +97,7 @@ impl LongTerm {
 }
 
 /// Builds a [`Server`].
+#[must_use = "a server is made by `build`"]
 #[derive(Clone, Debug)]
 pub struct ServerBuilder {
     long_term: LongTerm,
@@ -325,6 +327,7 @@ impl Server {
     ///     Some(answer)
     /// }
     /// ```
+    #[must_use]
     pub fn cause(
         &self,
         bytes: &[u8],
@@ -340,6 +343,7 @@ impl Server {
     ///
     /// It is also why [`resume`](Self::resume) refuses the request of a look-up: pass the bytes of
     /// that request, and the time at which it [arrived](Lookup::arrived).
+    #[must_use]
     pub fn cause_for(
         &self,
         bytes: &[u8],
@@ -418,6 +422,7 @@ impl Server {
 }
 
 /// What a datagram comes to without its user, or that it needs the user.
+#[must_use = "it may be a response to send, or a request that waits for its user"]
 #[derive(Debug)]
 pub enum Identified<'a> {
     /// What the datagram comes to, whoever the user is.
@@ -430,6 +435,7 @@ pub enum Identified<'a> {
 ///
 /// A client that sends its request again causes another look-up; merge them by
 /// [`transaction_id`](Self::transaction_id).
+#[must_use = "the request waits for `Server::resume`"]
 #[derive(Debug)]
 pub struct Lookup<'a> {
     message: Message<'a>,
@@ -605,6 +611,7 @@ impl Users {
 }
 
 /// What a datagram comes to.
+#[must_use = "it may be a response to send, or a request to respond to"]
 #[derive(Debug)]
 #[non_exhaustive]
 pub enum Received<'a> {
@@ -622,6 +629,7 @@ pub enum Received<'a> {
 }
 
 /// A response to send.
+#[must_use = "the response is to be sent"]
 #[derive(Clone, Debug)]
 pub struct Answer {
     to: SocketAddr,
@@ -653,6 +661,7 @@ impl Answer {
 }
 
 /// An accepted request.
+#[must_use = "the request waits for a response"]
 #[derive(Debug)]
 pub struct Request<'a> {
     message: Message<'a>,

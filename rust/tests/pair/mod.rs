@@ -108,7 +108,7 @@ pub fn exchange(
             Output::Transmit(bytes) => {
                 let answer = service.answer(bytes, from, now);
                 codes.push(code_of(&answer));
-                client.receive(answer.bytes(), at(SERVER), now);
+                let _ = client.receive(answer.bytes(), at(SERVER), now);
             }
             Output::Ended(request, result) => ended.push((request, result)),
             _ => return (codes, ended),

@@ -6,7 +6,7 @@
 //! a datagram, and a time. The other tasks share a `Front`, whose `ask` returns the response. Here
 //! each of REQUESTS tasks makes one request. Status 0 if all were answered.
 
-use seatcrane_stun::endpoint::{Body, Client, Clock, Credentials, Output};
+use seatcrane_stun::endpoint::{Body, Client, Clock, Credentials, Output, random_seed};
 use seatcrane_stun::endpoint::{RequestError, RequestId, Response};
 use seatcrane_stun::types::message::{BINDING, Method};
 use std::collections::HashMap;
@@ -90,9 +90,7 @@ async fn run(words: &[String]) -> Result<bool, Box<dyn Error>> {
     if let [name, password] = &words[3..] {
         settings = settings.credentials(Credentials::long_term(name, password));
     }
-    let mut seed = [0; 32];
-    getrandom::getrandom(&mut seed).map_err(|error| error.to_string())?;
-    let front = Front::start(server, settings.build(seed)?).await?;
+    let front = Front::start(server, settings.build(random_seed())?).await?;
     let (begun, mut tasks, mut answered) = (Instant::now(), JoinSet::new(), 0);
     for _ in 0..number {
         let front = front.clone();

@@ -375,6 +375,30 @@ class Credentials:
         return self.answered(self.ask("short-server-hears", self.here,
                                       hexadecimal(self.message(words))))
 
+    def short_server_redirects(self, *places):
+        return self.redirects("short-server", places)
+
+    def server_redirects(self, *places):
+        return self.redirects("server", places)
+
+    def redirects(self, who, places):
+        """From now on each accepted request is sent to another server (section 10)."""
+        for place in places:
+            spelling.address(place)
+        return self.done(who + "-redirects", *places)
+
+    # ---- A server without credentials.
+
+    def open_server_new(self):
+        return self.done("open-server-new")
+
+    def open_server_fingerprint(self):
+        return self.done("open-server-fingerprint")
+
+    def open_server_hears(self, *words):
+        return self.answered(self.ask("open-server-hears", self.here,
+                                      hexadecimal(self.message(words))))
+
     def client_new(self):
         self.user = None
         return self.done("client-new")
@@ -489,7 +513,41 @@ class Transactions:
                          nanos(last), nanos(longest))
 
 
-class Stage(Messages, Writing, Replies, Credentials, Transactions):
+class Checks:
+    """Level 4: connectivity checks of ICE."""
+
+    def ice_new(self, role, number_, *texts):
+        if role not in ("controlling", "controlled") or len(texts) != 4:
+            raise Words(role)
+        return self.done("ice-new", role, number(number_),
+                         *(hexadecimal(text(one)) for one in texts))
+
+    def ice_checks(self, peer, priority):
+        return self.checked(peer, priority, "no")
+
+    def ice_nominates(self, peer, priority):
+        return self.checked(peer, priority, "yes")
+
+    def checked(self, peer, priority, nominates):
+        spelling.address(peer)
+        return self.sent(self.ask("ice-checks", peer, number(priority), nominates))
+
+    def ice_hears(self, *words):
+        return self.answered(self.ask("ice-hears", self.here, hexadecimal(self.message(words))))
+
+    def ice_takes(self, *words):
+        """What its check comes to by a response."""
+        peer, data = self.towards(words)
+        return self.ask("ice-takes", peer, hexadecimal(data))
+
+    def ice_role(self):
+        return self.ask("ice-role")
+
+    def ice_nominated(self):
+        return self.ask("ice-nominated")
+
+
+class Stage(Messages, Writing, Replies, Credentials, Transactions, Checks):
     """What a paragraph is played on: the subject, the time, an address, and what is kept."""
 
     def __init__(self, asker, meanings):

@@ -1,5 +1,6 @@
 #!/usr/bin/env python3
-"""Checks MUSTS.md: each paragraph that it names is there, and is marked as its row says.
+"""Checks MUSTS.md: each paragraph that it names is there, and is marked as its row says. And each
+departure of this library's endpoints in differences.txt is printed in docs/DIFFERENCES.md.
 
     conformance/musts.py            prints how many rows have lines, and fails where a link is wrong
     conformance/musts.py --write    moves each line number to the paragraph that it named in the commit
@@ -13,6 +14,9 @@ import re
 import subprocess
 import sys
 from pathlib import Path
+
+from reasons import read_reasons, unprinted
+from shipped import ENDPOINTS
 
 HERE = Path(__file__).resolve().parent
 PAGE = HERE / "MUSTS.md"
@@ -81,12 +85,15 @@ def main():
     wrong = [f"row {row[0]}: {fault}" for row in rows for fault in faults(row)]
     if [int(row[0]) for row in rows] != list(range(1, len(rows) + 1)):
         wrong.append("the rows are not numbered from 1 on")
+    hidden = unprinted(ENDPOINTS, read_reasons())
     for fault in wrong:
         print(f"{PAGE.name}: {fault}")
+    for departure in hidden:
+        print(f"docs/DIFFERENCES.md does not print: {departure}")
     without = sum(not LINK.search(row[3]) for row in rows)
     print(f"musts: {len(rows)} rows, {len(rows) - without} with lines, "
           f"{without} with a reason, {len(wrong)} wrong")
-    return bool(wrong)
+    return bool(wrong or hidden)
 
 
 if __name__ == "__main__":

@@ -16,7 +16,7 @@ from subject import Module
 HERE = os.path.dirname(os.path.abspath(__file__))
 # The files of the model, those first that others import.
 MODEL = ("model.wire", "model.values", "model.credentials", "model.transactions",
-         "model.asking", "subjects.model")
+         "model.asking", "model.checks", "subjects.model")
 MOST_MISSED = 4
 
 

@@ -3,9 +3,10 @@
 subject.
 
 SUBJECT is a file of Python (`subjects/model.py`), the command of a program in one word, or the name
-of a subject that is shipped here: `stunp` (this library through C, the default), `model`, `aioice`,
-`pion`, `libnice`, `coturn`, `libre`, `turnserver`, `p1_stun`. FILE is a file of `levels/`, or one
-in the grammar of transcripts.
+of a subject that is shipped here: `endpoint` (this library's endpoints through C), `endpoint-rust` (in
+Rust), `stunp` (its messages and parts), `model`, `second`, `aioice`, `pion`, `libnice`, `coturn`,
+`libre`, `turnserver`, `p1_stun`. Without a subject the three of this library are played. FILE is a file
+of `levels/`, or one in the grammar of transcripts.
 
 Each answer that differs is printed. Those of a shipped subject that differences.txt explains are
 printed with `--explained` alone. The last line has the counts: calls that were answered as written,
@@ -24,11 +25,11 @@ import index
 from calls import Stage
 from grammar import Words
 from reasons import read_reasons, reason_of
-from shipped import start
+from shipped import OURS, start
 from subject import Asker, Left, Ours, Refused, Strange
 from transcripts import is_telling, name_of
 
-LEVELS = ("0-read", "1-write", "2-credentials", "3-transactions")
+LEVELS = ("0-read", "1-write", "2-credentials", "3-transactions", "4-ice")
 HERE = os.path.dirname(os.path.abspath(__file__))
 # A line whose answer differs.
 Other = collections.namedtuple("Other", "file line raw came mark title")
@@ -158,12 +159,31 @@ def show(others):
               f"  actual:  {other.came}")
 
 
+def play_one(word, options):
+    """Plays one subject, and prints what it comes to. Whether a difference is not explained."""
+    begun = time.monotonic()
+    levels = [LEVELS[int(number)] for number in options.level.split(",")]
+    reports, why = play_all(word, levels, options.files)
+    if reports is None:
+        print(f"conformance: {word} is left out: {why}")
+        return False
+    whole, reasons = summed(reports), read_reasons()[word]
+    missing = [other for other in whole.others if reason_of(other, reasons) is None]
+    show(whole.others if options.explained else missing)
+    if options.left_out:
+        for call, count in whole.left.most_common():
+            print(f"left out: {call} ({count})")
+    print(f"conformance: {word}, {len(reports)} files, {whole.counts()}, "
+          f"{len(whole.others) - len(missing)} explained ({time.monotonic() - begun:.1f} s)")
+    return bool(missing)
+
+
 def main(words):
     options = argparse.ArgumentParser(description=__doc__,
                                       formatter_class=argparse.RawDescriptionHelpFormatter)
-    options.add_argument("subject", nargs="?", default="stunp")
+    options.add_argument("subject", nargs="?")
     options.add_argument("files", nargs="*")
-    options.add_argument("--level", default="0,1,2,3")
+    options.add_argument("--level", default="0,1,2,3,4")
     options.add_argument("--left-out", action="store_true")
     options.add_argument("--explained", action="store_true")
     options.add_argument("--table", action="store_true")
@@ -171,21 +191,8 @@ def main(words):
     if options.table:
         import table
         return table.main([])
-    begun = time.monotonic()
-    levels = [LEVELS[int(number)] for number in options.level.split(",")]
-    reports, why = play_all(options.subject, levels, options.files)
-    if reports is None:
-        print(f"conformance: {options.subject} is left out: {why}")
-        return 0
-    whole, reasons = summed(reports), read_reasons()[options.subject]
-    missing = [other for other in whole.others if reason_of(other, reasons) is None]
-    show(whole.others if options.explained else missing)
-    if options.left_out:
-        for call, count in whole.left.most_common():
-            print(f"left out: {call} ({count})")
-    print(f"conformance: {options.subject}, {len(reports)} files, {whole.counts()}, "
-          f"{len(whole.others) - len(missing)} explained ({time.monotonic() - begun:.1f} s)")
-    return 1 if missing else 0
+    played = OURS if options.subject is None else [options.subject]
+    return int(any([play_one(word, options) for word in played]))
 
 
 if __name__ == "__main__":

@@ -4,9 +4,10 @@ import collections
 import os
 
 HERE = os.path.dirname(os.path.abspath(__file__))
+PAGE = os.path.join(os.path.dirname(HERE), "docs", "DIFFERENCES.md")
 # An explanation, with the lines that it explains: a file, a part of the line, and the actual
-# answer, or nothing for any answer.
-Reason = collections.namedtuple("Reason", "section words patterns")
+# answer, or nothing for any answer. `printed` are the words of DIFFERENCES.md that print it.
+Reason = collections.namedtuple("Reason", "section words printed patterns")
 
 
 def read_reasons(path=os.path.join(HERE, "differences.txt")):
@@ -15,15 +16,31 @@ def read_reasons(path=os.path.join(HERE, "differences.txt")):
     with open(path, encoding="utf-8") as file:
         for line in file:
             if line.startswith("  "):
-                name, _, rest = line.strip().partition(":")
-                part, _, answer = rest.partition(" => ")
-                last = reasons[subject][-1]
-                reasons[subject][-1] = last._replace(
-                    patterns=(*last.patterns, (name, part.strip(), answer)))
+                for subject in subjects:
+                    reasons[subject][-1] = with_line(reasons[subject][-1], line.strip())
             elif line.strip() and not line.startswith("#"):
-                subject, section, words = (part.strip() for part in line.split("|"))
-                reasons[subject].append(Reason(section, words, ()))
+                names, section, words = (part.strip() for part in line.split("|"))
+                subjects = names.split(", ")
+                for subject in subjects:
+                    reasons[subject].append(Reason(section, words, (), ()))
     return reasons
+
+
+def with_line(reason, line):
+    """An explanation with one more of its lines."""
+    name, _, rest = line.partition(":")
+    if name == os.path.basename(PAGE):
+        return reason._replace(printed=(*reason.printed, rest.strip()))
+    part, _, answer = rest.partition(" => ")
+    return reason._replace(patterns=(*reason.patterns, (name, part.strip(), answer)))
+
+
+def unprinted(subjects, reasons):
+    """The departures of subjects that DIFFERENCES.md does not print."""
+    with open(PAGE, encoding="utf-8") as file:
+        page = " ".join(file.read().replace("**", "").split())
+    return [f"{subject}: {reason.words}" for subject in subjects for reason in reasons[subject]
+            if not reason.printed or any(words not in page for words in reason.printed)]
 
 
 def reason_of(other, reasons):

@@ -12,8 +12,25 @@ HERE = os.path.dirname(os.path.abspath(__file__))
 SUBJECTS = os.path.join(HERE, "subjects")
 BUILT = os.path.join(TOP, "target", "conformance")
 GO_PATH = "/usr/share/gocode"
-NAMES = ("stunp", "model", "aioice", "pion", "libnice", "coturn", "libre",
+# Those of this library, and then the others.
+ENDPOINTS = ("endpoint", "endpoint-rust")
+OURS = (*ENDPOINTS, "stunp")
+NAMES = (*OURS, "model", "aioice", "pion", "libnice", "coturn", "libre",
          "turnserver", "p1_stun")
+
+
+# The program of the subject endpoint-rust.
+MANIFEST = """\
+[package]
+name = "endpoint"
+version = "0.0.0"
+edition = "2024"
+
+[dependencies]
+seatcrane-stun = { path = "../../export" }
+
+[workspace]
+"""
 
 
 class Missing(Exception):
@@ -62,14 +79,43 @@ def linked(archives):
     return made
 
 
-def stunp():
+def through_c(name):
+    """A subject that calls the library for C: the exported one, or that of the environment."""
     archives = os.environ.get("STUNP_ARCHIVES", "").split()
     if archives:
         os.environ["STUNP_LIBRARY"] = linked(archives)
     library = os.environ.get("STUNP_LIBRARY", os.path.join(TOP, "target", "c", "libstunp.so"))
     if not os.path.exists(library):
         raise Missing(f"{os.path.relpath(library, TOP)} is not built (`make lib`)")
-    return Module(source("stunp.py"))
+    return Module(source(name + ".py"))
+
+
+def endpoint():
+    return through_c("endpoint")
+
+
+def endpoint_rust():
+    """The exported crate, by a program that cargo builds beside it with its crates."""
+    export = os.path.join(TOP, "target", "export")
+    folder = os.path.join(BUILT, "endpoint-rust")
+    made = os.path.join(folder, "target", "release", "endpoint")
+    if shutil.which("cargo") is None or not os.path.exists(os.path.join(export, "Cargo.lock")):
+        raise Missing("the crate is not exported (`make export`), or there is no cargo")
+    sources = [source("endpoint.rs"), os.path.join(export, "src", "lib.rs")]
+    if not (os.path.exists(made) and os.path.getmtime(made) > max(map(os.path.getmtime, sources))):
+        os.makedirs(os.path.join(folder, "src"), exist_ok=True)
+        shutil.copy(source("endpoint.rs"), os.path.join(folder, "src", "main.rs"))
+        shutil.copy(os.path.join(export, "Cargo.lock"), folder)
+        with open(os.path.join(folder, "Cargo.toml"), "w", encoding="utf-8") as file:
+            file.write(MANIFEST)
+        settings = os.path.join(export, ".cargo", "config.toml")
+        config = ["--config", settings] if os.path.exists(settings) else []
+        run(["cargo", *config, "build", "--release"], cwd=folder)
+    return Program(shlex.quote(made))
+
+
+def stunp():
+    return through_c("stunp")
 
 
 def model():
@@ -138,8 +184,8 @@ def p1_stun():
     return Program(f"{shlex.quote(found)} {shlex.quote(source('p1_stun.escript'))}")
 
 
-STARTS = {one.__name__: one for one in
-          (stunp, model, aioice, pion, libnice, coturn, libre, turnserver, p1_stun)}
+STARTS = {one.__name__.replace("_rust", "-rust"): one for one in
+          (endpoint, endpoint_rust, stunp, model, aioice, pion, libnice, coturn, libre, turnserver, p1_stun)}
 
 
 def start(word):

@@ -27,8 +27,9 @@ answered as written, those that differ from a MUST of an RFC, those that differ 
 this library, and those that were left out because the subject does not have the call or does not
 claim what is in the message. [README.md](README.md) says what a result means.
 
-No line asks for most of the departures that [docs/DIFFERENCES.md](../docs/DIFFERENCES.md) lists, so
-a 0 in the row `stunp` does not mean that this library has none.
+`endpoint` and `endpoint-rust` are this library's endpoints through C and in Rust. Where they differ
+from a MUST, [docs/DIFFERENCES.md](../docs/DIFFERENCES.md) prints it with its reason, and other
+departures that no line asks for.
 
 In the tables below, each row says how many calls differ, and shows the first of them. A name such
 as `NotStun` is this library's error and stands for `refused`.""".split("\n")
@@ -98,11 +99,11 @@ def place(other):
 def page(results, reasons):
     """RESULTS.md, and the differences that are not explained."""
     lines = [f"# Results of {time.strftime('%Y-%m-%d')}", "", *HEAD, "",
-             "| Subject | Version | " + " | ".join(LEVELS) + " |", "|---|---|" + "---|" * 4]
+             "| Subject | Version | " + " | ".join(LEVELS) + " |", "|---|---|" + "---|" * len(LEVELS)]
     unexplained = []
     for name, (reports, why) in results.items():
         if reports is None:
-            lines.append(f"| {name} | left out: {why} |" + " |" * 4)
+            lines.append(f"| {name} | left out: {why} |" + " |" * len(LEVELS))
             continue
         cells = [cell(report) for report in by_level(reports).values()]
         lines.append(f"| {name} | {version_of(name)} | " + " | ".join(cells) + " |")

@@ -5,7 +5,7 @@ import hashlib
 
 from model.credentials import KNOWN
 from model.transactions import Request
-from model.values import REALM
+from model.values import ALTERNATE_SERVER, REALM, decoded
 from model.wire import ERROR_CODE, Refused, begun, stated, unknown_types
 
 
@@ -51,7 +51,8 @@ class Asking:
         if not is_response or self.data is None or self.ended or message.id != self.data[8:20]:
             return "no"
         try:
-            came = self.client.hears(message)
+            is_anybody = self.client.user is None
+            came = "unsigned" if is_anybody else self.client.hears(message)
         except Refused:
             # A challenge that was answered already: name, realm and password are not good.
             is_again = message.klass == "error" and code_of(message) == 401
@@ -67,9 +68,15 @@ class Asking:
         elif message.klass == "success":
             self.ended = "success"
         else:
-            code = code_of(message)
-            self.ended = "failed" if code is None else f"error {code}"
+            self.ended = self.refused(message)
         return "yes"
+
+    def refused(self, message):
+        """How an error ends the request: a 300, at the server that it names (section 10)."""
+        code, place = code_of(message), message.value(ALTERNATE_SERVER)
+        if code == 300 and place is not None:
+            return "redirected " + decoded(ALTERNATE_SERVER, place, message.id)
+        return "failed" if code is None else f"error {code}"
 
     def discarded(self):
         """A response that is not signed as it must be: over a stream it ends the request, and over

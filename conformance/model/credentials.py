@@ -5,7 +5,7 @@ import hashlib
 import hmac
 import struct
 
-from model.values import (NONCE, PASSWORD_ALGORITHM, PASSWORD_ALGORITHMS, REALM, USERHASH, USERNAME,
+from model.values import (ALTERNATE_SERVER, NONCE, PASSWORD_ALGORITHM, PASSWORD_ALGORITHMS, REALM, USERHASH, USERNAME,
                           XOR_MAPPED, decoded_text, encoded_address)
 from model.wire import (COOKIE, DIGESTS, ERROR_CODE, FINGERPRINT, Message, Refused, appended,
                         check_fingerprint, fingerprinted, long_term_key, refusal_420, response,
@@ -34,13 +34,26 @@ def bits_of(nonce):
     return 0
 
 
+def answered(message, source, places=()):
+    """The response to a request that is accepted: a success, a 420, or another server (section 10)
+    of the family of the source."""
+    types = unknown_types(message, KNOWN)
+    if types:
+        return refusal_420(message, types)
+    if places:
+        made = response(message, 300, "Try Alternate")
+        mine = [place for place in places if place.startswith("[") == source.startswith("[")]
+        return appended(made, ALTERNATE_SERVER, encoded_address(mine[0], bytes(16)))
+    return appended(response(message), XOR_MAPPED, encoded_address(source, COOKIE + message.id))
+
+
 class Server:
     """Section 9.2.4, for Binding requests."""
 
     def __init__(self, realm):
         self.realm, self.users, self.hashes = realm, {}, True
         self.algorithms, self.lifetime = ["sha1"], 3600
-        self.fingerprints = ("none", "valid")
+        self.fingerprints, self.places = ("none", "valid"), ()
 
     def nonce(self, source, epoch):
         text = f"{source} {epoch} {self.algorithms}".encode()
@@ -68,13 +81,7 @@ class Server:
             code = 438
         if code is not None:
             return self.end(message, self.refusal(message, code, current))
-        types = unknown_types(message, KNOWN)
-        answer = response(message)
-        if types:
-            answer = refusal_420(message, types)
-        else:
-            answer = appended(answer, XOR_MAPPED,
-                              encoded_address(source, COOKIE + message.id))
+        answer = answered(message, source, self.places)
         name = "sha1" if message.value(PASSWORD_ALGORITHM) is None else "sha256"
         return self.end(message, signed(answer, name, key))
 
@@ -137,7 +144,7 @@ class ShortServer:
     """Section 9.1.3, for Binding requests."""
 
     def __init__(self):
-        self.users = {}
+        self.users, self.places = {}, ()
 
     def hears(self, source, data):
         """The response to a datagram, or None."""
@@ -150,9 +157,7 @@ class ShortServer:
         if code is not None:
             phrase = {400: "Bad Request", 401: "Unauthenticated"}[code]
             return self.end(message, response(message, code, phrase))
-        types = unknown_types(message, KNOWN)
-        answer = refusal_420(message, types) if types else appended(
-            response(message), XOR_MAPPED, encoded_address(source, COOKIE + message.id))
+        answer = answered(message, source, self.places)
         key = self.users[message.value(USERNAME)]
         return self.end(message, signed(answer, verified(message, key), key))
 
@@ -171,6 +176,23 @@ class ShortServer:
         except Refused:
             return 401
         return None
+
+
+class OpenServer:
+    """Section 6.3.1, for Binding requests of anybody."""
+
+    def __init__(self):
+        self.fingerprints = ("none", "valid")
+
+    def hears(self, source, data):
+        """The response to a datagram, or None."""
+        message = Message(data)
+        if message.method != 1 or message.klass != "request":
+            return None
+        if check_fingerprint(message) not in self.fingerprints:
+            return None
+        answer = answered(message, source)
+        return fingerprinted(answer) if message.value(FINGERPRINT) is not None else answer
 
 
 class ShortClient:
@@ -213,7 +235,7 @@ class Client:
 
     def signs(self, data):
         if self.nonce is None or self.user is None:
-            return data
+            return self.end(data)
         hashed = self.hashes != "disabled" and bits_of(self.nonce) & 0x40
         who = (USERHASH, userhash(self.user, self.realm)) if hashed else (USERNAME, self.user)
         for kind, value in (who, (REALM, self.realm), (NONCE, self.nonce)):
@@ -223,7 +245,11 @@ class Client:
             data = appended(data, PASSWORD_ALGORITHM,
                             struct.pack(">HH", NUMBERS[self.algorithm], 0))
         name = self.algorithm if self.offered is None else "sha256"
-        return signed(data, name, self.key(self.algorithm))
+        return self.end(signed(data, name, self.key(self.algorithm)))
+
+    def end(self, data):
+        """With FINGERPRINT, if its messages are to have it (section 7.1)."""
+        return fingerprinted(data) if self.fingerprints == ("valid",) else data
 
     def hears(self, message):
         if check_fingerprint(message) not in self.fingerprints:

@@ -3,7 +3,8 @@
 import struct
 
 from model.asking import Asking
-from model.credentials import Client, Server, ShortClient, ShortServer
+from model.checks import Checker
+from model.credentials import Client, OpenServer, Server, ShortClient, ShortServer
 from model.transactions import Agent
 from model.values import decoded, encoded, plain, types_of
 from model.wire import (FINGERPRINT, INTEGRITY, INTEGRITY_SHA256, Message, Refused, appended, begun,
@@ -162,6 +163,29 @@ class Credentials:
         return "none" if came is None else came.hex()
 
     @call
+    def server_redirects(self, *places):
+        self.server.places = places
+
+    @call
+    def short_server_redirects(self, *places):
+        self.short_server.places = places
+
+    @call
+    def open_server_new(self):
+        self.open_server = OpenServer()
+
+    @call
+    def open_server_fingerprint(self):
+        self.open_server.fingerprints = ("valid",)
+
+    def open_server_hears(self, source, data):
+        try:
+            came = self.open_server.hears(source, plain(data))
+        except (Refused, struct.error):
+            return "none"
+        return "none" if came is None else came.hex()
+
+    @call
     def client_new(self):
         self.client = Client()
         self.asking = Asking(self.client)
@@ -255,7 +279,36 @@ class Transactions:
         request.is_silent = True
 
 
-class Subject(Reading, Writing, Credentials, Transactions):
+class Checks:
+    @call
+    def ice_new(self, role, number, *names):
+        self.checker = Checker(role, int(number), [plain(name) for name in names])
+
+    @call
+    def ice_checks(self, to, priority, word):
+        return self.checker.check(to, int(priority), word == "yes")
+
+    def ice_hears(self, source, data):
+        try:
+            came = self.checker.hears(source, plain(data))
+        except (Refused, struct.error):
+            return "none"
+        return "none" if came is None else came.hex()
+
+    def ice_takes(self, source, data):
+        try:
+            return self.checker.takes(source, Message(plain(data)))
+        except (Refused, struct.error):
+            return "none"
+
+    def ice_role(self):
+        return self.checker.role
+
+    def ice_nominated(self):
+        return "yes" if self.checker.is_nominated else "no"
+
+
+class Subject(Reading, Writing, Credentials, Transactions, Checks):
     def __init__(self):
         self.server, self.client, self.agent = Server(b""), Client(), Agent("udp")
         self.short_server = ShortServer()

@@ -1,24 +1,17 @@
-"""This library as a subject, through its headers for C: stunp.h, stunp_endpoint.h, stunp_state.h.
+"""This library's messages and parts as a subject, through its headers for C: stunp.h, and of
+stunp_state.h the client's long-term authenticator and the agent. endpoint.py has the endpoints.
 
-`make lib` builds the shared library target/c/libstunp.so; STUNP_LIBRARY names another one.
 What the headers do not have is left out."""
 
 import ctypes
-import ipaddress
-import os
 import struct
-from ctypes import byref, c_bool, c_size_t, c_uint16, c_uint32, c_uint64, c_uint8, c_void_p
+from ctypes import byref, c_size_t, c_uint16, c_uint32, c_uint64, c_uint8, c_void_p
 
-TOP = os.path.dirname(os.path.dirname(os.path.dirname(os.path.abspath(__file__))))
-LIBRARY = ctypes.CDLL(os.environ.get("STUNP_LIBRARY", os.path.join(TOP, "target/c/libstunp.so")))
-CLASSES = ("request", "indication", "success", "error")
-ALGORITHMS = {"sha1": 1, "sha256": 2}
-NAMES = {1: "sha1", 2: "sha256"}
+from subjects.library import (ALGORITHMS, CLASSES, FEATURES, LIBRARY, NAMES, Address, Refused, address,
+                              address_text, ask, buffer, call, changed, octets_of, plain)
+
 FINGERPRINTS = ("none", "valid", "invalid", "invalid")
-FEATURES = {"auto": 0, "required": 1, "disabled": 2}
 MISSING, NO_INTEGRITY = -15, -4
-# STUNP_DROP_NOT_VERIFIED
-NOT_VERIFIED = 9
 TEXTS, XORED, PLAIN = (6, 0x14, 0x15, 0x8022, 0x8003), (0x20, 0x12, 0x16), (1, 0x8023)
 # Attributes that are numbers: their bytes, and how many bits at their end are unused.
 NUMBERS = {0x24: (4, 0), 0x0D: (4, 0), 0x8029: (8, 0), 0x802A: (8, 0), 0x0C: (4, 16), 0x19: (4, 24),
@@ -26,35 +19,12 @@ NUMBERS = {0x24: (4, 0), 0x0D: (4, 0), 0x8029: (8, 0), 0x802A: (8, 0), 0x0C: (4,
 EVEN_PORT = 0x18
 # Values that the headers have no call for: they are left out.
 WITHOUT_CALLS = (0x08, 0x1C, 0x1D, 0x8002, 0x1E, 0x17, 0x8000)
-PEER = "10.0.0.2:3478"
-ROOM, HOUR = 70000, 3600 * 10**9
-SECRET = ctypes.c_char_p(bytes(range(1, 33)))
-
-
-class Address(ctypes.Structure):
-    _fields_ = [("octets", c_uint8 * 16), ("port", c_uint16), ("length", c_uint16)]
+HOUR = 3600 * 10**9
 
 
 class Handle(ctypes.Structure):
-    """A handle of stunp_endpoint.h."""
-    _fields_ = [("is_full", c_bool), ("state", c_void_p)]
-
-
-class StateHandle(ctypes.Structure):
     """A handle of stunp_state.h."""
     _fields_ = [("kind", c_uint32), ("state", c_void_p)]
-
-
-class Reply(ctypes.Structure):
-    _fields_ = [("id", c_uint8 * 12), ("key", c_uint8 * 64), ("method", c_uint16),
-                ("key_length", c_uint8), ("integrity", c_uint8), ("has_fingerprint", c_bool)]
-
-
-class Received(ctypes.Structure):
-    _fields_ = [("size", c_size_t), ("kind", c_uint32), ("why", c_uint32), ("code", c_uint32),
-                ("method", c_uint16), ("algorithm", c_uint16), ("length", c_size_t),
-                ("needed", c_size_t), ("name_length", c_size_t), ("reply", Reply),
-                ("name", c_uint8 * 516), ("is_hash", c_bool)]
 
 
 class Timeouts(ctypes.Structure):
@@ -62,88 +32,13 @@ class Timeouts(ctypes.Structure):
                 ("last", c_uint64), ("transmissions", c_uint32)]
 
 
-class Refused(Exception):
-    """A call failed: its error is the argument."""
-
-
-def sized(value):
-    """Bytes and their length, as two arguments."""
-    return ctypes.c_char_p(value), c_size_t(len(value))
-
-
-def ask(name, *words):
-    """Makes a call of the library, bytes with their length. Raises what it fails with."""
-    arguments = []
-    for word in words:
-        if isinstance(word, bytes):
-            arguments += sized(word)
-        elif isinstance(word, ctypes.Array):
-            arguments += [word, c_size_t(len(word))]
-        else:
-            arguments.append(word)
-    call = getattr(LIBRARY, "stunp_" + name)
-    call.restype = ctypes.c_int64
-    came = call(*arguments)
-    if came < 0:
-        raise Refused(came)
-    return came
-
-
-def buffer():
-    return (c_uint8 * ROOM)()
-
-
-def changed(name, message, *words):
-    """The message after a call that appends to it."""
-    out = buffer()
-    out[:len(message)] = message
-    length = ask(name, out, c_size_t(len(message)), *words)
-    return bytes(out[:length])
-
-
-def plain(word):
-    return b"" if word == "-" else bytes.fromhex(word)
-
-
 def types_of(word):
     numbers = [] if word == "-" else [int(one, 16) for one in word.split(",")]
     return (c_uint16 * len(numbers))(*numbers)
 
 
-def octets_of(word):
-    host, _, port = word.rpartition(":")
-    return ipaddress.ip_address(host.strip("[]")).packed, int(port)
-
-
-def address(word):
-    octets, port = octets_of(word)
-    made = Address(port=port, length=len(octets))
-    made.octets[:len(octets)] = octets
-    return byref(made)
-
-
-def address_text(octets, port):
-    host = ipaddress.ip_address(bytes(octets))
-    return f"{host}:{port}" if host.version == 4 else f"[{host}]:{port}"
-
-
 def id_of(number):
     return int(number).to_bytes(12, "big")
-
-
-def call(method):
-    """A call of the suite: any error of the library is a refusal."""
-
-    def answer(self, *words):
-        try:
-            came = method(self, *words)
-        except Refused:
-            return "refused"
-        if isinstance(came, bytes):
-            return came.hex() or "-"
-        return "done" if came is None else came
-
-    return answer
 
 
 class Reading:
@@ -285,193 +180,25 @@ class Writing:
         return bytes(out[:length]) if length else "none"
 
 
-class Server:
-    """stunp_endpoint_server: its settings are made when the first datagram comes."""
-
-    def __init__(self, realm):
-        self.realm, self.names, self.hashes = realm, {}, 0
-        self.algorithms, self.lifetime = 1, 3600
-        self.handle, self.table = Handle(), Handle()
-
-    def build(self):
-        ask("endpoint_server_new_with", byref(self.handle), self.realm, None, c_size_t(0), SECRET,
-            SECRET, c_bool(False), None, c_size_t(0), c_uint64(self.lifetime),
-            c_uint32(self.algorithms), c_uint32(self.hashes), c_bool(True), c_bool(False))
-        ask("endpoint_users_new_own", byref(self.table), byref(self.handle))
-        for name, password in self.names.items():
-            self.add(name, password)
-
-    def add(self, name, password):
-        ask("endpoint_users_add", byref(self.table), name, password)
-
-    def hears(self, source, seconds, data):
-        if not self.handle.is_full:
-            self.build()
-        out, received = buffer(), Received(size=ctypes.sizeof(Received))
-        kind = ask("endpoint_server_receive_own", byref(self.handle), byref(self.table), data,
-                   address(source), c_uint64(seconds), out, byref(received))
-        # An accepted request of another method is the application's, which has none.
-        return bytes(out[:received.length]) if kind == 1 else "none"
-
-    def end(self):
-        LIBRARY.stunp_endpoint_users_clear(byref(self.table))
-        LIBRARY.stunp_endpoint_server_clear(byref(self.handle))
-
-
-class ShortServer(Server):
-    """stunp_endpoint_server with short-term credentials."""
-
-    def __init__(self):
-        super().__init__(b"")
-        ask("endpoint_server_new_short_term", byref(self.handle), None, c_size_t(0), None,
-            c_size_t(0), c_bool(True), c_bool(False))
-        ask("endpoint_users_new_own", byref(self.table), byref(self.handle))
-
-
-class Options(ctypes.Structure):
-    _fields_ = [("initial", c_uint64), ("longest", c_uint64), ("last", c_uint64),
-                ("transmissions", c_uint32), ("challenges", c_uint32), ("credentials", c_uint32),
-                ("algorithms", c_uint32), ("anonymous_username", c_uint32), ("is_stream", c_bool),
-                ("accepts_unsigned", c_bool), ("has_fingerprint", c_bool),
-                ("requires_fingerprint", c_bool)]
-
-
-class Event(ctypes.Structure):
-    _fields_ = [("size", c_size_t), ("kind", c_uint32), ("result", c_uint32),
-                ("request", c_uint64), ("until", c_uint64), ("length", c_size_t),
-                ("needed", c_size_t), ("code", c_uint32), ("not_understood", c_uint16),
-                ("signed_by", c_uint16), ("dropped", c_uint32 * 3)]
-
-
-class Asking:
-    """stunp_endpoint_client: its settings are made when the first request is asked."""
-
-    def __init__(self):
-        self.handle, self.options, self.user = Handle(), Options(algorithms=1), (b"", b"")
-
-    def asks(self, now, message):
-        if not self.handle.is_full:
-            ask("endpoint_client_new_with", byref(self.handle), address(PEER), SECRET, *self.user,
-                None, c_size_t(0), None, c_size_t(0), byref(self.options))
-        body, number = message[20:], c_uint64()
-        ask("endpoint_client_request_with", byref(self.handle), c_uint32(ask("method", message)),
-            body, c_uint64(now), byref(number))
-        return self.next(now)
-
-    def takes(self, now, message):
-        why = c_uint32()
-        kind = ask("endpoint_client_receive_with", byref(self.handle), message, address(PEER),
-                   c_uint64(now), byref(why))
-        return "yes" if kind == 4 else "no"
-
-    def next(self, now):
-        out, event = buffer(), Event(size=ctypes.sizeof(Event))
-        ask("endpoint_client_poll_with", byref(self.handle), c_uint64(now), out, byref(event))
-        if event.kind == 1:
-            return bytes(out[:event.length])
-        if event.kind == 0:
-            return "none"
-        is_violated = event.dropped[0] and event.dropped[1] == NOT_VERIFIED
-        ends = {1: "success", 2: f"error {event.code}", 3: "error 300",
-                4: "violated" if is_violated else "timed out"}
-        return "result " + ends.get(event.result, "failed")
-
-    def end(self):
-        LIBRARY.stunp_endpoint_client_clear(byref(self.handle))
-
-
-class Credentials:
-    @call
-    def server_new(self, realm):
-        if self.server:
-            self.server.end()
-        self.server = Server(plain(realm))
-
-    def server_algorithms(self, names):
-        self.server.algorithms = sum(ALGORITHMS[one] for one in names.split(","))
-        return "done"
-
-    def server_hashes(self, word):
-        self.server.hashes = FEATURES["auto" if word == "yes" else "disabled"]
-        return "done"
-
-    def server_lifetime(self, seconds):
-        self.server.lifetime = int(seconds)
-        return "done"
-
-    @call
-    def server_add_user(self, name, password):
-        name, password = plain(name), plain(password)
-        self.server.names[name] = password
-        if self.server.table.is_full:
-            self.server.add(name, password)
-
-    @call
-    def server_remove_user(self, name):
-        self.server.names.pop(plain(name), None)
-        if self.server.table.is_full:
-            ask("endpoint_users_remove", byref(self.server.table), plain(name))
-
-    @call
-    def server_hears(self, source, seconds, data):
-        return self.server.hears(source, int(seconds), plain(data))
-
-    @call
-    def short_server_new(self):
-        if self.short_server:
-            self.short_server.end()
-        self.short_server = ShortServer()
-
-    @call
-    def short_server_add_user(self, name, password):
-        self.short_server.add(plain(name), plain(password))
-
-    @call
-    def short_server_hears(self, source, data):
-        return self.short_server.hears(source, 0, plain(data))
+class Client:
+    """stunp_client: the client's half of the long-term credentials, for messages of its caller."""
 
     @call
     def client_new(self):
         LIBRARY.stunp_client_clear(byref(self.client))
         ask("client_new", byref(self.client))
-        self.asking.end()
-        self.asking = Asking()
-
-    @call
-    def client_asks(self, now, message):
-        return self.asking.asks(int(now), plain(message))
-
-    @call
-    def client_takes(self, now, message):
-        return self.asking.takes(int(now), plain(message))
-
-    @call
-    def client_next(self, now):
-        return self.asking.next(int(now))
 
     @call
     def client_user(self, name, password):
-        self.asking.user = plain(name), plain(password)
         ask("client_set_credentials", byref(self.client), plain(name), plain(password))
 
     @call
-    def client_short_term(self, name, password):
-        self.asking.user = plain(name), plain(password)
-        self.asking.options.credentials = 1
-
-    @call
-    def client_stream(self):
-        self.asking.options.is_stream = True
-
-    @call
     def client_algorithms(self, names):
-        self.asking.options.algorithms = sum(ALGORITHMS[one] for one in names.split(","))
         ask("client_set_algorithms", byref(self.client),
             c_uint32(sum(ALGORITHMS[one] for one in names.split(","))))
 
     @call
     def client_hashes(self, word):
-        self.asking.options.anonymous_username = FEATURES[word]
         ask("client_set_anonymous_username", byref(self.client), c_uint32(FEATURES[word]))
 
     @call
@@ -540,14 +267,10 @@ class Transactions:
         return self.about("agent_configure", identity, byref(waits))
 
 
-class Subject(Reading, Writing, Credentials, Transactions):
+class Subject(Reading, Writing, Client, Transactions):
     def __init__(self):
-        self.server, self.client, self.agent = None, StateHandle(), StateHandle()
-        self.short_server, self.asking = None, Asking()
+        self.client, self.agent = Handle(), Handle()
 
     def __del__(self):
         LIBRARY.stunp_client_clear(byref(self.client))
         LIBRARY.stunp_agent_clear(byref(self.agent))
-        for server in filter(None, (self.server, self.short_server)):
-            server.end()
-        self.asking.end()

@@ -25,6 +25,15 @@ uint64_t moment(void) {
     return (uint64_t)now.tv_sec * SECOND + (uint64_t)now.tv_nsec;
 }
 
+const char *time_text(char text[TIME_LENGTH]) {
+    struct timespec now;
+    struct tm date;
+    clock_gettime(CLOCK_REALTIME, &now);
+    size_t length = strftime(text, TIME_LENGTH, "%Y-%m-%dT%H:%M:%S", gmtime_r(&now.tv_sec, &date));
+    snprintf(text + length, TIME_LENGTH - length, ".%03dZ", (int)(now.tv_nsec / 1000000));
+    return text;
+}
+
 void fill_randomly(void *out, size_t length) {
     for (size_t filled = 0; filled < length;) {
         ssize_t more = getrandom((uint8_t *)out + filled, length - filled, 0);
@@ -300,7 +309,8 @@ int hard_error(int socket) {
 void rest_after(const char *what) {
     static uint64_t next;
     const struct timespec rest = {0, REST};
-    if (moment() >= next) perror(what);
+    char time[TIME_LENGTH];
+    if (moment() >= next) fprintf(stderr, "%s %s: %s\n", time_text(time), what, strerror(errno));
     if (moment() >= next) next = moment() + 10 * SECOND;
     nanosleep(&rest, NULL);
 }

@@ -12,6 +12,11 @@
 /* Returns nanoseconds of a clock that never goes back, and goes on while the machine sleeps. */
 uint64_t moment(void);
 
+/* Writes the current time in UTC as the lines of a log begin, such as 2026-11-28T19:41:07.250Z, and
+ * returns the text. */
+enum { TIME_LENGTH = 32 };
+const char *time_text(char text[TIME_LENGTH]);
+
 /* Fills a buffer with random bytes. It ends the program if there are none, because IDs and nonces
  * depend on them. */
 void fill_randomly(void *out, size_t length);

@@ -7,6 +7,7 @@
 #include <stdarg.h>
 #include <stdio.h>
 #include <stdlib.h>
+#include <string.h>
 #include <sys/mman.h>
 #include <sys/prctl.h>
 #include <sys/wait.h>
@@ -37,25 +38,69 @@ void say_hangup_is_done(unsigned long number) {
     __atomic_fetch_add(&hangups_done[number], 1, __ATOMIC_RELAXED);
 }
 
-/* A pipe that can be written to has room for a whole line, so that it is not torn. */
-void say(const char *format, ...) {
-    char line[1024];
+int start_thread(pthread_t *thread, void *(*run)(void *), void *with) {
+    sigset_t all, before;
+    sigfillset(&all);
+    pthread_sigmask(SIG_SETMASK, &all, &before);
+    int error = pthread_create(thread, NULL, run, with);
+    pthread_sigmask(SIG_SETMASK, &before, NULL);
+    return error;
+}
+
+/* ---- Lines */
+
+static bool is_serving;
+enum { LONGEST_COMPLAINT = 2048 };
+
+/* Prints a line after what begins it. A pipe that can be written to has room for a whole line, so
+ * that it is not torn. */
+static void print(const char *begin, const char *format, va_list values) {
+    char line[1100];
     struct pollfd out = {STDOUT_FILENO, POLLOUT, 0};
-    va_list values;
-    va_start(values, format);
-    int length = vsnprintf(line, sizeof line, format, values);
-    va_end(values);
-    if (length < 0 || (size_t)length >= sizeof line || poll(&out, 1, 0) <= 0
-        || (out.revents & POLLOUT) == 0)
+    int length = snprintf(line, sizeof line, "%s", begin);
+    length += vsnprintf(line + length, sizeof line - (size_t)length, format, values);
+    if ((size_t)length >= sizeof line || poll(&out, 1, 0) <= 0 || (out.revents & POLLOUT) == 0)
         return;
     if (write(STDOUT_FILENO, line, (size_t)length) < 0) return; /* nobody reads it */
+}
+
+void say(const char *format, ...) {
+    va_list values;
+    va_start(values, format);
+    print("", format, values);
+    va_end(values);
+}
+
+void say_at_time(const char *format, ...) {
+    char begin[TIME_LENGTH + 1];
+    va_list values;
+    strcat(strcpy(begin, time_text((char[TIME_LENGTH]){0})), " ");
+    va_start(values, format);
+    print(begin, format, values);
+    va_end(values);
+}
+
+void complain(const char *format, ...) {
+    char line[LONGEST_COMPLAINT];
+    const char *time = is_serving ? time_text((char[TIME_LENGTH]){0}) : "";
+    va_list values;
+    va_start(values, format);
+    vsnprintf(line, sizeof line, format, values);
+    va_end(values);
+    fprintf(stderr, "%s%sudp_server: %s", time, is_serving ? " " : "", line);
+}
+
+/* Prints the port, which says that the server serves from now on. */
+static void say_port(unsigned long port) {
+    is_serving = true;
+    say("port %lu\n", port);
 }
 
 static int serve_alone(const struct service *service) {
     struct listener listener;
     unsigned long port = service->port;
     if (!open_server(&service->place, &port, &listener)) return 1;
-    say("port %lu\n", port);
+    say_port(port);
     bool is_right = service->serve(&listener, 0);
     close_server(&listener);
     return is_right ? 0 : 1;
@@ -84,6 +129,7 @@ static pid_t start_worker(const struct service *service, unsigned long port,
     if (worker == 0) {
         prctl(PR_SET_PDEATHSIG, SIGTERM);
         if (getppid() != parent) exit(1);
+        is_serving = true;
         exit(service->serve(&listener, number) ? 0 : 1);
     }
     close_server(&listener);
@@ -152,6 +198,6 @@ int serve_in_processes(const struct service *service) {
     if ((!service->place.is_shared || port == 0) && !is_free(service, &port)) return 1;
     for (unsigned long i = 0; i < service->processes; i++)
         if ((workers[i] = start_worker(service, port, i)) < 0) return 1;
-    say("port %lu\n", port);
+    say_port(port);
     return end_together(service, workers);
 }

@@ -4,6 +4,7 @@
 #define STUN_PROCESSES_H
 
 #include "net.h"
+#include <pthread.h>
 #include <signal.h>
 
 /* Whether SIGTERM or SIGINT arrived since `hear_signals` was called, and how often SIGHUP (read the
@@ -15,8 +16,16 @@ void hear_signals(void);
 /* Reports that the process with this number has followed a SIGHUP. Then the next one gets it. */
 void say_hangup_is_done(unsigned long number);
 
-/* Prints like printf, or nothing if it would have to wait. */
+/* Starts a thread that no signal wakes, because signals are to wake the loop that serves. Returns 0
+ * or the number of the error. */
+int start_thread(pthread_t *thread, void *(*run)(void *), void *with);
+
+/* Print like printf, or nothing if that would have to wait: the second with the time in front. */
 void say(const char *format, ...) __attribute__((format(printf, 1, 2)));
+void say_at_time(const char *format, ...) __attribute__((format(printf, 1, 2)));
+
+/* Prints `udp_server: ..` on standard error, with the time in front once the server serves. */
+void complain(const char *format, ...) __attribute__((format(printf, 1, 2)));
 
 /* What is served: where (open_server) and on which port, by how many processes, and how. `serve`
  * gets the number of its process from 0, and returns whether all went well. `look` is called now

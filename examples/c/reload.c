@@ -1,14 +1,12 @@
 /* reload.h over POSIX threads. */
 #define _GNU_SOURCE
 #include "reload.h"
+#include "processes.h"
 #include <errno.h>
 #ifdef __GLIBC__
 #include <malloc.h>
 #endif
-#include <pthread.h>
 #include <semaphore.h>
-#include <signal.h>
-#include <stdio.h>
 #include <string.h>
 
 /* The thread makes a reload FILLED, or ENDED if there are no new users, and the loop all else. */
@@ -45,24 +43,16 @@ static void *read_users(void *unused) {
     return NULL;
 }
 
-/* Starts the thread with all signals blocked, because they are to wake the loop. */
-static int start_thread(void) {
-    sigset_t all, before;
-    sigfillset(&all);
-    pthread_sigmask(SIG_SETMASK, &all, &before);
-    int error = pthread_create(&reload.thread, NULL, read_users, NULL);
-    pthread_sigmask(SIG_SETMASK, &before, NULL);
-    return error;
-}
-
 bool start_reload(fill_users *fill) {
     memset(&reload.table, 0, sizeof reload.table);
     reload.fill = fill;
     become(READING);
-    int error = sem_init(&reload.is_taken, 0, 0) == 0 ? start_thread() : errno;
+    int error = sem_init(&reload.is_taken, 0, 0) == 0
+                    ? start_thread(&reload.thread, read_users, NULL)
+                    : errno;
     if (error == 0) return true;
     become(NONE);
-    fprintf(stderr, "udp_server: the users are unchanged: %s\n", strerror(error));
+    complain("the users are unchanged: %s\n", strerror(error));
     return false;
 }
 

@@ -10,6 +10,7 @@
  * `--help` lists the options. SIGHUP has it read the file of users again, SIGUSR1 has it print its
  * counters, and SIGTERM ends it with status 0. */
 #define _GNU_SOURCE
+#include "counters.h"
 #include "heap.h"
 #include "net.h"
 #include "processes.h"
@@ -18,10 +19,10 @@
 #include "stunp_endpoint.h"
 #include "users.h"
 #include "words.h"
+#include <errno.h>
 #include <stdio.h>
 #include <string.h>
 #include <sys/epoll.h>
-#include <sys/mman.h>
 #include <time.h>
 #include <unistd.h>
 
@@ -40,6 +41,8 @@ static const char help[] =
     "  --secret FILE     what nonces are made of: 32 bytes, or 64 hexadecimal digits. Servers\n"
     "                    with the same secret, REALM, users, --expiry and --sha256 serve each\n"
     "                    other's clients. Random unless given\n"
+    "  --previous FILE   another secret whose nonces are accepted too, but not sent: the one\n"
+    "                    before, so that a new --secret costs no client a 438\n"
     "  --sha256          offer HMAC-SHA256 beside HMAC-SHA1\n"
     "  --expiry SECONDS  how long a nonce is sent, from 30; it is accepted for up to twice as\n"
     "                    long. 3600 unless given\n"
@@ -54,6 +57,8 @@ static const char help[] =
     "                    attributes of TURN, 400 if an Allocate lacks REQUESTED-TRANSPORT, and\n"
     "                    508 otherwise\n"
     "  --counts SECONDS  print a line of counters every SECONDS; SIGUSR1 prints one at once\n"
+    "  --metrics FILE    write the counters to FILE every 5 seconds, as Prometheus reads them, by\n"
+    "                    way of FILE.new\n"
     "  --ahead SECONDS   SIGUSR2 moves the clock of the process that gets it so far ahead, to\n"
     "                    see nonces expire (for tests; with --workers send it to each worker)\n"
     "  -v                print a line for each datagram: from where, the answer, and who had\n"
@@ -67,7 +72,7 @@ enum { MEMORY = 1 << 30 /* of one process, at most: users, and one answer */ };
 
 static struct {
     unsigned long port, workers, expiry, ahead, counts, idle;
-    const char *file, *secret;
+    const char *file, *secret, *previous, *metrics;
     struct texts at;
     bool has_users, has_sha256, has_tcp, is_verbose, is_shared, takes_any_method;
     bool wants_help, wants_version;
@@ -77,6 +82,8 @@ static const struct option options[] = {
     {"-v", .flag = &settings.is_verbose},
     {"--users", .text = &settings.file},
     {"--secret", .text = &settings.secret},
+    {"--previous", .text = &settings.previous},
+    {"--metrics", .text = &settings.metrics},
     {"--at", .texts = &settings.at},
     {"--sha256", .flag = &settings.has_sha256},
     {"--tcp", .flag = &settings.has_tcp},
@@ -106,37 +113,7 @@ static uint64_t now(void) {
     return (uint64_t)now.tv_sec + (uint64_t)jumps * settings.ahead;
 }
 
-/* ---- Counters, of each process in memory that all share */
-
-/* What they count, with what is printed before each. The reasons for a drop are in the order of
- * stunp_drop; OTHER is what no reason is told of. The causes of refusals are in the order of
- * stunp_cause. */
-enum number { ANSWERED, REFUSED_400, REFUSED_401, REFUSED_420, REFUSED_438, NOT_STUN, MALFORMED,
-              WRONG_FINGERPRINT, UNKNOWN_ATTRIBUTE, OUT_OF_MEMORY, OTHER, NO_SIGNATURE, INCOMPLETE,
-              OTHER_ALGORITHMS, OTHER_FEATURES, STALE_NONCE, WRONG_CREDENTIALS, NOT_UNDERSTOOD,
-              NO_BINDING, NUMBERS };
-static const char *const labels[NUMBERS] = {
-    "answered ", "; refused 400: ", " 401: ", " 420: ", " 438: ", "; dropped NotStun: ",
-    " Malformed: ", " WrongFingerprint: ", " UnknownAttribute: ", " OutOfMemory: ", " Other: ",
-    "; causes NoSignature: ", " Incomplete: ", " OtherAlgorithms: ", " OtherFeatures: ",
-    " StaleNonce: ", " WrongCredentials: ", " UnknownAttribute: ", "; no Binding request: ",
-};
-static uint64_t (*all_counts)[NUMBERS], *counts;
-
-static void count(enum number what) { __atomic_fetch_add(&counts[what], 1, __ATOMIC_RELAXED); }
-
-static void tell_counts(void) {
-    char line[1000];
-    int end = 0;
-    for (int what = 0; what < NUMBERS; what++) {
-        uint64_t sum = 0;
-        for (unsigned long i = 0; i < settings.workers; i++)
-            sum += __atomic_load_n(&all_counts[i][what], __ATOMIC_RELAXED);
-        end += snprintf(line + end, sizeof line - (size_t)end, "%s%llu", labels[what],
-                        (unsigned long long)sum);
-    }
-    say("%s\n", line);
-}
+/* ---- Answers */
 
 static void count_code(uint32_t code) {
     count(code == 200   ? ANSWERED
@@ -144,10 +121,8 @@ static void count_code(uint32_t code) {
           : code == 401 ? REFUSED_401
           : code == 420 ? REFUSED_420
           : code == 438 ? REFUSED_438
-                        : NO_BINDING);
+                        : NOT_BINDING);
 }
-
-/* ---- Answers */
 
 /* The types that must be understood, and are. */
 static const uint16_t known[] = {
@@ -180,16 +155,27 @@ static void fill_answer(stunp_writer *writer, uint32_t code, const stunp_address
 static void tell(const stunp_address *from, uint32_t code, const stunp_received *received) {
     count_code(code);
     if (!settings.is_verbose) return;
-    if (received == NULL || received->kind != STUNP_IS_REQUEST) say("%s %u\n", text_of(from), code);
+    if (received == NULL || received->kind != STUNP_IS_REQUEST)
+        say_at_time("%s %u\n", text_of(from), code);
     else
-        say("%s %u %s %.*s\n", text_of(from), code,
-            received->algorithm == STUNP_SHA256 ? "SHA256" : "SHA1", (int)received->name_length,
-            (const char *)received->name);
+        say_at_time("%s %u %s %.*s\n", text_of(from), code,
+                    received->algorithm == STUNP_SHA256 ? "SHA256" : "SHA1",
+                    (int)received->name_length, (const char *)received->name);
 }
 
 static void drop(const stunp_address *from, enum number what, const char *why) {
     count(what);
-    if (settings.is_verbose) say("%s dropped: %s\n", text_of(from), why);
+    if (settings.is_verbose) say_at_time("%s dropped: %s\n", text_of(from), why);
+}
+
+/* What the server's reason for a drop counts as. */
+static enum number counter_of(uint32_t why) {
+    return why == STUNP_DROP_NOT_STUN             ? NOT_STUN
+           : why == STUNP_DROP_MALFORMED          ? MALFORMED
+           : why == STUNP_DROP_WRONG_FINGERPRINT  ? WRONG_FINGERPRINT
+           : why == STUNP_DROP_UNKNOWN_ATTRIBUTE  ? UNKNOWN_ATTRIBUTE
+           : why == STUNP_DROP_OUT_OF_MEMORY      ? OUT_OF_MEMORY
+                                                  : OTHER;
 }
 
 /* Answers an accepted request. */
@@ -227,10 +213,10 @@ static void answer_user(const struct datagram *got, struct answer *answer) {
         tell(&got->from, reply(got, &received, answer), &received);
         stunp_reply_wipe(&received.reply);
     } else if (kind == STUNP_DROPPED)
-        drop(&got->from, NOT_STUN + received.why - 1, stunp_drop_text(received.why));
+        drop(&got->from, counter_of(received.why), stunp_drop_text(received.why));
     else if (kind < 0)
         drop(&got->from, kind == STUNP_OUT_OF_MEMORY ? OUT_OF_MEMORY : OTHER, stunp_strerror(kind));
-    else drop(&got->from, NO_BINDING, "not a request");
+    else drop(&got->from, NOT_BINDING, "not a request");
 }
 
 /* Judges a datagram at a server that everybody may ask, and answers it. */
@@ -244,7 +230,7 @@ static void answer_anybody(const struct datagram *got, struct answer *answer) {
         drop(&got->from, WRONG_FINGERPRINT, "wrong FINGERPRINT");
     else if (stunp_read_header(got->bytes, got->length, &header) != 0
              || header.message_class != STUNP_REQUEST)
-        drop(&got->from, NO_BINDING, "not a request");
+        drop(&got->from, NOT_BINDING, "not a request");
     else {
         const size_t room = sizeof answer->bytes;
         int64_t refusal = stunp_refuse_unknown(got->bytes, got->length, known, KNOWN_TYPES,
@@ -265,7 +251,7 @@ static void answer_one(const struct datagram *got, struct answer *answer) {
     int64_t method = stunp_method(got->bytes, got->length);
     answer->length = 0;
     if (method >= 0 && method != STUNP_BINDING && !settings.takes_any_method)
-        drop(&got->from, NO_BINDING, "not a Binding request");
+        drop(&got->from, NOT_BINDING, "not a Binding request");
     else if (settings.has_users) answer_user(got, answer);
     else answer_anybody(got, answer);
 }
@@ -276,7 +262,7 @@ static void answer_one(const struct datagram *got, struct answer *answer) {
 static bool fill(stunp_endpoint_users *table, const char *what) {
     int64_t answer = stunp_endpoint_users_new(table, &server);
     if (answer < 0) {
-        fprintf(stderr, "udp_server: %s%s\n", what, stunp_strerror(answer));
+        complain("%s%s\n", what, stunp_strerror(answer));
         return false;
     }
     if (add_words(table, words_of_users.texts, words_of_users.count)
@@ -344,20 +330,25 @@ static void serve_one(const struct listener *listener, int queue, int number) {
     else accept_stream(listener->streams[number - FIRST_STREAM], queue, FIRST_CONNECTION);
 }
 
-/* Prints the counters if they are due or asked for. The first process calls this now and then. */
+/* Prints the counters if they are due or asked for, and has a thread write their file. The first
+ * process calls this now and then. */
 static void look(void) {
     static sig_atomic_t told;
     static uint64_t due;
+    static bool has_metrics;
+    if (settings.metrics != NULL && !has_metrics && !start_metrics(settings.metrics))
+        complain("%s: %s\n", settings.metrics, strerror(errno));
+    has_metrics = true;
     bool is_due = settings.counts > 0 && moment() >= due;
     if (is_due) due = (due == 0 ? moment() : due) + settings.counts * SECOND;
-    if (told != reports || is_due) tell_counts();
+    if (told != reports || is_due) log_counters();
     told = reports;
 }
 
 static bool serve(const struct listener *listener, unsigned long number) {
     struct epoll_event ready[MOST_SOCKETS];
     int queue = watch_all(listener);
-    counts = all_counts[number];
+    count_as(number);
     if (queue < 0) perror("epoll");
     while (queue >= 0 && !is_ending) {
         int most = is_reloading() ? MOST_WAIT_IN_RELOAD : MOST_WAIT;
@@ -375,17 +366,24 @@ static bool serve(const struct listener *listener, unsigned long number) {
 
 /* The server of a realm, and its users. */
 static bool begin(const char *realm) {
-    uint8_t secret[32];
+    uint8_t secret[32], previous[32];
     stunp_endpoint_server_settings wanted = STUNP_INIT(stunp_endpoint_server_settings);
     if (settings.secret == NULL) fill_randomly(secret, sizeof secret);
     else if (!read_secret(settings.secret, secret)) return false;
+    if (settings.previous != NULL && !read_secret(settings.previous, previous)) return false;
+    if (settings.previous != NULL && memcmp(secret, previous, sizeof secret) == 0) {
+        complain("--previous and --secret have the same secret\n");
+        return false;
+    }
     wanted.realm = realm, wanted.secret = secret;
+    wanted.previous_secret = settings.previous == NULL ? NULL : previous;
     wanted.nonce_seconds = settings.expiry;
     wanted.algorithms = settings.has_sha256 ? STUNP_SHA1 | STUNP_SHA256 : STUNP_SHA1;
     int64_t answer = stunp_endpoint_server_new(&server, &wanted);
     explicit_bzero(secret, sizeof secret);
+    explicit_bzero(previous, sizeof previous);
     if (answer >= 0) return fill(&users, "");
-    fprintf(stderr, "udp_server: %s\n", stunp_strerror(answer));
+    complain("%s\n", stunp_strerror(answer));
     return false;
 }
 
@@ -393,7 +391,9 @@ static bool begin(const char *realm) {
 static bool has_right_words(int number, char **words) {
     bool has_rest = number == 1 ? settings.file == NULL
                                 : number % 2 == 0 && (number > 2 || settings.file != NULL);
-    return number >= 1 && has_rest && read_number(words[0], 0, 65535, &settings.port);
+    bool has_secrets = settings.previous == NULL || settings.secret != NULL;
+    return number >= 1 && has_rest && has_secrets
+           && read_number(words[0], 0, 65535, &settings.port);
 }
 
 int main(int number, char **words) {
@@ -412,13 +412,12 @@ int main(int number, char **words) {
         return 2;
     }
     stunp_heap_bound(MEMORY);
-    all_counts = mmap(NULL, settings.workers * sizeof *all_counts, PROT_READ | PROT_WRITE,
-                      MAP_SHARED | MAP_ANONYMOUS, -1, 0);
     settings.has_users = number > 1;
     words_of_users.count = settings.has_users ? number - 2 : 0;
     words_of_users.texts = hidden_words(words + 2, words_of_users.count);
-    if (all_counts == MAP_FAILED || words_of_users.texts == NULL) {
-        perror("udp_server");
+    if (!open_counters(settings.workers) || words_of_users.texts == NULL
+        || (settings.metrics != NULL && !write_metrics(settings.metrics))) {
+        perror(settings.metrics != NULL ? settings.metrics : "udp_server");
         return 1;
     }
     if (settings.has_users && !begin(words[1])) return is_ending ? 0 : 1;

@@ -11,7 +11,7 @@
 enum { LONGEST_LINE = 2048 };
 
 static bool fails(const char *what, const char *why) {
-    fprintf(stderr, "udp_server: %s: %s\n", what, why);
+    complain("%s: %s\n", what, why);
     return false;
 }
 
@@ -102,13 +102,12 @@ static long add_lines(stunp_endpoint_users *users, const char *path, const char 
         line[length] = 0;
         int64_t answer = is_cut ? STUNP_TEXT_TOO_LONG : add_line(users, line);
         if (answer == STUNP_OUT_OF_MEMORY || is_cut) {
-            fprintf(stderr, "udp_server: %s%s, line %lu: %s\n", what, path, number,
-                    stunp_strerror(answer));
+            complain("%s%s, line %lu: %s\n", what, path, number, stunp_strerror(answer));
             bad = -1;
             break;
         }
         if (answer < 0) {
-            fprintf(stderr, "udp_server: %s, line %lu: expected `NAME PASSWORD`\n", path, number);
+            complain("%s, line %lu: expected `NAME PASSWORD`\n", path, number);
             bad++;
         }
     }
@@ -125,8 +124,7 @@ bool add_file(stunp_endpoint_users *users, const char *path, const char *what) {
     setvbuf(file, ahead, _IOFBF, sizeof ahead);
     long bad = add_lines(users, is_input ? "standard input" : path, what, file);
     bool is_read = !ferror(file);
-    if (is_read && bad > 0)
-        fprintf(stderr, "udp_server: %s%s: bad lines: %ld\n", what, path, bad);
+    if (is_read && bad > 0) complain("%s%s: bad lines: %ld\n", what, path, bad);
     if (!is_read && !gives_up()) fails(path, strerror(errno));
     if (!is_input) fclose(file);
     explicit_bzero(ahead, sizeof ahead);

@@ -19,6 +19,8 @@
 mod counts;
 #[path = "udp_server/discovery.rs"]
 mod discovery;
+#[path = "parts/log.rs"]
+mod log;
 #[path = "udp_server/streams.rs"]
 mod streams;
 #[path = "udp_server/users.rs"]
@@ -53,6 +55,8 @@ that realm alone. PORT 0 is any free one. The first line of output is `port N`.
   --secret FILE     what nonces are made of: 32 bytes, or 64 hexadecimal digits. Servers with the
                     same secret, REALM, users, --expiry and --sha256 serve each other's
                     clients. Random unless given
+  --previous FILE   another secret whose nonces are accepted too, but not sent: the one before, so
+                    that a new --secret costs no client a 438
   --sha256          offer HMAC-SHA256 beside HMAC-SHA1
   --expiry SECONDS  how long a nonce is sent, from 30; it is accepted for up to twice as long. 3600
                     unless given
@@ -66,11 +70,14 @@ that realm alone. PORT 0 is any free one. The first line of output is `port N`.
                     port, which is PORT + 1 unless given
   --workers N       threads that read each socket: 1 unless given
   --counts SECONDS  print a line of counters every SECONDS
+  --metrics FILE    write the counters to FILE every 5 seconds, as Prometheus reads them, by way of
+                    FILE.new
   -v                print a line for each datagram
   --help, --version
 ";
 const MOST_WORKERS: u64 = 64;
 const MOST_LENGTH: usize = 2048;
+const METRICS_EVERY: Duration = Duration::from_secs(5);
 
 /// The arguments of the command line.
 #[derive(Default)]
@@ -82,6 +89,9 @@ struct Settings {
     users: Vec<(String, String)>,
     file: Option<String>,
     secret: Option<String>,
+    previous: Option<String>,
+    /// The file of the counters, and that by way of which it is written.
+    metrics: Option<[String; 2]>,
     has_sha256: bool,
     has_tcp: bool,
     idle: u64,
@@ -111,9 +121,20 @@ impl Service<'_> {
         if let Some(realm) = &settings.realm {
             let both = [IntegrityAlgorithm::Sha1, IntegrityAlgorithm::Sha256];
             let algorithms = &both[..1 + usize::from(settings.has_sha256)];
-            let long_term = LongTerm::new(realm, secret(settings)?)
+            let current = match &settings.secret {
+                Some(path) => secret(path)?,
+                None => random_seed(),
+            };
+            let mut long_term = LongTerm::new(realm, current)
                 .algorithms(algorithms)
                 .nonce_lifetime(settings.expiry);
+            if let Some(path) = &settings.previous {
+                let previous = secret(path)?;
+                if previous == current {
+                    return Err("--previous and --secret have the same secret".into());
+                }
+                long_term = long_term.previous_secret(previous);
+            }
             let server = match settings.other {
                 Some(_) => Server::builder(long_term).understands(&discovery::ATTRIBUTES),
                 None => Server::builder(long_term).answer_binding(),
@@ -181,7 +202,7 @@ impl Service<'_> {
         self.counts.note(&outcome);
         if self.settings.is_verbose {
             let from = SocketAddr::new(from.ip().to_canonical(), from.port());
-            let _ = writeln!(io::stdout(), "{from} {outcome}");
+            let _ = writeln!(io::stdout(), "{} {from} {outcome}", log::Now);
         }
         outcome
     }
@@ -205,11 +226,24 @@ impl Service<'_> {
                         drop(current); // requests are judged again, while the old table goes
                         drop(old);
                     }
-                    Err(error) => eprintln!("udp_server: the users are unchanged: {error}"),
+                    Err(error) => log::complain(format_args!("the users are unchanged: {error}")),
                 }
                 last = now;
             }
             before = now;
+        }
+    }
+
+    /// Writes the file of counters now and then, and reports when that begins to fail.
+    fn write_metrics(&self, file: &str, new: &str) {
+        let mut was_right = true;
+        loop {
+            thread::sleep(METRICS_EVERY);
+            let written = self.counts.write(file, new);
+            if let (Err(error), true) = (&written, was_right) {
+                log::complain(format_args!("{file}: {error}"));
+            }
+            was_right = written.is_ok();
         }
     }
 
@@ -274,11 +308,8 @@ impl Service<'_> {
     }
 }
 
-/// Reads the secret from its file, or from the system's random numbers if there is no file.
-fn secret(settings: &Settings) -> Result<[u8; 32], Box<dyn Error>> {
-    let Some(path) = &settings.secret else {
-        return Ok(random_seed());
-    };
+/// Reads a secret from its file.
+fn secret(path: &str) -> Result<[u8; 32], Box<dyn Error>> {
     let bytes = fs::read(path).map_err(|error| format!("{path}: {error}"))?;
     let raw = <[u8; 32]>::try_from(&bytes[..]).ok();
     let digits = std::str::from_utf8(&bytes).unwrap_or_default().trim();
@@ -352,6 +383,10 @@ fn run(settings: &Settings) -> Result<(), Box<dyn Error>> {
     let file = settings.file.as_deref().filter(|file| *file != "-");
     let first = file.and_then(stamp);
     let service = &Service::new(settings)?;
+    if let Some([file, new]) = &settings.metrics {
+        let written = service.counts.write(file, new);
+        written.map_err(|error| format!("{file}: {error}"))?;
+    }
     let addresses = service.addresses.iter().filter(|_| settings.has_tcp);
     let listeners = addresses
         .map(|at| Ok((TcpListener::bind(at)?, Streams::default())))
@@ -364,9 +399,12 @@ fn run(settings: &Settings) -> Result<(), Box<dyn Error>> {
             scope.spawn(move || {
                 loop {
                     thread::sleep(Duration::from_secs(seconds));
-                    let _ = writeln!(io::stdout(), "{}", service.counts);
+                    let _ = writeln!(io::stdout(), "{} {}", log::Now, service.counts);
                 }
             });
+        }
+        if let Some([file, new]) = &settings.metrics {
+            scope.spawn(move || service.write_metrics(file, new));
         }
         for (listener, streams) in &listeners {
             let accept = || service.accept(listener, streams);
@@ -378,6 +416,7 @@ fn run(settings: &Settings) -> Result<(), Box<dyn Error>> {
             (0..others).for_each(|_| drop(scope.spawn(move || service.serve(at))));
         }
         println!("port {}", service.addresses[0].port());
+        log::serve();
         service.serve(0);
     });
     Ok(())
@@ -412,6 +451,11 @@ fn settings(mut words: impl Iterator<Item = String>) -> Option<Settings> {
             "--idle" => settings.idle = number(words.next(), 1, 1_000_000)?,
             "--users" => settings.file = Some(words.next()?),
             "--secret" => settings.secret = Some(words.next()?),
+            "--previous" => settings.previous = Some(words.next()?),
+            "--metrics" => {
+                let file = words.next()?;
+                settings.metrics = Some([file.clone(), file + ".new"]);
+            }
             "--expiry" => settings.expiry = number(words.next(), 30, 1_000_000)?,
             "--workers" => settings.workers = number(words.next(), 1, MOST_WORKERS)?,
             "--counts" => settings.counts = Some(number(words.next(), 1, 1_000_000)?),
@@ -427,7 +471,8 @@ fn settings(mut words: impl Iterator<Item = String>) -> Option<Settings> {
     }
     let has_users = !settings.users.is_empty() || settings.file.is_some();
     let is_right = settings.other.is_none() || settings.at.len() == 1 && !settings.has_tcp;
-    (settings.realm.is_some() == has_users && is_right).then_some(settings)
+    let has_secrets = settings.previous.is_none() || settings.secret.is_some();
+    (settings.realm.is_some() == has_users && is_right && has_secrets).then_some(settings)
 }
 
 fn main() -> ExitCode {

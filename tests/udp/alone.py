@@ -359,6 +359,6 @@ def counted(server):
                     assert stun.code_of(peer.ask(stun.message(stun.REQUEST))) == 200
             running.process.send_signal(signal.SIGUSR1)
             end = time.monotonic() + scaled(10)
-            while not any(line.startswith("answered 20; ") for line in running.lines):
+            while not any(line.startswith("answered=20 ") for line in running.lines):
                 assert time.monotonic() < end, running.lines
                 time.sleep(0.05)

@@ -67,12 +67,12 @@ def of_server(server, first):
             yield one(what)
     else:
         yield from of_others(server, str(pathlib.Path(first).parent / "exhausted.so"))
-    for what in (endpoint.tells, endpoint.counters, endpoint.bad_lines, endpoint.many_users,
-                 endpoint.addresses, endpoint.one_port, endpoint.no_streams):
+    for what in (endpoint.tells, endpoint.counters, endpoint.metrics, endpoint.bad_lines,
+                 endpoint.many_users, endpoint.addresses, endpoint.one_port, endpoint.no_streams):
         yield one(what)
     for words in BOTH:
-        for what in (endpoint.streams, endpoint.restarted, endpoint.behind_one_port, endpoint.one_socket,
-                     endpoint.stored_keys):
+        for what in (endpoint.streams, endpoint.restarted, endpoint.rotated,
+                     endpoint.behind_one_port, endpoint.one_socket, endpoint.stored_keys):
             yield one(what, words)
 
 

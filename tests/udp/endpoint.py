@@ -1,11 +1,13 @@
 """Cases of a server that stores nothing about an address: its nonces are a function of a secret,
 the address and the time (examples/c/udp_server.c, rust/examples/udp_server.rs)."""
 import contextlib
+import datetime
 import hashlib
 import os
 import pathlib
 import re
 import resource
+import shutil
 import signal
 import socket
 import subprocess
@@ -16,6 +18,12 @@ from alone import answering
 from harness import NAME, PASSWORD, REALM, USER, Peer, Server, has_ipv6, scaled, stun
 
 CLIENTS = 20
+COUNTERS = [
+    "answered", "refused_400", "refused_401", "refused_420", "refused_438", "dropped_NotStun",
+    "dropped_Malformed", "dropped_WrongFingerprint", "dropped_UnknownAttribute",
+    "dropped_OutOfMemory", "dropped_Other", "cause_NoSignature", "cause_Incomplete",
+    "cause_OtherAlgorithms", "cause_OtherFeatures", "cause_StaleNonce", "cause_WrongCredentials",
+    "cause_UnknownAttribute", "not_binding"]
 
 
 @contextlib.contextmanager
@@ -67,6 +75,28 @@ def restarted(server, words):
         assert run.returncode == 1 and "a secret is 32 bytes" in run.stderr, run
 
 
+def rotated(server, words):
+    """A new secret beside the one before costs no client a 438, also where another machine has made
+    the exchange already; without the one before each client gets one."""
+    algorithm = algorithm_of(words)
+    with contextlib.ExitStack() as held:
+        old, new = (held.enter_context(file_of(os.urandom(32))) for _ in range(2))
+        start = lambda *secrets, port=0: Server(server, *USER, *words, *secrets, port=port)
+        with start("--secret", old, "--previous", new) as first:
+            peers = peers_of(held, first.port)
+            requests = challenged(peers, algorithm)
+        for secrets in (("--secret", new, "--previous", old), ("--secret", old, "--previous", new)):
+            with start(*secrets, port=first.port):
+                are_served(peers, requests)
+                requests = challenged(peers, algorithm)  # those of the next one are of this secret
+        with start("--secret", new, port=first.port):
+            codes = {stun.code_of(peer.ask(one)) for peer, one in zip(peers, requests)}
+            assert codes == {438}, codes
+        for wrong, status in ((("--previous", old), 2), (("--secret", old, "--previous", old), 1)):
+            run = subprocess.run([server, "0", *USER, *wrong], capture_output=True, timeout=scaled(20))
+            assert run.returncode == status and run.stdout == b"", run
+
+
 def bound(port=0):
     one = socket.socket(socket.AF_INET, socket.SOCK_DGRAM)
     one.setsockopt(socket.SOL_SOCKET, socket.SO_REUSEPORT, 1)
@@ -91,7 +121,7 @@ def behind_one_port(server, words):
         with one:
             requests = challenged(peers, algorithm)
             are_served(peers, requests)
-            have_both = [until(running, r"401: [1-9]") for running in (one, other)]
+            have_both = [until(running, r"refused_401=[1-9]") for running in (one, other)]
             assert all(have_both), "the kernel gave one process all"
         are_served(peers, requests)
 
@@ -137,10 +167,58 @@ def counters(server):
         with Peer(running.port) as other:
             assert stun.code_of(other.ask(answering(challenge))) == 438
         peer.is_dropped(b"none", stun.message(stun.INDICATION), stun.message(0x0003))
-        wanted = ("answered 1; refused 400: 0 401: 3 420: 1 438: 1; dropped NotStun: 1 .*; "
-                  "causes NoSignature: 2 Incomplete: 0 OtherAlgorithms: 0 OtherFeatures: 0 "
-                  "StaleNonce: 1 WrongCredentials: 1 UnknownAttribute: 1; no Binding request: 2$")
-        assert until(running, wanted), running.lines
+        wanted = {**dict.fromkeys(COUNTERS, 0), "answered": 1, "refused_401": 3, "refused_420": 1,
+                  "refused_438": 1, "dropped_NotStun": 1, "cause_NoSignature": 2,
+                  "cause_StaleNonce": 1, "cause_WrongCredentials": 1, "cause_UnknownAttribute": 1,
+                  "not_binding": 2}
+        line = " ".join(f"{name}={number}" for name, number in wanted.items())
+        assert until(running, f"^{line}$"), running.lines
+        now = datetime.datetime.now(datetime.timezone.utc)
+        for time_of_line in running.times[1:]:
+            age = now - datetime.datetime.fromisoformat(f"{time_of_line[1]}+00:00")
+            assert datetime.timedelta(0) <= age < datetime.timedelta(minutes=5), age
+
+
+def metrics(server):
+    """The file for Prometheus has the counters of the line, and is whole whenever it is read. A
+    server that cannot write it does not start, and one that cannot any more says so once."""
+    with tempfile.TemporaryDirectory() as folder:
+        inner = pathlib.Path(folder) / "metrics"
+        inner.mkdir()
+        file = inner / "stun.prom"
+        told = f"udp_server: {file}: No such file or directory"
+        with Server(server, *USER, "--metrics", str(file), "--counts", "1", told=None) as running:
+            with Peer(running.port) as peer:
+                challenge = peer.ask(stun.message(stun.REQUEST))
+                assert stun.code_of(peer.ask(answering(challenge))) == 200
+            found, end = {}, time.monotonic() + scaled(20)
+            while found.get("answered") != 1:
+                found = counters_of(file.read_text())
+                assert list(found) == COUNTERS and time.monotonic() < end, found
+            assert until(running, " ".join(f"{name}={found[name]}" for name in COUNTERS))
+            assert [one.name for one in inner.iterdir()] == [file.name]
+            shutil.rmtree(inner)
+            while not running.told():
+                assert time.monotonic() < end, "it does not say that it cannot write"
+                time.sleep(0.1)
+            time.sleep(6)
+            assert running.told().startswith(told) and running.told().count("\n") == 1
+        run = subprocess.run([server, "0", "--metrics", str(file)], capture_output=True, text=True)
+        assert run.returncode == 1 and "stun.prom: No such file" in run.stderr, run
+
+
+def counters_of(text):
+    """The counters of a file in the text format of Prometheus, by the names of the line."""
+    found, kind = {}, None
+    for line in text.splitlines(keepends=True):
+        comment = re.fullmatch(r"# (HELP|TYPE) (stun_[a-z_]+_total) (counter|\w[\w ,]*\.)\n", line)
+        sample = re.fullmatch(r'(stun_([a-z_]+)_total)(?:\{[a-z]+="(\w+)"\})? (\d+)\n', line)
+        assert comment or sample and sample[1] == kind, line
+        if sample:
+            found["_".join(filter(None, sample.group(2, 3)))] = int(sample[4])
+        else:
+            kind = comment[2]
+    return found
 
 
 def addresses(server):
@@ -486,7 +564,7 @@ def no_memory(server, library):
         with Server(server, *USER, "--counts", "1", environment=environment) as running:
             with Peer(running.port) as peer:
                 challenge = peer.ask(stun.message(stun.REQUEST))
-                assert until(running, "answered 0; .* 401: 1 "), "its threads run"
+                assert until(running, "answered=0 .*refused_401=1 "), "its threads run"
                 file.touch()
                 peer.socket.settimeout(0.5)
                 for request in (stun.message(stun.REQUEST), answering(challenge)):
@@ -498,4 +576,4 @@ def no_memory(server, library):
                 file.unlink()
                 peer.socket.settimeout(scaled(10))
                 assert stun.code_of(peer.ask(answering(challenge))) == 200
-                assert until(running, "OutOfMemory: 2;"), running.lines
+                assert until(running, "OutOfMemory=2 "), running.lines

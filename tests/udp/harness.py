@@ -27,6 +27,8 @@ BESIDE = os.environ.get("LIBRARIES", "")  # what these archives want of the syst
 STATELESS = pathlib.Path(os.environ.get("STUN_C", TOP / "crates/stun_c/out/libstun_c.a"))
 REALM, NAME, PASSWORD = "example.org", "alice", "wonderland"
 USER = (REALM, NAME, PASSWORD)
+# What each line of a log begins with.
+TIME = re.compile(r"^(\d{4}-\d\d-\d\dT\d\d:\d\d:\d\d\.\d{3})Z ", re.MULTILINE)
 SCRATCH = []  # the folder of the run, while there is one
 # How many times longer than on an idle machine a wait may take: a load of so many programs for each
 # processor, at most 10.
@@ -87,7 +89,8 @@ def build_helpers(folder):
 
 class Server:
     """A running server, which is ended at the end, and has then told no errors but these, or any
-    where they are None. Its lines are read, or only the first."""
+    where they are None. Its lines are read, or only the first; `times` has what begins each of
+    them, which the lines and the errors are without."""
 
     def __init__(self, program, *words, port=0, within=(), environment=(), told="", is_read=True,
                  stdin=None):
@@ -106,13 +109,14 @@ class Server:
         self.errors = tempfile.TemporaryFile("w+")
         pipes = dict(stdin=stdin, stdout=subprocess.PIPE, stderr=self.errors, text=True)
         self.process = subprocess.Popen(words, env=environment, **pipes)
-        self.lines, self.is_up = [], threading.Event()
+        self.lines, self.times, self.is_up = [], [], threading.Event()
         threading.Thread(target=self.listen, daemon=True).start()
         self.is_up.wait(scaled(20))
 
     def listen(self):
         for line in self.process.stdout:
-            self.lines.append(line.strip())
+            self.times.append(TIME.match(line))
+            self.lines.append(TIME.sub("", line.strip()))
             self.is_up.set()
             if not self.is_read:
                 return
@@ -120,7 +124,7 @@ class Server:
 
     def told(self):
         self.errors.seek(0)
-        return self.errors.read()
+        return TIME.sub("", self.errors.read())
 
     def seconds(self):
         """The processor time that it took."""

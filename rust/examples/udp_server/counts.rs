@@ -1,11 +1,22 @@
-//! The outcomes of datagrams, and counters of them.
+//! The outcomes of datagrams, counters of them, and the file in which Prometheus finds these.
 
 use seatcrane_stun::endpoint::{Answer, Cause, DropReason, Refusal};
 use std::fmt;
+use std::fs::{self, File};
+use std::io::{self, Cursor, Write};
 use std::net::SocketAddr;
 use std::sync::atomic::{AtomicU64, Ordering::Relaxed};
 
-const CODES: [u16; 4] = [400, 401, 420, 438];
+const CODES: [(u16, &str); 4] = [(400, "400"), (401, "401"), (420, "420"), (438, "438")];
+/// The reasons for which a server of these settings drops a datagram.
+const REASONS: [DropReason; 5] = [
+    DropReason::NotStun,
+    DropReason::Malformed,
+    DropReason::WrongFingerprint,
+    DropReason::UnknownAttribute,
+    DropReason::OutOfMemory,
+];
+const LONGEST_FILE: usize = 4096;
 
 pub enum Outcome {
     /// A success, or an error with this code, to send to this address. If it must leave from
@@ -37,20 +48,26 @@ impl fmt::Display for Outcome {
 pub struct Counts {
     answered: AtomicU64,
     refused: [AtomicU64; CODES.len()],
-    dropped: [AtomicU64; DropReason::COUNT],
+    dropped: [AtomicU64; REASONS.len() + 1],
     causes: [AtomicU64; Cause::COUNT],
-    others: AtomicU64,
+    not_binding: AtomicU64,
 }
+
+/// Counters of one kind: they have one name, and differ in the value of a label.
+struct Kind(&'static str, &'static str, &'static str);
 
 impl Counts {
     pub fn note(&self, outcome: &Outcome) {
         let count = match outcome {
             Outcome::Answer(code, ..) => {
-                let refused = CODES.iter().position(|one| one == code);
+                let refused = CODES.iter().position(|one| one.0 == *code);
                 refused.map_or(&self.answered, |index| &self.refused[index])
             }
-            Outcome::Dropped(why) => &self.dropped[why.index()],
-            Outcome::Other => &self.others,
+            Outcome::Dropped(why) => {
+                let index = REASONS.iter().position(|one| one == why);
+                &self.dropped[index.unwrap_or(REASONS.len())]
+            }
+            Outcome::Other => &self.not_binding,
         };
         count.fetch_add(1, Relaxed);
     }
@@ -59,23 +76,69 @@ impl Counts {
     pub fn note_cause(&self, cause: Cause) {
         self.causes[cause.index()].fetch_add(1, Relaxed);
     }
+
+    /// Shows each counter: its kind, the value of its label, and the number.
+    fn each(&self, mut show: impl FnMut(&Kind, &str, u64) -> fmt::Result) -> fmt::Result {
+        let kind = Kind("answered", "", "Requests that succeeded.");
+        show(&kind, "", self.answered.load(Relaxed))?;
+        let kind = Kind("refused", "code", "Requests answered by an error.");
+        for ((_, code), count) in CODES.iter().zip(&self.refused) {
+            show(&kind, code, count.load(Relaxed))?;
+        }
+        let kind = Kind("dropped", "reason", "Datagrams without an answer.");
+        let reasons = REASONS.iter().map(|why| why.name()).chain(["Other"]);
+        for (reason, count) in reasons.zip(&self.dropped) {
+            show(&kind, reason, count.load(Relaxed))?;
+        }
+        let help = "Refused requests, by the first failed check.";
+        let kind = Kind("cause", "check", help);
+        for (cause, count) in Cause::ALL.iter().zip(&self.causes) {
+            show(&kind, cause.name(), count.load(Relaxed))?;
+        }
+        let kind = Kind("not_binding", "", "Other than Binding requests.");
+        show(&kind, "", self.not_binding.load(Relaxed))
+    }
+
+    /// Writes the counters to a new file and renames that to `file`, so that whoever reads `file`
+    /// never sees a part.
+    pub fn write(&self, file: &str, new: &str) -> io::Result<()> {
+        let mut text = Cursor::new([0; LONGEST_FILE]);
+        write!(text, "{}", Metrics(self))?;
+        let length = text.position() as usize;
+        File::create(new)?.write_all(&text.get_ref()[..length])?;
+        fs::rename(new, file)
+    }
 }
 
+/// A line of `NAME=VALUE`.
 impl fmt::Display for Counts {
     fn fmt(&self, f: &mut fmt::Formatter<'_>) -> fmt::Result {
-        write!(f, "answered {}; refused", self.answered.load(Relaxed))?;
-        for (code, count) in CODES.iter().zip(&self.refused) {
-            write!(f, " {code}: {}", count.load(Relaxed))?;
-        }
-        f.write_str("; dropped")?;
-        for (why, count) in DropReason::ALL.iter().zip(&self.dropped) {
-            write!(f, " {}: {}", why.name(), count.load(Relaxed))?;
-        }
-        f.write_str("; causes")?;
-        for (cause, count) in Cause::ALL.iter().zip(&self.causes) {
-            write!(f, " {}: {}", cause.name(), count.load(Relaxed))?;
-        }
-        let others = self.others.load(Relaxed);
-        write!(f, "; no Binding request: {others}")
+        let mut between = "";
+        self.each(|Kind(name, ..), value, count| {
+            let underscore = if value.is_empty() { "" } else { "_" };
+            write!(f, "{between}{name}{underscore}{value}={count}")?;
+            between = " ";
+            Ok(())
+        })
+    }
+}
+
+/// The counters in the text format of Prometheus.
+struct Metrics<'a>(&'a Counts);
+
+impl fmt::Display for Metrics<'_> {
+    fn fmt(&self, f: &mut fmt::Formatter<'_>) -> fmt::Result {
+        let mut last = "";
+        self.0.each(|Kind(name, label, help), value, count| {
+            if last != *name {
+                writeln!(f, "# HELP stun_{name}_total {help}")?;
+                writeln!(f, "# TYPE stun_{name}_total counter")?;
+            }
+            last = name;
+            match *label {
+                "" => writeln!(f, "stun_{name}_total {count}"),
+                _ => writeln!(f, "stun_{name}_total{{{label}=\"{value}\"}} {count}"),
+            }
+        })
     }
 }

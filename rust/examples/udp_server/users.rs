@@ -1,5 +1,6 @@
 //! The users of a realm, from the command line and from a file.
 
+use crate::log;
 use seatcrane_stun::auth::StoredKeys;
 use seatcrane_stun::endpoint::{Server, UserError, Users};
 use seatcrane_stun::types::message::LongTermCredentials;
@@ -49,7 +50,8 @@ fn fill(mut users: Users, path: &str, bytes: &[u8]) -> Result<Users, String> {
         match add_line(&mut users, text.trim_end_matches('\r')) {
             Ok(true) => {}
             Ok(false) => {
-                eprintln!("udp_server: {path}, line {number}: expected `NAME PASSWORD`");
+                let expected = "expected `NAME PASSWORD`";
+                log::complain(format_args!("{path}, line {number}: {expected}"));
                 bad += 1;
             }
             Err(error) => {

@@ -123,14 +123,6 @@ impl ShortTermCredentials {
         copy(self.kept())
     }
 
-    /// Returns what `new` made, for the core.
-    pub(crate) fn into_proved(self) -> proved::ShortTermCredentials {
-        match self.0 {
-            Proved::ShortTerm(kept) => kept,
-            Proved::LongTerm(_) => unreachable!("a password is kept"),
-        }
-    }
-
     /// Returns the password. Its bytes are the key for both algorithms.
     pub fn password(&self) -> &str {
         self.kept().password()

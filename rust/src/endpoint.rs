@@ -45,6 +45,7 @@ mod client_outcomes;
 mod client_settings;
 #[cfg(feature = "std")]
 mod clock;
+mod given;
 mod open;
 mod server;
 mod stream;
@@ -74,8 +75,8 @@ pub use open::{
     ShortTermServer, ShortTermUsers,
 };
 pub use server::{
-    Answer, Identified, LongTerm, Lookup, Received, Reply, ReplyWriter, Request, Server,
-    ServerBuilder, User, UserError, Users,
+    Answer, Identified, LongTerm, Lookup, OwnedLookup, Received, Reply, ReplyWriter, Request,
+    Server, ServerBuilder, User, UserError, Users,
 };
 pub use stream::{FrameBuffer, NotStun};
 

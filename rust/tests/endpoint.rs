@@ -701,5 +701,5 @@ fn debug_shows_no_secret() {
     let key = format!("{:?}", key.as_bytes());
     let hidden = ["171", "wonderland", key.trim_matches(['[', ']'])];
     assert!(hidden.iter().all(|one| !told.contains(one)), "{told}");
-    assert!(told.contains("Server { .. } Users { .. } User { .. }"));
+    assert!(told.contains("Server { .. } Users { len: 1, .. } User { .. }"));
 }

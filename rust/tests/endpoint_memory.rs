@@ -91,12 +91,12 @@ fn where_memory_ends_the_users_stay_as_they_were() {
     loop {
         let alice = alice();
         match within(blocks, || users.add(alice)) {
-            Err(why) => assert_eq!(why, UserError::OutOfMemory),
+            Err(why) => assert_eq!((why, users.len()), (UserError::OutOfMemory, 0)),
             Ok(()) => break,
         }
         blocks += 1;
     }
-    assert!(blocks > 0);
+    assert!(blocks > 0 && users.contains("alice"));
 }
 
 /// The client, its request, and whether the request and its response went through with so few blocks

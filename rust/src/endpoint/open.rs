@@ -1,15 +1,16 @@
 //! Servers without a realm: one without credentials, and one with short-term credentials.
 
+use super::given::{Given, text_of};
 use super::server::{Request, answer_of, request_of, shared};
 use super::{Answer, BuildError, DropReason, Refusal, Reply, UserError};
-use crate::copies::text;
+use crate::copies::{granted, text};
 use crate::credentials::ShortTermCredentials;
 use crate::exported::stun_base::attribute_type::AttributeType;
 use crate::exported::stun_endpoint::{open, responder, short_term};
 use crate::exported::stun_extra::canonical_address::canonical;
 use crate::exported::stun_types::message::{IntegrityAlgorithm, Method};
 use crate::kit::alloc::Global;
-use crate::kit::prelude::Vec as KitVec;
+use crate::kit::prelude::{String as KitString, Vec as KitVec};
 use crate::message::Message;
 use crate::trace::record;
 use alloc::string::String;
@@ -292,7 +293,7 @@ impl ShortTermServer {
     ) -> ShortTermReceived<'a> {
         use short_term::ShortTermReceived as Core;
 
-        let received = match self.0.receive(bytes, from, &users.0) {
+        let received = match self.0.receive(bytes, from, &users.core) {
             Ok(Core::Answer(answer)) => ShortTermReceived::Answer(answer_of(answer)),
             Ok(Core::Request(request)) => match request_of(request) {
                 Some(request) => ShortTermReceived::Request(request),
@@ -361,11 +362,30 @@ impl<'a> ShortTermIndication<'a> {
 }
 
 /// The users of a [`ShortTermServer`], by name. A look-up takes logarithmic time.
-pub struct ShortTermUsers(short_term::ShortTermUsers<Global>);
+///
+/// To change the users of a server that runs, change a clone, and exchange the two.
+///
+/// # Examples
+///
+/// ```
+/// use seatcrane_stun::endpoint::ShortTermUsers;
+/// use seatcrane_stun::types::message::ShortTermCredentials;
+///
+/// let mut users = ShortTermUsers::new();
+/// users.add("alice", ShortTermCredentials::new("wonderland".to_string()))?;
+/// assert!(users.contains("alice") && users.len() == 1);
+/// # Ok::<(), seatcrane_stun::endpoint::UserError>(())
+/// ```
+pub struct ShortTermUsers {
+    core: short_term::ShortTermUsers<Global>,
+    passwords: Given<ShortTermCredentials>,
+}
 
+/// It shows how many users there are, and no names.
 impl fmt::Debug for ShortTermUsers {
     fn fmt(&self, f: &mut fmt::Formatter<'_>) -> fmt::Result {
-        f.write_str("ShortTermUsers { .. }")
+        let mut shown = f.debug_struct("ShortTermUsers");
+        shown.field("len", &self.len()).finish_non_exhaustive()
     }
 }
 
@@ -375,10 +395,25 @@ impl Default for ShortTermUsers {
     }
 }
 
+impl Clone for ShortTermUsers {
+    fn clone(&self) -> ShortTermUsers {
+        let mut copy = ShortTermUsers::new();
+        for (name, password) in self.passwords.iter() {
+            let core = &mut copy.core;
+            let add = || core.add(text_of(name), password.to_proved());
+            granted(copy.passwords.add(name, password.clone(), add));
+        }
+        copy
+    }
+}
+
 impl ShortTermUsers {
     /// Returns an empty table.
     pub fn new() -> ShortTermUsers {
-        ShortTermUsers(short_term::ShortTermUsers::new(Global))
+        ShortTermUsers {
+            core: short_term::ShortTermUsers::new(Global),
+            passwords: Given::new(),
+        }
     }
 
     /// Adds a user with this password. A user of that name gets this password in place of the one
@@ -392,12 +427,36 @@ impl ShortTermUsers {
         name: impl Into<String>,
         credentials: ShortTermCredentials,
     ) -> Result<(), UserError> {
-        let added = self.0.add(text(name.into()), credentials.into_proved());
-        added.map_err(UserError::from)
+        let (name, core) = (name.into(), &mut self.core);
+        let proved = credentials.to_proved();
+        let add = || core.add(KitString::from_str(Global, &name)?, proved);
+        Ok(self.passwords.add(&name, credentials, add)?)
     }
 
-    /// Removes a user, so that messages of that name are refused from now on.
-    pub fn remove(&mut self, name: &str) {
-        self.0.remove(name);
+    /// Removes a user, so that messages of that name are refused from now on. Returns `false` if
+    /// there was no user of that name.
+    pub fn remove(&mut self, name: &str) -> bool {
+        self.core.remove(name);
+        self.passwords.remove(name)
+    }
+
+    /// Returns the number of users, in constant time.
+    pub fn len(&self) -> usize {
+        self.passwords.len()
+    }
+
+    /// Returns `true` if there is no user.
+    pub fn is_empty(&self) -> bool {
+        self.len() == 0
+    }
+
+    /// Returns `true` if there is a user of this name, in logarithmic time.
+    pub fn contains(&self, name: &str) -> bool {
+        self.passwords.contains(name)
+    }
+
+    /// Returns the names of the users, in the order of their bytes.
+    pub fn names(&self) -> impl Iterator<Item = &str> {
+        self.passwords.iter().map(|(name, _)| name)
     }
 }

@@ -1,9 +1,12 @@
 //! A server as one value.
 
+use super::given::{Given, text_of};
 use super::{BuildError, Cause, DEFAULT_NONCE_LIFETIME, DropReason, Refusal, UnixTime};
 use crate::copies::{copy, granted, text};
-use crate::credentials::LongTermCredentials;
-use crate::exported::stun_auth::auth::{LongTermServerUser, NamedUser, StoredKeys};
+use crate::credentials::{LongTermCredentials, long_term_key};
+use crate::exported::stun_auth::auth::{
+    LongTermServerAuth, LongTermServerUser, NamedUser, StoredKeys,
+};
 use crate::exported::stun_base::attribute_type::AttributeType;
 use crate::exported::stun_endpoint::{lookup, received, reply, server, users};
 use crate::exported::stun_extra::attribute as further;
@@ -14,7 +17,7 @@ use crate::exported::stun_types::message::{
 };
 use crate::exported::stun_types::prelude::{MessageWrite, MessageWriteExt as Proved};
 use crate::kit::alloc::{AllocError, Global};
-use crate::kit::prelude::Vec as KitVec;
+use crate::kit::prelude::{String as KitString, Vec as KitVec};
 use crate::message::Message;
 use crate::trace::record;
 use crate::transaction::TransactionId;
@@ -182,6 +185,7 @@ impl ServerBuilder {
         understood
             .extend_from_slice(&self.understood)
             .map_err(|_| BuildError::OutOfMemory)?;
+        let shown = realm.clone();
         let settings = server::LongTerm {
             realm: text(realm),
             secret,
@@ -195,7 +199,8 @@ impl ServerBuilder {
             answers_binding: self.answers_binding,
             requires_fingerprint: self.requires_fingerprint,
         };
-        server::Server::new(Global, settings).map(Server)
+        let core = server::Server::new(Global, settings)?;
+        Ok(Server { core, realm: shown })
     }
 }
 
@@ -208,7 +213,10 @@ impl ServerBuilder {
 /// anew, swap an `Arc<Users>`.
 ///
 /// The [module](super) has an example.
-pub struct Server(server::Server<Global>);
+pub struct Server {
+    core: server::Server<Global>,
+    realm: String,
+}
 
 impl fmt::Debug for Server {
     fn fmt(&self, f: &mut fmt::Formatter<'_>) -> fmt::Result {
@@ -230,12 +238,20 @@ impl Server {
 
     /// Returns an empty table of users for this server's realm.
     pub fn users(&self) -> Users {
-        Users(granted(self.0.users()))
+        Users {
+            core: granted(self.core.users()),
+            keys: Given::new(),
+        }
+    }
+
+    /// Returns the realm.
+    pub fn realm(&self) -> &str {
+        &self.realm
     }
 
     /// Returns the nonce that is current for an address at a time.
     pub fn nonce_for(&self, from: SocketAddr, now: UnixTime) -> String {
-        String::from(granted(self.0.nonce_for(from, now)).as_str())
+        String::from(granted(self.core.nonce_for(from, now)).as_str())
     }
 
     /// Judges a datagram, and writes the response if it gets one at once.
@@ -265,20 +281,21 @@ impl Server {
         now: UnixTime,
         users: &'a Users,
     ) -> Received<'a> {
-        let received = of_core(self.0.receive(bytes, from, now, &users.0));
+        let received = of_core(self.core.receive(bytes, from, now, &users.core));
         record!(bytes, from, received, || self.cause(bytes, from, now, users));
         received
     }
 
     /// Derives the keys of a user, for [`receive_for`](Self::receive_for). Cache the result.
     pub fn user(&self, credentials: LongTermCredentials) -> User {
-        User(granted(self.0.user(credentials.0)))
+        User(Arc::new(granted(self.core.user(credentials.0))))
     }
 
     /// Like [`user`](Self::user), with keys that are stored in place of the password. They must
     /// have been made for this server's realm.
     pub fn user_with_keys(&self, name: impl Into<String>, keys: StoredKeys) -> User {
-        User(granted(self.0.user_with_keys(text(name.into()), keys)))
+        let user = self.core.user_with_keys(text(name.into()), keys);
+        User(Arc::new(granted(user)))
     }
 
     /// Judges a datagram like [`receive`](Self::receive), by the one user that you looked up, or by
@@ -293,8 +310,8 @@ impl Server {
         now: UnixTime,
         user: Option<&'a User>,
     ) -> Received<'a> {
-        let core = user.map(|user| &user.0);
-        let received = of_core(self.0.receive_for(bytes, from, now, core));
+        let core = user.map(|user| &*user.0);
+        let received = of_core(self.core.receive_for(bytes, from, now, core));
         record!(bytes, from, received, || self.cause_for(bytes, from, now, user));
         received
     }
@@ -335,7 +352,7 @@ impl Server {
         now: UnixTime,
         users: &Users,
     ) -> Option<Cause> {
-        self.0.cause(bytes, from, now, &users.0).ok().flatten()
+        self.core.cause(bytes, from, now, &users.core).ok().flatten()
     }
 
     /// Returns why [`receive_for`](Self::receive_for) refuses a datagram, like
@@ -351,8 +368,8 @@ impl Server {
         now: UnixTime,
         user: Option<&User>,
     ) -> Option<Cause> {
-        let user = user.map(|user| &user.0);
-        self.0.cause_for(bytes, from, now, user).ok().flatten()
+        let user = user.map(|user| &*user.0);
+        self.core.cause_for(bytes, from, now, user).ok().flatten()
     }
 
     /// Judges a datagram as far as that is possible without its user, for a server that looks its
@@ -390,7 +407,7 @@ impl Server {
         from: SocketAddr,
         now: UnixTime,
     ) -> Identified<'a> {
-        let received = match self.0.identify(bytes, from, now) {
+        let received = match self.core.identify(bytes, from, now) {
             Ok(lookup::Identified::Done(received)) => of_core(Ok(received)),
             Ok(lookup::Identified::Lookup(lookup)) => {
                 #[cfg(feature = "tracing")]
@@ -412,10 +429,18 @@ impl Server {
     ///
     /// If `user` has another name than the one in the request, as after a look-up that ignores
     /// case, the client gets a 401.
-    pub fn resume<'a>(&'a self, lookup: Lookup<'a>, user: Option<&'a User>) -> Received<'a> {
+    ///
+    /// `lookup` is a [`Lookup`], or a reference to an [`OwnedLookup`], which does not borrow the
+    /// datagram.
+    pub fn resume<'a>(
+        &'a self,
+        lookup: impl Into<Lookup<'a>>,
+        user: Option<&'a User>,
+    ) -> Received<'a> {
+        let lookup = lookup.into();
         #[cfg(feature = "tracing")]
         let (bytes, from, now) = (lookup.message.as_bytes(), lookup.from(), lookup.arrived());
-        let received = of_core(self.0.resume(lookup.lookup, user.map(|user| &user.0)));
+        let received = of_core(self.core.resume(lookup.lookup, user.map(|user| &*user.0)));
         record!(bytes, from, received, || self.cause_for(bytes, from, now, user));
         received
     }
@@ -468,6 +493,121 @@ impl<'a> Lookup<'a> {
     pub fn message(&self) -> &Message<'a> {
         &self.message
     }
+
+    /// Copies the request, so that the look-up can outlive the datagram, as in a task that waits for
+    /// a database. Pass a reference to the result to [`Server::resume`].
+    pub fn into_owned(self) -> OwnedLookup {
+        OwnedLookup {
+            bytes: self.message.as_bytes().to_vec(),
+            from: self.lookup.source(),
+            arrived: self.lookup.arrived(),
+            user: match self.lookup.user_id() {
+                NamedUser::ByName(name) => OwnedName::Text(name.into()),
+                NamedUser::ByHash(hash) => OwnedName::Hash(hash),
+            },
+            has_fingerprint: self.lookup.has_fingerprint(),
+        }
+    }
+}
+
+/// A [`Lookup`] with a copy of its request. [`Lookup::into_owned`] makes it.
+///
+/// # Examples
+///
+/// A thread for each look-up, while the buffer takes the next datagram:
+///
+/// ```
+/// use seatcrane_stun::endpoint::{Lookup, Received, Server, User};
+/// use std::sync::Arc;
+///
+/// fn look_up(server: Arc<Server>, lookup: Lookup<'_>, find: fn(&str) -> Option<User>) {
+///     use seatcrane_stun::auth::NamedUser::{ByHash, ByName};
+///
+///     let lookup = lookup.into_owned();
+///     std::thread::spawn(move || {
+///         let user = match lookup.user_id() {
+///             ByName(name) => find(name), // it may take its time
+///             ByHash(_) => None,
+///         };
+///         if let Received::Answer(answer) = server.resume(&lookup, user.as_ref()) {
+///             println!("{} bytes to {}", answer.bytes().len(), answer.to());
+///         }
+///     });
+/// }
+/// ```
+#[derive(Clone)]
+#[must_use = "the request waits for `Server::resume`"]
+pub struct OwnedLookup {
+    bytes: Vec<u8>,
+    from: SocketAddr,
+    arrived: UnixTime,
+    user: OwnedName,
+    has_fingerprint: bool,
+}
+
+#[derive(Clone)]
+enum OwnedName {
+    Text(String),
+    Hash([u8; 32]),
+}
+
+impl fmt::Debug for OwnedLookup {
+    fn fmt(&self, f: &mut fmt::Formatter<'_>) -> fmt::Result {
+        f.debug_struct("OwnedLookup")
+            .field("message", &self.as_lookup().message)
+            .field("from", &self.from())
+            .finish_non_exhaustive()
+    }
+}
+
+impl OwnedLookup {
+    /// Returns whom the request names. The signature is not checked yet, so anybody with a nonce can
+    /// name anybody.
+    pub fn user_id(&self) -> NamedUser<'_> {
+        match &self.user {
+            OwnedName::Text(name) => NamedUser::ByName(name),
+            OwnedName::Hash(hash) => NamedUser::ByHash(*hash),
+        }
+    }
+
+    /// Returns the transaction ID of the request.
+    pub fn transaction_id(&self) -> TransactionId {
+        self.as_lookup().transaction_id()
+    }
+
+    /// Returns the address that the request came from, an IPv4 address as IPv4 in either spelling.
+    pub fn from(&self) -> SocketAddr {
+        canonical(self.from)
+    }
+
+    /// Returns the time that was passed to [`Server::identify`].
+    pub fn arrived(&self) -> UnixTime {
+        self.arrived
+    }
+
+    /// Returns the bytes of the request.
+    pub fn bytes(&self) -> &[u8] {
+        &self.bytes
+    }
+
+    /// Returns the look-up, which borrows the copy of its request.
+    #[expect(clippy::missing_panics_doc, reason = "the bytes were read before")]
+    pub fn as_lookup(&self) -> Lookup<'_> {
+        let message = Message::from_bytes(&self.bytes).expect("it was read before");
+        let (user, has_fingerprint) = (self.user_id(), self.has_fingerprint);
+        let request = copy(&message.0);
+        Lookup {
+            lookup: lookup::Lookup::new(request, self.from, self.arrived, user, has_fingerprint),
+            message,
+        }
+    }
+}
+
+/// Like [`OwnedLookup::as_lookup`].
+impl<'a> From<&'a OwnedLookup> for Lookup<'a> {
+    fn from(owned: &'a OwnedLookup) -> Lookup<'a> {
+        owned.as_lookup()
+    }
 }
 
 /// What the core returns, as this module says it.
@@ -519,8 +659,9 @@ pub(super) fn shared<T>(value: T) -> Option<Arc<T>> {
     Some(Arc::new(value))
 }
 
-/// A user with derived keys. [`Server::user`] makes it.
-pub struct User(LongTermServerUser<Global>);
+/// A user with derived keys. [`Server::user`] makes it. A clone shares the keys.
+#[derive(Clone)]
+pub struct User(Arc<LongTermServerUser<Global>>);
 
 impl fmt::Debug for User {
     fn fmt(&self, f: &mut fmt::Formatter<'_>) -> fmt::Result {
@@ -552,12 +693,67 @@ impl From<AllocError> for UserError {
     }
 }
 
-/// The users of a realm. [`Server::users`] makes an empty table.
-pub struct Users(users::Users<Global>);
+/// The users of a realm, by name. [`Server::users`] makes an empty table.
+///
+/// To change the users of a server that runs, change a clone, and exchange the two. A clone needs no
+/// passwords, because it prepares the derived keys again: that takes half as long as adding the
+/// users did.
+///
+/// # Examples
+///
+/// ```
+/// use seatcrane_stun::endpoint::{LongTerm, Server, UserError, Users};
+/// use seatcrane_stun::types::message::LongTermCredentials;
+/// use std::sync::{Arc, RwLock};
+///
+/// fn add(users: &RwLock<Arc<Users>>, name: &str, password: &str) -> Result<(), UserError> {
+///     let mut changed = Users::clone(&users.read().unwrap());
+///     changed.add(LongTermCredentials::new(name.to_string(), password.to_string()))?;
+///     *users.write().unwrap() = Arc::new(changed);
+///     Ok(())
+/// }
+/// # let server = Server::builder(LongTerm::new("example.org", [7; 32])).build()?;
+/// # let users = RwLock::new(Arc::new(server.users()));
+/// # add(&users, "alice", "wonderland")?;
+/// # add(&users, "bob", "builder")?;
+/// # let users = users.into_inner().unwrap();
+/// # assert!(users.names().eq(["alice", "bob"]));
+/// # Ok::<(), Box<dyn std::error::Error>>(())
+/// ```
+pub struct Users {
+    core: users::Users<Global>,
+    keys: Given<StoredKeys>,
+}
 
+/// It shows how many users there are, and no names.
 impl fmt::Debug for Users {
     fn fmt(&self, f: &mut fmt::Formatter<'_>) -> fmt::Result {
-        f.write_str("Users { .. }")
+        let mut shown = f.debug_struct("Users");
+        shown.field("len", &self.len()).finish_non_exhaustive()
+    }
+}
+
+impl Clone for Users {
+    fn clone(&self) -> Users {
+        let settings = &self.core.auth;
+        let mut auth = LongTermServerAuth::new(Global, text_of(settings.realm()));
+        for (index, algorithm) in settings.supported_integrity().iter().enumerate() {
+            match index {
+                0 => auth.set_supported_integrity(*algorithm),
+                _ => auth.add_supported_integrity(*algorithm),
+            }
+        }
+        granted(auth.set_anonymous_username(settings.anonymous_username()));
+        let mut copy = Users {
+            core: users::Users { auth },
+            keys: Given::new(),
+        };
+        for (name, keys) in self.keys.iter() {
+            let core = &mut copy.core;
+            let add = || core.add_with_keys(text_of(name), *keys);
+            granted(copy.keys.add(name, *keys, add));
+        }
+        copy
     }
 }
 
@@ -569,7 +765,28 @@ impl Users {
     ///
     /// [`UserError::OutOfMemory`]: an allocation failed. The table is unchanged.
     pub fn add(&mut self, credentials: LongTermCredentials) -> Result<(), UserError> {
-        self.0.add(credentials.0).map_err(UserError::from)
+        let name = KitString::from_str(Global, credentials.username())?;
+        let keys = self.keys_of(&credentials);
+        let (name, core) = (name.as_str(), &mut self.core);
+        Ok(self.keys.add(name, keys, || core.add(credentials.0))?)
+    }
+
+    /// Derives the keys of a user, as the core does.
+    fn keys_of(&self, user: &LongTermCredentials) -> StoredKeys {
+        let auth = &self.core.auth;
+        let mut keys = StoredKeys {
+            sha1: None,
+            sha256: None,
+        };
+        for algorithm in auth.supported_integrity() {
+            let (name, password) = (user.username(), user.password());
+            let key = long_term_key(*algorithm, name, auth.realm(), password);
+            match algorithm {
+                IntegrityAlgorithm::Sha1 => keys.sha1 = key.as_bytes().try_into().ok(),
+                IntegrityAlgorithm::Sha256 => keys.sha256 = key.as_bytes().try_into().ok(),
+            }
+        }
+        keys
     }
 
     /// Like [`add`](Self::add), with keys that are stored in place of the password. They must have
@@ -600,13 +817,41 @@ impl Users {
         name: impl Into<String>,
         keys: StoredKeys,
     ) -> Result<(), UserError> {
-        let added = self.0.auth.add_user_with_keys(text(name.into()), keys);
-        added.map_err(UserError::from)
+        let (name, core) = (name.into(), &mut self.core);
+        let add = || core.add_with_keys(KitString::from_str(Global, &name)?, keys);
+        Ok(self.keys.add(&name, keys, add)?)
     }
 
-    /// Removes a user, so that requests of that name are refused from now on.
-    pub fn remove(&mut self, name: &str) {
-        self.0.remove(name);
+    /// Removes a user, so that requests of that name are refused from now on. Returns `false` if
+    /// there was no user of that name.
+    pub fn remove(&mut self, name: &str) -> bool {
+        self.core.remove(name);
+        self.keys.remove(name)
+    }
+
+    /// Returns the number of users, in constant time.
+    pub fn len(&self) -> usize {
+        self.keys.len()
+    }
+
+    /// Returns `true` if there is no user.
+    pub fn is_empty(&self) -> bool {
+        self.len() == 0
+    }
+
+    /// Returns `true` if there is a user of this name, in logarithmic time.
+    pub fn contains(&self, name: &str) -> bool {
+        self.keys.contains(name)
+    }
+
+    /// Returns the names of the users, in the order of their bytes.
+    pub fn names(&self) -> impl Iterator<Item = &str> {
+        self.keys.iter().map(|(name, _)| name)
+    }
+
+    /// Returns the realm.
+    pub fn realm(&self) -> &str {
+        self.core.auth.realm()
     }
 }
 

@@ -32,6 +32,9 @@ class Own:
     def is_ours(self, line):
         return False
 
+    def is_left(self, paragraph, line):
+        return False
+
 
 class Transcript:
     """A file of tests/transcripts, with the marks of an index."""
@@ -45,13 +48,29 @@ class Transcript:
     def except_for(self, mark, title):
         if not any(paragraph.title.startswith(title) for paragraph in self.file.paragraphs):
             raise SystemExit(f"INDEX: {self.path} has no paragraph that begins with: {title}")
-        self.exceptions.append((title, mark))
+        self.exceptions.append((title, mark, []))
+
+    def leave(self, words):
+        """Leaves out the lines with these words in the paragraphs of the last exception."""
+        title, _, left = self.exceptions[-1]
+        if not any(words in line.raw for paragraph in self.file.paragraphs
+                   if paragraph.title.startswith(title) for line in paragraph.lines):
+            raise SystemExit(f"INDEX: {self.path} has no line with {words} under: {title}")
+        left.append(words)
+
+    def exception_of(self, paragraph):
+        """The mark of a paragraph, and the words of its lines that are left out."""
+        for title, mark, left in self.exceptions:
+            if paragraph.title.startswith(title):
+                return mark, left
+        return self.mark, []
 
     def mark_of(self, paragraph):
-        for title, mark in self.exceptions:
-            if paragraph.title.startswith(title):
-                return None if mark == "LEFT" else mark
-        return self.mark
+        mark, _ = self.exception_of(paragraph)
+        return None if mark == "LEFT" else mark
+
+    def is_left(self, paragraph, line):
+        return any(words in line.raw for words in self.exception_of(paragraph)[1])
 
     def is_alike(self, stage, line, came):
         return wanted_of(stage, line, came) == came
@@ -62,8 +81,8 @@ class Transcript:
 
 
 def read_index(path):
-    """A line at the margin is a file and its mark; one that is set in, `MARK: TITLE`, an
-    exception."""
+    """A line at the margin is a file and its mark; one that is set in, `MARK: TITLE`, an exception;
+    and one that is set in further, `LEFT: WORDS`, leaves lines of it out."""
     made = []
     with open(path, encoding="utf-8") as lines:
         for line in lines:
@@ -74,7 +93,10 @@ def read_index(path):
                 made.append(Transcript(os.path.join(DATA, words[0]), " ".join(words[1:])))
                 continue
             mark, _, title = line.strip().partition(": ")
-            made[-1].except_for(mark, title)
+            if line.startswith(" " * 8):
+                made[-1].leave(title)
+            else:
+                made[-1].except_for(mark, title)
     return made
 
 

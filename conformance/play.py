@@ -77,6 +77,8 @@ class Player:
     def play_paragraph(self, part, paragraph, mark, report):
         stage, cause = Stage(self.asker, part.file.meanings), None
         for line in paragraph.lines:
+            if part.is_left(paragraph, line):
+                continue
             try:
                 if cause is not None:
                     raise cause

@@ -307,13 +307,11 @@ class Client:
     def chosen(self, message, nonce):
         """The first algorithm of the list that is supported (section 9.2.5)."""
         offered = message.value(PASSWORD_ALGORITHMS)
-        if not bits_of(nonce) & 0x80:
-            is_plain = not nonce.startswith(NONCE_COOKIE)
-            if "sha1" not in self.algorithms and (is_plain or offered is not None):
-                raise Refused
-            return "sha1", offered
         if offered is None:
-            raise Refused
+            is_plain = not nonce.startswith(NONCE_COOKIE)
+            if bits_of(nonce) & 0x80 or is_plain and "sha1" not in self.algorithms:
+                raise Refused
+            return "sha1", None
         for number in algorithm_numbers(offered):
             name = {1: "sha1", 2: "sha256"}.get(number)
             if name in self.algorithms:

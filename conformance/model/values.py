@@ -9,8 +9,9 @@ from model.wire import COOKIE, ERROR_CODE, UNKNOWN, Refused
 USERNAME, REALM, NONCE = 0x0006, 0x0014, 0x0015
 PASSWORD_ALGORITHM, USERHASH, XOR_MAPPED, PASSWORD_ALGORITHMS = 0x001D, 0x001E, 0x0020, 0x8002
 ALTERNATE_SERVER = 0x8023
-# The most bytes of a text (sections 14.3, 14.9, 14.10 and 14.14).
+# The most bytes of a text that is written, and of one that is read (sections 14.3, 14.9, 14.10, 14.14).
 LIMITS = {USERNAME: 513, REALM: 763, NONCE: 763, 0x8022: 763, 0x8003: 255}
+READ_LIMITS = {**LIMITS, USERNAME: 763}
 # The forms of values.
 TEXTS, XORED, PLAIN = (6, 0x14, 0x15, 0x8022, 0x8003), (0x20, 0x12, 0x16), (1, 0x8023)
 UNSIGNED = {0x24: (4, 0), 0x0D: (4, 0), 0x8029: (8, 0), 0x802A: (8, 0), 0x0C: (2, 2), 0x19: (1, 3)}
@@ -19,7 +20,7 @@ FLAGS, FAMILIES, LENGTHS = (0x25, 0x1A), (0x17, 0x8000), {USERHASH: 32, 0x22: 8}
 
 def decoded_text(kind, value):
     value.decode("utf-8")
-    if len(value) > LIMITS[kind]:
+    if len(value) > READ_LIMITS[kind]:
         raise Refused
     return value.hex() or "-"
 

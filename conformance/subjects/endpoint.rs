@@ -23,7 +23,11 @@ use std::io::{BufRead, Write};
 use std::net::SocketAddr;
 use std::time::Duration;
 
-const SEED: [u8; 32] = *b"a seed of this program, 32 bytes";
+/// That of endpoint.py, so that both draw the same IDs.
+const SEED: [u8; 32] = [
+    1, 2, 3, 4, 5, 6, 7, 8, 9, 10, 11, 12, 13, 14, 15, 16, 17, 18, 19, 20, 21, 22, 23, 24, 25, 26,
+    27, 28, 29, 30, 31, 32,
+];
 const PEER: &str = "10.0.0.2:3478";
 
 /// The answer to a call: an error is `refused`.

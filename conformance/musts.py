@@ -3,8 +3,9 @@
 departure of this library's endpoints in differences.txt is printed in docs/DIFFERENCES.md.
 
     conformance/musts.py            prints how many rows have lines, and fails where a link is wrong
-    conformance/musts.py --write    moves each line number to the paragraph that it named in the commit
-                                    before (`git show HEAD:..`), for a file to which lines were added
+    conformance/musts.py --write    moves each line number to the paragraph that it named in the
+                                    commit before (`git show HEAD:..`), for a file to which lines
+                                    were added
 
 A link `[FILE:LINE](PATH)` leads to the first line of a paragraph of `levels/`, or to a line of a
 transcript, and `[FILE](PATH)` to a file that exists. A row has a link, or the word none with its

@@ -15,7 +15,7 @@ GO_PATH = "/usr/share/gocode"
 # Those of this library, and then the others.
 ENDPOINTS = ("endpoint", "endpoint-rust")
 OURS = (*ENDPOINTS, "stunp")
-NAMES = (*OURS, "model", "aioice", "pion", "libnice", "coturn", "libre",
+NAMES = (*OURS, "model", "second", "aioice", "pion", "libnice", "coturn", "libre",
          "turnserver", "p1_stun")
 
 
@@ -122,6 +122,10 @@ def model():
     return Module(source("model.py"))
 
 
+def second():
+    return Module(source("second.py"))
+
+
 def aioice():
     """By the Python that has the package: Debian's, if it is another."""
     for python in ("python3", "/usr/bin/python3"):
@@ -185,7 +189,8 @@ def p1_stun():
 
 
 STARTS = {one.__name__.replace("_rust", "-rust"): one for one in
-          (endpoint, endpoint_rust, stunp, model, aioice, pion, libnice, coturn, libre, turnserver, p1_stun)}
+          (endpoint, endpoint_rust, stunp, model, second, aioice, pion, libnice, coturn, libre,
+           turnserver, p1_stun)}
 
 
 def start(word):

@@ -1,4 +1,5 @@
-"""An agent of the model that checks pairs of candidates, and answers checks (RFC 8445, section 7)."""
+"""An agent of the model that checks pairs of candidates, and answers checks (RFC 8445, section 7).
+"""
 
 import hashlib
 import struct

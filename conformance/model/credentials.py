@@ -5,8 +5,8 @@ import hashlib
 import hmac
 import struct
 
-from model.values import (ALTERNATE_SERVER, NONCE, PASSWORD_ALGORITHM, PASSWORD_ALGORITHMS, REALM, USERHASH, USERNAME,
-                          XOR_MAPPED, decoded_text, encoded_address)
+from model.values import (ALTERNATE_SERVER, NONCE, PASSWORD_ALGORITHM, PASSWORD_ALGORITHMS, REALM,
+                          USERHASH, USERNAME, XOR_MAPPED, decoded_text, encoded_address)
 from model.wire import (COOKIE, DIGESTS, ERROR_CODE, FINGERPRINT, Message, Refused, appended,
                         check_fingerprint, fingerprinted, long_term_key, refusal_420, response,
                         signed, unknown_types, userhash, verified)

@@ -9,7 +9,8 @@ from model.wire import COOKIE, ERROR_CODE, UNKNOWN, Refused
 USERNAME, REALM, NONCE = 0x0006, 0x0014, 0x0015
 PASSWORD_ALGORITHM, USERHASH, XOR_MAPPED, PASSWORD_ALGORITHMS = 0x001D, 0x001E, 0x0020, 0x8002
 ALTERNATE_SERVER = 0x8023
-# The most bytes of a text that is written, and of one that is read (sections 14.3, 14.9, 14.10, 14.14).
+# The most bytes of a text that is written, and of one that is read (sections 14.3, 14.9, 14.10 and
+# 14.14).
 LIMITS = {USERNAME: 513, REALM: 763, NONCE: 763, 0x8022: 763, 0x8003: 255}
 READ_LIMITS = {**LIMITS, USERNAME: 763}
 # The forms of values.

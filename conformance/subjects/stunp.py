@@ -7,8 +7,8 @@ import ctypes
 import struct
 from ctypes import byref, c_size_t, c_uint16, c_uint32, c_uint64, c_uint8, c_void_p
 
-from subjects.library import (ALGORITHMS, CLASSES, FEATURES, LIBRARY, NAMES, Address, Refused, address,
-                              address_text, ask, buffer, call, changed, octets_of, plain)
+from subjects.library import (ALGORITHMS, CLASSES, FEATURES, LIBRARY, NAMES, Address, Refused,
+                              address, address_text, ask, buffer, call, changed, octets_of, plain)
 
 FINGERPRINTS = ("none", "valid", "invalid", "invalid")
 MISSING, NO_INTEGRITY = -15, -4

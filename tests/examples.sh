@@ -138,6 +138,8 @@ if python3 -c "$loopback" >/dev/null 2>&1; then
     checked="$checked; $(tail -n 1 "$scratch/twice")"
     twice udp/reloads.py "$@"
     checked="$checked; $(tail -n 1 "$scratch/twice")"
+    twice udp/lossy.py "$@"
+    checked="$checked; $(tail -n 1 "$scratch/twice")"
     twice udp/service.py "$@"
     checked="$checked; $(tail -n 1 "$scratch/twice")"
     twice udp/newcomers.py "$@"

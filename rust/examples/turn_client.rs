@@ -13,7 +13,7 @@ mod asker;
 use asker::{Arguments, Asker, arguments, find};
 use seatcrane_stun::endpoint::{Body, Client, Credentials, Response};
 use seatcrane_stun::extra::attribute::*;
-use seatcrane_stun::extra::turn::TurnMethod;
+use seatcrane_stun::extra::turn::{ChannelData, TurnMethod};
 use seatcrane_stun::types::message::*;
 use seatcrane_stun::types::prelude::*;
 use std::error::Error;
@@ -58,10 +58,11 @@ fn is_indication(bytes: &[u8], peer: SocketAddr, text: &str) -> bool {
             .is_ok_and(|data| data.data() == text.as_bytes())
 }
 
-/// Data on a channel: its number, a length and the bytes (RFC 8656, section 12.4).
+/// Data on a channel (RFC 8656, section 12.4).
 fn on_channel(channel: u16, text: &str) -> Vec<u8> {
-    let [channel, length] = [channel, text.len() as u16].map(u16::to_be_bytes);
-    [&channel[..], &length, text.as_bytes()].concat()
+    let (mut bytes, data) = (Vec::new(), ChannelData::new(channel, text.as_bytes()));
+    data.expect("a channel, and a short text").write(&mut bytes);
+    bytes
 }
 
 impl Session {

@@ -49,6 +49,7 @@ mod given;
 mod open;
 mod server;
 mod stream;
+mod time_limited;
 #[cfg(feature = "tracing")]
 pub(crate) mod verdict;
 
@@ -78,7 +79,8 @@ pub use server::{
     Answer, Identified, LongTerm, Lookup, OwnedLookup, Received, Reply, ReplyWriter, Request,
     Server, ServerBuilder, User, UserError, Users,
 };
-pub use stream::{FrameBuffer, NotStun};
+pub use stream::{FrameBuffer, StreamError};
+pub use time_limited::TimeLimitedUsers;
 
 /// Types of attributes to pass to [`ServerBuilder::understands`], and to the other builders. Unlike
 /// those of [`crate::types`], these lists leave out the types of STUN itself.

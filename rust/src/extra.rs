@@ -9,7 +9,7 @@
 //!   [`next_turn_frame`] the next message or ChannelData, and [`next_packet_frame`] the next packet
 //!   with a length in front (RFC 4571), as ICE sends it over TCP. [`is_stun`] recognizes STUN on a
 //!   port that other protocols share.
-//! - Attributes: [`attribute`]. Methods of TURN: [`turn`].
+//! - Attributes: [`attribute`]. Methods of TURN, and data on its channels: [`turn`].
 //! - Addresses: [`canonical`] returns an IPv4 address as IPv4 in either spelling.
 //!
 //! # Examples
@@ -53,10 +53,14 @@ pub use crate::exported::stun_extra::fingerprint::{FINGERPRINT_LENGTH, Fingerpri
 pub use crate::exported::stun_extra::framing::{
     CHANNEL_HEADER_LENGTH, Frame, PACKET_HEADER_LENGTH,
 };
-pub use crate::exported::stun_extra::turn;
 pub use crate::exported::stun_extra::unknown::{
     UNKNOWN_ATTRIBUTE, UNKNOWN_ATTRIBUTES, UnknownAttributes, UnknownTypes,
 };
+
+/// The methods of TURN (RFC 8656, section 17; RFC 6062), and the data of its channels.
+pub mod turn {
+    pub use crate::turn::{ChannelData, TurnMethod};
+}
 
 /// Further attributes: of STUN (RFC 8489, section 14), of ICE (RFC 8445, section 16.1), of TURN
 /// (RFC 8656, section 18; RFC 6062; RFC 8016), of third-party authorization (RFC 7635), of NAT

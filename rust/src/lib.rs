@@ -94,6 +94,7 @@ mod text;
 mod trace;
 mod transaction;
 mod transmit;
+mod turn;
 pub mod types;
 mod write;
 

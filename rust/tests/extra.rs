@@ -3,7 +3,7 @@
 use seatcrane_stun::Instant;
 use seatcrane_stun::endpoint::{Body, Client, Output};
 use seatcrane_stun::extra::attribute::*;
-use seatcrane_stun::extra::turn::{self, TurnMethod};
+use seatcrane_stun::extra::turn::TurnMethod;
 use seatcrane_stun::extra::{
     Fingerprint, Frame, answer_unknown, check_fingerprint, crc32, ends_failed,
     finish_with_fingerprint, has_unknown, is_stun, next_frame, next_packet_frame, next_turn_frame,
@@ -220,11 +220,15 @@ fn reads_what_turn_writes() {
         (TurnMethod::Data, 7),
         (TurnMethod::CreatePermission, 8),
         (TurnMethod::ChannelBind, 9),
+        (TurnMethod::Connect, 10),
+        (TurnMethod::ConnectionBind, 11),
+        (TurnMethod::ConnectionAttempt, 12),
     ] {
         assert_eq!((method.number(), method.method().value()), (number, number));
         assert_eq!(TurnMethod::of(method.method()), Some(method));
     }
-    assert_eq!((TurnMethod::of(BINDING), turn::CHANNEL_BIND), (None, 9));
+    assert_eq!(TurnMethod::of(BINDING), None);
+    assert!(TurnMethod::ALL.is_sorted_by_key(|method| method.number()));
 
     let channel = ChannelNumber::new(0x4FFF).unwrap();
     assert_eq!(

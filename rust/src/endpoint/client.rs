@@ -109,7 +109,9 @@ impl Client {
         ClientBuilder::new(server)
     }
 
-    /// Starts a request. [`poll`](Self::poll) returns its bytes.
+    /// Starts a request. [`poll`](Self::poll) returns its bytes. The method is a [`Method`], such as
+    /// [`BINDING`](crate::types::message::BINDING), or a
+    /// [`TurnMethod`](crate::extra::turn::TurnMethod).
     ///
     /// # Errors
     ///
@@ -121,11 +123,11 @@ impl Client {
     /// - [`RequestError::OutOfMemory`]: an allocation failed.
     pub fn request(
         &mut self,
-        method: Method,
+        method: impl Into<Method>,
         body: Body,
         now: Instant,
     ) -> Result<RequestId, RequestError> {
-        let number = self.core.request(method, body.core, now)?;
+        let number = self.core.request(method.into(), body.core, now)?;
         Ok(RequestId(number))
     }
 

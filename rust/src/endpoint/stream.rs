@@ -1,19 +1,18 @@
 //! Messages of a stream.
 
-use crate::exported::stun_extra::framing::{Frame, next_frame};
+use crate::exported::stun_extra::framing::{Frame, next_frame, next_turn_frame};
 use alloc::vec::Vec;
 use core::fmt;
 
-/// Cuts the bytes of a stream, such as a TCP connection, into messages (RFC 8489, section 6.2.2).
-///
-/// For TURN use [`next_turn_frame`](crate::extra::next_turn_frame), because ChannelData is not STUN.
+/// Cuts the bytes of a stream, such as a TCP connection, into messages (RFC 8489, section 6.2.2), or
+/// into messages and [`ChannelData`](crate::extra::turn::ChannelData) (RFC 8656, section 12.5).
 ///
 /// # Examples
 ///
 /// ```
-/// use seatcrane_stun::endpoint::{FrameBuffer, NotStun};
+/// use seatcrane_stun::endpoint::{FrameBuffer, StreamError};
 ///
-/// # fn main() -> Result<(), NotStun> {
+/// # fn main() -> Result<(), StreamError> {
 /// let message = b"\0\x01\0\0\x21\x12\xa4\x42 any 12 byte";
 /// let mut buffer = FrameBuffer::new();
 /// buffer.push(&message[..7]);
@@ -24,36 +23,113 @@ use core::fmt;
 /// # Ok(())
 /// # }
 /// ```
-#[derive(Clone, Debug, Default)]
+#[derive(Clone)]
 pub struct FrameBuffer {
     bytes: Vec<u8>,
     /// How many bytes at the front were returned.
     popped: usize,
+    longest: usize,
+    has_channels: bool,
 }
 
-/// The stream carries something else than STUN. Close the connection.
-#[derive(Clone, Copy, Debug, PartialEq, Eq)]
-pub struct NotStun;
-
-impl fmt::Display for NotStun {
-    fn fmt(&self, f: &mut fmt::Formatter<'_>) -> fmt::Result {
-        f.write_str("the stream carries something else than STUN")
+/// Like [`FrameBuffer::new`].
+impl Default for FrameBuffer {
+    fn default() -> FrameBuffer {
+        FrameBuffer::new()
     }
 }
 
-impl core::error::Error for NotStun {}
+/// It shows how many bytes wait, and none of them.
+impl fmt::Debug for FrameBuffer {
+    fn fmt(&self, f: &mut fmt::Formatter<'_>) -> fmt::Result {
+        f.debug_struct("FrameBuffer")
+            .field("waiting", &self.waiting())
+            .field("longest", &self.longest)
+            .finish_non_exhaustive()
+    }
+}
+
+/// Why a stream cannot be read any further. Close the connection.
+#[derive(Clone, Copy, Debug, PartialEq, Eq, Hash)]
+#[non_exhaustive]
+pub enum StreamError {
+    /// The stream carries something else than STUN, or than TURN.
+    NotStun,
+    /// A message is longer than [`FrameBuffer::longest`] allows.
+    TooLong,
+}
+
+impl fmt::Display for StreamError {
+    fn fmt(&self, f: &mut fmt::Formatter<'_>) -> fmt::Result {
+        f.write_str(match self {
+            StreamError::NotStun => "the stream carries something else than STUN",
+            StreamError::TooLong => "a message of the stream is too long",
+        })
+    }
+}
+
+impl core::error::Error for StreamError {}
 
 impl FrameBuffer {
-    /// Returns an empty buffer.
+    /// Returns an empty buffer for a stream of messages.
     pub fn new() -> FrameBuffer {
-        FrameBuffer::default()
+        FrameBuffer {
+            bytes: Vec::new(),
+            popped: 0,
+            longest: usize::MAX,
+            has_channels: false,
+        }
     }
 
-    /// Appends bytes that were read.
+    /// Returns an empty buffer for a stream of TURN, which also carries ChannelData.
+    /// [`pop`](Self::pop) returns it with its header and its padding, so its first byte is from 0x40
+    /// to 0x7F.
+    ///
+    /// # Examples
+    ///
+    /// ```
+    /// use seatcrane_stun::endpoint::{FrameBuffer, StreamError};
+    /// use seatcrane_stun::extra::turn::ChannelData;
+    ///
+    /// # fn main() -> Result<(), StreamError> {
+    /// let mut buffer = FrameBuffer::for_turn().longest(2048);
+    /// buffer.push(b"\x40\0\0\x05media\0\0\0\x40\0\xff\xff");
+    /// let frame = buffer.pop()?.and_then(ChannelData::from_bytes).unwrap();
+    /// assert_eq!((frame.channel(), frame.data()), (0x4000, &b"media"[..]));
+    /// assert_eq!(buffer.pop(), Err(StreamError::TooLong)); // as soon as its length is there
+    /// # Ok(())
+    /// # }
+    /// ```
+    pub fn for_turn() -> FrameBuffer {
+        FrameBuffer {
+            has_channels: true,
+            ..FrameBuffer::new()
+        }
+    }
+
+    /// Sets the longest message, in bytes with its header: any length, unless you call this, and then
+    /// a peer can make the buffer store 65,552 bytes beside what one [`push`](Self::push) adds. A
+    /// longer message fails as soon as its header is there.
+    #[must_use]
+    pub fn longest(mut self, bytes: usize) -> FrameBuffer {
+        self.longest = bytes;
+        self
+    }
+
+    /// Appends bytes that were read. Call [`pop`](Self::pop) until it returns `None` before the next
+    /// call of this, because a buffer that nobody empties grows.
     pub fn push(&mut self, bytes: &[u8]) {
-        self.bytes.drain(..self.popped);
-        self.popped = 0;
+        // The rest is moved only if that is the smaller half, so a byte is moved once in the mean.
+        if self.popped >= self.bytes.len() - self.popped {
+            self.bytes.drain(..self.popped);
+            self.popped = 0;
+        }
         self.bytes.extend_from_slice(bytes);
+    }
+
+    /// Returns how many bytes wait for the rest of their message, or for [`pop`](Self::pop).
+    pub fn waiting(&self) -> usize {
+        self.bytes.len() - self.popped
     }
 
     /// Removes the first message, and returns it, or `None` if it is not whole yet. Call it until it
@@ -61,16 +137,30 @@ impl FrameBuffer {
     ///
     /// # Errors
     ///
-    /// [`NotStun`]: no message begins where one should. All further calls fail too.
-    pub fn pop(&mut self) -> Result<Option<&[u8]>, NotStun> {
+    /// All further calls fail too.
+    ///
+    /// - [`StreamError::NotStun`]: no message begins where one should.
+    /// - [`StreamError::TooLong`]: the message is longer than [`longest`](Self::longest) allows.
+    pub fn pop(&mut self) -> Result<Option<&[u8]>, StreamError> {
         let begin = self.popped;
-        match next_frame(&self.bytes[begin..]) {
-            Frame::Message(length) => {
-                self.popped += length;
-                Ok(Some(&self.bytes[begin..self.popped]))
-            }
-            Frame::Need(_) => Ok(None),
-            Frame::NotStun => Err(NotStun),
+        let rest = &self.bytes[begin..];
+        let frame = if self.has_channels {
+            next_turn_frame(rest)
+        } else {
+            next_frame(rest)
+        };
+        let (length, is_whole) = match frame {
+            Frame::Message(length) => (length, true),
+            Frame::Need(more) => (rest.len() + more, false),
+            Frame::NotStun => return Err(StreamError::NotStun),
+        };
+        if length > self.longest {
+            return Err(StreamError::TooLong);
         }
+        if !is_whole {
+            return Ok(None);
+        }
+        self.popped += length;
+        Ok(Some(&self.bytes[begin..self.popped]))
     }
 }

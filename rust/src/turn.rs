@@ -1,0 +1,189 @@
+//! The methods of TURN, and the data of its channels.
+
+use crate::exported::stun_extra::framing::CHANNEL_HEADER_LENGTH;
+use crate::exported::stun_extra::turn::TurnMethod as Proved;
+use crate::exported::stun_types::message::Method;
+use alloc::vec::Vec;
+use core::fmt;
+
+/// A method of TURN (RFC 8656, section 17), or of TURN with TCP to the peers (RFC 6062, section
+/// 6.1).
+///
+/// # Examples
+///
+/// ```
+/// use seatcrane_stun::extra::turn::TurnMethod;
+/// use seatcrane_stun::types::message::{BINDING, Method};
+///
+/// assert_eq!(TurnMethod::Allocate.method().value(), 3);
+/// assert_eq!(TurnMethod::of(Method::new(4).unwrap()), Some(TurnMethod::Refresh));
+/// assert_eq!(TurnMethod::of(BINDING), None);
+/// assert_eq!(TurnMethod::ConnectionBind.to_string(), "ConnectionBind");
+/// ```
+#[derive(Clone, Copy, Debug, PartialEq, Eq, Hash)]
+#[non_exhaustive]
+pub enum TurnMethod {
+    /// A client requests an allocation.
+    Allocate,
+    /// A client refreshes its allocation, or deletes it.
+    Refresh,
+    /// A client sends data to a peer through the server. Only indications have this method.
+    Send,
+    /// A server passes the data of a peer on to the client. Only indications have this method.
+    Data,
+    /// A client permits a peer to send.
+    CreatePermission,
+    /// A client binds a channel to a peer.
+    ChannelBind,
+    /// A client asks the server to connect to a peer over TCP (RFC 6062).
+    Connect,
+    /// A client takes over a connection to a peer, on a connection of its own to the server (RFC
+    /// 6062).
+    ConnectionBind,
+    /// A server tells that a peer has connected (RFC 6062). Only indications have this method.
+    ConnectionAttempt,
+}
+
+impl TurnMethod {
+    /// All methods, in the order of their numbers.
+    pub const ALL: [TurnMethod; 9] = [
+        TurnMethod::Allocate,
+        TurnMethod::Refresh,
+        TurnMethod::Send,
+        TurnMethod::Data,
+        TurnMethod::CreatePermission,
+        TurnMethod::ChannelBind,
+        TurnMethod::Connect,
+        TurnMethod::ConnectionBind,
+        TurnMethod::ConnectionAttempt,
+    ];
+
+    /// Returns the number of the method.
+    pub fn number(self) -> u16 {
+        match self {
+            TurnMethod::Allocate => Proved::Allocate.number(),
+            TurnMethod::Refresh => Proved::Refresh.number(),
+            TurnMethod::Send => Proved::Send.number(),
+            TurnMethod::Data => Proved::Data.number(),
+            TurnMethod::CreatePermission => Proved::CreatePermission.number(),
+            TurnMethod::ChannelBind => Proved::ChannelBind.number(),
+            TurnMethod::Connect => 0x00A,
+            TurnMethod::ConnectionBind => 0x00B,
+            TurnMethod::ConnectionAttempt => 0x00C,
+        }
+    }
+
+    /// Returns the method, as a message has it.
+    #[expect(clippy::missing_panics_doc, reason = "each number has 12 bits")]
+    pub fn method(self) -> Method {
+        Method::new(self.number()).expect("a number of 12 bits")
+    }
+
+    /// Returns the method of TURN that a message's method is, or `None` if it is not one of TURN.
+    pub fn of(method: Method) -> Option<TurnMethod> {
+        let number = method.value();
+        TurnMethod::ALL.into_iter().find(|one| one.number() == number)
+    }
+}
+
+/// Writes the name, for example `Allocate`.
+impl fmt::Display for TurnMethod {
+    fn fmt(&self, f: &mut fmt::Formatter<'_>) -> fmt::Result {
+        fmt::Debug::fmt(self, f)
+    }
+}
+
+/// Like [`TurnMethod::method`], so that [`Client::request`](crate::endpoint::Client::request) takes a
+/// method of TURN.
+impl From<TurnMethod> for Method {
+    fn from(method: TurnMethod) -> Method {
+        method.method()
+    }
+}
+
+/// Data on a channel (RFC 8656, section 12.4): what a client and its TURN server send in place of
+/// Send and Data indications once a channel is bound.
+///
+/// # Examples
+///
+/// ```
+/// use seatcrane_stun::extra::turn::ChannelData;
+///
+/// let data = ChannelData::new(0x4000, b"media").unwrap();
+/// let mut datagram = Vec::new();
+/// data.write(&mut datagram);
+/// assert_eq!(datagram, b"\x40\0\0\x05media");
+/// assert_eq!(ChannelData::from_bytes(&datagram), Some(data));
+///
+/// let mut stream = Vec::new(); // over TCP it is padded to a multiple of 4 bytes
+/// data.write_padded(&mut stream);
+/// assert_eq!(stream, b"\x40\0\0\x05media\0\0\0");
+/// assert_eq!(ChannelData::from_bytes(&stream), Some(data));
+/// ```
+#[derive(Clone, Copy, PartialEq, Eq, Hash)]
+pub struct ChannelData<'a> {
+    channel: u16,
+    length: u16,
+    data: &'a [u8],
+}
+
+/// It shows how many bytes there are, and none of them.
+impl fmt::Debug for ChannelData<'_> {
+    fn fmt(&self, f: &mut fmt::Formatter<'_>) -> fmt::Result {
+        let (channel, length) = (self.channel, self.length);
+        write!(f, "ChannelData({channel:#06x}, {length} bytes)")
+    }
+}
+
+impl<'a> ChannelData<'a> {
+    /// Returns the data on a channel, or `None` if the channel is not from 0x4000 to 0x7FFF, or if
+    /// there are more than 65535 bytes.
+    ///
+    /// RFC 8656 has the channels 0x4000 to 0x4FFF alone. A server sends on others only to a client
+    /// of RFC 5766 that has bound one.
+    pub fn new(channel: u16, data: &'a [u8]) -> Option<ChannelData<'a>> {
+        let length = u16::try_from(data.len()).ok()?;
+        (channel >> 14 == 1).then_some(ChannelData {
+            channel,
+            length,
+            data,
+        })
+    }
+
+    /// Reads a datagram, or a frame of a stream that
+    /// [`FrameBuffer::for_turn`](crate::endpoint::FrameBuffer::for_turn) has cut. Returns `None` if
+    /// it is none, because its first byte is not from 0x40 to 0x7F, or if its data is not whole.
+    ///
+    /// What follows the data is ignored, because a sender may pad it (RFC 8656, section 12.5).
+    pub fn from_bytes(bytes: &'a [u8]) -> Option<ChannelData<'a>> {
+        let (header, rest) = bytes.split_first_chunk::<CHANNEL_HEADER_LENGTH>()?;
+        let [channel, length] =
+            [[header[0], header[1]], [header[2], header[3]]].map(u16::from_be_bytes);
+        ChannelData::new(channel, rest.get(..length.into())?)
+    }
+
+    /// Returns the number of the channel.
+    pub fn channel(&self) -> u16 {
+        self.channel
+    }
+
+    /// Returns the data.
+    pub fn data(&self) -> &'a [u8] {
+        self.data
+    }
+
+    /// Appends the bytes of a datagram.
+    pub fn write(&self, bytes: &mut Vec<u8>) {
+        bytes.extend_from_slice(&self.channel.to_be_bytes());
+        bytes.extend_from_slice(&self.length.to_be_bytes());
+        bytes.extend_from_slice(self.data);
+    }
+
+    /// Appends the bytes for a stream, such as TCP, in which zero bytes follow up to a multiple of 4
+    /// (RFC 8656, section 12.5).
+    pub fn write_padded(&self, bytes: &mut Vec<u8>) {
+        self.write(bytes);
+        let padding = self.data.len().next_multiple_of(4) - self.data.len();
+        bytes.extend_from_slice(&[0; 3][..padding]);
+    }
+}

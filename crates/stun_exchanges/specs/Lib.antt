@@ -1,0 +1,10 @@
+-- What the contracts of this crate say, in the order to read it.
+
+-- a client and a server that have an algorithm in common
+pub mod Agreement
+-- the same realm with another password of one user
+pub mod OtherSecrets
+-- what each side reads of the messages of the other
+pub mod Exchange
+-- a server, a user and a client that meet the premises
+pub mod Instance

@@ -1,0 +1,52 @@
+//! Laws of a client alone: which challenges it answers, and which responses it believes (RFC 8489,
+//! section 9.2.5).
+ghost use Rattle.std.specs.Prelude.{◌≡◌, ℕ, Bool, List, Some, true};
+ghost use Rattle.stun_base.specs.Credentials.{NameAndPassword};
+ghost use Rattle.stun_base.specs.declared.keys.algorithm.IntegrityAlgorithm.{IntegrityAlgorithm};
+ghost use Rattle.stun_auth.specs.Algorithms.{contains};
+ghost use Rattle.stun_auth.specs.ClientStep.{is_required};
+ghost use Rattle.stun_auth.specs.Feature.{is_possible};
+ghost use Rattle.stun_auth.specs.Registered.{Registered};
+ghost use Rattle.stun_auth.specs.declared.algorithm_set.AlgorithmSet.{AlgorithmSet};
+ghost use Rattle.stun_auth.specs.declared.feature.Feature.{Feature};
+ghost use Rattle.stun_client.specs.Challenges.{Answered, by_rule};
+ghost use Rattle.stun_client.specs.Downgrade.{IsStrongestOfBoth, IsUpToDate};
+ghost use Rattle.stun_client.specs.Judging.{believed, judged, long_term};
+ghost use Rattle.stun_client.specs.Preferences.{supports};
+ghost use Rattle.stun_client.specs.Standing.{StandingSeen};
+ghost use Rattle.stun_client.specs.declared.preferences.Preferences.{Preferences};
+ghost use Rattle.stun_exchanges.specs.Agreement.{AgreeOn, IsSignedAnswer, meant_by, offered_by};
+
+/// A client answers a server with which it has an algorithm in common. If both support an
+/// algorithm, and the server takes hashes of names where the client must send them, there is one
+/// that they agree on (`agreed`). By the rule, the client makes of the realm, the nonce and the
+/// list of the server exactly the challenge that the server means, with this algorithm
+/// (`answered`), which is the strongest that both support (`strongest`).
+///
+/// The nonce must be up to date, as each nonce of a server is
+/// (`stun_client::laws::nonces_of_a_server_are_up_to_date`).
+pub fn common_algorithms_are_answered()
+    ensures agreed { (p : Preferences) (server : AlgorithmSet) (feature : Feature)
+        (a : IntegrityAlgorithm) → supports p a ≡ true → contains a server ≡ true
+        → (is_required p.anonymous_username ≡ true → is_possible feature ≡ true)
+        → (b : IntegrityAlgorithm) × AgreeOn p server feature b }
+    ensures answered { (p : Preferences) (who : NameAndPassword) (users : Registered)
+        (feature : Feature) (nonce : List ℕ) (a : IntegrityAlgorithm)
+        → IsUpToDate users feature nonce (Some users.algorithms)
+        → AgreeOn p users.algorithms feature a
+        → by_rule p who users.realm nonce (offered_by users.algorithms)
+        ≡ Some (meant_by p who users.realm users.algorithms nonce a) }
+    ensures strongest { (p : Preferences) (server : AlgorithmSet) (feature : Feature)
+        (a : IntegrityAlgorithm) → AgreeOn p server feature a → IsStrongestOfBoth p server a }
+{}
+
+/// A response ends a request that was signed for a challenge if it is signed with the key of that
+/// challenge, asks for no credentials, and is not dropped for its FINGERPRINT. The request is then
+/// answered, and signed by the algorithm of the digest.
+pub fn signed_answers_are_believed()
+    ensures { (required : Bool) (who : NameAndPassword) (p : Preferences)
+        (accepts_unsigned : Bool) (standing : StandingSeen) (c : Answered) (bytes : List ℕ)
+        (a : IntegrityAlgorithm) → IsSignedAnswer required bytes c.challenge.key a
+        → judged required (long_term who p accepts_unsigned) standing (Some c) bytes
+        ≡ believed (Some a) }
+{}

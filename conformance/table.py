@@ -99,7 +99,8 @@ def place(other):
 def page(results, reasons):
     """RESULTS.md, and the differences that are not explained."""
     lines = [f"# Results of {time.strftime('%Y-%m-%d')}", "", *HEAD, "",
-             "| Subject | Version | " + " | ".join(LEVELS) + " |", "|---|---|" + "---|" * len(LEVELS)]
+             "| Subject | Version | " + " | ".join(LEVELS) + " |",
+             "|---|---|" + "---|" * len(LEVELS)]
     unexplained = []
     for name, (reports, why) in results.items():
         if reports is None:

@@ -198,7 +198,7 @@ class OpenServer:
 class ShortClient:
     """Sections 9.1.2, 9.1.4 and 9.1.5."""
 
-    realm, fingerprints = None, ("none", "valid", "invalid")
+    realm = None
 
     def __init__(self, name, password, algorithms):
         self.user, self.password, self.algorithms = name, password, list(algorithms)
@@ -211,10 +211,6 @@ class ShortClient:
         return data
 
     def hears(self, message):
-        if message.klass not in ("success", "error"):
-            raise Refused
-        if check_fingerprint(message) not in self.fingerprints:
-            raise Refused
         came = verified(message, self.password)
         if came not in self.algorithms:
             raise Refused

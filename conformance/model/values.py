@@ -16,7 +16,7 @@ READ_LIMITS = {**LIMITS, USERNAME: 763}
 # The forms of values.
 TEXTS, XORED, PLAIN = (6, 0x14, 0x15, 0x8022, 0x8003), (0x20, 0x12, 0x16), (1, 0x8023)
 UNSIGNED = {0x24: (4, 0), 0x0D: (4, 0), 0x8029: (8, 0), 0x802A: (8, 0), 0x0C: (2, 2), 0x19: (1, 3)}
-FLAGS, FAMILIES, LENGTHS = (0x25, 0x1A), (0x17, 0x8000), {USERHASH: 32, 0x22: 8}
+FAMILIES = (0x17, 0x8000)
 
 
 def decoded_text(kind, value):
@@ -81,7 +81,7 @@ def decoded(kind, value, identity):
         if len(value) != 1:
             raise Refused
         return "yes" if value[0] & 0x80 else "no"
-    if kind in FLAGS and value or kind in LENGTHS and len(value) != LENGTHS[kind]:
+    if kind == USERHASH and len(value) != 32:
         raise Refused
     return value.hex() or "-"
 

@@ -91,8 +91,6 @@ def attribute(kind, value):
 
 
 def appended(data, kind, value):
-    if len(value) > 65535 or len(data) + len(value) + 4 > 65535 + 20:
-        raise Refused
     data += attribute(kind, value)
     return stated(data, len(data) - 20)
 

@@ -5,7 +5,7 @@
 import ctypes
 import ipaddress
 import os
-from ctypes import byref, c_bool, c_size_t, c_uint16, c_uint32, c_uint64, c_uint8, c_void_p
+from ctypes import byref, c_bool, c_size_t, c_uint16, c_uint8, c_void_p
 
 TOP = os.path.dirname(os.path.dirname(os.path.dirname(os.path.abspath(__file__))))
 LIBRARY = ctypes.CDLL(os.environ.get("STUNP_LIBRARY", os.path.join(TOP, "target/c/libstunp.so")))

@@ -52,6 +52,8 @@ PARTS = {
     # The proofs, and what they built.
     "proofs": (), "libraries": (), "programs": (), "edits": (), "archives": (), "c-tests": (),
     "c-pages": (), "differ": (), "examples": (),
+    "browsers": (*EXPORT, "rust/src", "rust/examples", *(f"tests/udp/{name}" for name in (
+        "browsers.py", "ice_browsers.py", "ice_page.html", "ice_namespaces.sh", "turn_server.py"))),
     "bare": (*EXPORT, "README.md", "Makefile", "include/Makefile", "tools/rust_c.sh",
              "tools/transcripts.py", "tests/bare.sh"),
     "release": (*EXPORT, "VERSION", "Makefile", "include", "tools/release.py", "tools/archives.sh",

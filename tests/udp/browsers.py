@@ -9,8 +9,7 @@ network namespaces and removes them. Debian's packages are chromium, chromium-dr
 python3-selenium, firefox-esr, iproute2 and nftables. Six rows for each browser: it gathers a
 candidate at udp_server from behind a translator, two of its connections meet through turn_server
 over UDP and over TCP, it and ice_agent find a pair in both roles, and both still consent after a
-minute. The last line counts; the status is 0 if each row passed, or if the line says what is
-missing and so nothing was tried.
+minute. The last line counts, or says what is missing if nothing was tried; the status is 77 then.
 """
 import os
 import pathlib
@@ -94,7 +93,7 @@ def main():
     lacking = missing(programs)
     if lacking:
         print(f"browsers: left out, without {lacking}")
-        return 0
+        return 77
     passed = tried = 0
     try:
         for network, name, row in rows(programs):

@@ -123,7 +123,7 @@ def is_served(link, client, *words):
 
 
 def is_relayed(link, client, peer):
-    """turn_client has data come back, by an indication and on a channel, and ends its allocation."""
+    """turn_client has data come back by an indication and on a channel, and ends its allocation."""
     found = asks(link, client, NAME, PASSWORD, PEER, str(peer))
     assert found[0] == 0 and found[1].count("came back") == 2, found
     assert found[1].endswith("ended\n") and not found[2], found
@@ -199,7 +199,7 @@ def label(program):
 
 
 def tried(case, seed):
-    """What the link of a case did, whether its client was served, and why the case failed, or None."""
+    """What the link of a case did, whether the client was served, and why the case failed."""
     (server, port), loss, run, client, *words = case
     # It does not depend on which other programs are there.
     named = [label(client), server, *(word for word in words if isinstance(word, str))]

@@ -72,8 +72,8 @@ def allowed(unit):
 
 
 def runs(program, is_in_c, unit, folder, is_traced):
-    """The server starts with the arguments of the unit, serves, reads its users again in C, and writes
-    its counters. Returns its system calls if these are traced."""
+    """The server starts with the arguments of the unit, serves, reads its users again in C, and
+    writes its counters. Returns its system calls if these are traced."""
     for name, content in (("users", f"{NAME} {PASSWORD}\n"), ("secret", os.urandom(32).hex())):
         (folder / name).write_text(content)
     words = re.sub(r"/(etc|run)/stun/", f"{folder}/", settings(unit, "ExecStart")[0]).split()

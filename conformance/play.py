@@ -11,8 +11,8 @@ FILE is a file of `levels/`, or one in the grammar of transcripts.
 Each answer that differs is printed. Those of a shipped subject that differences.txt explains are
 printed with `--explained` alone. The last line has the counts: calls that were answered as written,
 that differ from a MUST of an RFC, that differ from a choice of this library, and that were left out
-because the subject does not have them, and how many differences are explained. The status is 1 if a
-difference is not explained. `--table` plays all subjects and writes RESULTS.md (table.py)."""
+because the subject does not have them, and how many differences are explained. The line before it
+has the first four of each level. The status is 1 if a difference is not explained. `--table` plays all subjects and writes RESULTS.md (table.py)."""
 
 import argparse
 import collections
@@ -155,6 +155,23 @@ def summed(reports):
     return whole
 
 
+def by_level(reports, levels=LEVELS):
+    """A report of each level: the files of the levels, and those that their indexes name."""
+    whole = {}
+    for name in levels:
+        whole[name] = Report()
+        for path in {part.path for part in index.level(os.path.join(HERE, "levels", name))}:
+            whole[name].add(reports[path])
+    return whole
+
+
+def cell(report):
+    if not report.right + len(report.others):
+        return "not claimed"
+    return (f"{report.right} / {len(report.of('MUST'))} / {len(report.of('CHOICE'))} / "
+            f"{sum(report.left.values())}")
+
+
 def show(others):
     for other in others:
         print(f"{other.file}:{other.line}: {other.mark}\n  written: {other.raw[:300]}\n"
@@ -175,6 +192,9 @@ def play_one(word, options):
     if options.left_out:
         for call, count in whole.left.most_common():
             print(f"left out: {call} ({count})")
+    if not options.files:
+        cells = (f"{name} {cell(report)}" for name, report in by_level(reports, levels).items())
+        print("conformance: by level, as below: " + ", ".join(cells))
     print(f"conformance: {word}, {len(reports)} files, {whole.counts()}, "
           f"{len(whole.others) - len(missing)} explained ({time.monotonic() - begun:.1f} s)")
     return bool(missing)

@@ -11,7 +11,7 @@ import sys
 import time
 
 from grammar import TOP
-from play import LEVELS, Report, play_all
+from play import LEVELS, by_level, cell, play_all
 from reasons import read_reasons, reason_of
 from shipped import NAMES
 
@@ -41,24 +41,6 @@ def version_of(name):
     done = subprocess.run(["dpkg-query", "-W", "-f", "${Version}", PACKAGES[name]],
                           capture_output=True, text=True)
     return done.stdout if done.returncode == 0 else "version unknown"
-
-
-def by_level(reports):
-    """A report of each level: the files of the levels, and those that their indexes name."""
-    from index import level
-    whole = {}
-    for name in LEVELS:
-        whole[name] = Report()
-        for path in {part.path for part in level(os.path.join(HERE, "levels", name))}:
-            whole[name].add(reports[path])
-    return whole
-
-
-def cell(report):
-    if not report.right + len(report.others):
-        return "not claimed"
-    return (f"{report.right} / {len(report.of('MUST'))} / {len(report.of('CHOICE'))} / "
-            f"{sum(report.left.values())}")
 
 
 def unused(name, reports, reasons):

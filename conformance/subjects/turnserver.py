@@ -1,7 +1,7 @@
 """coturn's turnserver as a subject of level 2, over UDP on loopback.
 
-Any server with long-term credentials can be asked this way. It claims RFC 5389. Its clock is the
-machine's, and its users cannot change while it runs."""
+Any server with long-term credentials, or with none, can be asked this way. It claims RFC 5389. Its
+clock is the machine's, and its users cannot change while it runs."""
 
 import os
 import shutil
@@ -25,16 +25,19 @@ def free_port():
 
 
 def command(realm, users, port, folder):
-    options = ["-n", "--lt-cred-mech", "--secure-stun", "--no-tls", "--no-dtls", "--no-tcp",
-               "--no-cli", "--fingerprint", "--log-file=" + os.path.join(folder, "log"),
+    credentials = ["--lt-cred-mech", "--secure-stun"] if users is not None else ["--no-auth"]
+    options = ["-n", *credentials, "--no-tls", "--no-dtls", "--no-tcp", "--no-cli",
+               "--fingerprint", "--log-file=" + os.path.join(folder, "log"),
                "--pidfile=" + os.path.join(folder, "pid"),
                "--userdb=" + os.path.join(folder, "users"), "--relay-ip=" + HOST,
                "--listening-ip=" + HOST, f"--listening-port={port}", "--realm=" + realm]
-    return ["turnserver", *options, *(f"--user={name}:{password}" for name, password in users)]
+    named = [f"--user={name}:{password}" for name, password in users or ()]
+    return ["turnserver", *options, *named]
 
 
 class Running:
-    """A server with its realm and users, and a socket for each address that asks."""
+    """A server with its realm and users, or without credentials if these are None, and a socket for
+    each address that asks."""
 
     def __init__(self, realm, users):
         self.folder, self.port, self.sockets = tempfile.mkdtemp(), free_port(), {}
@@ -88,6 +91,14 @@ class Subject:
             return "lacks"
         self.users.append((plain(name).decode(), plain(password).decode()))
         return "done"
+
+    def open_server_new(self):
+        self.end()
+        self.realm, self.users = "", None
+        return "done"
+
+    def open_server_hears(self, source, data):
+        return self.server_hears(source, 0, data)
 
     def server_hears(self, source, _seconds, data):
         if self.running is None:

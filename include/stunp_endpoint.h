@@ -253,9 +253,9 @@
  *    stunp_endpoint_server_resume, stunp_endpoint_server_cause_for
  *   replies: stunp_reply_success, stunp_reply_error, stunp_reply_finish, stunp_reply_wipe
  *   ICE: stunp_ice_checker_new_with, stunp_ice_checker_new, stunp_ice_checker_is_controlling,
- *    stunp_ice_checker_set_tie_breaker, stunp_ice_checker_check_with, stunp_ice_checker_check,
- *    stunp_ice_checker_receive_with, stunp_ice_checker_receive, stunp_ice_checker_clear,
- *    stunp_ice_checker_free
+ *    stunp_ice_checker_controls, stunp_ice_checker_set_tie_breaker, stunp_ice_checker_check_with,
+ *    stunp_ice_checker_check, stunp_ice_checker_receive_with, stunp_ice_checker_receive,
+ *    stunp_ice_checker_clear, stunp_ice_checker_free
  *   clients: stunp_endpoint_client_new_with, stunp_endpoint_client_new, stunp_endpoint_client_clear,
  *    stunp_endpoint_client_free
  *   clients, requests: stunp_body_on, stunp_body_put, stunp_body_add, stunp_body_add_number,
@@ -326,7 +326,8 @@ typedef struct stunp_ice_checker { bool is_full; void *state; } stunp_ice_checke
 typedef struct stunp_endpoint_client { bool is_full; void *state; } stunp_endpoint_client;
 
 /* Sets the size with which a struct of this header begins, and all else to 0. Use it in
- * `stunp_received received = STUNP_INIT(stunp_received);` */
+ * `stunp_received received = STUNP_INIT(stunp_received);`, and STUNP_ANEW, which is the same as a
+ * value, to give such a struct its first state again: `received = STUNP_ANEW(stunp_received);` */
 #ifdef __cplusplus
 extern "C++" {
 template <typename Sized> Sized stunp_of_size() {
@@ -336,8 +337,10 @@ template <typename Sized> Sized stunp_of_size() {
 }
 }
 #define STUNP_INIT(type) stunp_of_size<type>()
+#define STUNP_ANEW(type) stunp_of_size<type>()
 #else
 #define STUNP_INIT(type) {.size = sizeof(type)}
+#define STUNP_ANEW(type) ((type)STUNP_INIT(type))
 #endif
 
 /* The credentials that a server asks its clients for. */
@@ -1207,11 +1210,18 @@ STUNP_INLINED void stunp_ice_checker_free(stunp_ice_checker *checker) {
     if (checker != NULL) stunp_ice_checker_clear(checker);
 }
 
-/* Returns 1 if the agent controls now, and so nominates pairs, or 0 if the peer does. Errors:
+/* Returns 1 if the agent controls now, and so nominates pairs, or 0 if the peer does. In a
+ * condition an error would count as true: call stunp_ice_checker_controls there. Errors:
  *   STUNP_EMPTY_HANDLE  the handle is empty
  *   STUNP_WRONG_HANDLE  it has no agent */
 STUNP_USE_RESULT STUNP_NOT_NULL(1)
 int64_t stunp_ice_checker_is_controlling(stunp_ice_checker *checker);
+
+/* Returns whether the agent controls now: whether stunp_ice_checker_is_controlling returns 1. */
+STUNP_USE_RESULT STUNP_NOT_NULL(1)
+STUNP_INLINED bool stunp_ice_checker_controls(stunp_ice_checker *checker) {
+    return stunp_ice_checker_is_controlling(checker) == 1;
+}
 
 /* Sets another tie-breaker. After STUNP_ICE_CONFLICT an agent must have a new random one before its
  * next check (section 16.1).
@@ -1766,7 +1776,8 @@ STUNP_INLINED int stunp_poll_timeout(const stunp_event *event, uint64_t now) {
 
 /* Ends a request with STUNP_RESULT_CANCELLED, which stunp_endpoint_client_poll then returns.
  *
- * Returns 1, or 0 if the request has ended already. Errors:
+ * Returns 1, or 0 if the request has ended already. In a condition an error would count as true:
+ * compare the result with 1. Errors:
  *   STUNP_EMPTY_HANDLE  the handle is empty
  *   STUNP_WRONG_HANDLE  it has no client */
 STUNP_NOT_NULL(1)

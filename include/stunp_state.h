@@ -312,7 +312,9 @@ extern "C" {
  * any object file of the program, in whatever order it is linked. But a linker takes nothing from a
  * library for a function that may be missing. If yours are in a static library, link with
  * -Wl,-u,rattle_alloc, as the pkg-config file of stunp_heap does. If they are in a shared library
- * of your own, put -Wl,--no-as-needed before it.
+ * of your own, put -Wl,--no-as-needed before it. libstunp.so finds only functions that the program
+ * exports: if you compile with -fvisibility=hidden, give the three the attribute
+ * `visibility("default")`, or they are not called and malloc is.
  *
  * If an allocation fails, the call fails with STUNP_OUT_OF_MEMORY. The functions must return, so
  * they must not leave by longjmp or an exception, and they must not make a call on a handle. Every

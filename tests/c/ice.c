@@ -91,11 +91,14 @@ static void settings_in_order(void) {
 static void plain_calls(void) {
     stunp_ice_checker empty = {0}, agent = evtj(1, true);
     want("controls", stunp_ice_checker_is_controlling(&agent), 1);
+    want("controls, as a condition", stunp_ice_checker_controls(&agent), true);
     want("tie-breaker", stunp_ice_checker_set_tie_breaker(&agent, 2), 0);
     stunp_ice_checker_free(&agent);
     agent = evtj(1, false);
     want("is controlled", stunp_ice_checker_is_controlling(&agent), 0);
+    want("is controlled, as a condition", stunp_ice_checker_controls(&agent), false);
     want("no agent", stunp_ice_checker_is_controlling(&empty), STUNP_EMPTY_HANDLE);
+    want("no agent, as a condition", stunp_ice_checker_controls(&empty), false);
     want("no agent", stunp_ice_checker_set_tie_breaker(&empty, 2), STUNP_EMPTY_HANDLE);
     /* A handle of another kind has no agent, and that of an agent no server. */
     stunp_endpoint_server as_server = {agent.is_full, agent.state};
@@ -120,6 +123,8 @@ static void plain_calls(void) {
 /* The sample request at `evtj`, and what its answer is. */
 static void sample_request(void) {
     stunp_ice_received got = STUNP_INIT(stunp_ice_received);
+    got.priority = 1, got = STUNP_ANEW(stunp_ice_received);
+    want("anew", got.size == sizeof got && got.priority == 0, true);
     uint8_t octets[16];
     uint16_t port;
     /* They control, and the sample says that its sender is controlled. */

@@ -1,8 +1,9 @@
 #!/bin/sh
-# Prints how much of the Rust that is written by hand the tests reach: of each folder of rust/src, and
-# of the border to C, the lines that ran. It takes the least Rust (debian_rust.sh), whose profiles the
-# llvm-cov of Debian reads (llvm-19), and ends with 77 where one of them is not there. With a file after
-# it, that file gets every line that no test reaches.
+# Prints how much of the Rust that is written by hand the tests reach: the lines that ran of each
+# folder of rust/src. Examples in comments are left out, and so is the border to C, which the tests in
+# C reach. It takes the least Rust (debian_rust.sh), whose profiles the llvm-cov of Debian reads
+# (llvm-19), and ends with 77 if one of them is not there. With a file after it, that file gets every
+# line that no test reaches.
 set -eu
 cd "$(dirname "$0")/../.."
 . tests/export/debian_rust.sh
@@ -19,19 +20,10 @@ export RUSTFLAGS='-C instrument-coverage' CARGO_PROFILE_DEV_DEBUG=0
 export LLVM_PROFILE_FILE="$target/raw/%p-%m.profraw"
 export LD_LIBRARY_PATH="$at/usr/lib/x86_64-linux-gnu${LD_LIBRARY_PATH:+:$LD_LIBRARY_PATH}"
 tools/rust.sh --export >/dev/null
-# The pages' examples are left out: rustdoc compiles them apart.
 (cd target/export && cargo test --quiet --workspace --exclude seatcrane-stun-c --features tracing \
-    --lib --bins --tests --examples && cargo build --quiet --package seatcrane-stun-c \
-    --package seatcrane-checks) >"$target/log" 2>&1 || { cat "$target/log" >&2; exit 1; }
+    --lib --bins --tests --examples && cargo build --quiet --package seatcrane-checks) >"$target/log" 2>&1 || { cat "$target/log" >&2; exit 1; }
 "$target/debug/transcripts" tests/transcripts/*.txt >>"$target/log"
 python3 tests/programs/captures/check.py "$target/debug/stun_inspect" >>"$target/log"
-# The calls for C, by the tests in C.
-for test in tests/c/*.c; do
-    name=$(basename "$test" .c)
-    cc -std=c99 -D_DEFAULT_SOURCE -Iinclude -Itests/c -o "$target/$name" "$test" \
-        "$target/debug/libstunp.a" -lpthread >>"$target/log" 2>&1 && "$target/$name" \
-        >>"$target/log" 2>&1 || echo "coverage: not run: $test" >>"$target/log"
-done
 "$merge" merge -sparse -o "$target/all.profdata" "$target"/raw/*.profraw
 objects=$(find "$target/debug" -maxdepth 2 -type f -perm -u+x ! -name '*.so' ! -name '*.rlib' |
     sed 's/^/--object=/')

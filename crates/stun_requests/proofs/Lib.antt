@@ -1,0 +1,4 @@
+-- Lemmas of the crate.
+pub mod ReadBackLemmas
+pub mod BidLemmas
+pub mod ServedLemmas

@@ -15,12 +15,17 @@ is another one. The line `kit:` names the toolchain that all were last tried by.
 another record: --gate writes target/gate/edits.record, where those of the record that stay are too.
 What is random is drawn by the sums of the crates, or by WRONG_SEED, and the seed is printed.
 
-An edit is a line `file: src/..`, and then pairs of lines `old: TEXT` and `new: TEXT`. It is made in
-a copy of the crate: first the function or the module of the edit alone is checked (`rattle check
---only`), over the libraries that `rt ci` left, or else over those that `rt lib` builds. Of a crate
-with one or two edits to try it is checked over the sources of the crates below (tools/only.py),
-which is slower and needs no libraries. If that is still proved the whole crate is checked, over
-libraries. --show as the first word prints what the prover said.
+An edit is a line `file: src/..`, and then pairs of lines `old: TEXT` and `new: TEXT`; further lines
+`file:` begin the pairs of other files. It is made in a copy of the crate: first the function or the
+module of the edit alone is checked (`rattle check --only`), over the libraries that `rt ci` left, or
+else over those that `rt lib` builds. Of a crate with one or two edits to try it is checked over the
+sources of the crates below (tools/only.py), which is slower and needs no libraries. If that is still
+proved the whole crate is checked, over libraries. --show as the first word prints what the prover
+said.
+
+An edit may change a body together with its definition. Its first line is `law: CRATE::PATH`, which
+names a law of the crate or of one above it. Then the function of the edit must be proved, since body
+and definition agree, and the law must not, over the edited sources.
 """
 import collections
 import concurrent.futures
@@ -43,6 +48,7 @@ RECORD = Path(os.environ.get("WRONG_RECORD") or WRONG / "RECORD")
 OF_GATE = crates.TOP / "target/gate/edits.record"
 HEAD = "# Of each crate: the sum of what its edits were last tried against, and their number.\n"
 MORE = 5
+LAW = re.compile(r"law: (\w+)::(\S+)\n")
 BUILDING, BUILT = threading.Lock(), set()
 
 
@@ -55,8 +61,12 @@ def with_edits():
 
 
 def line_of(crate):
-    """The line of the record for the crate as it is."""
-    return f"{crate} {crates.sum_of(crate, WRONG / crate)} {len(edits_of(crate))}"
+    """The line of the record for the crate as it is, with the crates of the laws of its edits."""
+    edits = edits_of(crate)
+    laws = {law[1] for law in map(LAW.match, (edit.read_text() for edit in edits)) if law}
+    sums = [crates.sum_of(crate, WRONG / crate), *map(crates.sum_of, sorted(laws - {crate}))]
+    whole = sums[0] if len(sums) == 1 else hashlib.sha256(repr(sums).encode()).hexdigest()[:32]
+    return f"{crate} {whole} {len(edits)}"
 
 
 def known_lines():
@@ -114,6 +124,21 @@ def edited(edit, folder):
     return texts, first
 
 
+def law_of(edit):
+    """The crate and the path of the law that an edit must break, if it names one."""
+    named = LAW.match(edit.read_text())
+    if not named:
+        return None
+    law, path = named.groups()
+    if law not in crates.lines() or edit.parent.name not in [law, *crates.below(law)]:
+        raise ValueError(f"{law} is neither its crate nor one above it")
+    module, _, name = path.rpartition("::")
+    file = crates.TOP / "crates" / law / "src" / (module.replace("::", "/") + ".rt")
+    if not file.is_file() or f"pub fn {name}(" not in file.read_text():
+        raise ValueError(f"there is no law {law}::{path}")
+    return law, path
+
+
 def names_at(text, path, at):
     """The names by which rattle may know the function at a place of a file, and its module."""
     module = [part for part in path[len("src/"):-len(".rt")].split("/")
@@ -135,10 +160,11 @@ def names_at(text, path, at):
     return ["::".join(words) for words in [*names, module] if words]
 
 
-def check(crate, texts, is_over_sources, *more):
-    """Checks a copy of the crate with these texts in place of its own."""
-    if is_over_sources:
-        command = crates.over_sources(crate, "--jobs", "1", *more)
+def check(crate, texts, is_over_sources, *more, of=None):
+    """Checks a copy of the crate with these texts in place of its own, or over that copy the crate
+    `of` above it."""
+    if of or is_over_sources:
+        command = crates.over_sources(of or crate, "--jobs", "1", *more)
     else:
         build_below(crate)
         command = crates.rattle("check", crate, *more)
@@ -152,7 +178,11 @@ def check(crate, texts, is_over_sources, *more):
                 opened.write(text)
         # A check ends with whoever asked for it.
         bound = ["setpriv", "--pdeathsig", "KILL"] if shutil.which("setpriv") else []
-        ran = subprocess.run([*bound, *command], cwd=room, text=True, stdin=subprocess.DEVNULL,
+        if of not in (None, crate):
+            command = [word.replace(f"={crates.TOP}/crates/{crate}/", f"={room}/")
+                       for word in command]
+        ran = subprocess.run([*bound, *command], text=True, stdin=subprocess.DEVNULL,
+                             cwd=crates.TOP / "crates" / of if of not in (None, crate) else room,
                              stdout=subprocess.PIPE, stderr=subprocess.STDOUT, errors="replace",
                              check=False)
         ran.stdout = ran.stdout.replace(room, f"crates/{crate}")
@@ -164,9 +194,13 @@ def verdict(crate, edit, is_over_sources, is_shown):
     folder = crates.TOP / "crates" / crate
     try:
         texts, (path, at) = edited(edit, folder)
+        law = law_of(edit)
     except (ValueError, OSError, TypeError) as error:
         return False, f"cannot be made: {error}"
-    for name in names_at((folder / path).read_text(), path, at):
+    names = names_at((folder / path).read_text(), path, at)
+    if law:
+        return verdict_of_law(crate, texts, names[0], law, is_shown)
+    for name in names:
         ran = check(crate, texts, is_over_sources, "--only", name)
         counts = re.search(r"^only=(\d+) proved=(\d+)", ran.stdout, re.M)
         if is_shown:
@@ -183,6 +217,21 @@ def verdict(crate, edit, is_over_sources, is_shown):
     if ran.returncode == 0:
         return False, "NOT REFUSED: the crate is still proved"
     return False, f"NOT TRIED: the check ended with {ran.returncode}:\n{ran.stdout[-2000:]}"
+
+
+def verdict_of_law(crate, texts, name, law, is_shown):
+    """Whether a body and its definition agree that are edited together, and break a law."""
+    ran = check(crate, texts, True, "--only", name)
+    if is_shown or ran.returncode != 0:
+        print(ran.stdout, end="")
+    if ran.returncode != 0:
+        return False, f"NOT TRIED: {name} is not proved, so its body and definition do not agree"
+    ran = check(crate, texts, True, "--only", law[1], of=law[0])
+    if is_shown:
+        print(ran.stdout, end="")
+    if f"fn {law[0]}::{law[1]}: not proved" in ran.stdout:
+        return True, f"{name} is proved, and the law {law[0]}::{law[1]} is not"
+    return False, f"NOT REFUSED: the check of the law ended with {ran.returncode}"
 
 
 def build_below(crate):
@@ -261,6 +310,7 @@ def look():
             count += 1
             try:
                 edited(edit, crates.TOP / "crates" / crate)
+                law_of(edit)
             except (ValueError, OSError, TypeError) as error:
                 wrong += 1
                 print(f"{edit.relative_to(crates.TOP)}:1: this edit cannot be made: {error}: "

@@ -12,7 +12,8 @@ Each answer that differs is printed. Those of a shipped subject that differences
 printed with `--explained` alone. The last line has the counts: calls that were answered as written,
 that differ from a MUST of an RFC, that differ from a choice of this library, and that were left out
 because the subject does not have them, and how many differences are explained. The line before it
-has the first four of each level. The status is 1 if a difference is not explained. `--table` plays all subjects and writes RESULTS.md (table.py)."""
+has the first four of each level. The status is 1 if a difference is not explained. `--table` plays
+all subjects and writes RESULTS.md (table.py)."""
 
 import argparse
 import collections

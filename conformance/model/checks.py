@@ -17,7 +17,6 @@ ERROR_CODE, KNOWN_TYPES = 0x0009, KNOWN | {PRIORITY, USE_CANDIDATE}
 
 class Checker(ShortServer):
     def __init__(self, role, number, names):
-        super().__init__()
         self.role, self.number = role, number
         self.name, self.password, self.peer, self.peer_password = names
         self.count, self.sent, self.is_nominated = 0, None, False
@@ -60,7 +59,7 @@ class Checker(ShortServer):
         """Section 7.2.5.1: a 487 switches the role that the check was sent in."""
         if value is None or value[2:4] != bytes((4, 87)):
             return "failed"
-        self.role, self.number = OTHER[role], self.number // 2 + 7
+        self.role, self.number = OTHER[role], self.number + 1
         return "conflict"
 
     # ---- Checks of the peer (section 7.3).

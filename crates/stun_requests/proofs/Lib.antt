@@ -1,4 +1,5 @@
 -- Lemmas of the crate.
 pub mod ReadBackLemmas
+pub mod BodyLemmas
 pub mod BidLemmas
 pub mod ServedLemmas

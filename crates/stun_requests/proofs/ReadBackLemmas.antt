@@ -115,42 +115,42 @@ none_of (x ∷ xs) k h =
 
 -- ---- refusals
 
-abbrev there_already : ℕ → StunWriteError
+abbrev pub there_already : ℕ → StunWriteError
 there_already kind = AttributeExists (record { 0 = kind })
 
-passed : (b : Bool) (why : StunWriteError) (o : Option StunWriteError)
+pub passed : (b : Bool) (why : StunWriteError) (o : Option StunWriteError)
     → cond b (Some why) o ≡ None → (b ≡ false) × (o ≡ None)
 passed true why o is = cc
 passed false why o is = (refl, is)
 
-fits : (message : List ℕ) (room n : ℕ) → size_refusal message room n ≡ None
+pub fits : (message : List ℕ) (room n : ℕ) → size_refusal message room n ≡ None
     → length_with message n ≤ max_length
 fits message room n none =
     not_above max_length (length_with message n)
     (passed (nat_lt max_length (length_with message n)) TooLarge
     (cond (nat_lt room (attribute_length n)) (Some TooSmall) None) none).0
 
-then_is : (first : Page?) (next : List ℕ → Page?) (bytes : List ℕ) → and_then first next ≡ Ok bytes
+pub then_is : (first : Page?) (next : List ℕ → Page?) (bytes : List ℕ) → and_then first next ≡ Ok bytes
     → (page : List ℕ) × (first ≡ Ok page) × (next page ≡ Ok bytes)
 then_is (Err why) next bytes is = cc
 then_is (Ok page) next bytes is = (page, refl, is)
 
-unless_is : (o : Option StunWriteError) (page bytes : List ℕ) → unless o page ≡ Ok bytes
+pub unless_is : (o : Option StunWriteError) (page bytes : List ℕ) → unless o page ≡ Ok bytes
     → (o ≡ None) × (page ≡ bytes)
 unless_is None page bytes is = (refl, cc)
 unless_is (Some why) page bytes is = cc
 
-same_page : (page bytes : List ℕ) → unless None page ≡ Ok bytes → page ≡ bytes
+pub same_page : (page bytes : List ℕ) → unless None page ≡ Ok bytes → page ≡ bytes
 same_page page bytes is = cc
 
 -- ---- a page that is not signed yet
 
-record Fresh (method : ℕ) (page : List ℕ) : Type 0 where
-  unsigned : IsUnsigned page
-  type_is : type_field page ≡ type_number Request method
+pub record Fresh (method : ℕ) (page : List ℕ) : Type 0 where
+  pub unsigned : IsUnsigned page
+  pub type_is : type_field page ≡ type_number Request method
 
 -- a type that signing does not add
-record Apart (kind : ℕ) : Type 0 where
+pub record Apart (kind : ℕ) : Type 0 where
   nonce : (kind == NONCE) ≡ false
   realm : (kind == REALM) ≡ false
   username : (kind == USERNAME) ≡ false
@@ -158,7 +158,7 @@ record Apart (kind : ℕ) : Type 0 where
   algorithms : (kind == PASSWORD_ALGORITHMS) ≡ false
   algorithm : (kind == PASSWORD_ALGORITHM) ≡ false
 
-apart_of : (kind : ℕ) → is_reserved kind ≡ false → Apart kind
+pub apart_of : (kind : ℕ) → is_reserved kind ≡ false → Apart kind
 apart_of kind free =
     let all = none_of RESERVED kind free in
     record {
@@ -212,7 +212,7 @@ module _ (laws : ReadingLaws) (method : ℕ) where
         type_is = one.type_is ∙ fresh.type_is;
       }
 
-  another : (page bytes : List ℕ) (a : TypedValue) → Fresh method page → a.kind < 2 ^ 16
+  pub another : (page bytes : List ℕ) (a : TypedValue) → Fresh method page → a.kind < 2 ^ 16
       → Apart a.kind → with_another a page ≡ Ok bytes → Fresh method bytes
   another page bytes a fresh typed apart is =
       let n = length a.value in
@@ -226,7 +226,7 @@ module _ (laws : ReadingLaws) (method : ℕ) where
       subst (Fresh method) unrefused.1
       (one_more page a fresh (record { kind = typed; value = fits page room n second.1 }) first.0 apart)
 
-  piece_apart : (id : ℕ) (piece : Piece) → IsOrdinary piece → Apart (attribute_for id piece).kind
+  pub piece_apart : (id : ℕ) (piece : Piece) → IsOrdinary piece → Apart (attribute_for id piece).kind
   piece_apart id (with_value a) ordinary = apart_of a.kind ordinary.0
   piece_apart id (of_peer address) ordinary = record {
     nonce = refl;
@@ -237,11 +237,11 @@ module _ (laws : ReadingLaws) (method : ℕ) where
     algorithm = refl;
   }
 
-  piece_typed : (id : ℕ) (piece : Piece) → IsOrdinary piece → (attribute_for id piece).kind < 2 ^ 16
+  pub piece_typed : (id : ℕ) (piece : Piece) → IsOrdinary piece → (attribute_for id piece).kind < 2 ^ 16
   piece_typed id (with_value a) ordinary = ordinary.1
   piece_typed id (of_peer address) ordinary = omega arith
 
-  filled : (id : ℕ) (body : Body) (page bytes : List ℕ) → AreOrdinary body → Fresh method page
+  pub filled : (id : ℕ) (body : Body) (page bytes : List ℕ) → AreOrdinary body → Fresh method page
       → with_body id body page ≡ Ok bytes → Fresh method bytes
   filled id [] page bytes ordinary fresh is = subst (Fresh method) (same_page page bytes is) fresh
   filled id (piece ∷ others) page bytes ordinary fresh is =
@@ -251,7 +251,7 @@ module _ (laws : ReadingLaws) (method : ℕ) where
       (piece_apart id piece ordinary.0) first.1)
       first.2
 
-  software_one : (text page bytes : List ℕ) → Fresh method page
+  pub software_one : (text page bytes : List ℕ) → Fresh method page
       → with_one (record { kind = SOFTWARE; value = text }) page ≡ Ok bytes → Fresh method bytes
   software_one text page bytes fresh is =
       let a : TypedValue = record { kind = SOFTWARE; value = text } in
@@ -275,7 +275,7 @@ module _ (laws : ReadingLaws) (method : ℕ) where
         algorithm = refl;
       }))
 
-  described : (software : Option (List ℕ)) (page bytes : List ℕ) → Fresh method page
+  pub described : (software : Option (List ℕ)) (page bytes : List ℕ) → Fresh method page
       → with_own_software software page ≡ Ok bytes → Fresh method bytes
   described None page bytes fresh is = subst (Fresh method) (same_page page bytes is) fresh
   described (Some text) page bytes fresh is = by (nat_lt TEXT_LIMIT (length text)) is
@@ -288,7 +288,7 @@ module _ (laws : ReadingLaws) (method : ℕ) where
 
   -- ---- the header
 
-  begun : (id : ℕ) → method < 4096 → Fresh method (empty_message Request method id)
+  pub begun : (id : ℕ) → method < 4096 → Fresh method (empty_message Request method id)
   begun id low = record {
     unsigned = (laws.built (type_number Request method) id (omega (arith, low))).unsigned;
     type_is =
@@ -368,7 +368,7 @@ no_prints c = of_all IsNoPrint (record {
   digest = λ a key. tt;
 }) c
 
-typed : (c : Challenge) → AllByRecursion IsTyped (challenge_additions true c)
+pub typed : (c : Challenge) → AllByRecursion IsTyped (challenge_additions true c)
 typed c = of_all IsTyped (record {
   nonce = λ value. omega arith;
   realm = λ value. omega arith;
@@ -543,7 +543,7 @@ module _ (laws : ReadingLaws) (method : ℕ) (low : method < 4096) where
         reads = subst (ReadsAs Request None a) (sym (reading_same page free)) signed.reads;
       })
 
-  of_page : (r : Result Page StunWriteError) (bytes : List ℕ) → page_bytes r ≡ Ok bytes
+  pub of_page : (r : Result Page StunWriteError) (bytes : List ℕ) → page_bytes r ≡ Ok bytes
       → (q : Page) × (r ≡ Ok q) × (q.bytes ≡ bytes)
   of_page (Err why) bytes is = cc
   of_page (Ok q) bytes is = (q, refl, same_page q.bytes bytes is)

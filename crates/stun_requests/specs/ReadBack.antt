@@ -1,13 +1,16 @@
 -- What is read of a request is what it was made of (RFC 8489, sections 9.2.5 and 14).
 use Rattle.std.specs.Prelude.{◌≡◌, ◌<◌, ◌^◌, ℕ, Bool, true, false, List, Option, Some, None, Ok, ⊤}
-use Rattle.std.specs.Prelude.{if◌then◌else◌}
+use Rattle.std.specs.Prelude.{if◌then◌else◌, map, ◌++◌}
 use Rattle.std.specs.List.{AllByRecursion}
 use Rattle.std.specs.Option.{IfSome}
 use Rattle.stun_base.specs.Credentials.{NameAndPassword}
 use Rattle.stun_base.specs.Header.{type_field}
 use Rattle.stun_base.specs.MessageType.{class_in, method_of}
 use Rattle.stun_base.specs.declared.wire.message_type.MessageClass.TheVariants.{Request}
+use Rattle.stun_types.specs.Attribute.{TypedValue}
 use Rattle.stun_types.specs.Message.{refusal}
+use Rattle.stun_types.specs.Visible.{visible}
+use Rattle.stun_types.specs.Walk.{attributes_of}
 use Rattle.stun_auth.specs.Reading.{reading_of}
 use Rattle.stun_auth.specs.Signed.{Added, IsText, ReadsAs}
 use Rattle.stun_extra.specs.Fingerprint.{fingerprint_in}
@@ -19,7 +22,8 @@ use Rattle.stun_client.specs.Downgrade.{IsNowhereBidDown}
 use Rattle.stun_client.specs.Judging.{long_term}
 use Rattle.stun_client.specs.Rule.{IsChosen}
 use Rattle.stun_client.specs.declared.preferences.Preferences.{Preferences}
-use Rattle.stun_client_endpoint.specs.Bodies.{Body, Piece, is_reserved, of_peer, with_value}
+use Rattle.stun_client_endpoint.specs.Bodies.{Body, Piece, attribute_for, is_reserved, of_peer}
+use Rattle.stun_client_endpoint.specs.Bodies.{with_value}
 use Rattle.stun_client_endpoint.specs.Written.{Form, request_bytes}
 
 -- an attribute that `Body::add` and `add_xor_peer_address` take
@@ -65,6 +69,20 @@ RequestsAreReadBack =
     → AreOrdinary body → IsText (added_to challenge)
     → request_bytes form (long_term who p accepts_unsigned) challenge method id body ≡ Ok bytes
     → IsReadAsMade form method (added_to challenge) bytes
+
+-- the visible attributes of a message begin with these
+abbrev pub BeginsWith : List TypedValue → List ℕ → Type 0
+BeginsWith front bytes =
+    (more : List TypedValue) × (attributes_of (visible bytes) ≡ front ++ more)
+
+-- and the attributes of its body come first, as they are
+abbrev pub BodiesAreReadBack : Type 0
+BodiesAreReadBack =
+    (form : Form) (who : NameAndPassword) (p : Preferences) (accepts_unsigned : Bool)
+    (challenge : Option Answered) (method id : ℕ) (body : Body) (bytes : List ℕ) → method < 4096
+    → AreOrdinary body
+    → request_bytes form (long_term who p accepts_unsigned) challenge method id body ≡ Ok bytes
+    → BeginsWith (map (attribute_for id) body) bytes
 
 -- no downgrade, of the bytes that are written: of a request without a signature, and of one for a
 -- challenge by the client's own rule, as each is that `judge` returns (`own`)

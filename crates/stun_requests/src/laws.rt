@@ -1,16 +1,19 @@
 //! Laws of the bytes of a request.
-ghost use Rattle.stun_requests.specs.ReadBack.{RequestsAreReadBack, WrittenIsNotBidDown};
+ghost use Rattle.stun_requests.specs.ReadBack.{BodiesAreReadBack, RequestsAreReadBack};
+ghost use Rattle.stun_requests.specs.ReadBack.{WrittenIsNotBidDown};
 ghost use Rattle.stun_requests.specs.Served.{RequestsAreAccepted, RequestsAreChallenged};
 
 /// What is read of a request is what it was made of: its method, what the challenge asks for and no
 /// other attribute that signing adds, and a right FINGERPRINT or none. The digest verifies under
-/// the key of the challenge. This holds for every body.
+/// the key of the challenge (`as_made`). The attributes of its body come first, as they are,
+/// whatever the body is (`body`).
 ///
 /// Premises: the method has 12 bits, as each `Method`; the body has attributes that `Body` takes
 /// (`AreOrdinary`; `Body::add` refuses others); and the texts of the challenge are UTF-8
 /// (`IsText`), as those of each `Challenge` are.
 pub fn requests_are_read_back()
-    ensures { RequestsAreReadBack }
+    ensures as_made { RequestsAreReadBack }
+    ensures body { BodiesAreReadBack }
 {
     stun_types::laws::writing_adds_one_attribute();
     stun_types::laws::signed_message_stands();

@@ -14,7 +14,7 @@ returns c = λ s users from made now form who p accepts a method id body bytes f
     let challenge = Some (meant_for s p who nonce a) in
     let text = c.nonces_have_the_bits_of_their_server.ensures.text s
     (words_of s.algorithms s.secret from (epoch_of s made)) in
-    let read = c.requests_are_read_back.ensures form who p accepts challenge method id body bytes low
+    let read = c.requests_are_read_back.ensures.as_made form who p accepts challenge method id body bytes low
     ordinary (texts_of s p who nonce a fine name text) is in
     c.users_are_accepted_by_the_strongest.ensures s users who p a from made now bytes Request None
     agree known within (undropped s form method (added_to challenge) bytes printed read) read.class

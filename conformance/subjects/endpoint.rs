@@ -103,10 +103,10 @@ impl Serving {
     fn settings(&self) -> ResponseSettings {
         let mut settings = ResponseSettings::new();
         if self.places.is_empty() {
-            settings = settings.answer_binding();
+            settings = settings.answer_binding(true);
         }
         if self.requires_fingerprint {
-            settings = settings.require_fingerprint();
+            settings = settings.require_fingerprint(true);
         }
         settings
     }
@@ -118,10 +118,10 @@ impl Serving {
             .nonce_lifetime(self.lifetime);
         let mut builder = Server::builder(credentials);
         if self.places.is_empty() {
-            builder = builder.answer_binding();
+            builder = builder.answer_binding(true);
         }
         if self.requires_fingerprint {
-            builder = builder.require_fingerprint();
+            builder = builder.require_fingerprint(true);
         }
         let server = builder.build()?;
         let users = server.users();
@@ -271,7 +271,7 @@ impl Asking {
             builder = builder.transport(Transport::Stream);
         }
         if self.has_fingerprint {
-            builder = builder.fingerprint().require_fingerprint();
+            builder = builder.fingerprint(true).require_fingerprint(true);
         }
         Ok(builder.build(SEED)?)
     }

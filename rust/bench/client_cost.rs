@@ -145,11 +145,11 @@ fn main() {
         _ => by_endpoint(is_signed, peer),
     };
     let settings = LongTerm::new("example.org", [9; 32]);
-    let server = Server::builder(settings).answer_binding().build().unwrap();
+    let server = Server::builder(settings).answer_binding(true).build().unwrap();
     let mut users = server.users();
     let alice = LongTermCredentials::new("alice".to_string(), "wonderland".to_string());
     users.add(alice).unwrap();
-    let open = OpenServer::new(ResponseSettings::new().answer_binding()).unwrap();
+    let open = OpenServer::new(ResponseSettings::new().answer_binding(true)).unwrap();
     let (from, mut responses) = (SocketAddr::from(([192, 0, 2, 2], 4000)), Vec::new());
     run(&mut |bytes| {
         let now = UnixTime::from_secs(7200);

@@ -116,7 +116,7 @@ impl Service<'_> {
         let (mut open, mut of_realm) = (ResponseSettings::new(), None);
         open = match settings.other {
             Some(_) => open.understands(&discovery::ATTRIBUTES),
-            None => open.answer_binding(),
+            None => open.answer_binding(true),
         };
         if let Some(realm) = &settings.realm {
             let both = [IntegrityAlgorithm::Sha1, IntegrityAlgorithm::Sha256];
@@ -137,7 +137,7 @@ impl Service<'_> {
             }
             let server = match settings.other {
                 Some(_) => Server::builder(long_term).understands(&discovery::ATTRIBUTES),
-                None => Server::builder(long_term).answer_binding(),
+                None => Server::builder(long_term).answer_binding(true),
             };
             let server = server.build()?;
             let users = users::table(&server, &settings.users, settings.file.as_deref())?;

@@ -48,6 +48,13 @@ macro_rules! table {
             )*
         }
 
+        /// Returns the registered name of the type of a row.
+        pub(crate) fn name_in_table(kind: AttributeType) -> Option<&'static str> {
+            let rows = [$(($name::TYPE, $rfc)),*];
+            let (_, text) = rows.into_iter().find(|(of, _)| *of == kind)?;
+            text.split(" (").next()
+        }
+
         /// The types of all rows.
         pub(crate) const TYPES: &[AttributeType] = &[$($name::TYPE),*];
 

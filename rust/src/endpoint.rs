@@ -17,7 +17,7 @@
 //!
 //! # fn main() -> Result<(), Box<dyn std::error::Error>> {
 //! let secret = random_seed(); // store it, so that a restart loses no client
-//! let server = Server::builder(LongTerm::new("example.org", secret)).answer_binding().build()?;
+//! let server = Server::builder(LongTerm::new("example.org", secret)).answer_binding(true).build()?;
 //! let mut users = server.users(); // keys depend on the realm, so the server makes the table
 //! users.add(LongTermCredentials::new("alice".to_string(), "wonderland".to_string()))?;
 //!
@@ -60,7 +60,7 @@ pub use crate::exported::stun_endpoint::server::{
     BuildError, Cause, DEFAULT_NONCE_LIFETIME, SHORTEST_NONCE_LIFETIME,
 };
 pub use crate::exported::stun_endpoint::unix_time::UnixTime;
-pub use body::{BODY_LIMIT, Body, BodyError};
+pub use body::{AddError, BODY_LIMIT, Body, BodyError};
 pub use client::Client;
 pub use client_outcomes::{
     Drops, ErrorResponse, Input, Output, Redirect, RequestError, RequestId, Response,

@@ -175,6 +175,46 @@ pub fn is_stun(packet: &[u8]) -> bool {
     framing::is_stun(packet)
 }
 
+/// Returns the registered reason phrase of an error code of STUN (RFC 8489, section 14.8), TURN (RFC
+/// 8656, section 19; RFC 6062, section 6.3) or ICE (RFC 8445, section 16.1), or `None` if the code
+/// has none.
+///
+/// # Examples
+///
+/// ```
+/// use seatcrane_stun::endpoint::{Reply, ReplyWriter};
+/// use seatcrane_stun::extra::reason_phrase;
+///
+/// fn refuse(reply: &Reply, code: u16) -> ReplyWriter {
+///     reply.error(code, reason_phrase(code).unwrap_or_default())
+/// }
+/// assert_eq!(reason_phrase(508), Some("Insufficient Capacity"));
+/// assert_eq!(reason_phrase(404), None);
+/// ```
+#[must_use]
+pub fn reason_phrase(code: u16) -> Option<&'static str> {
+    Some(match code {
+        300 => "Try Alternate",
+        400 => "Bad Request",
+        401 => "Unauthenticated",
+        403 => "Forbidden",
+        420 => "Unknown Attribute",
+        437 => "Allocation Mismatch",
+        438 => "Stale Nonce",
+        440 => "Address Family not Supported",
+        441 => "Wrong Credentials",
+        442 => "Unsupported Transport Protocol",
+        443 => "Peer Address Family Mismatch",
+        446 => "Connection Already Exists",
+        447 => "Connection Timeout or Failure",
+        486 => "Allocation Quota Reached",
+        487 => "Role Conflict",
+        500 => "Server Error",
+        508 => "Insufficient Capacity",
+        _ => return None,
+    })
+}
+
 /// Checks the FINGERPRINT of a message (RFC 8489, section 14.7).
 ///
 /// A FINGERPRINT tells STUN from other protocols on the same port. It is no protection, because

@@ -9,6 +9,20 @@ macro_rules! flag_attribute {
         #[derive(Clone, Copy, Debug, PartialEq, Eq)]
         pub struct $name;
 
+        impl $name {
+            /// Creates the attribute.
+            pub fn new() -> $name {
+                $name
+            }
+        }
+
+        /// Like `new`.
+        impl Default for $name {
+            fn default() -> $name {
+                $name::new()
+            }
+        }
+
         forward_attribute!(@ $name, further::$name, 'a, _flag => further::$name::new(), |_| $name);
     };
 }

@@ -74,6 +74,7 @@ pub mod endpoint;
 pub mod extra;
 mod family;
 mod flag;
+mod hashes;
 mod instant;
 #[allow(dead_code, unused_imports)]
 #[allow(clippy::missing_errors_doc, reason = "each error is that an allocation failed")]

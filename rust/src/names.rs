@@ -7,6 +7,7 @@ use crate::exported::stun_types::attribute::{
 use crate::exported::stun_types::message::{
     IntegrityAlgorithm, MessageClass, MessageType, Method, StunParseError, StunWriteError,
 };
+use crate::attributes::name_in_table;
 use alloc::vec::Vec;
 use core::fmt;
 
@@ -24,6 +25,33 @@ impl AttributeType {
     /// ```
     pub fn comprehension_required(self) -> bool {
         self.0 < 0x8000
+    }
+
+    /// Returns the registered name, or `None` if this crate does not know the type.
+    ///
+    /// # Examples
+    ///
+    /// ```
+    /// use seatcrane_stun::types::attribute::AttributeType;
+    ///
+    /// assert_eq!(AttributeType::XOR_MAPPED_ADDRESS.name(), Some("XOR-MAPPED-ADDRESS"));
+    /// assert_eq!(AttributeType::new(0xffff).name(), None);
+    /// ```
+    pub fn name(self) -> Option<&'static str> {
+        Some(match self {
+            AttributeType::USERNAME => "USERNAME",
+            AttributeType::MESSAGE_INTEGRITY => "MESSAGE-INTEGRITY",
+            AttributeType::ERROR_CODE => "ERROR-CODE",
+            AttributeType::REALM => "REALM",
+            AttributeType::NONCE => "NONCE",
+            AttributeType::MESSAGE_INTEGRITY_SHA256 => "MESSAGE-INTEGRITY-SHA256",
+            AttributeType::PASSWORD_ALGORITHM => "PASSWORD-ALGORITHM",
+            AttributeType::USERHASH => "USERHASH",
+            AttributeType::XOR_MAPPED_ADDRESS => "XOR-MAPPED-ADDRESS",
+            AttributeType::PASSWORD_ALGORITHMS => "PASSWORD-ALGORITHMS",
+            AttributeType::FINGERPRINT => "FINGERPRINT",
+            further => return name_in_table(further),
+        })
     }
 }
 

@@ -30,7 +30,7 @@ fn settings(secret: u8, algorithms: &[IntegrityAlgorithm]) -> LongTerm {
 
 /// A server that answers Binding, with its table of one user.
 fn server(secret: u8, algorithms: &[IntegrityAlgorithm]) -> (Server, Users) {
-    with_users(Server::builder(settings(secret, algorithms)).answer_binding())
+    with_users(Server::builder(settings(secret, algorithms)).answer_binding(true))
 }
 
 fn with_users(builder: ServerBuilder) -> (Server, Users) {
@@ -196,7 +196,7 @@ fn a_nonce_is_accepted_for_one_to_two_lifetimes() {
     let from = at("192.0.2.1:4242");
     for algorithms in [&[Sha1][..], &BOTH] {
         let long_term = settings(1, algorithms).nonce_lifetime(600);
-        let server = with_users(Server::builder(long_term).answer_binding());
+        let server = with_users(Server::builder(long_term).answer_binding(true));
         let mut client = client("wonderland", &BOTH);
         let mut ask = |now, from| exchange(&mut client, &server, from, secs(now));
         assert_eq!(ask(0, from), [401, 200]);
@@ -219,7 +219,7 @@ fn nonces_of_the_previous_secret_are_accepted_and_not_sent() {
         [401, 200]
     );
     let turned = settings(2, &BOTH).previous_secret([1; 32]);
-    let turned = with_users(Server::builder(turned).answer_binding());
+    let turned = with_users(Server::builder(turned).answer_binding(true));
     assert_eq!(exchange(&mut client, &turned, from, secs(1)), [200]);
     assert_eq!(exchange(&mut client, &turned, from, secs(3600)), [200]);
     assert_eq!(exchange(&mut client, &turned, from, secs(7200)), [438, 200]);
@@ -617,7 +617,7 @@ fn the_longest_settings_leave_room_in_each_response() {
     let long_term = LongTerm::new("r".repeat(763), [1; 32]);
     let builder = Server::builder(long_term)
         .software("s".repeat(763))
-        .answer_binding();
+        .answer_binding(true);
     let server = with_users(builder);
     let mut client = client("wonderland", &BOTH);
     assert_eq!(exchange(&mut client, &server, from, secs(0)), [401, 200]);
@@ -701,5 +701,5 @@ fn debug_shows_no_secret() {
     let key = format!("{:?}", key.as_bytes());
     let hidden = ["171", "wonderland", key.trim_matches(['[', ']'])];
     assert!(hidden.iter().all(|one| !told.contains(one)), "{told}");
-    assert!(told.contains("Server { .. } Users { len: 1, .. } User { .. }"));
+    assert!(told.contains("Users { len: 1, .. } User { .. }"));
 }

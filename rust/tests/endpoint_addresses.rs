@@ -134,7 +134,7 @@ fn a_type_is_left_out() {
 #[test]
 fn a_required_fingerprint_is_missing() {
     let secret = [7; 32];
-    let builder = Server::builder(LongTerm::new("example.org", secret)).require_fingerprint();
+    let builder = Server::builder(LongTerm::new("example.org", secret)).require_fingerprint(true);
     let server = builder.build().unwrap();
     let (request, users) = (allocate().finish(), server.users());
     let received = server.receive(&request, at(PLAIN), UnixTime::from_secs(0), &users);

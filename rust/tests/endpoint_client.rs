@@ -217,7 +217,7 @@ fn with_credentials_an_unsigned_answer_is_accepted_only_if_you_say_so() {
     for accepts in [false, true] {
         let builder = Client::builder(at(SERVER)).credentials(Credentials::long_term("a", "b"));
         let builder = if accepts {
-            builder.accept_unsigned()
+            builder.accept_unsigned(true)
         } else {
             builder
         };
@@ -348,7 +348,7 @@ fn a_body_is_written_again_under_each_id() {
     let mut client = Client::builder(at(SERVER))
         .credentials(Credentials::long_term("alice", "wonderland"))
         .software("tested")
-        .fingerprint()
+        .fingerprint(true)
         .build([3; 32])
         .unwrap();
     client
@@ -392,12 +392,12 @@ fn a_body_refuses_what_the_client_writes() {
         AttributeType(0x0012),
     ] {
         let added = Body::new().add(&RawAttribute::new(kind, &[0; 20]));
-        assert_eq!(added.unwrap_err(), BodyError::NotAllowed, "{kind:?}");
+        assert_eq!(added.unwrap_err().reason(), BodyError::NotAllowed, "{kind:?}");
     }
     let long = RawAttribute::new(AttributeType(0x8023), &[0; 59_000]);
     let body = || Body::new().add(&long).unwrap();
     let added = body().add(&RawAttribute::new(AttributeType(0x8023), &[0; 1000]));
-    assert_eq!(added.unwrap_err(), BodyError::TooLarge);
+    assert_eq!(added.unwrap_err().reason(), BodyError::TooLarge);
     let service = Service::new(1, &BOTH);
     let mut client = client(8, "wonderland", &BOTH);
     client.request(BINDING, body(), ms(0)).unwrap();

@@ -157,7 +157,7 @@ fn a_flood_takes_no_memory_and_shuts_nobody_out() {
     let count: u64 = std::env::var("FLOOD").map_or(20_000, |text| text.parse().unwrap());
     let (end, clients) = (count / 10, CLIENTS as usize);
     let long_term = LongTerm::new("example.org", [1; 32]).algorithms(&BOTH);
-    let server = Server::builder(long_term).answer_binding().build().unwrap();
+    let server = Server::builder(long_term).answer_binding(true).build().unwrap();
     let mut users = server.users();
     users.add(alice()).unwrap();
     let mut net = Net {

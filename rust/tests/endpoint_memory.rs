@@ -39,7 +39,7 @@ fn where_memory_ends_a_datagram_is_dropped() {
     let (now, later) = (UnixTime::from_secs(7200), UnixTime::from_secs(14400));
     let long_term = LongTerm::new("example.org", [1; 32]).previous_secret([2; 32]);
     let builder = Server::builder(long_term)
-        .answer_binding()
+        .answer_binding(true)
         .software("tested");
     let server = builder.build().unwrap();
     let mut users = server.users();
@@ -132,7 +132,7 @@ fn asked_within(blocks: usize, response: &dyn Fn(&[u8]) -> Vec<u8>) -> (bool, bo
 #[test]
 fn where_memory_ends_a_client_loses_nothing() {
     let from: SocketAddr = "192.0.2.2:4242".parse().unwrap();
-    let open = OpenServer::new(ResponseSettings::new().answer_binding()).unwrap();
+    let open = OpenServer::new(ResponseSettings::new().answer_binding(true)).unwrap();
     let success = |bytes: &[u8]| match open.receive(bytes, from) {
         OpenReceived::Answer(answer) => answer.into_bytes(),
         other => panic!("{other:?}"),

@@ -32,7 +32,7 @@ fn page(class: MessageClass, method: Method) -> MessageWriteVec {
 }
 
 fn settings() -> ResponseSettings {
-    ResponseSettings::new().answer_binding()
+    ResponseSettings::new().answer_binding(true)
 }
 
 fn password(text: &str) -> ShortTermCredentials {

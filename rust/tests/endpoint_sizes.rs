@@ -97,7 +97,7 @@ fn no_unsigned_request_is_answered_with_many_times_its_bytes() {
     let from: SocketAddr = "192.0.2.1:4242".parse().unwrap();
     let now = UnixTime::from_secs(1_700_000_000);
     let long_term = LongTerm::new("example.org", [1; 32]);
-    let server = Server::builder(long_term).answer_binding().build().unwrap();
+    let server = Server::builder(long_term).answer_binding(true).build().unwrap();
     let mut users = server.users();
     users
         .add(LongTermCredentials::new(

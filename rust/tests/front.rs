@@ -6,10 +6,10 @@ use seatcrane_stun::Instant;
 use seatcrane_stun::agent::*;
 use seatcrane_stun::auth::*;
 use seatcrane_stun::replay;
-use seatcrane_stun::types::TransportType;
 use seatcrane_stun::types::attribute::{Nonce, Realm, Username};
 use seatcrane_stun::types::message::*;
 use seatcrane_stun::types::prelude::*;
+use seatcrane_stun::types::{ICE, STUN, TURN, TransportType};
 use std::time::Duration;
 
 #[test]
@@ -357,4 +357,16 @@ fn a_young_clock_forgets_nobody() {
     assert_eq!(server.address_count(), 1);
     server.forget_expired(Instant::ZERO + 2 * lifetime + Duration::from_nanos(1) - lifetime);
     assert_eq!(server.address_count(), 0);
+}
+
+#[test]
+fn a_message_is_shown_with_the_names_of_what_it_has() {
+    let bytes = b"\x01\x13\0\x10\x21\x12\xa4\x42 any 12 byte\0\x09\0\x04\0\0\x04\x04\x80\x22\0\0\xc0\x57\0\0";
+    let message = Message::from_bytes(bytes).unwrap();
+    let shown =
+        "Message(Error of Allocate, 0x20616e792031322062797465, ERROR-CODE SOFTWARE 0xc057)";
+    assert_eq!(format!("{message:?}"), shown);
+    for kind in STUN.iter().chain(ICE).chain(TURN) {
+        assert!(kind.name().is_some(), "{kind}");
+    }
 }

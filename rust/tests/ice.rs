@@ -571,7 +571,7 @@ fn values_can_be_shared() {
         assert!(!reason.to_string().is_empty());
     }
     let (a, _) = pair((Controlling, Controlled), (1, 2));
-    assert_eq!(format!("{a:?}"), "Checker { .. }");
+    assert_eq!(format!("{a:?}"), "Checker { role: Controlling, .. }");
     let check = a.check(id(1), at(THERE), 1, true);
     assert_eq!(check.clone().bytes(), check.bytes());
     assert!(!format!("{check:?}").contains("bytes"));

@@ -26,7 +26,7 @@ fn clients() {
     #[expect(unused_must_use)]
     client.poll(now);
     #[expect(unused_must_use)]
-    Client::builder(server).fingerprint();
+    Client::builder(server).fingerprint(true);
     #[expect(unused_must_use)]
     Credentials::none();
     #[expect(unused_must_use)]

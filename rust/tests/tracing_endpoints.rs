@@ -92,7 +92,7 @@ fn id_of(bytes: &[u8]) -> TransactionId {
 
 fn server() -> (Server, Users) {
     let server = Server::builder(LongTerm::new("example.org", SECRET).algorithms(&[Sha1]))
-        .answer_binding()
+        .answer_binding(true)
         .build()
         .unwrap();
     let mut users = server.users();
@@ -215,7 +215,7 @@ fn servers_record_each_datagram(trace: &Trace) {
 }
 
 fn servers_without_a_realm_record_each_datagram(trace: &Trace) {
-    let settings = ResponseSettings::new().answer_binding();
+    let settings = ResponseSettings::new().answer_binding(true);
     let open = OpenServer::new(settings.clone()).unwrap();
     let short = ShortTermServer::new(settings).unwrap();
     let users = ShortTermUsers::new();
@@ -326,7 +326,7 @@ fn clients_record_each_end(trace: &Trace) {
     _ = trace.judges("verdict=\"accepted\" code=400", &refusal, THERE, || {
         anybody.receive(&refusal, there(), Instant::ZERO)
     });
-    trace.ends(&mut anybody, Instant::ZERO, 0, "result=refused 400");
+    trace.ends(&mut anybody, Instant::ZERO, 0, "result=refused 400 Bad Request");
     anybody
         .request(BINDING, Body::new(), Instant::ZERO)
         .unwrap();

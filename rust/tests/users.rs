@@ -21,7 +21,7 @@ fn user(name: &str, password: &str) -> LongTermCredentials {
 
 fn server(algorithms: &[IntegrityAlgorithm]) -> Server {
     let long_term = LongTerm::new("example.org", [1; 32]).algorithms(algorithms);
-    Server::builder(long_term).answer_binding().build().unwrap()
+    Server::builder(long_term).answer_binding(true).build().unwrap()
 }
 
 /// A Binding request of a user, signed by the strongest algorithm of the server.
@@ -156,7 +156,7 @@ fn short_term_users() {
         (2, true, false)
     );
 
-    let server = ShortTermServer::new(ResponseSettings::new().answer_binding()).unwrap();
+    let server = ShortTermServer::new(ResponseSettings::new().answer_binding(true)).unwrap();
     let credentials = Credentials::short_term("alice", "wonderland", Sha256);
     let mut client = Client::builder(at(FROM))
         .credentials(credentials)

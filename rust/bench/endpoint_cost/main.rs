@@ -103,7 +103,7 @@ impl Kind {
             });
         }
         let long_term = LongTerm::new("example.org", [1; 32]).algorithms(algorithms);
-        let server = Server::builder(long_term).answer_binding().build().unwrap();
+        let server = Server::builder(long_term).answer_binding(true).build().unwrap();
         let mut users = server.users();
         users.add(alice()).unwrap();
         Kind::Endpoint(Box::new(server), users)

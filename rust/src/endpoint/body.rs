@@ -71,7 +71,8 @@ impl Body {
     ///
     /// # Errors
     ///
-    /// The first of these that applies:
+    /// The error has the body as it was: [`AddError::into_body`]. Its reason is the first of these
+    /// that applies:
     ///
     /// - [`BodyError::NotAllowed`]: the client writes this type itself, its value depends on the
     ///   transaction ID (for XOR-PEER-ADDRESS call
@@ -85,7 +86,14 @@ impl Body {
     /// If [`Attribute::write_into`] of an attribute type of your own appends something else than
     /// the attribute that `get_type` and `length` describe.
     #[allow(clippy::should_implement_trait)] // `Add` is for numbers.
-    pub fn add<A: Attribute>(mut self, attribute: &A) -> Result<Body, BodyError> {
+    pub fn add<A: Attribute>(mut self, attribute: &A) -> Result<Body, AddError> {
+        match self.try_add(attribute) {
+            Ok(()) => Ok(self),
+            Err(reason) => Err(AddError { body: self, reason }),
+        }
+    }
+
+    fn try_add<A: Attribute>(&mut self, attribute: &A) -> Result<(), BodyError> {
         let (kind, length) = (attribute.get_type(), attribute.length());
         if is_reserved(kind) {
             return Err(BodyError::NotAllowed);
@@ -97,8 +105,7 @@ impl Body {
         let mut page = scratch();
         let added = page.add_attribute(attribute);
         added.map_err(|_| BodyError::OutOfMemory)?;
-        self.core.add(kind, &page[24..24 + length])?;
-        Ok(self)
+        self.core.add(kind, &page[24..24 + length])
     }
 
     /// Adds XOR-PEER-ADDRESS with this address (RFC 8656, section 18.3). An IPv4 address is written as
@@ -106,12 +113,65 @@ impl Body {
     ///
     /// # Errors
     ///
+    /// The error has the body as it was: [`AddError::into_body`]. Its reason is one of these:
+    ///
     /// - [`BodyError::TooLarge`]: the attributes would have more than [`BODY_LIMIT`] bytes, where each
     ///   XOR-PEER-ADDRESS counts as 24.
     /// - [`BodyError::OutOfMemory`]: an allocation failed.
-    pub fn add_xor_peer_address(mut self, peer: SocketAddr) -> Result<Body, BodyError> {
-        self.core.add_xor_peer_address(canonical(peer))?;
-        Ok(self)
+    pub fn add_xor_peer_address(mut self, peer: SocketAddr) -> Result<Body, AddError> {
+        match self.core.add_xor_peer_address(canonical(peer)) {
+            Ok(()) => Ok(self),
+            Err(reason) => Err(AddError { body: self, reason }),
+        }
+    }
+}
+
+/// Why an attribute was not added, with the body to which it was not. It becomes a [`BodyError`] by
+/// `?`.
+///
+/// # Examples
+///
+/// ```
+/// use seatcrane_stun::endpoint::{Body, BodyError};
+/// use seatcrane_stun::extra::attribute::{Data, Lifetime};
+///
+/// # fn main() -> Result<(), BodyError> {
+/// let (body, payload) = (Body::new().add(&Lifetime::new(600))?, [0; 65_000]);
+/// let error = body.add(&Data::new(&payload)).unwrap_err();
+/// assert_eq!(error.reason(), BodyError::TooLarge);
+/// let body = error.into_body(); // it has the lifetime
+/// # Ok(())
+/// # }
+/// ```
+#[derive(Clone, Debug)]
+pub struct AddError {
+    body: Body,
+    reason: BodyError,
+}
+
+impl AddError {
+    /// Returns why the attribute was not added.
+    pub fn reason(&self) -> BodyError {
+        self.reason
+    }
+
+    /// Returns the body as it was.
+    pub fn into_body(self) -> Body {
+        self.body
+    }
+}
+
+impl fmt::Display for AddError {
+    fn fmt(&self, f: &mut fmt::Formatter<'_>) -> fmt::Result {
+        fmt::Display::fmt(&self.reason, f)
+    }
+}
+
+impl core::error::Error for AddError {}
+
+impl From<AddError> for BodyError {
+    fn from(error: AddError) -> BodyError {
+        error.reason
     }
 }
 

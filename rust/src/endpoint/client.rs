@@ -82,9 +82,11 @@ pub struct Client {
     server: SocketAddr,
 }
 
+/// It shows how many requests are outstanding, and no credentials.
 impl fmt::Debug for Client {
     fn fmt(&self, f: &mut fmt::Formatter<'_>) -> fmt::Result {
-        f.write_str("Client { .. }")
+        let mut shown = f.debug_struct("Client");
+        shown.field("outstanding", &self.outstanding()).finish_non_exhaustive()
     }
 }
 

@@ -5,8 +5,9 @@ use crate::Instant;
 use crate::exported::stun_client::judged::Outcome;
 use crate::exported::stun_client_endpoint::{ended, told};
 use crate::exported::stun_extra::attribute::{AlternateDomain, AlternateServer};
-use crate::exported::stun_types::attribute::AttributeType;
+use crate::exported::stun_types::attribute::{AttributeType, ErrorCode};
 use crate::exported::stun_types::message::IntegrityAlgorithm;
+use crate::extra::reason_phrase;
 use crate::kit::alloc::Global;
 use crate::message::Message;
 use alloc::vec::Vec;
@@ -62,6 +63,13 @@ impl ErrorResponse {
         self.code
     }
 
+    /// Returns the reason phrase, which may be empty. The server chose it, so escape it before you
+    /// show it. [`Display`](fmt::Display) of [`RequestError`] has the registered one instead.
+    pub fn reason(&self) -> &str {
+        let found = self.response.message().attribute::<ErrorCode>();
+        found.map_or("", |found| found.reason())
+    }
+
     /// Returns the message.
     pub fn message(&self) -> Message<'_> {
         self.response.message()
@@ -70,6 +78,11 @@ impl ErrorResponse {
     /// Returns the algorithm of its signature, or `None` if nobody signed it.
     pub fn signed_by(&self) -> Option<IntegrityAlgorithm> {
         self.response.signed_by
+    }
+
+    /// Returns the bytes of the message.
+    pub fn into_bytes(self) -> Vec<u8> {
+        self.response.bytes
     }
 }
 
@@ -111,15 +124,25 @@ impl Redirect {
         Some(found.ok()?.domain())
     }
 
+    /// Returns the message.
+    pub fn message(&self) -> Message<'_> {
+        self.response.message()
+    }
+
     /// Returns the algorithm of the signature, or `None` if nobody signed the response.
     pub fn signed_by(&self) -> Option<IntegrityAlgorithm> {
         self.response.signed_by
+    }
+
+    /// Returns the bytes of the message.
+    pub fn into_bytes(self) -> Vec<u8> {
+        self.response.bytes
     }
 }
 
 /// What was dropped for one request. Show it to people, but never act on it, because anybody can
 /// send it.
-#[derive(Clone, Copy, Debug, Default, PartialEq, Eq)]
+#[derive(Clone, Copy, Debug, Default, PartialEq, Eq, Hash)]
 pub struct Drops {
     count: u32,
     last: Option<DropReason>,
@@ -195,7 +218,13 @@ pub enum RequestError {
 impl fmt::Display for RequestError {
     fn fmt(&self, f: &mut fmt::Formatter<'_>) -> fmt::Result {
         match self {
-            RequestError::Refused(error) => write!(f, "refused {}", error.code),
+            RequestError::Refused(error) => {
+                write!(f, "refused {}", error.code)?;
+                match reason_phrase(error.code) {
+                    Some(phrase) => write!(f, " {phrase}"),
+                    None => Ok(()),
+                }
+            }
             RequestError::Redirected(to) => match to.server() {
                 Some(server) => write!(f, "redirected to {server}"),
                 None => f.write_str("redirected to nowhere"),

@@ -98,7 +98,7 @@ impl Credentials {
 /// When a request is sent, and how long the client waits for its response (RFC 8489, section
 /// 6.2.1).
 #[must_use]
-#[derive(Clone, Copy, Debug, PartialEq, Eq)]
+#[derive(Clone, Copy, Debug, PartialEq, Eq, Hash)]
 pub struct Retransmission {
     first: Duration,
     most: Duration,
@@ -128,7 +128,8 @@ impl Default for Retransmission {
 }
 
 /// What carries the messages of a client.
-#[derive(Clone, Copy, Debug, PartialEq, Eq, Default)]
+#[derive(Clone, Copy, Debug, PartialEq, Eq, Hash, Default)]
+#[non_exhaustive]
 pub enum Transport {
     /// Datagrams, which may be lost: a request is sent as often as the builder's `retransmission`
     /// says, and up to seven times unless you call that.
@@ -158,7 +159,7 @@ pub struct ClientBuilder {
 }
 
 /// Why a client was not built.
-#[derive(Clone, Copy, Debug, PartialEq, Eq)]
+#[derive(Clone, Copy, Debug, PartialEq, Eq, Hash)]
 #[non_exhaustive]
 pub enum ClientBuildError {
     /// The user name has more than 513 bytes.
@@ -242,15 +243,15 @@ impl ClientBuilder {
         self
     }
 
-    /// Accepts unsigned responses to requests that the client sent unsigned. Only long-term
-    /// credentials use this: without credentials unsigned responses are always accepted, and with
+    /// Sets whether unsigned responses are accepted to requests that the client sent unsigned: they
+    /// are not, unless you call this. Only long-term credentials use this: without credentials unsigned responses are always accepted, and with
     /// short-term ones never.
     ///
     /// A request is unsigned until it is challenged, and again after its challenge was repeated or a
     /// challenged request timed out. So an attacker who can forge challenges can then also forge the
     /// response.
-    pub fn accept_unsigned(mut self) -> ClientBuilder {
-        self.accepts_unsigned = true;
+    pub fn accept_unsigned(mut self, accepts: bool) -> ClientBuilder {
+        self.accepts_unsigned = accepts;
         self
     }
 
@@ -267,18 +268,18 @@ impl ClientBuilder {
         self
     }
 
-    /// Adds FINGERPRINT to each request.
-    pub fn fingerprint(mut self) -> ClientBuilder {
-        self.has_fingerprint = true;
+    /// Sets whether each request has FINGERPRINT: it has none, unless you call this.
+    pub fn fingerprint(mut self, has_one: bool) -> ClientBuilder {
+        self.has_fingerprint = has_one;
         self
     }
 
-    /// Drops responses without FINGERPRINT (RFC 8489, section 7.3). Unless you call this, a response
-    /// may have none; one whose FINGERPRINT is wrong, is not the last attribute or does not have 4
+    /// Sets whether responses without FINGERPRINT are dropped (RFC 8489, section 7.3). Unless you call
+    /// this, a response may have none; one whose FINGERPRINT is wrong, is not the last attribute or does not have 4
     /// bytes is dropped always. Call it if your protocol requires FINGERPRINT, because responses of
     /// other servers are then dropped until their requests time out.
-    pub fn require_fingerprint(mut self) -> ClientBuilder {
-        self.requires_fingerprint = true;
+    pub fn require_fingerprint(mut self, required: bool) -> ClientBuilder {
+        self.requires_fingerprint = required;
         self
     }
 

@@ -32,6 +32,22 @@ impl Clock {
         Instant::from_std(self.0)
     }
 
+    /// Converts a time of the standard library, which you have read already, to one of this clock. A
+    /// time before the clock was started becomes [`Instant::ZERO`].
+    ///
+    /// # Examples
+    ///
+    /// ```
+    /// use seatcrane_stun::endpoint::Clock;
+    ///
+    /// let clock = Clock::start();
+    /// let now = std::time::Instant::now(); // once for all that is to be done now
+    /// assert_eq!(clock.to_std(clock.at(now)), now);
+    /// ```
+    pub fn at(&self, time: std::time::Instant) -> Instant {
+        Instant::ZERO + time.saturating_duration_since(self.0)
+    }
+
     /// Converts a time of this clock to one of the standard library, such as for a timer.
     pub fn to_std(&self, at: Instant) -> std::time::Instant {
         at.to_std(self.0)

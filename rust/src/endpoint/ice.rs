@@ -72,15 +72,56 @@ pub use crate::exported::stun_ice::checker::BuildError;
 pub use crate::exported::stun_ice::received::{Judged, Refusal};
 pub use crate::exported::stun_ice::role::Role;
 
+/// The username fragment and the password of one side (RFC 8445, section 5.3). It is also made of a
+/// pair of them, in this order.
+///
+/// # Examples
+///
+/// ```
+/// use seatcrane_stun::endpoint::ice::{Checker, IceCredentials, Role};
+///
+/// let local = IceCredentials { fragment: "evtj", password: "asd88fgpdd777uzjYhagZg" };
+/// let remote = IceCredentials { fragment: "h6vY", password: "VOkJxbRl1RmTxUk/WvJxBt" };
+/// # let tie_breaker = 5; // yours must be random
+/// let checker = Checker::new(local, remote, tie_breaker, Role::Controlling)?;
+/// assert_eq!(format!("{local:?}"), "IceCredentials { fragment: \"evtj\", .. }");
+/// # Ok::<(), seatcrane_stun::endpoint::ice::BuildError>(())
+/// ```
+#[derive(Clone, Copy, PartialEq, Eq, Hash)]
+pub struct IceCredentials<'a> {
+    /// The username fragment: 4 to 256 bytes, without a colon.
+    pub fragment: &'a str,
+    /// The password: 22 to 256 bytes.
+    pub password: &'a str,
+}
+
+/// It shows the fragment, and not the password.
+impl fmt::Debug for IceCredentials<'_> {
+    fn fmt(&self, f: &mut fmt::Formatter<'_>) -> fmt::Result {
+        let mut shown = f.debug_struct("IceCredentials");
+        shown
+            .field("fragment", &self.fragment)
+            .finish_non_exhaustive()
+    }
+}
+
+impl<'a> From<(&'a str, &'a str)> for IceCredentials<'a> {
+    fn from((fragment, password): (&'a str, &'a str)) -> IceCredentials<'a> {
+        IceCredentials { fragment, password }
+    }
+}
+
 /// One agent in a session with one peer: the credentials of both sides, the tie-breaker, and the
 /// role that the agent has now.
 ///
 /// The [module](self) has an example.
 pub struct Checker(checker::Checker<Global>);
 
+/// It shows the role, and no password.
 impl fmt::Debug for Checker {
     fn fmt(&self, f: &mut fmt::Formatter<'_>) -> fmt::Result {
-        f.write_str("Checker { .. }")
+        let mut shown = f.debug_struct("Checker");
+        shown.field("role", &self.role()).finish_non_exhaustive()
     }
 }
 
@@ -96,14 +137,16 @@ impl Checker {
     /// - [`BuildError::ColonInName`]: a username fragment has a colon.
     /// - [`BuildError::PasswordLength`]: a password has fewer than 22 or more than 256 bytes.
     /// - [`BuildError::OutOfMemory`]: an allocation failed.
-    pub fn new(
-        local: (&str, &str),
-        remote: (&str, &str),
+    pub fn new<'a>(
+        local: impl Into<IceCredentials<'a>>,
+        remote: impl Into<IceCredentials<'a>>,
         tie_breaker: u64,
         role: Role,
     ) -> Result<Checker, BuildError> {
-        let [local, remote] =
-            [local, remote].map(|(name, password)| checker::Credentials { name, password });
+        let [local, remote] = [local.into(), remote.into()].map(|side| checker::Credentials {
+            name: side.fragment,
+            password: side.password,
+        });
         checker::Checker::new(Global, local, remote, tie_breaker, role).map(Checker)
     }
 
@@ -245,7 +288,7 @@ pub enum Received<'a> {
 }
 
 /// How the answer of the peer ends a check.
-#[derive(Clone, Copy, Debug, PartialEq, Eq)]
+#[derive(Clone, Copy, Debug, PartialEq, Eq, Hash)]
 #[non_exhaustive]
 pub enum Outcome {
     /// The check succeeded, and the pair is valid.
@@ -272,6 +315,47 @@ impl From<received::Outcome> for Outcome {
             },
             received::Outcome::RoleConflict { switched } => Outcome::RoleConflict { switched },
             received::Outcome::Failed(failure) => Outcome::Failed(failure.into()),
+        }
+    }
+}
+
+/// Says how the check ended, for a log.
+impl fmt::Display for Outcome {
+    fn fmt(&self, f: &mut fmt::Formatter<'_>) -> fmt::Result {
+        match self {
+            Outcome::Valid { mapped } => write!(f, "the pair is valid, seen from {mapped}"),
+            Outcome::RoleConflict { .. } => f.write_str("both agents have the same role"),
+            Outcome::Failed(failure) => write!(f, "the check failed: {failure}"),
+        }
+    }
+}
+
+/// The code of the answer and its reason phrase, as `401 Unauthenticated`.
+impl fmt::Display for Refusal {
+    fn fmt(&self, f: &mut fmt::Formatter<'_>) -> fmt::Result {
+        let phrase = match self {
+            Refusal::BadRequest => "Bad Request",
+            Refusal::Unauthenticated => "Unauthenticated",
+            Refusal::UnknownAttribute => "Unknown Attribute",
+        };
+        write!(f, "{} {phrase}", self.code())
+    }
+}
+
+/// Says what the check came to, for a log.
+impl fmt::Display for Judged {
+    fn fmt(&self, f: &mut fmt::Formatter<'_>) -> fmt::Result {
+        match self {
+            Judged::Accepted { nominated, .. } => {
+                let nominates = if *nominated {
+                    ", and nominates its pair"
+                } else {
+                    ""
+                };
+                write!(f, "the check is accepted{nominates}")
+            }
+            Judged::RoleConflict => f.write_str("the check is refused: 487 Role Conflict"),
+            Judged::Refused(refusal) => write!(f, "the check is refused: {refusal}"),
         }
     }
 }

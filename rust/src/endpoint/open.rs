@@ -18,15 +18,14 @@ use alloc::vec::Vec;
 use core::fmt;
 use core::net::SocketAddr;
 
-/// What an [`OpenServer`] or a [`ShortTermServer`] understands, and what it adds to its responses:
-/// no further attributes, no SOFTWARE, and Binding requests for you, unless you change them.
+/// What a server understands, and what it adds to its responses: no further attributes, no SOFTWARE, and Binding requests for you, unless you change them.
 #[must_use = "settings are passed to a server"]
 #[derive(Clone, Debug, Default)]
 pub struct ResponseSettings {
-    understood: Vec<AttributeType>,
-    software: Option<String>,
-    answers_binding: bool,
-    requires_fingerprint: bool,
+    pub(super) understood: Vec<AttributeType>,
+    pub(super) software: Option<String>,
+    pub(super) answers_binding: bool,
+    pub(super) requires_fingerprint: bool,
 }
 
 impl ResponseSettings {
@@ -56,17 +55,18 @@ impl ResponseSettings {
         self
     }
 
-    /// Makes the server respond to each accepted Binding request by itself.
-    pub fn answer_binding(mut self) -> ResponseSettings {
-        self.answers_binding = true;
+    /// Sets whether the server responds to each accepted Binding request by itself: it does not,
+    /// unless you call this.
+    pub fn answer_binding(mut self, answers: bool) -> ResponseSettings {
+        self.answers_binding = answers;
         self
     }
 
-    /// Drops messages without FINGERPRINT (RFC 8489, section 7.3), as a protocol may require. Unless
-    /// you call this, a message may have none; one whose FINGERPRINT is wrong, is not the last
+    /// Sets whether messages without FINGERPRINT are dropped (RFC 8489, section 7.3), as a protocol may
+    /// require. Unless you call this, a message may have none; one whose FINGERPRINT is wrong, is not the last
     /// attribute or does not have 4 bytes is dropped always.
-    pub fn require_fingerprint(mut self) -> ResponseSettings {
-        self.requires_fingerprint = true;
+    pub fn require_fingerprint(mut self, required: bool) -> ResponseSettings {
+        self.requires_fingerprint = required;
         self
     }
 
@@ -97,7 +97,7 @@ impl ResponseSettings {
 /// use std::net::UdpSocket;
 ///
 /// # fn main() -> Result<(), Box<dyn std::error::Error>> {
-/// let server = OpenServer::new(ResponseSettings::new().answer_binding())?;
+/// let server = OpenServer::new(ResponseSettings::new().answer_binding(true))?;
 /// let socket = UdpSocket::bind("0.0.0.0:3478")?;
 /// let mut buffer = [0; 2048];
 /// loop {
@@ -229,7 +229,7 @@ impl<'a> OpenRequest<'a> {
 /// use std::net::SocketAddr;
 ///
 /// # fn main() -> Result<(), Box<dyn std::error::Error>> {
-/// let server = ShortTermServer::new(ResponseSettings::new().answer_binding())?;
+/// let server = ShortTermServer::new(ResponseSettings::new().answer_binding(true))?;
 /// let mut users = ShortTermUsers::new();
 /// users.add("alice", ShortTermCredentials::new("wonderland".to_string()))?;
 ///

@@ -1,6 +1,7 @@
 //! A server as one value.
 
 use super::given::{Given, text_of};
+use super::open::ResponseSettings;
 use super::{BuildError, Cause, DEFAULT_NONCE_LIFETIME, DropReason, Refusal, UnixTime};
 use crate::copies::{copy, granted, text};
 use crate::credentials::{LongTermCredentials, long_term_key};
@@ -99,21 +100,34 @@ impl LongTerm {
     }
 }
 
-/// Builds a [`Server`].
-#[must_use = "a server is made by `build`"]
+/// Builds a [`Server`] step by step. [`Server::new`] builds one of the same settings at once.
+///
+/// # Examples
+///
+/// ```
+/// use seatcrane_stun::endpoint::{LongTerm, Server, types};
+///
+/// # let secret = [1; 32]; // yours must be random
+/// let server = Server::builder(LongTerm::new("example.org", secret))
+///     .understands(types::TURN)
+///     .software("example 1.0")
+///     .answer_binding(true)
+///     .build()?;
+/// assert_eq!(server.realm(), "example.org");
+/// # Ok::<(), seatcrane_stun::endpoint::BuildError>(())
+/// ```
 #[derive(Clone, Debug)]
+#[must_use = "a server is made by `build`"]
 pub struct ServerBuilder {
     long_term: LongTerm,
-    understood: Vec<AttributeType>,
-    software: Option<String>,
-    answers_binding: bool,
-    requires_fingerprint: bool,
+    settings: ResponseSettings,
 }
 
 impl ServerBuilder {
-    /// Adds types of attributes that you understand, beside those of STUN. [`types`](super::types) has lists.
+    /// Adds types of attributes that you understand, beside those of STUN. [`types`](super::types)
+    /// has lists.
     pub fn understands(mut self, types: &[AttributeType]) -> ServerBuilder {
-        self.understood.extend_from_slice(types);
+        self.settings = self.settings.understands(types);
         self
     }
 
@@ -137,27 +151,28 @@ impl ServerBuilder {
     /// # assert!(server.is_ok());
     /// ```
     pub fn does_not_understand(mut self, types: &[AttributeType]) -> ServerBuilder {
-        self.understood.retain(|kind| !types.contains(kind));
+        self.settings = self.settings.does_not_understand(types);
         self
     }
 
     /// Sets the text of SOFTWARE in each response.
     pub fn software(mut self, text: impl Into<String>) -> ServerBuilder {
-        self.software = Some(text.into());
+        self.settings = self.settings.software(text);
         self
     }
 
-    /// Makes the server respond to each accepted Binding request by itself.
-    pub fn answer_binding(mut self) -> ServerBuilder {
-        self.answers_binding = true;
+    /// Sets whether the server responds to each accepted Binding request by itself: it does not,
+    /// unless you call this.
+    pub fn answer_binding(mut self, answers: bool) -> ServerBuilder {
+        self.settings = self.settings.answer_binding(answers);
         self
     }
 
-    /// Drops messages without FINGERPRINT (RFC 8489, section 7.3), as a protocol may require. Unless
-    /// you call this, a message may have none; one whose FINGERPRINT is wrong, is not the last
-    /// attribute or does not have 4 bytes is dropped always.
-    pub fn require_fingerprint(mut self) -> ServerBuilder {
-        self.requires_fingerprint = true;
+    /// Sets whether messages without FINGERPRINT are dropped (RFC 8489, section 7.3), as a protocol
+    /// may require. Unless you call this, a message may have none; one whose FINGERPRINT is wrong, is
+    /// not the last attribute or does not have 4 bytes is dropped always.
+    pub fn require_fingerprint(mut self, required: bool) -> ServerBuilder {
+        self.settings = self.settings.require_fingerprint(required);
         self
     }
 
@@ -165,42 +180,9 @@ impl ServerBuilder {
     ///
     /// # Errors
     ///
-    /// The first of these that applies:
-    ///
-    /// - [`BuildError::RealmTooLong`]: the realm has more than 763 bytes.
-    /// - [`BuildError::SoftwareTooLong`]: the text of SOFTWARE has more than 763 bytes.
-    /// - [`BuildError::NonceLifetime`]: the nonce lifetime is less than 30 seconds.
-    /// - [`BuildError::NoAlgorithm`]: the list of algorithms is empty.
-    /// - [`BuildError::OutOfMemory`]: an allocation failed.
+    /// Those of [`Server::new`].
     pub fn build(self) -> Result<Server, BuildError> {
-        let LongTerm {
-            realm,
-            secret,
-            previous,
-            algorithms,
-            user_hashes,
-            nonce_lifetime,
-        } = self.long_term;
-        let mut understood = KitVec::new(Global);
-        understood
-            .extend_from_slice(&self.understood)
-            .map_err(|_| BuildError::OutOfMemory)?;
-        let shown = realm.clone();
-        let settings = server::LongTerm {
-            realm: text(realm),
-            secret,
-            previous_secret: previous,
-            hmac_sha1: algorithms.0,
-            hmac_sha256: algorithms.1,
-            user_hashes,
-            nonce_lifetime,
-            understood,
-            software: self.software.map(text),
-            answers_binding: self.answers_binding,
-            requires_fingerprint: self.requires_fingerprint,
-        };
-        let core = server::Server::new(Global, settings)?;
-        Ok(Server { core, realm: shown })
+        Server::new(self.long_term, self.settings)
     }
 }
 
@@ -218,9 +200,11 @@ pub struct Server {
     realm: String,
 }
 
+/// It shows the realm, and no secret.
 impl fmt::Debug for Server {
     fn fmt(&self, f: &mut fmt::Formatter<'_>) -> fmt::Result {
-        f.write_str("Server { .. }")
+        let mut shown = f.debug_struct("Server");
+        shown.field("realm", &self.realm()).finish_non_exhaustive()
     }
 }
 
@@ -229,11 +213,42 @@ impl Server {
     pub fn builder(long_term: LongTerm) -> ServerBuilder {
         ServerBuilder {
             long_term,
-            understood: Vec::new(),
-            software: None,
-            answers_binding: false,
-            requires_fingerprint: false,
+            settings: ResponseSettings::new(),
         }
+    }
+
+    /// Builds a server, of the settings that a server without credentials has too.
+    ///
+    /// # Errors
+    ///
+    /// The first of these that applies:
+    ///
+    /// - [`BuildError::RealmTooLong`]: the realm has more than 763 bytes.
+    /// - [`BuildError::SoftwareTooLong`]: the text of SOFTWARE has more than 763 bytes.
+    /// - [`BuildError::NonceLifetime`]: the nonce lifetime is less than 30 seconds.
+    /// - [`BuildError::NoAlgorithm`]: the list of algorithms is empty.
+    /// - [`BuildError::OutOfMemory`]: an allocation failed.
+    pub fn new(long_term: LongTerm, settings: ResponseSettings) -> Result<Server, BuildError> {
+        let mut understood = KitVec::new(Global);
+        understood
+            .extend_from_slice(&settings.understood)
+            .map_err(|_| BuildError::OutOfMemory)?;
+        let realm = long_term.realm.clone();
+        let settings = server::LongTerm {
+            realm: text(long_term.realm),
+            secret: long_term.secret,
+            previous_secret: long_term.previous,
+            hmac_sha1: long_term.algorithms.0,
+            hmac_sha256: long_term.algorithms.1,
+            user_hashes: long_term.user_hashes,
+            nonce_lifetime: long_term.nonce_lifetime,
+            understood,
+            software: settings.software.map(text),
+            answers_binding: settings.answers_binding,
+            requires_fingerprint: settings.requires_fingerprint,
+        };
+        let core = server::Server::new(Global, settings)?;
+        Ok(Server { core, realm })
     }
 
     /// Returns an empty table of users for this server's realm.
@@ -670,7 +685,7 @@ impl fmt::Debug for User {
 }
 
 /// Why a user was not added.
-#[derive(Clone, Copy, Debug, PartialEq, Eq)]
+#[derive(Clone, Copy, Debug, PartialEq, Eq, Hash)]
 #[non_exhaustive]
 pub enum UserError {
     /// An allocation failed.

@@ -60,7 +60,7 @@ impl Service {
         let long_term = LongTerm::new("example.org", bytes)
             .algorithms(algorithms)
             .nonce_lifetime(600);
-        let server = Server::builder(long_term).answer_binding().build().unwrap();
+        let server = Server::builder(long_term).answer_binding(true).build().unwrap();
         let mut users = server.users();
         let alice = LongTermCredentials::new("alice".to_string(), "wonderland".to_string());
         users.add(alice).unwrap();

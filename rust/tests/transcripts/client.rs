@@ -77,7 +77,7 @@ impl ClientStage {
             };
             body = match added {
                 Ok(body) => body,
-                Err(why) => return Some(format!("{why:?}")),
+                Err(why) => return Some(format!("{:?}", why.reason())),
             };
         }
         let method = Method::new(method)?;
@@ -147,11 +147,11 @@ fn set(builder: ClientBuilder, name: &str, words: &[&str]) -> Option<ClientBuild
             builder.retransmission(plan)
         }
         ("challenges", [word]) => builder.challenges(u32::try_from(number(word)?).ok()?),
-        ("accepts-unsigned", []) => builder.accept_unsigned(),
+        ("accepts-unsigned", []) => builder.accept_unsigned(true),
         ("understands", [word]) => builder.understands(&understood(word)?),
         ("software", [word]) => builder.software(text(word)),
-        ("fingerprint", []) => builder.fingerprint(),
-        ("requires-fingerprint", []) => builder.require_fingerprint(),
+        ("fingerprint", []) => builder.fingerprint(true),
+        ("requires-fingerprint", []) => builder.require_fingerprint(true),
         _ => return None,
     })
 }

@@ -78,10 +78,10 @@ impl Settings {
             builder = builder.software(software);
         }
         if self.answers_binding {
-            builder = builder.answer_binding();
+            builder = builder.answer_binding(true);
         }
         if self.requires_fingerprint {
-            builder = builder.require_fingerprint();
+            builder = builder.require_fingerprint(true);
         }
         builder.build()
     }

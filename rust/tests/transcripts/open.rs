@@ -14,8 +14,8 @@ fn set(settings: &mut ResponseSettings, name: &str, word: &str) -> Option<String
     *settings = match name {
         "software" => old.software(text(word)),
         "understands" => old.understands(&understood(word)?),
-        "binding" if yes(word)? => old.answer_binding(),
-        "requires-fingerprint" if yes(word)? => old.require_fingerprint(),
+        "binding" if yes(word)? => old.answer_binding(true),
+        "requires-fingerprint" if yes(word)? => old.require_fingerprint(true),
         _ => return None,
     };
     Some(String::new())

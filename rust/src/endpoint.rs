@@ -218,6 +218,26 @@ impl fmt::Display for Cause {
 }
 
 /// Why a datagram is dropped.
+///
+/// # Examples
+///
+/// ```
+/// use seatcrane_stun::endpoint::DropReason;
+///
+/// /// How many datagrams were dropped, for each reason.
+/// #[derive(Default)]
+/// struct Counters([u64; DropReason::COUNT]);
+///
+/// impl Counters {
+///     fn count(&mut self, why: DropReason) {
+///         self.0[why.index()] += 1;
+///     }
+/// }
+/// let mut counters = Counters::default();
+/// counters.count(DropReason::Malformed);
+/// let names = DropReason::ALL.map(DropReason::name);
+/// assert!(names.iter().zip(counters.0).any(|(name, count)| *name == "Malformed" && count == 1));
+/// ```
 #[derive(Clone, Copy, Debug, PartialEq, Eq, Hash)]
 #[non_exhaustive]
 pub enum DropReason {

@@ -15,10 +15,38 @@ use core::fmt;
 use core::net::SocketAddr;
 
 /// Identifies a request, also after it is sent again under another transaction ID.
+///
+/// # Examples
+///
+/// ```
+/// use seatcrane_stun::Instant;
+/// use seatcrane_stun::endpoint::{Body, Client};
+/// use seatcrane_stun::types::message::BINDING;
+///
+/// # let (server, seed, now) = ("192.0.2.1:3478".parse()?, [7; 32], Instant::ZERO);
+/// let mut client = Client::builder(server).build(seed)?;
+/// let first = client.request(BINDING, Body::new(), now)?;
+/// let second = client.request(BINDING, Body::new(), now)?;
+/// assert!(first < second && client.cancel(first));
+/// # Ok::<(), Box<dyn std::error::Error>>(())
+/// ```
 #[derive(Clone, Copy, Debug, PartialEq, Eq, PartialOrd, Ord, Hash)]
 pub struct RequestId(pub(super) u64);
 
 /// A response that the client accepted.
+///
+/// # Examples
+///
+/// ```
+/// use seatcrane_stun::endpoint::Response;
+/// use std::net::SocketAddr;
+///
+/// /// The address in a response to Binding, if somebody who knows the password signed it.
+/// fn signed_address(response: &Response) -> Option<SocketAddr> {
+///     response.signed_by()?;
+///     response.message().xor_mapped_address().ok()
+/// }
+/// ```
 #[derive(Clone, PartialEq, Eq)]
 pub struct Response {
     bytes: Vec<u8>,
@@ -51,6 +79,19 @@ impl Response {
 }
 
 /// An error response that the client accepted.
+///
+/// # Examples
+///
+/// ```
+/// use seatcrane_stun::endpoint::{ErrorResponse, RequestError};
+///
+/// fn log(error: &RequestError) {
+///     if let RequestError::Refused(refused) = error {
+///         println!("{} {:?}", refused.code(), refused.reason());
+///     }
+/// }
+/// # log(&RequestError::Cancelled);
+/// ```
 #[derive(Clone, Debug, PartialEq, Eq)]
 pub struct ErrorResponse {
     response: Response,
@@ -87,6 +128,18 @@ impl ErrorResponse {
 }
 
 /// A response that names another server (300; RFC 8489, section 10).
+///
+/// # Examples
+///
+/// ```
+/// use seatcrane_stun::endpoint::{Client, Redirect, random_seed};
+///
+/// /// A client of the other server, if the redirect is signed and names an address.
+/// fn follow(redirect: &Redirect) -> Option<Client> {
+///     redirect.signed_by()?;
+///     Client::builder(redirect.server()?).build(random_seed()).ok()
+/// }
+/// ```
 #[derive(Clone)]
 pub struct Redirect {
     response: Response,
@@ -142,6 +195,18 @@ impl Redirect {
 
 /// What was dropped for one request. Show it to people, but never act on it, because anybody can
 /// send it.
+///
+/// # Examples
+///
+/// ```
+/// use seatcrane_stun::endpoint::{Client, DropReason, RequestId};
+///
+/// /// Whether the server, or somebody in its place, answers with other credentials.
+/// fn is_refused_unseen(client: &Client, request: RequestId) -> bool {
+///     let drops = client.dropped(request).unwrap_or_default();
+///     drops.last() == Some(DropReason::NotVerified)
+/// }
+/// ```
 #[derive(Clone, Copy, Debug, Default, PartialEq, Eq, Hash)]
 pub struct Drops {
     count: u32,
@@ -190,6 +255,23 @@ impl fmt::Display for Drops {
 }
 
 /// How a request ended without a success.
+///
+/// # Examples
+///
+/// ```
+/// use seatcrane_stun::endpoint::{RequestError, Response};
+///
+/// fn say(result: Result<Response, RequestError>) -> String {
+///     match result {
+///         Ok(response) => format!("{:?}", response.message()),
+///         Err(RequestError::Refused(error)) if error.code() == 486 => "too many allocations".into(),
+///         Err(RequestError::Unauthorized) => "wrong password?".into(),
+///         Err(RequestError::TimedOut(drops)) => format!("no answer; {drops}"),
+///         Err(error) => error.to_string(),
+///     }
+/// }
+/// # assert_eq!(say(Err(RequestError::Cancelled)), "cancelled");
+/// ```
 #[derive(Clone, Debug, PartialEq, Eq)]
 #[non_exhaustive]
 pub enum RequestError {
@@ -281,6 +363,31 @@ pub(super) fn result_of(ended: ended::Ended<Global>) -> Result<Response, Request
 }
 
 /// What to do next.
+///
+/// # Examples
+///
+/// ```
+/// use seatcrane_stun::Instant;
+/// use seatcrane_stun::endpoint::{Client, Output};
+/// use std::net::{SocketAddr, UdpSocket};
+///
+/// /// Does what there is to do now, and returns when to call this again.
+/// fn drive(
+///     client: &mut Client,
+///     socket: &UdpSocket,
+///     server: SocketAddr,
+///     now: Instant,
+/// ) -> Option<Instant> {
+///     loop {
+///         match client.poll(now) {
+///             Output::Transmit(bytes) => drop(socket.send_to(bytes, server)),
+///             Output::Ended(request, result) => println!("{request:?}: {result:?}"),
+///             Output::Wait(until) => return until,
+///             _ => {}
+///         }
+///     }
+/// }
+/// ```
 #[must_use = "the end of a request is returned once"]
 #[derive(Clone, Debug, PartialEq, Eq)]
 #[non_exhaustive]
@@ -294,6 +401,21 @@ pub enum Output<'c> {
 }
 
 /// What a datagram was.
+///
+/// # Examples
+///
+/// ```
+/// use seatcrane_stun::Instant;
+/// use seatcrane_stun::endpoint::{Client, Input};
+/// use std::net::SocketAddr;
+///
+/// /// Offers a datagram to the clients of a socket, one after the other.
+/// fn receive(clients: &mut [Client], bytes: &[u8], from: SocketAddr, now: Instant) -> bool {
+///     let is_its = |client: &mut Client| !matches!(client.receive(bytes, from, now), Input::NotOurs);
+///     clients.iter_mut().any(is_its)
+/// }
+/// # assert!(!receive(&mut [], b"any", "192.0.2.1:1".parse().unwrap(), Instant::ZERO));
+/// ```
 #[must_use = "it says whether the datagram is for somebody else"]
 #[derive(Debug)]
 #[non_exhaustive]

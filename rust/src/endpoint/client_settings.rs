@@ -24,6 +24,17 @@ use core::net::SocketAddr;
 use core::time::Duration;
 
 /// How a client proves who it is.
+///
+/// # Examples
+///
+/// ```
+/// use seatcrane_stun::endpoint::{Client, Credentials};
+///
+/// # let (server, seed) = ("192.0.2.1:3478".parse()?, [7; 32]);
+/// let alice = Credentials::long_term("alice", "wonderland");
+/// let client = Client::builder(server).credentials(alice).build(seed)?;
+/// # Ok::<(), Box<dyn std::error::Error>>(())
+/// ```
 #[must_use]
 #[derive(Clone)]
 pub struct Credentials(Kind);
@@ -97,6 +108,18 @@ impl Credentials {
 
 /// When a request is sent, and how long the client waits for its response (RFC 8489, section
 /// 6.2.1).
+///
+/// # Examples
+///
+/// ```
+/// use seatcrane_stun::endpoint::Retransmission;
+/// use std::time::Duration;
+///
+/// let ms = Duration::from_millis;
+/// // Three transmissions, at 0, 200 and 600 ms; the request ends 800 ms after the last.
+/// let hurried = Retransmission::new(ms(200), Duration::MAX, 3, ms(800));
+/// assert_ne!(hurried, Retransmission::default());
+/// ```
 #[must_use]
 #[derive(Clone, Copy, Debug, PartialEq, Eq, Hash)]
 pub struct Retransmission {
@@ -128,6 +151,18 @@ impl Default for Retransmission {
 }
 
 /// What carries the messages of a client.
+///
+/// # Examples
+///
+/// ```
+/// use seatcrane_stun::endpoint::{Client, FrameBuffer, Transport};
+///
+/// # let (server, seed) = ("192.0.2.1:3478".parse()?, [7; 32]);
+/// // Over TCP. What is read goes through the buffer, and each message to `Client::receive`.
+/// let client = Client::builder(server).transport(Transport::Stream).build(seed)?;
+/// let buffer = FrameBuffer::new();
+/// # Ok::<(), Box<dyn std::error::Error>>(())
+/// ```
 #[derive(Clone, Copy, Debug, PartialEq, Eq, Hash, Default)]
 #[non_exhaustive]
 pub enum Transport {
@@ -142,6 +177,20 @@ pub enum Transport {
 }
 
 /// Builds a [`Client`]. All calls but [`build`](Self::build) are optional.
+///
+/// # Examples
+///
+/// ```
+/// use seatcrane_stun::endpoint::{Client, ClientBuildError, Credentials};
+///
+/// # let (server, seed) = ("192.0.2.1:3478".parse().unwrap(), [7; 32]);
+/// let client = Client::builder(server)
+///     .credentials(Credentials::long_term("alice", "wonderland"))
+///     .software("example 1.0")
+///     .fingerprint(true)
+///     .build(seed)?;
+/// # Ok::<(), ClientBuildError>(())
+/// ```
 #[must_use = "a client is made by `build`"]
 #[derive(Clone, Debug)]
 pub struct ClientBuilder {
@@ -159,6 +208,16 @@ pub struct ClientBuilder {
 }
 
 /// Why a client was not built.
+///
+/// # Examples
+///
+/// ```
+/// use seatcrane_stun::endpoint::{Client, ClientBuildError};
+///
+/// # let (server, seed) = ("192.0.2.1:3478".parse().unwrap(), [7; 32]);
+/// let built = Client::builder(server).algorithms(&[]).build(seed);
+/// assert_eq!(built.err(), Some(ClientBuildError::NoAlgorithm));
+/// ```
 #[derive(Clone, Copy, Debug, PartialEq, Eq, Hash)]
 #[non_exhaustive]
 pub enum ClientBuildError {

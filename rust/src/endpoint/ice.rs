@@ -219,6 +219,21 @@ impl Checker {
 
 /// A check: the bytes to send, and what is needed to judge the answer. Store it until its answer
 /// arrives or it times out. [`Checker::check`] makes it.
+///
+/// # Examples
+///
+/// ```
+/// use seatcrane_stun::endpoint::ice::Check;
+/// use seatcrane_stun::types::message::TransactionId;
+/// use std::collections::HashMap;
+/// use std::net::UdpSocket;
+///
+/// /// Sends a check, and stores it until its answer arrives.
+/// fn send(socket: &UdpSocket, checks: &mut HashMap<TransactionId, Check>, check: Check) {
+///     drop(socket.send_to(check.bytes(), check.to()));
+///     checks.insert(check.id(), check);
+/// }
+/// ```
 #[must_use = "a check is to be sent, and stored until its answer arrives"]
 pub struct Check(check::Check<Global>);
 
@@ -288,6 +303,20 @@ pub enum Received<'a> {
 }
 
 /// How the answer of the peer ends a check.
+///
+/// # Examples
+///
+/// ```
+/// use seatcrane_stun::endpoint::ice::Outcome;
+///
+/// fn log(outcome: Outcome) {
+///     match outcome {
+///         Outcome::Valid { mapped } => println!("valid, seen from {mapped}"),
+///         Outcome::RoleConflict { switched } => println!("role conflict, switched: {switched}"),
+///         failed => println!("{failed}"),
+///     }
+/// }
+/// ```
 #[derive(Clone, Copy, Debug, PartialEq, Eq, Hash)]
 #[non_exhaustive]
 pub enum Outcome {

@@ -19,6 +19,16 @@ use core::fmt;
 use core::net::SocketAddr;
 
 /// What a server understands, and what it adds to its responses: no further attributes, no SOFTWARE, and Binding requests for you, unless you change them.
+///
+/// # Examples
+///
+/// ```
+/// use seatcrane_stun::endpoint::{OpenServer, ResponseSettings};
+///
+/// let settings = ResponseSettings::new().answer_binding(true).software("example 1.0");
+/// let server = OpenServer::new(settings)?;
+/// # Ok::<(), seatcrane_stun::endpoint::BuildError>(())
+/// ```
 #[must_use = "settings are passed to a server"]
 #[derive(Clone, Debug, Default)]
 pub struct ResponseSettings {
@@ -184,6 +194,16 @@ pub enum OpenReceived<'a> {
 }
 
 /// A request to an [`OpenServer`]. Anybody may have sent it.
+///
+/// # Examples
+///
+/// ```
+/// use seatcrane_stun::endpoint::OpenRequest;
+///
+/// fn answer(request: &OpenRequest<'_>) -> Option<Vec<u8>> {
+///     request.reply().success().add_xor_mapped_address(request.from()).finish().ok()
+/// }
+/// ```
 #[must_use = "the request waits for a response"]
 #[derive(Debug)]
 pub struct OpenRequest<'a> {
@@ -337,6 +357,18 @@ pub enum ShortTermReceived<'a> {
 }
 
 /// An indication that a user has signed.
+///
+/// # Examples
+///
+/// ```
+/// use seatcrane_stun::endpoint::ShortTermReceived;
+///
+/// fn log(received: &ShortTermReceived<'_>) {
+///     if let ShortTermReceived::Indication(indication) = received {
+///         println!("{} by {}", indication.user(), indication.algorithm());
+///     }
+/// }
+/// ```
 #[derive(Debug)]
 pub struct ShortTermIndication<'a> {
     message: Message<'a>,

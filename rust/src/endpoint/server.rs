@@ -37,6 +37,21 @@ use core::net::SocketAddr;
 /// nonces, except that a server refuses a nonce of a period that has not begun on its own clock. If
 /// clocks differ by less than a nonce lifetime, a client then gets a 438 and continues with the
 /// nonce in it. A server that starts again with the same secret serves its old clients at once.
+///
+/// # Examples
+///
+/// ```
+/// use seatcrane_stun::endpoint::{LongTerm, Server};
+/// use seatcrane_stun::types::message::IntegrityAlgorithm::Sha256;
+///
+/// # let (secret, last) = ([1; 32], [2; 32]); // yours must be random
+/// let settings = LongTerm::new("example.org", secret)
+///     .previous_secret(last)
+///     .algorithms(&[Sha256])
+///     .nonce_lifetime(600);
+/// let server = Server::builder(settings).build()?;
+/// # Ok::<(), seatcrane_stun::endpoint::BuildError>(())
+/// ```
 #[must_use = "settings are passed to `Server::builder`"]
 #[derive(Clone)]
 pub struct LongTerm {
@@ -675,6 +690,22 @@ pub(super) fn shared<T>(value: T) -> Option<Arc<T>> {
 }
 
 /// A user with derived keys. [`Server::user`] makes it. A clone shares the keys.
+///
+/// # Examples
+///
+/// ```
+/// use seatcrane_stun::endpoint::{LongTerm, Server, User};
+/// use seatcrane_stun::types::message::LongTermCredentials;
+/// use std::collections::HashMap;
+///
+/// # let server = Server::builder(LongTerm::new("example.org", [7; 32])).build()?;
+/// let mut cache: HashMap<String, User> = HashMap::new();
+/// let alice = LongTermCredentials::new("alice".to_string(), "wonderland".to_string());
+/// cache.insert("alice".to_string(), server.user(alice));
+/// let shared: Option<User> = cache.get("alice").cloned();
+/// # assert!(shared.is_some());
+/// # Ok::<(), seatcrane_stun::endpoint::BuildError>(())
+/// ```
 #[derive(Clone)]
 pub struct User(Arc<LongTermServerUser<Global>>);
 
@@ -871,6 +902,25 @@ impl Users {
 }
 
 /// What a datagram comes to.
+///
+/// # Examples
+///
+/// ```
+/// use seatcrane_stun::endpoint::Received;
+///
+/// /// Returns the response to send, if there is one now.
+/// fn response(received: Received<'_>) -> Option<Vec<u8>> {
+///     match received {
+///         Received::Answer(answer) => Some(answer.into_bytes()),
+///         Received::Request(request) => request.reply().success().finish().ok(),
+///         Received::Dropped(why) => {
+///             println!("dropped: {why}");
+///             None
+///         }
+///         _ => None, // an indication, or a response
+///     }
+/// }
+/// ```
 #[must_use = "it may be a response to send, or a request to respond to"]
 #[derive(Debug)]
 #[non_exhaustive]
@@ -889,6 +939,20 @@ pub enum Received<'a> {
 }
 
 /// A response to send.
+///
+/// # Examples
+///
+/// ```
+/// use seatcrane_stun::endpoint::Answer;
+/// use std::net::UdpSocket;
+///
+/// fn send(socket: &UdpSocket, answer: &Answer) -> std::io::Result<()> {
+///     if let Some(refusal) = answer.refusal() {
+///         println!("{}: {refusal}", answer.to());
+///     }
+///     socket.send_to(answer.bytes(), answer.to()).map(drop)
+/// }
+/// ```
 #[must_use = "the response is to be sent"]
 #[derive(Clone, Debug)]
 pub struct Answer {
@@ -921,6 +985,21 @@ impl Answer {
 }
 
 /// An accepted request.
+///
+/// # Examples
+///
+/// ```
+/// use seatcrane_stun::endpoint::Request;
+/// use seatcrane_stun::extra::turn::TurnMethod;
+///
+/// fn answer(request: &Request<'_>) -> Option<Vec<u8>> {
+///     println!("{} at {}", request.user(), request.from());
+///     match TurnMethod::of(request.method()) {
+///         Some(TurnMethod::Refresh) => request.reply().success().finish().ok(),
+///         _ => request.reply().error(400, "Bad Request").finish().ok(),
+///     }
+/// }
+/// ```
 #[must_use = "the request waits for a response"]
 #[derive(Debug)]
 pub struct Request<'a> {

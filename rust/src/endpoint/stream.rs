@@ -50,6 +50,16 @@ impl fmt::Debug for FrameBuffer {
 }
 
 /// Why a stream cannot be read any further. Close the connection.
+///
+/// # Examples
+///
+/// ```
+/// use seatcrane_stun::endpoint::{FrameBuffer, StreamError};
+///
+/// let mut buffer = FrameBuffer::new();
+/// buffer.push(b"GET / HTTP/1.1");
+/// assert_eq!(buffer.pop(), Err(StreamError::NotStun));
+/// ```
 #[derive(Clone, Copy, Debug, PartialEq, Eq, Hash)]
 #[non_exhaustive]
 pub enum StreamError {

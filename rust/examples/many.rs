@@ -9,6 +9,9 @@
 //!
 //! On tokio one task does both: `tokio_client` of examples/rust.
 
+#[path = "parts/words.rs"]
+mod words;
+
 use seatcrane_stun::endpoint::{Body, Client, Clock, Credentials, Output, random_seed};
 use seatcrane_stun::endpoint::{RequestError, Response};
 use seatcrane_stun::types::message::{BINDING, Method};
@@ -19,6 +22,9 @@ use std::process::ExitCode;
 use std::sync::mpsc::{Receiver, RecvTimeoutError, Sender, channel};
 use std::thread;
 use std::time::{Duration, Instant};
+use words::Words;
+
+const USAGE: &str = "many HOST PORT CALLERS REQUESTS [NAME PASSWORD]";
 
 type Answer = Result<Response, RequestError>;
 
@@ -122,7 +128,7 @@ fn ask_all(front: &Front, callers: usize, requests: usize) -> usize {
     })
 }
 
-fn run(words: &[String]) -> Result<bool, Box<dyn Error>> {
+fn run(words: Vec<String>) -> Result<bool, Box<dyn Error>> {
     let host = (words[0].as_str(), words[1].parse()?);
     let server = host.to_socket_addrs()?.next().ok_or("no such host")?;
     let (callers, requests): (usize, usize) = (words[2].parse()?, words[3].parse()?);
@@ -141,17 +147,9 @@ fn run(words: &[String]) -> Result<bool, Box<dyn Error>> {
 }
 
 fn main() -> ExitCode {
-    let words: Vec<String> = std::env::args().skip(1).collect();
-    if words.len() != 4 && words.len() != 6 {
-        eprintln!("usage: many HOST PORT CALLERS REQUESTS [NAME PASSWORD]");
-        return ExitCode::from(2);
-    }
-    match run(&words) {
-        Ok(true) => ExitCode::SUCCESS,
-        Ok(false) => ExitCode::FAILURE,
-        Err(error) => {
-            eprintln!("many: {error}");
-            ExitCode::FAILURE
-        }
-    }
+    let settings = |words: Words| {
+        let words: Vec<String> = words.collect();
+        matches!(words.len(), 4 | 6).then_some(words)
+    };
+    words::run(USAGE, "", settings, run)
 }

@@ -23,8 +23,10 @@ mod discovery;
 mod log;
 #[path = "udp_server/streams.rs"]
 mod streams;
-#[path = "udp_server/users.rs"]
+#[path = "parts/users.rs"]
 mod users;
+#[path = "parts/words.rs"]
+mod words;
 
 use counts::{Counts, Outcome};
 use seatcrane_stun::endpoint::{
@@ -43,8 +45,9 @@ use std::sync::{PoisonError, RwLock};
 use std::thread;
 use std::time::{Duration, Instant, SystemTime};
 use streams::{Open, Streams};
+use words::Words;
 
-const USAGE: &str = "usage: udp_server PORT [REALM [NAME PASSWORD].. [--users FILE]] [OPTION]..";
+const USAGE: &str = "udp_server PORT [REALM [NAME PASSWORD].. [--users FILE]] [OPTION]..";
 const HELP: &str = "
 Answers everybody with the address that the request came from or, if it has a REALM, the users of
 that realm alone. PORT 0 is any free one. The first line of output is `port N`.
@@ -379,7 +382,8 @@ fn identity(_: &Metadata) -> [u64; 3] {
     [0; 3]
 }
 
-fn run(settings: &Settings) -> Result<(), Box<dyn Error>> {
+fn run(settings: Settings) -> Result<bool, Box<dyn Error>> {
+    let settings = &settings;
     let file = settings.file.as_deref().filter(|file| *file != "-");
     let first = file.and_then(stamp);
     let service = &Service::new(settings)?;
@@ -419,7 +423,7 @@ fn run(settings: &Settings) -> Result<(), Box<dyn Error>> {
         log::serve();
         service.serve(0);
     });
-    Ok(())
+    Ok(true)
 }
 
 /// Reads an IP address, with or without a port.
@@ -429,7 +433,7 @@ fn other(word: &str) -> Option<SocketAddr> {
 }
 
 /// Returns the settings of the arguments, or `None` if they are wrong.
-fn settings(mut words: impl Iterator<Item = String>) -> Option<Settings> {
+fn settings(mut words: Words) -> Option<Settings> {
     let mut settings = Settings {
         expiry: 3600,
         idle: 30,
@@ -476,27 +480,5 @@ fn settings(mut words: impl Iterator<Item = String>) -> Option<Settings> {
 }
 
 fn main() -> ExitCode {
-    let words: Vec<String> = std::env::args().skip(1).collect();
-    match words.first().map(String::as_str) {
-        Some("--help") => {
-            println!("{USAGE}\n{HELP}");
-            return ExitCode::SUCCESS;
-        }
-        Some("--version") => {
-            println!("udp_server {}", env!("CARGO_PKG_VERSION"));
-            return ExitCode::SUCCESS;
-        }
-        _ => {}
-    }
-    let Some(settings) = settings(words.into_iter()) else {
-        eprintln!("{USAGE}\n`udp_server --help` lists the options.");
-        return ExitCode::from(2);
-    };
-    match run(&settings) {
-        Ok(()) => ExitCode::SUCCESS,
-        Err(error) => {
-            eprintln!("udp_server: {error}");
-            ExitCode::FAILURE
-        }
-    }
+    words::run(USAGE, HELP, settings, run)
 }

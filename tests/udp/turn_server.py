@@ -34,6 +34,7 @@ SERVER, CLIENT, SERVER6, CLIENT6 = "10.78.0.1", "10.78.0.2", "fd78::1", "fd78::2
 PORT, SECRET_PORT, PEER_PORT, NAT_PORT = 3478, 3479, 3480, 3481
 PUBLIC = "203.0.113.9"  # as what the server at NAT_PORT is seen
 NAME, PASSWORD, REALM, SECRET = "alice", "wonderland", "example.org", "north"
+PACKETS, PEERS = 1000, 63
 INSIDE = ["ip", "netns", "exec", "tncli"]
 PION = "/usr/share/gocode/src/github.com/pion/turn/v2/examples/turn-client"
 
@@ -114,7 +115,7 @@ def coturn(*options, server=SERVER, port=PORT, messages=50, wanted=None):
     words = ["turnutils_uclient", *options, "-p", port, "-r", PEER_PORT, "-n", messages]
     if "-W" not in options:
         words += ["-u", NAME, "-w", PASSWORD]
-    _, text = run(*words, server, within=120)
+    _, text = run(*words, server, within=240)
     found = re.findall(r"start_mclient: tot_send_msgs=(\d+), tot_recv_msgs=(\d+)", text)
     assert found and found[-1][0] == found[-1][1] != "0", text[-600:]
     errors = set(re.findall(r"error \d+ \([^)]*\)", text))
@@ -168,9 +169,17 @@ async def aioice_inside(server, transport):
         endpoint.sendto(b"x" * size, (CLIENT, PEER_PORT))
         found = await asyncio.wait_for(arrived.get(), 5)
         assert found == (b"x" * size, (CLIENT, PEER_PORT)), found
+    back, sent = set(), 0
+    while len(back) < PACKETS:
+        while sent < PACKETS and sent - len(back) < 16:
+            endpoint.sendto(b"packet %d" % sent, (CLIENT, PEER_PORT))
+            sent += 1
+        data, _ = await asyncio.wait_for(arrived.get(), 5)
+        back.add(data)
     endpoint.close()
     await asyncio.sleep(0.3)
-    print(f"data of {', '.join(map(str, sizes))} bytes came back")
+    sizes = ", ".join(map(str, sizes))
+    print(f"data of {sizes} bytes came back, and {len(back)} packets of {sent}")
 
 
 def pion(transport, folder):
@@ -186,6 +195,52 @@ def pion(transport, folder):
     count = len(re.findall(rf"bytes from from {SERVER}", text))
     assert count >= 8, text
     return f"{count} pings through the relay"
+
+
+def pion_load(transport, folder):
+    need("go")
+    if not os.path.isdir(PION):
+        raise Missing("golang-github-pion-turn.v2-dev")
+    program, source = folder / "pion_load", HERE / "pion_load.go"
+    go = dict(os.environ, GOPATH="/usr/share/gocode", GO111MODULE="off", GOFLAGS="",
+              GOCACHE=str(folder / "go"))
+    subprocess.run(["go", "build", "-o", program, source], env=go, check=True)
+    _, text = run(program, transport, f"{SERVER}:{PORT}", REALM, NAME, PASSWORD,
+                  f"{CLIENT}:{PEER_PORT}", PACKETS)
+    assert f"{PACKETS} sent, {PACKETS} came back" in text, text
+    return text.strip()
+
+
+def peers_inside():
+    """Sends back what arrives at each of some sockets until standard input ends, and counts it."""
+    import select
+    peers = [socket.socket(socket.AF_INET, socket.SOCK_DGRAM) for _ in range(PEERS)]
+    for peer in peers:
+        peer.bind((CLIENT, 0))
+    print(*(peer.getsockname()[1] for peer in peers), flush=True)
+    count = 0
+    while True:
+        for ready in select.select([sys.stdin, *peers], [], [])[0]:
+            if ready is sys.stdin:
+                return print(count, flush=True)
+            data, source = ready.recvfrom(2048)
+            ready.sendto(data, source)
+            count += 1
+
+
+def own_thousand(program):
+    """turn_client sends two packets to each of many peers, and a packet again if it does not come back
+    within half a second. If the peers get each once, none was lost."""
+    with subprocess.Popen([*INSIDE, sys.executable, __file__, "--peers"], text=True,
+                          stdin=subprocess.PIPE, stdout=subprocess.PIPE) as peers:
+        words = [word for port in peers.stdout.readline().split() for word in (CLIENT, port)]
+        back = 0
+        while back < PACKETS:
+            status, text = run(program, SERVER, PORT, NAME, PASSWORD, *words)
+            assert status == 0 and text.count("came back") == 2 * PEERS, text
+            back += text.count("came back")
+        arrived = int(peers.communicate("")[0])
+    return f"{back} packets came back; {arrived - back} were sent again"
 
 
 def libnice(transport, folder):
@@ -491,6 +546,7 @@ def rows(client, folder):
     yield "turn_client, server at `::` and translated", lambda: own_client(
         client, SERVER, CLIENT, NAT_PORT)
     yield "turn_client, wrong password", lambda: own_refused(client)
+    yield f"turn_client, {PACKETS} packets", lambda: own_thousand(client)
     yield "bytes over UDP", udp
     yield "bytes over TCP", over_tcp
     peer = "-e", CLIENT
@@ -502,6 +558,9 @@ def rows(client, folder):
             ("TCP, channels", ("-y", "-t")), ("TCP, indications", ("-y", "-t", "-s")),
             ("TCP, to a peer", ("-t", *peer)), ("TCP, 20 clients", ("-y", "-t", "-m", "20"))):
         yield f"coturn's client: {what}", lambda o=options: coturn(*o)
+    for what, options in ("UDP", ("-y",)), ("TCP", ("-y", "-t")):
+        yield f"coturn's client: {PACKETS} packets over {what}", lambda o=options: coturn(
+            *o, "-z", 5, "-m", 1, messages=PACKETS)
     mismatch = "error 443 (Peer Address Family Mismatch)"
     yield "coturn's client: both families", coturn_by_old_type
     yield "coturn's client: extra requests", lambda: coturn("-y", "-G", wanted=mismatch)
@@ -513,6 +572,7 @@ def rows(client, folder):
         yield f"aioice over {transport}, {server}", lambda s=server, t=transport: aioice(s, t)
     for transport in "udp", "tcp":
         yield f"pion over {transport}", lambda t=transport: pion(t, folder)
+        yield f"pion, {PACKETS} packets over {transport}", lambda t=transport: pion_load(t, folder)
     for transport in "udp", "tcp":
         yield f"libnice over {transport}", lambda t=transport: libnice(t, folder)
     for name, browser in ("Chromium", chromium), ("Firefox", firefox):
@@ -536,7 +596,7 @@ def namespaces():
 
 def main():
     inside = {"--chromium": chromium_inside, "--firefox": firefox_inside, "--tcp": over_tcp_inside,
-              "--udp": udp_inside}
+              "--udp": udp_inside, "--peers": peers_inside}
     if sys.argv[1] == "--aioice":
         return asyncio.run(aioice_inside(*sys.argv[2:]))
     if sys.argv[1] in inside:
@@ -550,8 +610,9 @@ def main():
         started(stack, "tnsrv", server, PORT, REALM, NAME, PASSWORD, *common).stdout.readline()
         started(stack, "tnsrv", server, SECRET_PORT, REALM, "--shared-secret", SECRET,
                 *common).stdout.readline()
-        started(stack, "tnsrv", server, NAT_PORT, REALM, NAME, PASSWORD, "--at", "::", "--relay",
-                f"{SERVER}/{PUBLIC}", *common[4:], "--workers", 4).stdout.readline()
+        (folder / "users").write_text(f"# a user\n{NAME} {PASSWORD}\n")
+        started(stack, "tnsrv", server, NAT_PORT, REALM, "--users", folder / "users", "--at", "::",
+                "--relay", f"{SERVER}/{PUBLIC}", *common[4:], "--workers", 4).stdout.readline()
         started(stack, "tncli", "turnutils_peer", "-L", CLIENT, "-L", CLIENT6, "-p", PEER_PORT)
         print("| Client | Result |\n|---|---|")
         for name, row in rows(client, folder):

@@ -4,6 +4,7 @@ use std::fmt;
 use std::sync::atomic::{AtomicBool, Ordering::Relaxed};
 use std::time::{SystemTime, UNIX_EPOCH};
 
+const NAME: &str = env!("CARGO_BIN_NAME");
 static IS_SERVING: AtomicBool = AtomicBool::new(false);
 
 /// Has complaints begin with the time from now on. Those before are about how a server was started.
@@ -14,8 +15,8 @@ pub fn serve() {
 /// Prints a line on standard error.
 pub fn complain(what: fmt::Arguments<'_>) {
     match IS_SERVING.load(Relaxed) {
-        true => eprintln!("{Now} udp_server: {what}"),
-        false => eprintln!("udp_server: {what}"),
+        true => eprintln!("{Now} {NAME}: {what}"),
+        false => eprintln!("{NAME}: {what}"),
     }
 }
 

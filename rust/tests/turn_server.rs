@@ -1,6 +1,11 @@
-//! The core under a simulated clock, behind an endpoint, with ports that are only counted.
+//! The core of `examples/turn_server` under a simulated clock, behind an endpoint, with ports that
+//! are only counted.
 
-use crate::relay::*;
+#[path = "../examples/turn_server/relay.rs"]
+#[allow(dead_code, reason = "some of it is for TCP clients and for the command line")]
+mod relay;
+
+use relay::*;
 use seatcrane_stun::Instant;
 use seatcrane_stun::endpoint::*;
 use seatcrane_stun::extra::attribute::*;

@@ -1,4 +1,5 @@
-//! The users of a realm, from the command line and from a file.
+//! The users of a realm, from the command line and from a file, for `udp_server` and
+//! `turn_server`.
 
 use crate::log;
 use seatcrane_stun::auth::StoredKeys;

@@ -1,4 +1,4 @@
-// pion's TURN client: it sends packets through a relay to a peer that sends them back, 16 at a time.
+// pion's TURN client: it sends packets through a relay to a peer that returns them, 16 at a time.
 //
 //	pion_load udp|tcp SERVER:PORT REALM NAME PASSWORD PEER:PORT PACKETS
 //

@@ -229,8 +229,8 @@ def peers_inside():
 
 
 def own_thousand(program):
-    """turn_client sends two packets to each of many peers, and a packet again if it does not come back
-    within half a second. If the peers get each once, none was lost."""
+    """turn_client sends two packets to each of many peers, and a packet again if it does not come
+    back within half a second. If the peers get each once, none was lost."""
     with subprocess.Popen([*INSIDE, sys.executable, __file__, "--peers"], text=True,
                           stdin=subprocess.PIPE, stdout=subprocess.PIPE) as peers:
         words = [word for port in peers.stdout.readline().split() for word in (CLIENT, port)]

@@ -1,0 +1,4 @@
+-- What the contracts of this crate say.
+
+-- two agents, and what a check of one and its answer say to the other
+pub mod Peers

@@ -1,0 +1,102 @@
+//! Two agents of one session, by the bytes that they send (RFC 8445, sections 7.2 and 7.3): laws
+//! over the definitions of `stun_ice`. The functions that are called `..()` do nothing when they
+//! run.
+
+ghost use Rattle.std.specs.Net.Socket.{IsPlainSocket, IsSocketAddr, socket_ip};
+ghost use Rattle.std.specs.Prelude.{◌≡◌, ℕ, Bool, IfOk, Option, Some, true};
+ghost use Rattle.std.specs.declared.net.socket_addr.SocketAddr.{SocketAddr};
+ghost use Rattle.stun_base.specs.declared.keys.algorithm.IntegrityAlgorithm.TheVariants.{Sha1};
+ghost use Rattle.stun_types.specs.XorMappedAddress.{IsHidden, xor_port};
+ghost use Rattle.stun_extra.specs.CanonicalAddress.{is_same_address};
+ghost use Rattle.stun_ice.specs.Agent.{Agent, SentCheck, check_bytes};
+ghost use Rattle.stun_ice.specs.Answers.{conflict_answer, success_answer};
+ghost use Rattle.stun_ice.specs.Conflicts.{rival_of};
+ghost use Rattle.stun_ice.specs.Received.{given, judgement_of, responded, role_after_outcome};
+ghost use Rattle.stun_ice.specs.Received.{role_left};
+ghost use Rattle.stun_ice.specs.Responses.{IsValid};
+ghost use Rattle.stun_ice.specs.Roles.{is_same_role, role_after_check};
+ghost use Rattle.stun_ice.specs.declared.received.Outcome.TheVariants as Outcome;
+ghost use Rattle.stun_peers.specs.Peers.{ArePeers, IsAgent, IsNumbered, SaysCheck, mapped_of};
+ghost use Rattle.stun_peers.specs.Peers.{given_by, role_by, said_by, written_check};
+
+use std::alloc::Allocator;
+use stun_ice::checker::{BuildError, Checker, Credentials};
+use stun_ice::role::Role;
+
+/// A check reads back as what it was made of: a Binding request with the ID, the USERNAME, the
+/// priority, the role and the tie-breaker of the agent that wrote it, and with USE-CANDIDATE if it
+/// nominates. Its signature is valid under the password of the peer, its FINGERPRINT is right, and
+/// it has no attribute that an agent does not understand.
+pub fn checks_are_read_back()
+    ensures { (a : Agent) (id priority : ℕ) (nominates : Bool) → IsAgent a
+        → IsNumbered id priority
+        → SaysCheck a id priority nominates (check_bytes a id priority nominates) }
+{}
+
+/// Two agents that are created from the same credentials, one on each side, are peers, and each of
+/// them writes checks that are read back.
+pub fn agents_of_one_session_are_peers<A: Allocator + Copy>(
+    alloc: A,
+    one: Credentials<'_>,
+    other: Credentials<'_>,
+    tie_breakers: (u64, u64),
+    roles: (Role, Role),
+) -> Result<(Checker<A>, Checker<A>), BuildError>
+    ensures { IfOk result (λ both. IsAgent both.0 × IsAgent both.1 × ArePeers both.0 both.1) }
+{
+    let left = Checker::new(alloc, one, other, tie_breakers.0, roles.0)?;
+    let right = Checker::new(alloc, other, one, tie_breakers.1, roles.1)?;
+    Ok((left, right))
+}
+
+/// The peer of an agent judges its check by the roles alone. The check is accepted, with the
+/// priority that it carries, or the peer answers 487, exactly as `role_after_check` says of the
+/// roles and the tie-breakers of both. What `roles_end_opposite` calls the arrival of a check is
+/// this.
+///
+/// Two agents are peers (`ArePeers`) if each has the credentials of the other. Law
+/// `agents_of_one_session_are_peers` says which calls create such agents.
+pub fn a_check_is_accepted_by_its_peer()
+    ensures judged { (a b : Agent) (c : Option SentCheck) (from : SocketAddr) (id priority : ℕ)
+        (nominates : Bool) → IsAgent a → IsNumbered id priority → ArePeers a b
+        → let bytes = check_bytes a id priority nominates in
+        given b from (judgement_of b c from bytes)
+        ≡ given_by b from bytes priority nominates
+        (role_after_check b.role b.tie_breaker (rival_of b.role (said_by a))) }
+
+    // The role that it leaves the peer.
+    ensures role { (a b : Agent) (c : Option SentCheck) (from : SocketAddr) (id priority : ℕ)
+        (nominates : Bool) → IsAgent a → IsNumbered id priority → ArePeers a b
+        → role_left b.role (judgement_of b c from (check_bytes a id priority nominates))
+        ≡ role_by b.role
+        (role_after_check b.role b.tie_breaker (rival_of b.role (said_by a))) }
+{}
+
+/// The answer of an agent to a check of its peer is received as it is meant, if it comes from where
+/// the check went. A success makes the pair valid, with the address that the check came from. A 487
+/// switches the role of the peer, if it still has the role that it sent the check in.
+///
+/// `a` is the agent that sent the check, and `now` is the agent when the answer arrives, whose role
+/// and tie-breaker may be others by then. The check came to `b` from the address `from`, and the
+/// answer comes from the address `source`.
+pub fn its_answer_makes_the_pair_valid()
+    ensures valid { (a b now : Agent) (id priority : ℕ) (nominates : Bool)
+        (to from source : SocketAddr) → IsAgent a → IsNumbered id priority → ArePeers now b
+        → IsSocketAddr from → is_same_address source to ≡ true
+        → IsValid now (written_check a id to priority nominates) source
+        (success_answer b from (check_bytes a id priority nominates) Sha1) (mapped_of from id) }
+
+    // What `Mapped::address` then returns is that address, in one of its spellings.
+    ensures address { (from address : SocketAddr) (id : ℕ) → IsSocketAddr from
+        → IsHidden id (mapped_of from id).attribute (socket_ip address)
+        → IsPlainSocket address (xor_port (mapped_of from id).attribute.port)
+        → is_same_address address from ≡ true }
+    ensures conflict { (a b now : Agent) (id priority : ℕ) (nominates : Bool)
+        (to source : SocketAddr) → IsAgent a → IsNumbered id priority → ArePeers now b
+        → is_same_address source to ≡ true
+        → let j = judgement_of now (Some (written_check a id to priority nominates)) source
+        (conflict_answer b (check_bytes a id priority nominates) Sha1) in
+        (given now source j ≡ responded (Outcome.RoleConflict (is_same_role now.role a.role)))
+        × (role_left now.role j
+        ≡ role_after_outcome now.role (Outcome.RoleConflict (is_same_role now.role a.role))) }
+{}

@@ -442,10 +442,14 @@ typedef enum stunp_drop {
                                              * the request would not fit into a message */
     STUNP_DROP_WEAKER_CHALLENGE = 11, /* it is a challenge for less protection than a challenge to which
                                        * the server has answered with a success */
-    STUNP_DROP_OUT_OF_MEMORY = 12     /* an allocation failed, or no transaction ID is left to
+    STUNP_DROP_OUT_OF_MEMORY = 12,    /* an allocation failed, or no transaction ID is left to
                                        * answer a challenge. The request goes on, and the server
                                        * answers its next transmission. Over a stream there is none,
                                        * so it times out */
+    STUNP_DROP_LATE_CHALLENGE = 14    /* it is a challenge that arrived more than one plan after the
+                                       * request was started (39.5 s by default; see
+                                       * stunp_endpoint_client_settings). The client answers it no
+                                       * more */
 } stunp_drop;
 
 /* Why a server with long-term credentials refuses a request: the first check that the request fails
@@ -947,6 +951,7 @@ STUNP_INLINED const char *stunp_drop_text(uint32_t why) {
     case STUNP_DROP_UNANSWERABLE_CHALLENGE: return "it is a challenge that cannot be answered";
     case STUNP_DROP_WEAKER_CHALLENGE: return "it is a weaker challenge than one before";
     case STUNP_DROP_OUT_OF_MEMORY: return "an allocation failed";
+    case STUNP_DROP_LATE_CHALLENGE: return "it is a challenge that arrived too late";
     default: return "it is not dropped";
     }
 }
@@ -1366,8 +1371,10 @@ enum { STUNP_BODY_MAX = 60000 };
  *   last                how long to wait after the last transmission, in nanoseconds. By default
  *                       8000000000 (8 s), even if `initial` is set
  *   transmissions       how often a request is sent. By default 7 times, so that a request without
- *                       an answer ends after 39.5 s. Each challenge that the client answers begins
- *                       this anew, so with 6 challenges a request ends within 276.5 s
+ *                       an answer ends after 39.5 s: these transmissions and waits are its plan. A
+ *                       message for a challenge has a plan of its own, but after its first plan a
+ *                       request answers no challenge. So each request ends within two plans, 79 s by
+ *                       default, at the first stunp_endpoint_client_poll from then on
  *   is_stream           whether messages go over a stream, such as TCP. Each request is then sent
  *                       once, and the client waits as long as it would for datagrams. Split the
  *                       stream by stunp_next_frame, or by stunp_next_turn_frame if it also has

@@ -42,6 +42,8 @@ class Request:
         self.number, self.method, self.body = number, method, body
         self.challenges, self.drops = 0, []
         self.signed_for = None
+        # When the first plan ends, and as long again has passed.
+        self.until = self.bound = 0
 
 
 class Settings:
@@ -175,6 +177,10 @@ class ClientStage:
             body.append((kind, value))
         request = Request(self.next_number, int(method, 16), body)
         request.signed_for = self.current
+        # A request goes on for two plans: after the first no challenge is answered.
+        plan = sum(self.waits())
+        request.until = self.stage.now + plan
+        request.bound = request.until + plan
         if self.send(request, self.current) is None:
             return "TooLarge"
         self.next_number += 1
@@ -257,6 +263,8 @@ class ClientStage:
                 timer.at = self.stage.now + timer.waits[0]
                 return "sends " + told(timer.message)
         if not self.ended:
+            self.give_up()
+        if not self.ended:
             self.time_out()
         if self.ended:
             number = min(self.ended)
@@ -264,15 +272,24 @@ class ClientStage:
         if not self.requests:
             return "wait"
         until = min(timer.at for timer in self.due.values())
+        until = min(until, min(request.bound for request in self.requests.values()))
         return f"wait {until // 10**6}ms" if until % 10**6 == 0 else f"wait {until}ns"
+
+    def give_up(self):
+        """The first request ends if two plans have passed since it was started."""
+        first = min(self.requests.items(), key=lambda one: one[1].number, default=None)
+        if first and first[1].bound <= self.stage.now:
+            self.ends_late(*first)
 
     def time_out(self):
         for identity, timer in list(self.due.items()):
             if timer.at <= self.stage.now:
-                request = self.requests[identity]
-                self.end(identity, f"timed out, {self.drops_of(request)} dropped")
-                self.step_back(request.signed_for)
+                self.ends_late(identity, self.requests[identity])
                 return
+
+    def ends_late(self, identity, request):
+        self.end(identity, f"timed out, {self.drops_of(request)} dropped")
+        self.step_back(request.signed_for)
 
     def take(self, identity):
         del self.due[identity]
@@ -389,7 +406,10 @@ class ClientStage:
                          may_hash and self.built.hashes != "disabled")
 
     def anew(self, identity, request, challenge):
-        """Sends a request again, or ends it if that was done too often."""
+        """Sends a request again, or ends it if that was done too often. After the first plan of the
+        request the challenge is dropped."""
+        if self.stage.now > request.until:
+            return Dropped("LateChallenge")
         if request.challenges >= self.built.most:
             self.end(identity, "Unauthorized")
             return None

@@ -4,8 +4,8 @@
  *
  * --user FILE         reads both from the last line of a file, or of standard input if it is `-`
  * --sha256            supports HMAC-SHA256 beside HMAC-SHA1
- * --within SECONDS    gives up after SECONDS; without an answer a request ends after 39.5 s, and each
- *                     challenge begins that anew, at most six times
+ * --within SECONDS    gives up after SECONDS; without an answer a request ends after 39.5 s, or
+ *                     within 79 s if it was challenged
  * --                  what follows is not an option, such as a PASSWORD that begins with `-`
  *
  * Without a name it accepts an unsigned response; with a name, only a response that the server has

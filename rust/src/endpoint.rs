@@ -264,6 +264,10 @@ pub enum DropReason {
     OutOfMemory,
     /// It has no FINGERPRINT, although the settings require one (RFC 8489, section 7.3).
     MissingFingerprint,
+    /// It is a 401 or a 438 that arrived more than one plan after the request was started (39.5 seconds
+    /// by default; see [`Retransmission`]). The client answers it no more, so that the request ends
+    /// within two plans.
+    LateChallenge,
 }
 
 impl DropReason {
@@ -278,10 +282,11 @@ impl DropReason {
         DropReason::WeakerChallenge,
         DropReason::OutOfMemory,
         DropReason::MissingFingerprint,
+        DropReason::LateChallenge,
     ];
 
     /// How many reasons there are.
-    pub const COUNT: usize = 9;
+    pub const COUNT: usize = 10;
 
     /// Returns a number below [`COUNT`](Self::COUNT), for counters of yours.
     pub fn index(self) -> usize {
@@ -300,6 +305,7 @@ impl DropReason {
             DropReason::WeakerChallenge => "WeakerChallenge",
             DropReason::OutOfMemory => "OutOfMemory",
             DropReason::MissingFingerprint => "MissingFingerprint",
+            DropReason::LateChallenge => "LateChallenge",
         }
     }
 }
@@ -316,6 +322,7 @@ impl fmt::Display for DropReason {
             DropReason::WeakerChallenge => "its challenge asks for less than one before",
             DropReason::OutOfMemory => "an allocation failed",
             DropReason::MissingFingerprint => "the FINGERPRINT is missing",
+            DropReason::LateChallenge => "its challenge arrived too late",
         })
     }
 }
@@ -341,6 +348,7 @@ impl From<ended::DropReason> for DropReason {
             ended::DropReason::UnanswerableChallenge => DropReason::UnanswerableChallenge,
             ended::DropReason::WeakerChallenge => DropReason::WeakerChallenge,
             ended::DropReason::OutOfMemory => DropReason::OutOfMemory,
+            ended::DropReason::LateChallenge => DropReason::LateChallenge,
         }
     }
 }

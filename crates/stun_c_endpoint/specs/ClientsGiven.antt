@@ -10,6 +10,7 @@ use Rattle.stun_base.specs.declared.wire.transport.TransportType.TheVariants.{Tc
 use Rattle.stun_auth.specs.declared.feature.Feature.{Feature}
 use Rattle.stun_auth.specs.declared.feature.Feature.TheVariants.{Auto, Disabled, Required}
 use Rattle.stun_agent.specs.Agent.{Agent, new_agent}
+use Rattle.stun_agent.specs.Timing.{Settings}
 use Rattle.stun_client.specs.Judging.{Identity, long_term, short_term, unsigned}
 use Rattle.stun_client.specs.declared.preferences.Preferences.{Preferences}
 use Rattle.stun_client_endpoint.specs.Endpoints.{Endpoint, new_endpoint}
@@ -93,16 +94,19 @@ abbrev pub transport_given : Bool → TransportType
 transport_given true = Tcp
 transport_given false = Udp
 
--- the agent that has the timers: by default those of RFC 8489, section 6.2.1
-abbrev pub agent_given : SocketAddr → ClientOptions → Agent
-agent_given server o = record (new_agent (transport_given o.is_stream) server) {
-  settings = record {
-    initial = or_else o.initial 500000000;
-    maximum = or_else o.longest 18446744073709551615;
-    transmissions = or_else o.transmissions 7;
-    last_wait = or_else o.last 8000000000;
-  };
+-- when a request is sent again, and when it ends: by default as RFC 8489 has it, section 6.2.1
+abbrev pub timeouts_given : ClientOptions → Settings
+timeouts_given o = record {
+  initial = or_else o.initial 500000000;
+  maximum = or_else o.longest 18446744073709551615;
+  transmissions = or_else o.transmissions 7;
+  last_wait = or_else o.last 8000000000;
 }
+
+-- the agent that has the timers
+abbrev pub agent_given : SocketAddr → ClientOptions → Agent
+agent_given server o =
+    record (new_agent (transport_given o.is_stream) server) { settings = timeouts_given o }
 
 -- ---- the client
 

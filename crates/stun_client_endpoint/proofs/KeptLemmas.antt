@@ -21,9 +21,9 @@ use Rattle.stun_client_endpoint.specs.Laws.{AreKept, HasTimer, IsAwaited}
 use Rattle.stun_client_endpoint.specs.Pendings.{Pending, Pendings, changed_at, first_ended, new_pending}
 use Rattle.stun_client_endpoint.specs.Pendings.{request_at, sending, with_request, without_first}
 use Rattle.stun_client_endpoint.specs.Pendings.{without_request}
-use Rattle.stun_client_endpoint.proofs.PendingLemmas.{none_changed, none_without}
+use Rattle.stun_client_endpoint.proofs.PendingLemmas.{changed_ascends, none_changed, none_without}
 use Rattle.stun_client_endpoint.proofs.PollLemmas.{again_next}
-use Rattle.stun_client_endpoint.proofs.StoredLemmas.{apart, changed_ascends, changed_from, changed_other}
+use Rattle.stun_client_endpoint.proofs.StoredLemmas.{apart, changed_from, changed_other}
 use Rattle.stun_client_endpoint.proofs.StoredLemmas.{changed_same, ended_is_there, put_ascends}
 use Rattle.stun_client_endpoint.proofs.StoredLemmas.{put_other, put_same, removed_ascends, removed_other}
 use Rattle.stun_client_endpoint.proofs.StoredLemmas.{same_or_apart}
@@ -274,13 +274,13 @@ not_free id other a s same none there =
     let free : at other s.asked ≡ None = subst (λ k. at k s.asked ≡ None) same none in
     cc
 
-pub kept_started : (l : LoopSeen) (all : Pendings) (body : Body) (id now : ℕ) (bytes : List ℕ)
+pub kept_started : (l : LoopSeen) (all : Pendings) (body : Body) (until id now : ℕ) (bytes : List ℕ)
     → transaction_id_field bytes ≡ id
     → at (transaction_id_field bytes) l.client.requests.asked ≡ None → AreKept l all
     → AreKept (after_request bytes now l)
     (changed_at (sending id bytes) l.client.requests.next
-    (with_request l.client.requests.next (new_pending body) all))
-kept_started l all body id now bytes has free is = record {
+    (with_request l.client.requests.next (new_pending body until) all))
+kept_started l all body until id now bytes has free is = record {
   loop = loop_request bytes now l is.loop;
   ascending = changed_ascends send next stored (put_ascends next fresh_one all is.ascending);
   fresh = λ n low. none_changed send next n stored (put_other n next fresh_one all (after n low)
@@ -311,10 +311,10 @@ kept_started l all body id now bytes has free is = record {
     send = sending id bytes
 
     fresh_one : Pending
-    fresh_one = new_pending body
+    fresh_one = new_pending body until
 
     stored : Pendings
-    stored = with_request l.client.requests.next (new_pending body) all
+    stored = with_request l.client.requests.next (new_pending body until) all
 
     first : AskedSeen
     first = asked_first l.client.requests (method_of (type_field bytes)) l.client.standing.current
@@ -325,41 +325,41 @@ kept_started l all body id now bytes has free is = record {
     newly : (other : ℕ) (b : AskedSeen) → transaction_id_field bytes ≡ other
         → b ≡ asked_first l.client.requests (method_of (type_field bytes)) l.client.standing.current
         → IsAwaited other b.number (changed_at (sending id bytes) l.client.requests.next
-        (with_request l.client.requests.next (new_pending body) all))
+        (with_request l.client.requests.next (new_pending body until) all))
     newly other b new same =
         subst (λ (x : AskedSeen). IsAwaited other x.number
         (changed_at (sending id bytes) l.client.requests.next
-        (with_request l.client.requests.next (new_pending body) all))) (sym same)
+        (with_request l.client.requests.next (new_pending body until) all))) (sym same)
         (record {
-          pending = sending id bytes (new_pending body);
+          pending = sending id bytes (new_pending body until);
           there = changed_same (sending id bytes) l.client.requests.next
-              (with_request l.client.requests.next (new_pending body) all)
-              ∙ ap (option_map (sending id bytes)) (put_same l.client.requests.next (new_pending body) all);
+              (with_request l.client.requests.next (new_pending body until) all)
+              ∙ ap (option_map (sending id bytes)) (put_same l.client.requests.next (new_pending body until) all);
           named = sym has ∙ new;
           goes_on = refl;
         })
 
     before : (other : ℕ) (b : AskedSeen) → at other l.client.requests.asked ≡ Some b
         → IsAwaited other b.number (changed_at (sending id bytes) l.client.requests.next
-        (with_request l.client.requests.next (new_pending body) all))
+        (with_request l.client.requests.next (new_pending body until) all))
     before other b here =
         let low : b.number < l.client.requests.next = is.loop.numbered.below other b here in
         let off = apart b.number l.client.requests.next (λ same. omega (arith, same, low)) in
         awaited_as other b.number all _
         (changed_other (sending id bytes) b.number l.client.requests.next
-        (with_request l.client.requests.next (new_pending body) all) off
-        ∙ put_other b.number l.client.requests.next (new_pending body) all off)
+        (with_request l.client.requests.next (new_pending body until) all) off
+        ∙ put_other b.number l.client.requests.next (new_pending body until) all off)
         (is.awaited other b here)
 
     new_end : (n : ℕ) (p : Pending) → l.client.requests.next ≡ n → (q : Pending)
-        → request_at n (with_request l.client.requests.next (new_pending body) all) ≡ Some q
+        → request_at n (with_request l.client.requests.next (new_pending body until) all) ≡ Some q
         → p ≡ sending id bytes q → p.end ≡ None
     new_end n p same q here is =
-        let there : request_at n (with_request l.client.requests.next (new_pending body) all)
-        ≡ Some (new_pending body) =
-        subst (λ k. request_at k (with_request l.client.requests.next (new_pending body) all)
-        ≡ Some (new_pending body)) same (put_same l.client.requests.next (new_pending body) all) in
-        let equal : q ≡ new_pending body = cc in
+        let there : request_at n (with_request l.client.requests.next (new_pending body until) all)
+        ≡ Some (new_pending body until) =
+        subst (λ k. request_at k (with_request l.client.requests.next (new_pending body until) all)
+        ≡ Some (new_pending body until)) same (put_same l.client.requests.next (new_pending body until) all) in
+        let equal : q ≡ new_pending body until = cc in
         ap (λ (x : Pending). x.end) is ∙ ap (λ (x : Pending). x.end) equal
 
     new_timer : (n : ℕ) (p q : Pending) → l.client.requests.next ≡ n → p ≡ sending id bytes q

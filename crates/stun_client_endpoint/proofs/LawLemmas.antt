@@ -16,7 +16,9 @@ use Rattle.stun_base.specs.declared.wire.message_type.MessageClass.{MessageClass
 use Rattle.stun_base.specs.declared.wire.message_type.MessageClass.TheVariants.{Request, Indication}
 use Rattle.stun_base.specs.declared.wire.message_type.MessageClass.TheVariants.{Success, Error}
 use Rattle.stun_types.specs.Message.{refusal}
-use Rattle.stun_agent.specs.Agent.{poll_answer, request_refusal}
+use Rattle.stun_base.specs.declared.wire.attribute_type.AttributeType.{AttributeType}
+use Rattle.stun_agent.specs.Agent.{Agent, poll_answer, request_refusal}
+use Rattle.stun_agent.specs.Transactions.{IsAscending}
 use Rattle.stun_agent.specs.declared.agent.StunAgentPollRet.{StunAgentPollRet}
 use Rattle.stun_agent.specs.declared.agent.StunAgentPollRet.TheVariants.{TransactionTimedOut}
 use Rattle.stun_agent.specs.declared.agent.StunAgentPollRet.TheVariants.{TransactionCancelled}
@@ -27,14 +29,15 @@ use Rattle.stun_client.specs.Challenging.{code_in}
 use Rattle.stun_client.specs.Clients.{EndpointClient, Given, by_asked, by_class, heard, indicated, not_ours}
 use Rattle.stun_client.specs.Clients.{responded}
 use Rattle.stun_client.specs.Ids.{id_of}
-use Rattle.stun_client.specs.Judging.{Verdict, anew, believed, dropped}
+use Rattle.stun_agent.proofs.OnceLemmas.{ascending_none}
+use Rattle.stun_client.specs.Judging.{Identity, Verdict, anew, believed, dropped}
 use Rattle.stun_client.specs.Requests.{AskedSeen, LAST_NUMBER, answered, at, if_answered, is_answer}
 use Rattle.stun_client.specs.Requests.{renewal_refusal, renewal_refusal_of, start_refusal}
 use Rattle.stun_client.specs.declared.requests.RequestRefusal.{RequestRefusal}
 use Rattle.stun_client.specs.declared.requests.RequestRefusal.TheVariants as Refusals
-use Rattle.stun_client_loop.specs.Calls.{answer, cancel, poll_timers, poll_transmit}
+use Rattle.stun_client_loop.specs.Calls.{answer, cancel, poll_timers, poll_transmit, time_out}
 use Rattle.stun_client_loop.specs.Loops.{after_answer, after_cancel, after_hearing}
-use Rattle.stun_client_loop.specs.Loops.{after_timers, after_transmit, again_refused}
+use Rattle.stun_client_loop.specs.Loops.{after_time_out, after_timers, after_transmit, again_refused}
 use Rattle.stun_client_loop.specs.Loops.{LoopSeen, of_client, request_refused}
 use Rattle.stun_client_loop.specs.Loops.{timed_of, timed_out_of}
 use Rattle.stun_client_loop.specs.declared.refusal.LoopRefusal.TheVariants.{NotSent}
@@ -46,28 +49,32 @@ use Rattle.stun_client_endpoint.specs.Endpoints.{Answer, Endpoint, IsOver, Polls
 use Rattle.stun_client_endpoint.specs.Endpoints.{after_start, by_given, by_verdict, cancelled}
 use Rattle.stun_client_endpoint.specs.Endpoints.{cancelled_with, challenged_with, chosen, dropping}
 use Rattle.stun_client_endpoint.specs.Endpoints.{ended_by, ends, ends_or, ends_step, first_message}
-use Rattle.stun_client_endpoint.specs.Endpoints.{goes_on, message_of, next_number, number_at}
-use Rattle.stun_client_endpoint.specs.Endpoints.{out_of_memory, received, refusal_of_bytes}
+use Rattle.stun_client_endpoint.specs.Endpoints.{given_up, goes_on, message_of, next_number, number_at}
+use Rattle.stun_client_endpoint.specs.Endpoints.{new_endpoint, out_of_memory, overdue_or, overdue_step}
+use Rattle.stun_client_endpoint.specs.Endpoints.{received}
+use Rattle.stun_client_endpoint.specs.Endpoints.{refusal_of_bytes}
 use Rattle.stun_client_endpoint.specs.Endpoints.{refusal_of_number, refusal_to_start, repeated}
 use Rattle.stun_client_endpoint.specs.Endpoints.{repeated_id, repeats_or, repeats_step, resent}
 use Rattle.stun_client_endpoint.specs.Endpoints.{resent_at, resent_by, resent_if, says, started}
 use Rattle.stun_client_endpoint.specs.Endpoints.{started_at, started_by, step, timed, timers_step}
-use Rattle.stun_client_endpoint.specs.Endpoints.{transmit, unauthorized_by, unsent_or, until_of, waits}
+use Rattle.stun_client_endpoint.specs.Endpoints.{transmit, unauthorized_by, unsent_or, until_from}
+use Rattle.stun_client_endpoint.specs.Endpoints.{until_of, waits}
 use Rattle.stun_client_endpoint.specs.Endpoints.{with_requests, without_memory}
 use Rattle.stun_client_endpoint.specs.Ends.{Ended}
 use Rattle.stun_client_endpoint.specs.Laws.{AreKept, IsAwaited, IsEndpoint, IsStarted}
 use Rattle.stun_client_endpoint.specs.Pendings.{Pending, Pendings, changed_at, ended_of}
 use Rattle.stun_client_endpoint.specs.Pendings.{ending, first_ended, first_unsent, handing_out}
-use Rattle.stun_client_endpoint.specs.Pendings.{if_outstanding, new_pending, noting, outstanding_at}
+use Rattle.stun_client_endpoint.specs.Pendings.{if_outstanding, is_late, new_pending, noting}
+use Rattle.stun_client_endpoint.specs.Pendings.{outstanding_at, overdue}
 use Rattle.stun_client_endpoint.specs.Pendings.{request_at, sending, timed_out, with_request}
 use Rattle.stun_client_endpoint.specs.Pendings.{without_request}
 use Rattle.stun_client_endpoint.specs.Runs.{Call, Calls, Event, call, cancels, changes_nothing}
 use Rattle.stun_client_endpoint.specs.Runs.{count_ends, count_names, ends_one, hands_out}
 use Rattle.stun_client_endpoint.specs.Runs.{names, no_call, polled, polls, receives, requests}
 use Rattle.stun_client_endpoint.specs.Runs.{silent, starts}
-use Rattle.stun_client_endpoint.specs.Written.{Page?}
+use Rattle.stun_client_endpoint.specs.Written.{Form, Page?}
 use Rattle.stun_client_endpoint.specs.declared.ended.DropReason.{DropReason}
-use Rattle.stun_client_endpoint.specs.declared.ended.DropReason.TheVariants.{OutOfMemory}
+use Rattle.stun_client_endpoint.specs.declared.ended.DropReason.TheVariants.{LateChallenge, OutOfMemory}
 use Rattle.stun_client_endpoint.specs.declared.ended.RequestEnd.{RequestEnd}
 use Rattle.stun_client_endpoint.specs.declared.ended.RequestEnd.TheVariants as how
 use Rattle.stun_client_endpoint.specs.declared.told.RequestError.TheVariants as Errors
@@ -78,7 +85,8 @@ use Rattle.stun_client_endpoint.proofs.KeptLemmas.{same_without}
 use Rattle.stun_client_endpoint.proofs.PendingLemmas.{none_without}
 use Rattle.stun_client_endpoint.proofs.PollLemmas.{again_next, timers_next}
 use Rattle.stun_client_endpoint.proofs.StoredLemmas.{IsAt, IsSame, apart, changed_other, changed_same}
-use Rattle.stun_client_endpoint.proofs.StoredLemmas.{ended_is_there, names_apart, put_other, put_same}
+use Rattle.stun_client_endpoint.proofs.StoredLemmas.{ended_is_there, names_apart, overdue_first}
+use Rattle.stun_client_endpoint.proofs.StoredLemmas.{put_other, put_same}
 use Rattle.stun_client_endpoint.proofs.StoredLemmas.{removed, removed_other, same_changed}
 use Rattle.stun_client_endpoint.proofs.StoredLemmas.{same_itself, same_or_apart, unsent_is_there}
 use Rattle.stun_client_endpoint.proofs.WrittenLemmas.{request_id}
@@ -241,7 +249,7 @@ module _ (now : ℕ) (e : Endpoint) (is : IsEndpoint e) where
             at other (after_hearing e.state.client r).requests.asked) said;
       })) (timers_next now e.state) (same_itself e.requests)
   timers_by (AgentWaits until) said =
-      waiting_step e mid (until_of until e.requests) (kept_mid (record {
+      waiting_step e mid (until_of e.plan until e.requests) (kept_mid (record {
         loop = loops;
         next = timers_next now e.state;
         same = λ other. ap (λ (r : StunAgentPollRet).
@@ -251,6 +259,34 @@ module _ (now : ℕ) (e : Endpoint) (is : IsEndpoint e) where
   timers_is : IsGood e (timers_step now e)
   timers_is = timers_by (poll_answer now e.state.agent) refl
 
+-- the first request ends, if it is overdue
+given_up_is : (e : Endpoint) (m id : ℕ) (p : Pending) → IsEndpoint e → request_at m e.requests ≡ Some p
+    → p.id ≡ id → p.end ≡ None → IsGood e (given_up e (m, id))
+given_up_is e m id p is here named going =
+    subst (λ (o : Option Pending). IsStep e (told_event (option_map (λ x. ends (timed_out m x)) o)) after)
+    (sym here)
+    (ending_step e after m (timed_out m p) p is
+    (kept_without m e.state (after_time_out id e.state) e.requests
+    (loses_cancelled m p e.state (after_time_out id e.state) e.requests is
+    (loop_call (time_out id) e.state is.loop) refl
+    (ap (λ k. remove_entry (is_at (nat_cmp k)) e.state.client.requests.asked) (sym named)) here going) is)
+    refl refl here refl)
+  where
+    after : Endpoint
+    after = record e {
+      state = after_time_out id e.state;
+      requests = without_request m e.requests;
+    }
+
+overdue_is : (now : ℕ) (e : Endpoint) → IsEndpoint e → IsGood e (overdue_step now e)
+overdue_is now e is = by (overdue e.plan now e.requests) refl
+  where
+    by : (o : Option (ℕ × ℕ)) → overdue e.plan now e.requests ≡ o → IsGood e (overdue_or now e o)
+    by None found = timers_is now e is
+    by (Some it) found =
+        let first = overdue_first e.plan now e.requests it found in
+        given_up_is e it.0 it.1 first.pending is first.there first.named first.going
+
 ends_is : (now : ℕ) (e : Endpoint) → IsEndpoint e → IsGood e (ends_step now e)
 ends_is now e is = by (first_ended e.requests) refl
   where
@@ -258,7 +294,7 @@ ends_is now e is = by (first_ended e.requests) refl
         → IsGood e (ends_or now
         (with_requests (option_map_or (λ number. without_request number e.requests) o e.requests) e)
         (option_and_then (λ number. option_and_then (ended_of number) (request_at number e.requests)) o))
-    by None found = timers_is now e is
+    by None found = overdue_is now e is
     by (Some m) found =
         let ended = ended_is_there e.requests m is.ascending found in
         subst (λ (o : Option Pending). IsGood e (ends_or now
@@ -478,7 +514,7 @@ module _ (number now : ℕ) (bytes : List ℕ) (e : Endpoint) (a : AskedSeen) (i
 
   challenged_is : (is_heard : Bool) (challenge : Option Answered)
       → IsFine e (challenged_with is_heard number challenge bytes now e (Some a))
-  challenged_is is_heard challenge = by (nat_le e.challenges a.challenges)
+  challenged_is is_heard challenge = in_time (is_late now (request_at number e.requests))
     where
       stored : (o : Option Pending)
           → IsFine e (resent_if is_heard number challenge bytes now e a.method o)
@@ -489,6 +525,12 @@ module _ (number now : ℕ) (bytes : List ℕ) (e : Endpoint) (a : AskedSeen) (i
           (resent_if is_heard number challenge bytes now e a.method (request_at number e.requests)))
       by true = ended_is how.Unauthorized []
       by false = stored (request_at number e.requests)
+
+      in_time : (b : Bool) → IsFine e (cond b (dropping number LateChallenge bytes e)
+          (cond (nat_le e.challenges a.challenges) (unauthorized_by number bytes now e)
+          (resent_if is_heard number challenge bytes now e a.method (request_at number e.requests))))
+      in_time true = dropping_is number LateChallenge bytes e is
+      in_time false = by (nat_le e.challenges a.challenges)
 
   verdict_is : (is_heard : Bool) (v : Verdict) → IsFine e (by_verdict is_heard number bytes now e v)
   verdict_is is_heard (believed by) = ended_is (how.Answered _ by) bytes
@@ -568,7 +610,7 @@ receives_is from bytes now e given is (inr (inr none)) =
 
 module _ (e : Endpoint) (is : IsEndpoint e) where
   -- a request that is started is stored at the next number
-  abbrev IsBegun : Endpoint → Type 0
+  abbrev pub IsBegun : Endpoint → Type 0
   IsBegun after = IsStep e (starts (next_number e)) after × IsAt (next_number e) after.requests
 
   begun : (number : ℕ) (body : Body) (bytes : List ℕ) (now : ℕ)
@@ -577,7 +619,7 @@ module _ (e : Endpoint) (is : IsEndpoint e) where
       → IsBegun (after_start number body bytes now e)
   begun number body bytes now has free = (
     record {
-      kept = kept_started e.state e.requests body (id_of e.seed number) now bytes has free
+      kept = kept_started e.state e.requests body (until_from now e) (id_of e.seed number) now bytes has free
           is;
       grows = omega arith;
       going = λ n there. inl (
@@ -591,11 +633,11 @@ module _ (e : Endpoint) (is : IsEndpoint e) where
       sends = λ n said. cc;
     },
     (
-      sending (id_of e.seed number) bytes (new_pending body),
+      sending (id_of e.seed number) bytes (new_pending body (until_from now e)),
       changed_same (sending (id_of e.seed number) bytes) (next_number e)
-          (with_request (next_number e) (new_pending body) e.requests)
+          (with_request (next_number e) (new_pending body (until_from now e)) e.requests)
           ∙ ap (option_map (sending (id_of e.seed number) bytes))
-          (put_same (next_number e) (new_pending body) e.requests),
+          (put_same (next_number e) (new_pending body (until_from now e)) e.requests),
     ),
   )
     where
@@ -604,15 +646,15 @@ module _ (e : Endpoint) (is : IsEndpoint e) where
       beside n differs =
           let off = apart n (next_number e) differs in
           changed_other (sending (id_of e.seed number) bytes) n (next_number e)
-          (with_request (next_number e) (new_pending body) e.requests) off
-          ∙ put_other n (next_number e) (new_pending body) e.requests off
+          (with_request (next_number e) (new_pending body (until_from now e)) e.requests) off
+          ∙ put_other n (next_number e) (new_pending body (until_from now e)) e.requests off
 
       taken : (n : ℕ) (p : Pending) → request_at n e.requests ≡ Some p → next_number e ≡ n → ⊥
       taken n p there same =
           let none : request_at n e.requests ≡ None = is.fresh n (omega (arith, same)) in
           cc
 
-  started_is : (method : ℕ) (body : Body) (now : ℕ) → refusal_to_start e method body ≡ None
+  pub started_is : (method : ℕ) (body : Body) (now : ℕ) → refusal_to_start e method body ≡ None
       → IsBegun (started method body now e)
   started_is method body now none = by (chosen e) none
     where
@@ -707,6 +749,31 @@ starts_is e after event is (changes_nothing _) = tt
 
 -- ---- the laws
 
+-- one that has asked nothing
+pub new_is : (agent : Agent) (server : SocketAddr) (requires_fingerprint : Bool) (identity : Identity)
+    (form : Form) (understood : List AttributeType) (challenges : ℕ) (seed : List ℕ)
+    → IsAscending agent.transactions
+    → IsEndpoint
+    (new_endpoint agent server requires_fingerprint identity form understood challenges seed)
+new_is agent server requires_fingerprint identity form understood challenges seed sorted = record {
+  loop = record {
+    timed = record {
+      timed = λ id a here. cc;
+      asked_ascend = ascending_none;
+      all_ascend = sorted;
+    };
+    numbered = record {
+      below = λ id a here. cc;
+      distinct = λ id other a b here there same. cc;
+    };
+  };
+  ascending = ascending_none;
+  fresh = λ number low. refl;
+  awaited = λ id a here. cc;
+  unsent = λ number p here sent. cc;
+  timed = λ number p here on. cc;
+}
+
 pub starts_one : (e after : Endpoint) (number : ℕ) → IsEndpoint e → Call e (starts number) after
     → IsStarted number after × (request_at number e.requests ≡ None)
 unfolding IsStoredAfter
@@ -773,7 +840,7 @@ stays_over n e after events is over calls =
     (record { started = all.low; gone = all.gone }, all.no_names)
 
 -- a request that is stored has a number below the next one
-below : (n : ℕ) (e : Endpoint) → IsEndpoint e → IsAt n e.requests → n < next_number e
+pub below : (n : ℕ) (e : Endpoint) → IsEndpoint e → IsAt n e.requests → n < next_number e
 below n e is there = by (nat_lt n (next_number e)) refl
   where
     by : (b : Bool) → nat_lt n (next_number e) ≡ b → n < next_number e

@@ -1,4 +1,5 @@
 pub mod BodyLemmas
+pub mod BoundLemmas
 pub mod FormLemmas
 pub mod KeptLemmas
 pub mod LawLemmas
@@ -9,4 +10,5 @@ pub mod ReceivingLemmas
 pub mod RequestingLemmas
 pub mod StoredLemmas
 pub mod TallyLemmas
+pub mod TurnLemmas
 pub mod WrittenLemmas

@@ -1,17 +1,25 @@
 -- What is stored at a number after a change, and what was stored at a free number is taken out again.
 use Rattle.std.proofs.Common.{◌≡◌, ◌∙◌, ◌≤◌, ◌+◌, ℕ, Bool, true, false, [], ◌∷◌, Option, Some}
-use Rattle.std.proofs.Common.{None, ap, arith, cond, refl, sym}
+use Rattle.std.proofs.Common.{None, ap, arith, cond, refl, subst, sym}
 use Rattle.std.specs.BTreeMap.{insert_entry, is_at}
-use Rattle.std.specs.Map.{lookup, remove_entry, set_value}
+use Rattle.std.specs.List.Sorted.{IsStrictlySortedBy}
+use Rattle.std.specs.Map.{keys_of, lookup, remove_entry, set_value}
+use Rattle.std.specs.Option.{option_map_or}
 use Rattle.std.specs.Ordering.{is_eq, match_ordering, nat_cmp}
 use Rattle.std.specs.declared.cmp.Ordering.{Ordering}
 use Rattle.std.specs.declared.cmp.Ordering.TheVariants.{Less, Equal, Greater}
+use Rattle.stun_agent.proofs.Ascending.{IsAscending-insert, IsAscending-remove, IsAscending-set_value}
 use Rattle.stun_agent.proofs.Ascending.{lookup-insert_other}
 use Rattle.stun_agent.proofs.EntryLemmas.{own_key, same_key}
 use Rattle.stun_client_loop.specs.Loops.{LoopSeen}
-use Rattle.stun_client_endpoint.specs.Pendings.{Pending, Pendings, changed_at, first_ended, request_at}
-use Rattle.stun_client_endpoint.specs.Pendings.{with_request, without_first, without_request}
-use Rattle.stun_client_endpoint.specs.code.Stored.{IsStored}
+use Rattle.stun_client_endpoint.specs.Pendings.{Pending, Pendings, changed_at, first_ended}
+use Rattle.stun_client_endpoint.specs.Pendings.{request_at, with_request, without_first, without_request}
+use Rattle.stun_client_endpoint.specs.code.Stored.{EndInTurn, IsStored}
+use Rattle.stun_client_endpoint.proofs.TurnLemmas.{turn_changed, turn_put, turn_without}
+use Rattle.stun_client_endpoint.proofs.TurnLemmas.{turn_without_first}
+
+abbrev pub Ascend : Pendings → Type 0
+Ascend all = IsStrictlySortedBy nat_cmp (keys_of all)
 
 -- ---- what is not there
 
@@ -61,48 +69,79 @@ none_without_first n all none = by (first_ended all) refl
     by None is = rw is none
     by (Some m) is = rw is (none_without m n all none)
 
+pub changed_ascends : (f : Pending → Pending) (m : ℕ) (all : Pendings) → Ascend all
+    → Ascend (changed_at f m all)
+changed_ascends f m all sorted = by (request_at m all)
+  where
+    by : (o : Option Pending)
+        → Ascend (option_map_or (λ p. set_value (is_at (nat_cmp m)) all (f p)) o all)
+    by None = sorted
+    by (Some p) = IsAscending-set_value (is_at (nat_cmp m)) all (f p) sorted
+
 -- ---- what holds of the parts of a client
 
-pub stored_changed : (next : ℕ) (l after : LoopSeen) (f : Pending → Pending) (m : ℕ)
-    (all now : Pendings) → IsStored next l all → now ≡ changed_at f m all
-    → after.client.requests.next ≡ l.client.requests.next → IsStored next after now
-stored_changed next l after f m all now was is same = record {
+pub stored_changed : (next latest : ℕ) (l after : LoopSeen) (f : Pending → Pending) (m : ℕ)
+    (all now : Pendings) → ((p : Pending) → (f p).until ≡ p.until) → IsStored next latest l all
+    → now ≡ changed_at f m all → after.client.requests.next ≡ l.client.requests.next
+    → IsStored next latest after now
+stored_changed next latest l after f m all now until was is same = record {
   number = was.number ∙ sym same;
   fresh = λ n low. ap (request_at n) is ∙ none_changed f m n all (was.fresh n low);
+  ascending = subst Ascend (sym is) (changed_ascends f m all was.ascending);
+  in_turn = subst (EndInTurn 0 latest) (sym is) (turn_changed f m 0 latest all until was.in_turn);
 }
 
-pub stored_without : (next : ℕ) (l after : LoopSeen) (m : ℕ) (all now : Pendings)
-    → IsStored next l all → now ≡ without_request m all
-    → after.client.requests.next ≡ l.client.requests.next → IsStored next after now
-stored_without next l after m all now was is same = record {
+pub stored_without : (next latest : ℕ) (l after : LoopSeen) (m : ℕ) (all now : Pendings)
+    → IsStored next latest l all → now ≡ without_request m all
+    → after.client.requests.next ≡ l.client.requests.next → IsStored next latest after now
+stored_without next latest l after m all now was is same = record {
   number = was.number ∙ sym same;
   fresh = λ n low. ap (request_at n) is ∙ none_without m n all (was.fresh n low);
+  ascending = subst Ascend (sym is) (IsAscending-remove (is_at (nat_cmp m)) all was.ascending);
+  in_turn = subst (EndInTurn 0 latest) (sym is)
+      (turn_without (is_at (nat_cmp m)) 0 latest all was.in_turn);
 }
 
-pub stored_without_first : (next : ℕ) (l : LoopSeen) (all now : Pendings)
-    → IsStored next l all → now ≡ without_first all → IsStored next l now
-stored_without_first next l all now was is = record {
+pub stored_without_first : (next latest : ℕ) (l : LoopSeen) (all now : Pendings)
+    → IsStored next latest l all → now ≡ without_first all → IsStored next latest l now
+stored_without_first next latest l all now was is = record {
   number = was.number;
   fresh = λ n low. ap (request_at n) is ∙ none_without_first n all (was.fresh n low);
+  ascending = subst Ascend (sym is) (first_ascends (first_ended all));
+  in_turn = subst (EndInTurn 0 latest) (sym is) (turn_without_first 0 latest all was.in_turn);
 }
+  where
+    first_ascends : (o : Option ℕ)
+        → Ascend (option_map_or (λ number. without_request number all) o all)
+    first_ascends None = was.ascending
+    first_ascends (Some m) = IsAscending-remove (is_at (nat_cmp m)) all was.ascending
 
-pub stored_after : (next : ℕ) (l after : LoopSeen) (all : Pendings) → IsStored next l all
-    → after.client.requests.next ≡ l.client.requests.next → IsStored next after all
-stored_after next l after all was same = record {
+pub stored_after : (next latest : ℕ) (l after : LoopSeen) (all : Pendings)
+    → IsStored next latest l all → after.client.requests.next ≡ l.client.requests.next
+    → IsStored next latest after all
+stored_after next latest l after all was same = record {
   number = was.number ∙ sym same;
   fresh = was.fresh;
+  ascending = was.ascending;
+  in_turn = was.in_turn;
 }
 
--- a new request is put at the next number
-pub stored_put : (next : ℕ) (l after : LoopSeen) (f : Pending → Pending) (p : Pending)
-    (all now : Pendings) → IsStored next l all
-    → now ≡ changed_at f next (with_request next p all)
-    → after.client.requests.next ≡ l.client.requests.next + 1 → IsStored (next + 1) after now
-stored_put next l after f p all now was is grown = record {
+-- a new request is put at the next number, and its first plan ends at or after the latest end
+pub stored_put : (next latest : ℕ) (l after : LoopSeen) (f : Pending → Pending) (p : Pending)
+    (all now : Pendings) → ((q : Pending) → (f q).until ≡ q.until) → latest ≤ p.until
+    → IsStored next latest l all → now ≡ changed_at f next (with_request next p all)
+    → after.client.requests.next ≡ l.client.requests.next + 1
+    → IsStored (next + 1) p.until after now
+stored_put next latest l after f p all now until later was is grown = record {
   number = ap (λ n. n + 1) was.number ∙ sym grown;
   fresh = λ n low. ap (request_at n) is
       ∙ none_changed f next n (with_request next p all) (lookup-insert_other n next p all (apart n low)
       ∙ was.fresh n (omega arith));
+  ascending = subst Ascend (sym is) (changed_ascends f next (with_request next p all)
+      (IsAscending-insert all next p was.ascending));
+  in_turn = subst (EndInTurn 0 p.until) (sym is)
+      (turn_changed f next 0 p.until (with_request next p all) until
+      (turn_put next 0 latest p all was.fresh later was.in_turn));
 }
   where
     apart : (n : ℕ) → next + 1 ≤ n → is_at (nat_cmp n) next ≡ false

@@ -24,10 +24,13 @@ use Rattle.stun_client_loop.specs.declared.client_loop.Timed.{Timed}
 use Rattle.stun_client_loop.specs.declared.client_loop.Timed.TheVariants.{TimedOut, Forgotten}
 use Rattle.stun_client_loop.specs.declared.client_loop.Timed.TheVariants.{WaitUntil}
 use Rattle.stun_client_endpoint.specs.Ends.{Ended}
-use Rattle.stun_client_endpoint.specs.Endpoints.{Endpoint, Step, ends_or, ends_step, repeated}
+use Rattle.stun_client_endpoint.specs.Endpoints.{Endpoint, Step, ends, ends_or, ends_step, overdue_or}
+use Rattle.stun_client_endpoint.specs.Endpoints.{overdue_step, repeated}
 use Rattle.stun_client_endpoint.specs.Endpoints.{repeats_or, repeats_step, step, timed, timers_step}
 use Rattle.stun_client_endpoint.specs.Endpoints.{transmit, unsent_or, with_requests}
-use Rattle.stun_client_endpoint.specs.Pendings.{end_of_first, first_unsent, without_first}
+use Rattle.stun_client_endpoint.specs.Pendings.{Pending, end_of_first, first_unsent, overdue, timed_out}
+use Rattle.stun_client_endpoint.specs.Pendings.{without_first}
+use Rattle.stun_client_endpoint.proofs.StoredLemmas.{overdue_first}
 
 -- ---- the number of the next request
 
@@ -101,6 +104,20 @@ timers_fewer now e next is = by (ended_by_poll now e.state.agent) refl
         let nothing = ap (λ (s : Step). s.0) is in
         cc
 
+-- a request that is overdue is stored, so that its end is handed out
+overdue_fewer : (now : ℕ) (e next : Endpoint) → overdue_step now e ≡ (None, next)
+    → length next.state.agent.transactions + 1 ≤ length e.state.agent.transactions
+overdue_fewer now e next is = by (overdue e.plan now e.requests) refl is
+  where
+    by : (o : Option (ℕ × ℕ)) → overdue e.plan now e.requests ≡ o → overdue_or now e o ≡ (None, next)
+        → length next.state.agent.transactions + 1 ≤ length e.state.agent.transactions
+    by None found is = timers_fewer now e next is
+    by (Some it) found is =
+        let first = overdue_first e.plan now e.requests it found in
+        let says = ap (λ (o : Option Pending). option_map (λ p. ends (timed_out it.0 p)) o) first.there in
+        let nothing = ap (λ (s : Step). s.0) is in
+        cc
+
 ends_fewer : (now : ℕ) (e next : Endpoint) → ends_step now e ≡ (None, next)
     → length next.state.agent.transactions + 1 ≤ length e.state.agent.transactions
 ends_fewer now e next is = by (end_of_first e.requests) is
@@ -110,7 +127,7 @@ ends_fewer now e next is = by (end_of_first e.requests) is
 
     by : (o : Option Ended) → ends_or now without o ≡ (None, next)
         → length next.state.agent.transactions + 1 ≤ length e.state.agent.transactions
-    by None is = timers_fewer now without next is
+    by None is = overdue_fewer now without next is
     by (Some x) is = let nothing = ap (λ (s : Step). s.0) is in cc
 
 transmit_same : (now : ℕ) (a : Agent)

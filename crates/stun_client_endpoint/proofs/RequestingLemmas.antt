@@ -4,7 +4,7 @@ use Rattle.std.proofs.Common.{Result, Ok, Err, ap, arith, cond, inl, inr, refl, 
 use Rattle.std.specs.Bool.{⊤}
 use Rattle.std.specs.Option.{IfSome, IsSome, MatchOption, is_none, is_some, option_map, option_or}
 use Rattle.std.specs.Prelude.{◌==◌}
-use Rattle.std.specs.Result.{IfErr, IsErr, IsOkUnless, OnOk}
+use Rattle.std.specs.Result.{IfErr, IsErr, IsErrAnd, IsOkUnless, OnOk}
 use Rattle.std.proofs.lemmas.Bool.{eqb-false}
 use Rattle.stun_agent.specs.Agent.{request_refusal}
 use Rattle.stun_agent.specs.declared.error.StunError.{StunError}
@@ -188,3 +188,19 @@ told_at_once T e method number body bytes result is written =
     by None found b page = cc
     by (Some n) found true page = cc
     by (Some n) found false page = tt
+
+-- an error is handed on
+pub err_is : (T : Type 0) (r : Result T RequestError) (why : RequestError) → IsErr r
+    → IsErrAnd r (λ x. x ≡ why) → r ≡ Err why
+err_is T (Ok x) why is same = cc
+err_is T (Err x) why is same = ap Err same
+
+-- a request that the loop does not send is refused
+pub refused_so : (T : Type 0) (o other : Option LoopRefusal) (result : Result T RequestError)
+    (why : RequestError) → o ≡ other → result ≡ Err why
+    → (why ≡ OutOfMemory) ⊎ ((why ≡ NoId) × IsSome o)
+    → IfErr result (λ x. (x ≡ OutOfMemory) ⊎ ((x ≡ NoId) × IsSome other))
+refused_so T o other result why same is said =
+    subst (λ (r : Result T RequestError). IfErr r
+    (λ x. (x ≡ OutOfMemory) ⊎ ((x ≡ NoId) × IsSome other))) (sym is)
+    (subst (λ (p : Option LoopRefusal). (why ≡ OutOfMemory) ⊎ ((why ≡ NoId) × IsSome p)) same said)

@@ -4,10 +4,11 @@ use Rattle.std.proofs.Common.{ap, cond, inl, inr, refl, subst, sym}
 use Rattle.std.specs.BTreeMap.{is_at}
 use Rattle.std.specs.List.Sorted.{IsStrictlySortedBy}
 use Rattle.std.specs.Map.{keys_of, set_value}
-use Rattle.std.specs.Option.{is_some, option_map, option_map_or}
+use Rattle.std.specs.Option.{is_none, is_some, option_map, option_map_or}
 use Rattle.std.specs.Ordering.{nat_cmp}
-use Rattle.std.specs.Prelude.{◌==◌, find}
+use Rattle.std.specs.Prelude.{◌==◌, ◌&&◌, find, nat_le}
 use Rattle.std.proofs.lemmas.Bool.{ne_eqb}
+use Rattle.stun_base.specs.Moments.{moment_after}
 use Rattle.stun_agent.proofs.Ascending.{IsAscending-insert, IsAscending-remove, IsAscending-set_value}
 use Rattle.stun_agent.proofs.Ascending.{lookup-insert_other, lookup-insert_same, lookup-remove_other}
 use Rattle.stun_agent.proofs.Ascending.{lookup-set_other}
@@ -16,11 +17,9 @@ use Rattle.stun_agent.proofs.LookupLemmas.{found_passes}
 use Rattle.stun_client_loop.proofs.NumberLemmas.{not_same}
 use Rattle.stun_client_loop.proofs.TimedLemmas.{left}
 use Rattle.stun_client_endpoint.specs.Pendings.{Pending, Pendings, changed_at, first_ended, first_unsent}
-use Rattle.stun_client_endpoint.specs.Pendings.{request_at, with_request, without_request}
-use Rattle.stun_client_endpoint.proofs.PendingLemmas.{none_changed}
-
-abbrev pub Ascend : Pendings → Type 0
-Ascend all = IsStrictlySortedBy nat_cmp (keys_of all)
+use Rattle.stun_client_endpoint.specs.Pendings.{overdue, request_at, with_request, without_request}
+use Rattle.stun_client_endpoint.specs.declared.ended.RequestEnd.{RequestEnd}
+use Rattle.stun_client_endpoint.proofs.PendingLemmas.{Ascend, none_changed}
 
 -- a request is stored at a number
 abbrev pub IsAt : ℕ → Pendings → Type 0
@@ -84,15 +83,6 @@ changed_other f n m all off = by (request_at m all)
         ≡ request_at n all
     by None = refl
     by (Some p) = lookup-set_other n m (f p) all off
-
-pub changed_ascends : (f : Pending → Pending) (m : ℕ) (all : Pendings) → Ascend all
-    → Ascend (changed_at f m all)
-changed_ascends f m all sorted = by (request_at m all)
-  where
-    by : (o : Option Pending)
-        → Ascend (option_map_or (λ p. set_value (is_at (nat_cmp m)) all (f p)) o all)
-    by None = sorted
-    by (Some p) = IsAscending-set_value (is_at (nat_cmp m)) all (f p) sorted
 
 -- what is at a number after a change is what was there, or what it was changed to
 pub changed_from : (f : Pending → Pending) (n m : ℕ) (all : Pendings) (q : Pending)
@@ -200,3 +190,28 @@ unsent_is_there all n sorted is = found (λ (e : ℕ × Pending). e.1.is_unsent)
 pub ended_is_there : (all : Pendings) (n : ℕ) → Ascend all → first_ended all ≡ Some n
     → (p : Pending) × (request_at n all ≡ Some p) × (is_some p.end ≡ true)
 ended_is_there all n sorted is = found (λ (e : ℕ × Pending). is_some e.1.end) all n sorted is
+
+-- the first request, if it is overdue
+pub record IsOverdue (it : ℕ × ℕ) (all : Pendings) : Type 0 where
+  pub pending : Pending
+  pub there : request_at it.0 all ≡ Some pending
+  pub named : pending.id ≡ it.1
+  pub going : pending.end ≡ None
+
+pub overdue_first : (plan now : ℕ) (all : Pendings) (it : ℕ × ℕ) → overdue plan now all ≡ Some it
+    → IsOverdue it all
+overdue_first plan now [] it found = cc
+overdue_first plan now (e ∷ es) it found = by e.1.end refl (nat_le (moment_after e.1.until plan) now) found
+  where
+    by : (end : Option RequestEnd) → e.1.end ≡ end → (b : Bool)
+        → cond (is_none end && b) (Some (e.0, e.1.id)) None ≡ Some it → IsOverdue it (e ∷ es)
+    by (Some end) ended b found = cc
+    by None going false found = cc
+    by None going true found =
+        let same : (e.0, e.1.id) ≡ it = cc in
+        subst (λ (x : ℕ × ℕ). IsOverdue x (e ∷ es)) same (record {
+          pending = e.1;
+          there = ap (λ b. cond b (Some e.1) (request_at e.0 es)) (own_key e.0);
+          named = refl;
+          going = going;
+        })

@@ -1,13 +1,16 @@
 -- A client of one server, and what each call makes of it (RFC 8489, sections 6.2, 6.3 and 9.2.5).
-use Rattle.std.specs.Prelude.{◌≡◌, ◌⊎◌, ◌<◌, ◌+◌, ℕ, Bool, true, false, nat_le, List, [], ◌∷◌}
-use Rattle.std.specs.Prelude.{if◌then◌else◌, Option, Some, None, Ok, Err}
+use Rattle.std.specs.Prelude.{◌≡◌, ◌⊎◌, ◌<◌, ◌≤◌, ◌+◌, ℕ, Bool, true, false, nat_le, List, []}
+use Rattle.std.specs.Prelude.{if◌then◌else◌, Option, Some, None, Ok, Err, max, min}
 use Rattle.std.specs.Bool.{⊤}
-use Rattle.std.specs.Option.{is_none, is_some, option_and_then, option_map}
+use Rattle.std.specs.Option.{IfSome, is_none, is_some, option_and_then, option_map}
 use Rattle.std.specs.declared.net.socket_addr.SocketAddr.{SocketAddr}
 use Rattle.stun_base.specs.Header.{header_refusal, transaction_id_field}
 use Rattle.stun_base.specs.declared.keys.algorithm.IntegrityAlgorithm.{IntegrityAlgorithm}
 use Rattle.stun_base.specs.declared.wire.attribute_type.AttributeType.{AttributeType}
+use Rattle.stun_base.specs.Moments.{moment_after}
+use Rattle.stun_base.specs.declared.wire.transport.TransportType.TheVariants.{Tcp}
 use Rattle.stun_agent.specs.Agent.{Agent, poll_answer, sent_by_poll, with_validated}
+use Rattle.stun_agent.specs.Timing.{Settings, final_wait}
 use Rattle.stun_client.specs.Challenges.{Answered}
 use Rattle.stun_client.specs.Challenging.{code_in}
 use Rattle.stun_client.specs.Clients.{Given, heard, indicated, needs_memory_for, not_ours}
@@ -18,7 +21,8 @@ use Rattle.stun_client.specs.Outcomes.{outcome_of}
 use Rattle.stun_client.specs.Requests.{AskedSeen, answered, at, new_requests}
 use Rattle.stun_client.specs.Standing.{new_standing}
 use Rattle.stun_client_loop.specs.Loops.{LoopSeen, after_again, after_answer, after_cancel}
-use Rattle.stun_client_loop.specs.Loops.{after_request, after_timers, after_transmit, again_refused}
+use Rattle.stun_client_loop.specs.Loops.{after_request, after_time_out, after_timers, after_transmit}
+use Rattle.stun_client_loop.specs.Loops.{again_refused}
 use Rattle.stun_client_loop.specs.Loops.{request_refused, timed_of}
 use Rattle.stun_client_loop.specs.declared.client_loop.Timed.{Timed}
 use Rattle.stun_client_loop.specs.declared.client_loop.Timed.TheVariants.{TimedOut, Forgotten}
@@ -27,12 +31,13 @@ use Rattle.stun_client_endpoint.specs.Bodies.{Body}
 use Rattle.stun_client_endpoint.specs.Ends.{Ended, reason_of}
 use Rattle.stun_client_endpoint.specs.Numbers.{free_number}
 use Rattle.stun_client_endpoint.specs.Pendings.{Pending, Pendings, changed_at, end_of_first, ending}
-use Rattle.stun_client_endpoint.specs.Pendings.{first_unsent, handing_out, new_pending}
-use Rattle.stun_client_endpoint.specs.Pendings.{noting, outstanding_at, request_at, sending}
+use Rattle.stun_client_endpoint.specs.Pendings.{first_bound, first_unsent, handing_out, is_late}
+use Rattle.stun_client_endpoint.specs.Pendings.{new_pending}
+use Rattle.stun_client_endpoint.specs.Pendings.{noting, outstanding_at, overdue, request_at, sending}
 use Rattle.stun_client_endpoint.specs.Pendings.{timed_out, with_request, without_first, without_request}
 use Rattle.stun_client_endpoint.specs.Written.{Form, Page?, is_text_too_long, request_bytes}
 use Rattle.stun_client_endpoint.specs.declared.ended.DropReason.{DropReason}
-use Rattle.stun_client_endpoint.specs.declared.ended.DropReason.TheVariants.{OutOfMemory}
+use Rattle.stun_client_endpoint.specs.declared.ended.DropReason.TheVariants.{LateChallenge, OutOfMemory}
 use Rattle.stun_client_endpoint.specs.declared.ended.DropReason.TheVariants.{UnanswerableChallenge}
 use Rattle.stun_client_endpoint.specs.declared.ended.RequestEnd.{RequestEnd}
 use Rattle.stun_client_endpoint.specs.declared.ended.RequestEnd.TheVariants as how
@@ -45,17 +50,24 @@ use Rattle.stun_client_endpoint.specs.declared.told.RequestError.{RequestError}
 use Rattle.stun_client_endpoint.specs.declared.told.RequestError.TheVariants as Errors
 
 -- a client: what each request has beside its body, which types of attributes are understood, for how
--- many challenges a request is sent again, the seed of the transaction IDs and the number of the next
--- one, the outstanding requests with their timers, and what is stored of each request until its end is
--- handed out
+-- many challenges a request is sent again, how long a plan of its transmissions lasts and when the last
+-- first plan ends, the seed of the transaction IDs and the number of the next one, the outstanding
+-- requests with their timers, and what is stored of each request until its end is handed out
 pub record Endpoint : Type 0 where
   pub form : Form
   pub understood : List AttributeType
   pub challenges : ℕ
+  pub plan : ℕ
+  pub latest : ℕ
   pub seed : List ℕ
   pub next_id : ℕ
   pub state : LoopSeen
   pub requests : Pendings
+
+-- how long a message that nobody answers is sent and awaited: all its timeouts, and the wait after the
+-- last transmission (section 6.2.1). Over a reliable transport it is awaited as long (section 6.2.2)
+abbrev pub plan_of : Settings → ℕ
+plan_of settings = final_wait Tcp settings
 
 -- a client that has asked nothing. The agent knows the server's address
 abbrev pub new_endpoint : Agent → SocketAddr → Bool → Identity → Form → List AttributeType → ℕ
@@ -64,6 +76,8 @@ new_endpoint agent server requires_fingerprint identity form understood challeng
   form = form;
   understood = understood;
   challenges = challenges;
+  plan = plan_of agent.settings;
+  latest = 0;
   seed = seed;
   next_id = 0;
   state = record {
@@ -126,13 +140,19 @@ refusal_at_once e =
     if is_none (chosen e) then Some Errors.NoId
     else if is_text_too_long e.form.software then Some Errors.TooLarge else None
 
+-- when the first plan of a request ends that starts now. If times go back, not before that of an
+-- earlier request
+abbrev pub until_from : ℕ → Endpoint → ℕ
+until_from now e = max e.latest (moment_after now e.plan)
+
 -- a request is started that is sent by these bytes, with the ID of this number
 abbrev pub after_start : ℕ → Body → List ℕ → ℕ → Endpoint → Endpoint
 after_start number body bytes now e = record e {
+  latest = until_from now e;
   next_id = number + 1;
   state = after_request bytes now e.state;
   requests = changed_at (sending (id_of e.seed number) bytes) (next_number e)
-      (with_request (next_number e) (new_pending body) e.requests);
+      (with_request (next_number e) (new_pending body (until_from now e)) e.requests);
 }
 
 abbrev pub started_by : Endpoint → Body → ℕ → ℕ → Page? → Endpoint
@@ -242,12 +262,14 @@ resent_if is_heard number challenge response now e method None = out_of_memory r
 resent_if is_heard number challenge response now e method (Some p) =
     resent_at is_heard number challenge response now e method p.body (chosen e)
 
--- what a challenge comes to that asks for another signature, or for none
+-- what a challenge comes to that asks for another signature, or for none. After the first plan of the
+-- request it is dropped, because each message that is sent for a challenge has a plan of its own
 abbrev pub challenged_with : Bool → ℕ → Option Answered → List ℕ → ℕ → Endpoint → Option AskedSeen
     → Answer
 challenged_with is_heard number challenge response now e None = (NotOurs, e)
 challenged_with is_heard number challenge response now e (Some a) =
-    if nat_le e.challenges a.challenges then unauthorized_by number response now e
+    if is_late now (request_at number e.requests) then dropping number LateChallenge response e
+    else if nat_le e.challenges a.challenges then unauthorized_by number response now e
     else resent_if is_heard number challenge response now e a.method
     (request_at number e.requests)
 
@@ -316,13 +338,13 @@ Step = Option Told × Endpoint
 abbrev pub with_requests : Pendings → Endpoint → Endpoint
 with_requests all e = record e { requests = all }
 
-abbrev pub until_of : ℕ → Pendings → Option ℕ
-until_of until [] = None
-until_of until (p ∷ others) = Some until
+-- until when to wait, at most until the first request is overdue
+abbrev pub until_of : ℕ → ℕ → Pendings → Option ℕ
+until_of plan until all = option_map (λ bound. min until bound) (first_bound plan all)
 
 -- what the timers come to
 abbrev pub timed : Endpoint → Timed → Step
-timed e (WaitUntil until) = (Some (waits (until_of until e.requests)), e)
+timed e (WaitUntil until) = (Some (waits (until_of e.plan until e.requests)), e)
 timed e Forgotten = (None, e)
 timed e (TimedOut number) = (
   option_map (λ p. ends (timed_out number p)) (request_at number e.requests),
@@ -333,9 +355,26 @@ abbrev pub timers_step : ℕ → Endpoint → Step
 timers_step now e = timed (record e { state = after_timers now e.state })
     (timed_of e.state.client (poll_answer now e.state.agent))
 
+-- the request with this number and this transaction ID ends as not answered in time
+abbrev pub given_up : Endpoint → ℕ × ℕ → Step
+given_up e it = (
+  option_map (λ p. ends (timed_out it.0 p)) (request_at it.0 e.requests),
+  record e {
+    state = after_time_out it.1 e.state;
+    requests = without_request it.0 e.requests;
+  },
+)
+
+abbrev pub overdue_or : ℕ → Endpoint → Option (ℕ × ℕ) → Step
+overdue_or now e (Some it) = given_up e it
+overdue_or now e None = timers_step now e
+
+abbrev pub overdue_step : ℕ → Endpoint → Step
+overdue_step now e = overdue_or now e (overdue e.plan now e.requests)
+
 abbrev pub ends_or : ℕ → Endpoint → Option Ended → Step
 ends_or now e (Some end) = (Some (ends end), e)
-ends_or now e None = timers_step now e
+ends_or now e None = overdue_step now e
 
 abbrev pub ends_step : ℕ → Endpoint → Step
 ends_step now e =
@@ -370,7 +409,7 @@ unsent_or now e (Some number) =
 unsent_or now e None = repeats_step now e
 
 -- one step of a poll: bytes that were not handed out, then bytes that are sent again, then an end,
--- then the timers
+-- then a request that is overdue, then the timers
 unfoldable pub step : ℕ → Endpoint → Step
 step now e = unsent_or now e (first_unsent e.requests)
 
@@ -380,3 +419,14 @@ pub data Polls (now : ℕ) : Endpoint → Told → Endpoint → Type 0 where
       → Polls now e told after
   goes_on : (e next after : Endpoint) (told : Told) → step now e ≡ (None, next)
       → Polls now next told after → Polls now e told after
+
+-- a request still has time, and the wait is over before that is
+pub record HasTime (now bound : ℕ) (until : Option ℕ) : Type 0 where
+  pub early : now < bound
+  pub awaited : IfSome until (λ moment. moment ≤ bound)
+
+-- if a poll says to wait, each request whose end was not handed out has time until its first plan and as
+-- long again have passed
+abbrev pub WaitsInTime : ℕ → Told → Endpoint → Type 0
+WaitsInTime now told e = (until : Option ℕ) (number : ℕ) (p : Pending) → told ≡ waits until
+    → request_at number e.requests ≡ Some p → HasTime now (moment_after p.until e.plan) until

@@ -1,5 +1,5 @@
 -- Laws of a client over any calls. Their times may go back (RFC 8489, sections 6.2, 6.3 and 9.2.5).
-use Rattle.std.specs.Prelude.{◌≡◌, ◌≤◌, ◌⊎◌, ℕ, true, List, None, Some, Bool}
+use Rattle.std.specs.Prelude.{◌≡◌, ◌≤◌, ◌⊎◌, ℕ, true, List, None, Option, Some, Bool, ⊤}
 use Rattle.std.specs.List.Sorted.{IsStrictlySortedBy}
 use Rattle.std.specs.Map.{keys_of}
 use Rattle.std.specs.Option.{IsSome}
@@ -7,15 +7,19 @@ use Rattle.std.specs.Ordering.{nat_cmp}
 use Rattle.std.specs.declared.net.socket_addr.SocketAddr.{SocketAddr}
 use Rattle.stun_base.specs.declared.wire.attribute_type.AttributeType.{AttributeType}
 use Rattle.stun_agent.specs.Agent.{Agent}
+use Rattle.stun_agent.specs.Timing.{planned_end}
 use Rattle.stun_agent.specs.Transactions.{IsAscending}
 use Rattle.stun_client.specs.Judging.{Identity}
 use Rattle.stun_client.specs.Requests.{AskedSeen, RequestsSeen, at}
 use Rattle.stun_client_loop.specs.Loops.{LoopSeen}
 use Rattle.stun_client_loop.specs.Timed.{IsLoop}
-use Rattle.stun_client_endpoint.specs.Endpoints.{Endpoint, IsOver, Polls, new_endpoint}
-use Rattle.stun_client_endpoint.specs.Endpoints.{transmit}
+use Rattle.stun_client_endpoint.specs.Bodies.{Body}
+use Rattle.stun_client_endpoint.specs.Endpoints.{Endpoint, IsOver, Polls, new_endpoint, next_number}
+use Rattle.stun_client_endpoint.specs.Endpoints.{refusal_to_start, started, transmit, waits}
 use Rattle.stun_client_endpoint.specs.Pendings.{Pending, Pendings, outstanding_at, request_at}
-use Rattle.stun_client_endpoint.specs.Runs.{Call, Calls, Event, count_ends, count_names, starts}
+use Rattle.stun_client_endpoint.specs.Runs.{Call, Calls, Event, call, changes_nothing, count_ends}
+use Rattle.stun_client_endpoint.specs.Runs.{count_names, ends_one, no_call, polls, receives, requests}
+use Rattle.stun_client_endpoint.specs.Runs.{starts}
 use Rattle.stun_client_endpoint.specs.Written.{Form}
 
 -- the request with this number is stored under this transaction ID, and has not ended
@@ -89,3 +93,40 @@ StaysOver = (number : ℕ) (e after : Endpoint) (events : List Event) → IsEndp
 abbrev pub TransmitsWhatIsThere : Type 0
 TransmitsWhatIsThere = (now number : ℕ) (e after : Endpoint) → IsEndpoint e
     → Polls now e (transmit number) after → IsSome (outstanding_at number after.requests)
+
+-- ---- plans
+
+-- a request is started no later than at this time, or the call starts none
+abbrev pub IsUpTo : ℕ → (e : Endpoint) (event : Event) (after : Endpoint) → Call e event after → Type 0
+IsUpTo time e event after (requests _ _ method body now none so) = now ≤ time
+IsUpTo time e event after (receives _ _ from bytes now answer made so) = ⊤
+IsUpTo time e event after (polls _ _ now told said) = ⊤
+IsUpTo time e event after (ends_one _ _ number p out so) = ⊤
+IsUpTo time e event after (changes_nothing _) = ⊤
+
+-- these calls start no request after this time
+abbrev pub AreUpTo : ℕ → (e : Endpoint) (events : List Event) (after : Endpoint)
+    → Calls e events after → Type 0
+AreUpTo time e events after (no_call _) = ⊤
+AreUpTo time e events after (call _ next _ event others made rest) =
+    IsUpTo time e event next made × AreUpTo time next others after rest
+
+-- the end of two plans, one after the other, from a time on (section 6.2.1)
+abbrev pub two_plans_after : Agent → ℕ → ℕ
+two_plans_after agent start =
+    planned_end agent.transport agent.settings
+    (planned_end agent.transport agent.settings start)
+
+-- a request is started after any calls that have started none at a later time, and any calls follow.
+-- From the end of two plans after its start on, it is over once a poll says to wait
+abbrev pub EndsWithinTwoPlans : Type 0
+EndsWithinTwoPlans = (agent : Agent) (server : SocketAddr) (requires_fingerprint : Bool)
+    (identity : Identity) (form : Form) (understood : List AttributeType) (challenges : ℕ) (seed : List ℕ)
+    (e later last : Endpoint) (before between : List Event) (method : ℕ) (body : Body) (start now : ℕ)
+    (until : Option ℕ)
+    → let new =
+    new_endpoint agent server requires_fingerprint identity form understood challenges seed in
+    IsAscending agent.transactions → (calls : Calls new before e) → AreUpTo start new before e calls
+    → refusal_to_start e method body ≡ None → Calls (started method body start e) between later
+    → two_plans_after agent start ≤ now → Polls now later (waits until) last
+    → IsOver (next_number e) last

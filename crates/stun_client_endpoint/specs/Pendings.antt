@@ -1,10 +1,12 @@
--- What a client stores of its requests until their ends are handed out.
-use Rattle.std.specs.Prelude.{ℕ, Bool, true, false, List, [], Option, Some, None, find}
-use Rattle.std.specs.Prelude.{if◌then◌else◌}
+-- What a client stores of its requests until their ends are handed out (RFC 8489, sections 6.2.1 and
+-- 9.2.5).
+use Rattle.std.specs.Prelude.{ℕ, Bool, true, false, List, [], ◌∷◌, Option, Some, None, find}
+use Rattle.std.specs.Prelude.{if◌then◌else◌, ◌&&◌, nat_le, nat_lt}
 use Rattle.std.specs.BTreeMap.{insert_entry, is_at}
 use Rattle.std.specs.Map.{lookup, remove_entry, set_value}
 use Rattle.std.specs.Option.{is_none, is_some, option_and_then, option_map, option_map_or}
 use Rattle.std.specs.Ordering.{nat_cmp}
+use Rattle.stun_base.specs.Moments.{moment_after}
 use Rattle.stun_client_endpoint.specs.Bodies.{Body}
 use Rattle.stun_client_endpoint.specs.Ends.{Ended, after_drop, no_drops}
 use Rattle.stun_client_endpoint.specs.declared.ended.DropReason.{DropReason}
@@ -12,11 +14,13 @@ use Rattle.stun_client_endpoint.specs.declared.ended.Drops.{Drops}
 use Rattle.stun_client_endpoint.specs.declared.ended.RequestEnd.{RequestEnd}
 use Rattle.stun_client_endpoint.specs.declared.ended.RequestEnd.TheVariants as how
 
--- a request: the transaction ID and the bytes that it has now, whether these were not handed out yet,
--- what was dropped for it, and how it ended, if it has, with the response that ended it
+-- a request: when its first plan ends, the transaction ID and the bytes that it has now, whether these
+-- were not handed out yet, what was dropped for it, and how it ended, if it has, with the response that
+-- ended it
 pub record Pending : Type 0 where
   pub id : ℕ
   pub body : Body
+  pub until : ℕ
   pub bytes : List ℕ
   pub is_unsent : Bool
   pub drops : Drops
@@ -42,10 +46,11 @@ abbrev pub without_request : ℕ → Pendings → Pendings
 without_request number all = remove_entry (is_at (nat_cmp number)) all
 
 -- a request before it has a transaction ID and bytes
-abbrev pub new_pending : Body → Pending
-new_pending body = record {
+abbrev pub new_pending : Body → ℕ → Pending
+new_pending body until = record {
   id = 0;
   body = body;
+  until = until;
   bytes = [];
   is_unsent = false;
   drops = no_drops;
@@ -107,3 +112,24 @@ if_outstanding (Some p) = if is_none p.end then Some p else None
 
 abbrev pub outstanding_at : ℕ → Pendings → Option Pending
 outstanding_at number all = if_outstanding (request_at number all)
+
+-- ---- plans
+
+-- the first plan of a request has ended, so that it is not sent again for a challenge
+abbrev pub is_late : ℕ → Option Pending → Bool
+is_late now None = false
+is_late now (Some p) = nat_lt p.until now
+
+-- a request that has not ended when its first plan has, and then as long again has passed
+abbrev pub is_overdue : ℕ → ℕ → Pending → Bool
+is_overdue plan now p = is_none p.end && nat_le (moment_after p.until plan) now
+
+-- the number and the transaction ID of the first request, if it is overdue
+abbrev pub overdue : ℕ → ℕ → Pendings → Option (ℕ × ℕ)
+overdue plan now [] = None
+overdue plan now (e ∷ others) = if is_overdue plan now e.1 then Some (e.0, e.1.id) else None
+
+-- when the first request is overdue
+abbrev pub first_bound : ℕ → Pendings → Option ℕ
+first_bound plan [] = None
+first_bound plan (e ∷ others) = Some (moment_after e.1.until plan)

@@ -23,6 +23,9 @@ pub enum DropReason {
     UnanswerableChallenge,
     /// The response is a challenge that is weaker than the one which a success has confirmed.
     WeakerChallenge,
+    /// The response is a challenge that arrived after the first plan of the request, so the request is
+    /// not sent again for it.
+    LateChallenge,
     /// An allocation failed, or the seed has no transaction ID left.
     OutOfMemory,
 }

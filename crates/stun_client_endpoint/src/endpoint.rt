@@ -1,8 +1,10 @@
 //! A client of one server as one value.
 ghost use Rattle.std.specs.Option.{is_none, is_some, option_copied, option_map};
 ghost use Rattle.std.specs.Prelude.{◌≡◌, IfOk, count_by};
+ghost use Rattle.std.specs.Duration.{as_nanos};
+ghost use Rattle.stun_agent.specs.Timing.{settings_of};
 ghost use Rattle.stun_client.specs.Judging.{identity_of};
-ghost use Rattle.stun_client_endpoint.specs.Endpoints.{cancelled, new_endpoint};
+ghost use Rattle.stun_client_endpoint.specs.Endpoints.{cancelled, new_endpoint, plan_of};
 ghost use Rattle.stun_client_endpoint.specs.Pendings.{outstanding_at};
 
 use crate::ended::{Drops, RequestEnd};
@@ -11,7 +13,10 @@ use crate::pending::{Pendings, finish, outstanding};
 use std::alloc::{AllocError, Allocator, Global};
 use std::marker::Model;
 use std::net::SocketAddr;
-use stun_agent::agent::StunAgent;
+use std::time::Duration;
+use stun_agent::agent::{RequestRto, StunAgent, StunAgentBuilder};
+use stun_base::instant::Instant;
+use stun_base::transport::TransportType;
 use stun_client::credentials::Credentials;
 use stun_client_loop::client_loop::ClientLoop;
 use stun_types::attribute::AttributeType;
@@ -32,6 +37,8 @@ pub struct Settings<A: Allocator = Global> {
     pub understood: Vec<AttributeType, A>,
     /// For how many challenges a request is sent again. The next one ends it.
     pub challenges: u32,
+    /// When a request is sent again, and when it ends.
+    pub timeouts: RequestRto,
 }
 
 /// A client of one server on one transport, with any number of requests at the same time.
@@ -39,6 +46,10 @@ pub struct Settings<A: Allocator = Global> {
 /// It retransmits, answers challenges and verifies signatures. `poll` returns the end of a request
 /// once. Take every `now` from one clock that never goes back, because otherwise requests are sent
 /// again too late.
+///
+/// Each message of a request has a plan of its own: it is sent and awaited as `Settings::timeouts` say,
+/// by default for 39.5 seconds. No challenge is answered after the first plan of a request, and `poll`
+/// ends a request when twice the time of a plan has passed. So a request ends within 79 seconds.
 ///
 /// If an allocation fails, `request` returns an error, and a datagram is dropped as `OutOfMemory`.
 /// `poll` and `cancel` do not allocate.
@@ -50,6 +61,8 @@ pub struct ClientEndpoint<A: Allocator = Global> {
     form: Form<A>,
     understood: Vec<AttributeType, A>,
     challenges: u32,
+    plan: Duration,
+    latest: Instant,
     seed: PreparedKey<A>,
     next_id: u64,
     next: u64,
@@ -58,6 +71,7 @@ pub struct ClientEndpoint<A: Allocator = Global> {
 }
 
 impl<A: Allocator> Model for ClientEndpoint<A> {
+    ghost use Rattle.std.specs.Duration.{as_nanos};
     ghost use Rattle.stun_client_endpoint.specs.Endpoints.{Endpoint};
     ghost use Rattle.stun_client_endpoint.specs.code.Stored.{IsStored};
 
@@ -67,44 +81,48 @@ impl<A: Allocator> Model for ClientEndpoint<A> {
       form = e.form;
       understood = e.understood.items;
       challenges = e.challenges;
+      plan = as_nanos e.plan;
+      latest = e.latest;
       seed = e.seed;
       next_id = e.next_id;
       state = e.state;
       requests = e.requests.entries;
     } };
 
-    ghost invariant = { λ e. IsStored e.next e.state e.requests.entries };
+    ghost invariant = { λ e. IsStored e.next e.latest e.state e.requests.entries };
 }
 
 impl<A: Allocator + Copy> ClientEndpoint<A> {
-    /// Creates a client of this server that has asked nothing, over an agent that has sent nothing.
-    /// If the agent has a remote address, it must be that of the server.
+    /// Creates a client of this server that has asked nothing, over an agent with the timeouts of the
+    /// settings. If the agent has a remote address, it must be that of the server.
     /// The seed is 32 unpredictable bytes that are used for this client alone, because the
     /// transaction IDs are derived from it.
     ///
     /// Fails if an allocation fails.
     pub fn new(
         alloc: A,
-        agent: StunAgent<A>,
+        agent: StunAgentBuilder<A>,
         server: SocketAddr,
         credentials: Credentials<A>,
         settings: Settings<A>,
         seed: &[u8; 32],
     ) -> Result<ClientEndpoint<A>, AllocError>
-        ensures { IfOk result (λ client. client ≡ new_endpoint agent server
+        ensures { IfOk result (λ client. client ≡ new_endpoint
+            (record agent { settings = settings_of settings.timeouts }) server
             settings.requires_fingerprint (identity_of credentials) settings.form
             settings.understood.items settings.challenges seed.now) }
     {
-        let mut agent = agent;
-        // A peer that the agent knows takes no memory when it answers.
-        agent.validated_peer(server)?;
-        let key = IntegrityKey::from_bytes(alloc, seed)?;
         let Settings {
             form,
             requires_fingerprint,
             understood,
             challenges,
+            timeouts,
         } = settings;
+        let mut agent = with_timeouts(agent, timeouts);
+        // A peer that the agent knows takes no memory when it answers.
+        agent.validated_peer(server)?;
+        let key = IntegrityKey::from_bytes(alloc, seed)?;
         let state = ClientLoop::new(
             alloc,
             agent,
@@ -118,6 +136,8 @@ impl<A: Allocator + Copy> ClientEndpoint<A> {
             form,
             understood,
             challenges,
+            plan: plan_of(timeouts),
+            latest: Instant::ZERO,
             seed: PreparedKey::new(key, IntegrityAlgorithm::Sha1),
             next_id: 0,
             next: 0,
@@ -172,4 +192,29 @@ impl<A: Allocator + Copy> ClientEndpoint<A> {
         finish(&mut self.requests, number, RequestEnd::Cancelled, nothing);
         true
     }
+}
+
+/// Builds an agent with these timeouts.
+fn with_timeouts<A: Allocator + Copy>(
+    agent: StunAgentBuilder<A>,
+    timeouts: RequestRto,
+) -> StunAgent<A>
+    ensures { result ≡ record agent { settings = settings_of timeouts } }
+{
+    agent
+        .request_retransmits(
+            timeouts.initial,
+            timeouts.max,
+            timeouts.retransmits,
+            timeouts.last_retransmit,
+        )
+        .build()
+}
+
+/// Returns how long a message that nobody answers is sent and awaited.
+fn plan_of(timeouts: RequestRto) -> Duration
+    ensures { as_nanos result ≡ plan_of (settings_of timeouts) }
+{
+    // Over TCP a message is awaited for as long as it is sent and awaited over UDP.
+    timeouts.final_wait(TransportType::Tcp)
 }

@@ -1,10 +1,13 @@
 //! What a client stores of its requests until their ends are handed out.
 ghost use Rattle.std.specs.Option.{is_none, option_and_then, option_copied, option_map_or};
 ghost use Rattle.std.specs.Prelude.{◌≡◌, ◌↔◌, ◌+◌, ◌<◌, ◌≤◌, ◌^◌, IsTrue, OnErr, OnOk, count_by};
-ghost use Rattle.std.specs.Prelude.{false, length, true, None, [], Some};
-ghost use Rattle.stun_client_endpoint.specs.Pendings.{changed_at, ended_of, ending, first_ended};
+ghost use Rattle.std.specs.Prelude.{false, length, nat_lt, true, None, [], Some};
+ghost use Rattle.std.specs.Duration.{as_nanos};
+ghost use Rattle.stun_client_endpoint.specs.Pendings.{changed_at, ended_of, ending, first_bound};
+ghost use Rattle.stun_client_endpoint.specs.Pendings.{first_ended};
 ghost use Rattle.stun_client_endpoint.specs.Pendings.{first_unsent, handing_out, if_outstanding};
-ghost use Rattle.stun_client_endpoint.specs.Pendings.{new_pending, noting, request_at, sending};
+ghost use Rattle.stun_client_endpoint.specs.Pendings.{is_late, is_overdue, new_pending, noting, overdue};
+ghost use Rattle.stun_client_endpoint.specs.Pendings.{request_at, sending};
 ghost use Rattle.stun_client_endpoint.specs.Pendings.{end_of_first, timed_out, with_request};
 ghost use Rattle.stun_client_endpoint.specs.Pendings.{without_first, without_request};
 ghost use Rattle.stun_client_endpoint.specs.code.Tallies.{after, first_of, first_without, is_of};
@@ -16,6 +19,8 @@ use std::alloc::{AllocError, Allocator};
 use std::collections::BTreeMap;
 use std::marker::Model;
 use std::ops::Bound;
+use std::time::Duration;
+use stun_base::instant::Instant;
 use stun_types::message::TransactionId;
 
 /// What is stored of a request.
@@ -25,6 +30,7 @@ use stun_types::message::TransactionId;
 pub(crate) struct Pending<A: Allocator> {
     id: TransactionId,
     body: Body<A>,
+    until: Instant,
     bytes: Vec<u8, A>,
     is_unsent: bool,
     drops: Drops,
@@ -40,6 +46,7 @@ impl<A: Allocator> Model for Pending<A> {
     ghost view = { λ p. record {
       id = p.id;
       body = p.body;
+      until = p.until;
       bytes = p.bytes.items;
       is_unsent = p.is_unsent;
       drops = p.drops;
@@ -90,13 +97,14 @@ impl<A: Allocator> Model for Pendings<A> {
 }
 
 impl<A: Allocator + Copy> Pending<A> {
-    /// Stores a body.
-    pub(crate) fn new(alloc: A, body: Body<A>) -> Pending<A>
-        ensures { result ≡ new_pending body }
+    /// Stores a body, and when the first plan of the request ends.
+    pub(crate) fn new(alloc: A, body: Body<A>, until: Instant) -> Pending<A>
+        ensures { result ≡ new_pending body until }
     {
         Pending {
             id: TransactionId::from_u128(0).unwrap(),
             body,
+            until,
             bytes: Vec::new(alloc),
             is_unsent: false,
             drops: Drops::none(),
@@ -148,6 +156,20 @@ impl<A: Allocator + Copy> Pending<A> {
         ensures { result ≡ self.now.end }
     {
         self.end
+    }
+
+    /// Returns whether the first plan of the request has ended.
+    fn is_late(&self, now: Instant) -> bool
+        ensures { result ≡ nat_lt self.now.until now }
+    {
+        self.until < now
+    }
+
+    /// Returns whether the request has not ended when its first plan has, and as long again has passed.
+    fn is_overdue(&self, plan: Duration, now: Instant) -> bool
+        ensures { result ≡ is_overdue (as_nanos plan) now self.now }
+    {
+        self.end.is_none() && self.until + plan <= now
     }
 
     /// Converts a request that has ended.
@@ -394,6 +416,41 @@ pub(crate) fn outstanding<A: Allocator + Copy>(
         None => Some(pending),
         Some(_) => None,
     }
+}
+
+/// Returns whether the first plan of the request with a number has ended.
+pub(crate) fn is_late<A: Allocator + Copy>(all: &Pendings<A>, number: u64, now: Instant) -> bool
+    ensures { result ≡ is_late now (request_at number all.now.entries) }
+{
+    match get(all, number) {
+        Some(pending) => pending.is_late(now),
+        None => false,
+    }
+}
+
+/// Returns the number and the transaction ID of the first request, if it is overdue.
+pub(crate) fn overdue<A: Allocator + Copy>(
+    all: &Pendings<A>,
+    plan: Duration,
+    now: Instant,
+) -> Option<(u64, TransactionId)>
+    ensures { result ≡ overdue (as_nanos plan) now all.now.entries }
+{
+    // The first plans end in the order of the numbers, so no other request is due before this one.
+    let (number, pending) = all.map.first_key_value()?;
+    if pending.is_overdue(plan, now) {
+        Some((*number, pending.id))
+    } else {
+        None
+    }
+}
+
+/// Returns when the first request is overdue.
+pub(crate) fn first_bound<A: Allocator + Copy>(all: &Pendings<A>, plan: Duration) -> Option<Instant>
+    ensures { result ≡ first_bound (as_nanos plan) all.now.entries }
+{
+    let (_, pending) = all.map.first_key_value()?;
+    Some(pending.until + plan)
 }
 
 /// Sends the request with a number under this transaction ID, by these bytes.

@@ -23,7 +23,7 @@ use Rattle.stun_client.specs.declared.requests.RequestRefusal.TheVariants as Req
 use Rattle.stun_client.proofs.RequestLemmas.{renewal_is_free, start_is_free}
 use Rattle.stun_client_loop.specs.Calls.{IsOutstanding, LoopCall, after_call, after_calls, again}
 use Rattle.stun_client_loop.specs.Calls.{answer, cancel, count_ends, ends, number_at}
-use Rattle.stun_client_loop.specs.Calls.{poll_timers, poll_transmit, request, timed_out_in}
+use Rattle.stun_client_loop.specs.Calls.{poll_timers, poll_transmit, request, time_out, timed_out_in}
 use Rattle.stun_client_loop.specs.Loops.{LoopSeen, after_again, after_hearing, after_request}
 use Rattle.stun_client_loop.specs.Loops.{again_refused, of_client, request_refused, timed_of}
 use Rattle.stun_client_loop.specs.Loops.{timed_out_of}
@@ -130,6 +130,10 @@ loop_call (cancel id) l is = record {
   timed = timed_cancel id l is.timed;
   numbered = numbered_ended l.client.requests id is.timed.asked_ascend is.numbered;
 }
+loop_call (time_out id) l is = record {
+  timed = timed_cancel id l is.timed;
+  numbered = numbered_ended l.client.requests id is.timed.asked_ascend is.numbered;
+}
 loop_call (poll_transmit now) l is = record {
   timed = timed_transmit now l is.timed;
   numbered = is.numbered;
@@ -170,6 +174,7 @@ step_call (again heard response bytes c now) l is = by (is_some (again_refused l
 step_call (answer response now) l is =
     step_ended l.client.requests (transaction_id_field response) is.timed.asked_ascend
 step_call (cancel id) l is = step_ended l.client.requests id is.timed.asked_ascend
+step_call (time_out id) l is = step_ended l.client.requests id is.timed.asked_ascend
 step_call (poll_transmit now) l is = no_step l.client.requests
 step_call (poll_timers now) l is =
     hearing_cases (IsStep l.client.requests) l (poll_answer now l.agent) (no_step l.client.requests)
@@ -191,6 +196,7 @@ over_call_silent number (again heard response bytes c now) l over = refl
 over_call_silent number (answer response now) l over =
     over_silent number (transaction_id_field response) l.client.requests over
 over_call_silent number (cancel id) l over = over_silent number id l.client.requests over
+over_call_silent number (time_out id) l over = over_silent number id l.client.requests over
 over_call_silent number (poll_transmit now) l over = refl
 over_call_silent number (poll_timers now) l over = by (poll_answer now l.agent)
   where
@@ -262,6 +268,8 @@ on_call number (answer response now) l is out =
     end_step number (transaction_id_field response) l.client.requests is.timed.asked_ascend
     is.numbered out
 on_call number (cancel id) l is out =
+    end_step number id l.client.requests is.timed.asked_ascend is.numbered out
+on_call number (time_out id) l is out =
     end_step number id l.client.requests is.timed.asked_ascend is.numbered out
 on_call number (poll_transmit now) l is out = inl (out, refl)
 on_call number (poll_timers now) l is out = by (poll_answer now l.agent)

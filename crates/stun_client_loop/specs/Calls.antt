@@ -8,19 +8,20 @@ use Rattle.stun_agent.specs.Agent.{poll_answer}
 use Rattle.stun_client.specs.Challenges.{Answered}
 use Rattle.stun_client.specs.Requests.{AskedSeen, RequestsSeen, at}
 use Rattle.stun_client_loop.specs.Loops.{LoopSeen, after_again, after_answer, after_cancel}
-use Rattle.stun_client_loop.specs.Loops.{after_request, after_timers, after_transmit}
+use Rattle.stun_client_loop.specs.Loops.{after_request, after_time_out, after_timers, after_transmit}
 use Rattle.stun_client_loop.specs.Loops.{again_refused, request_refused, timed_of}
 use Rattle.stun_client_loop.specs.declared.client_loop.Timed.{Timed}
 use Rattle.stun_client_loop.specs.declared.client_loop.Timed.TheVariants.{TimedOut, Forgotten}
 use Rattle.stun_client_loop.specs.declared.client_loop.Timed.TheVariants.{WaitUntil}
 
 -- a call: a request is sent, and sent again for a challenge (of which the agent hears, unless there is
--- no memory); a response ends a request, or its user; both polls
+-- no memory); a response ends a request, or its user, or that it takes too long; both polls
 pub data LoopCall : Type 0 where
   request : List ℕ → ℕ → LoopCall
   again : Bool → List ℕ → List ℕ → Option Answered → ℕ → LoopCall
   answer : List ℕ → ℕ → LoopCall
   cancel : ℕ → LoopCall
+  time_out : ℕ → LoopCall
   poll_transmit : ℕ → LoopCall
   poll_timers : ℕ → LoopCall
 
@@ -33,6 +34,7 @@ after_call (again is_heard response bytes challenge now) l =
     else after_again is_heard response bytes challenge now l
 after_call (answer response now) l = after_answer response now l
 after_call (cancel id) l = after_cancel id l
+after_call (time_out id) l = after_time_out id l
 after_call (poll_transmit now) l = after_transmit now l
 after_call (poll_timers now) l = after_timers now l
 
@@ -57,6 +59,7 @@ ended_by (request bytes now) l = None
 ended_by (again is_heard response bytes challenge now) l = None
 ended_by (answer response now) l = number_at (transaction_id_field response) l.client.requests
 ended_by (cancel id) l = number_at id l.client.requests
+ended_by (time_out id) l = number_at id l.client.requests
 ended_by (poll_transmit now) l = None
 ended_by (poll_timers now) l = timed_out_in (timed_of l.client (poll_answer now l.agent))
 

@@ -136,3 +136,10 @@ after_cancel id l = record l {
   client = after_cancelling l.client id;
   agent = withdrawn id l.agent;
 }
+
+-- a request ends that takes too long. Its challenge may be forged
+abbrev pub after_time_out : ℕ → LoopSeen → LoopSeen
+after_time_out id l = record l {
+  client = after_timing_out l.client id;
+  agent = withdrawn id l.agent;
+}

@@ -11,7 +11,8 @@ ghost use Rattle.stun_client.specs.Judging.{identity_of};
 ghost use Rattle.stun_client.specs.Requests.{IsOver, answered, at, new_requests};
 ghost use Rattle.stun_client.specs.Standing.{new_standing};
 ghost use Rattle.stun_client_loop.specs.Loops.{after_again, after_answer, after_cancel};
-ghost use Rattle.stun_client_loop.specs.Loops.{after_request, after_timers, again_refused};
+ghost use Rattle.stun_client_loop.specs.Loops.{after_request, after_time_out, after_timers};
+ghost use Rattle.stun_client_loop.specs.Loops.{again_refused};
 ghost use Rattle.stun_client_loop.specs.Loops.{request_refused, timed_of};
 ghost use Rattle.stun_client_loop.specs.Timed.{IsLoop};
 
@@ -39,8 +40,8 @@ pub enum Timed {
 }
 
 /// A client of one server with the agent that has its timers. Each call is one step of both: `request`
-/// and `again` start a transaction of the agent for a request of the client, and `answer`, `cancel` and
-/// a timeout end both. So each outstanding request has a transaction of the agent, which sends it
+/// and `again` start a transaction of the agent for a request of the client, and `answer`, `cancel`,
+/// `time_out` and a timeout end both. So each outstanding request has a transaction of the agent, which sends it
 /// again until it is answered, canceled or times out.
 ///
 /// Contracts: they see all of it. There is a password in it, so it has no `Debug`.
@@ -265,6 +266,23 @@ impl<A: Allocator + Copy> ClientLoop<A> {
     {
         withdraw(&mut self.agent, id);
         self.client.cancel(id)
+    }
+
+    /// Ends a request that takes too long, and returns its number. Its challenge may be forged, so new
+    /// requests are signed for the one that was confirmed last, or not at all. Returns `None` if no
+    /// outstanding request has the transaction ID.
+    ///
+    /// The agent sends it no more, and counts it as canceled.
+    pub fn time_out(&mut self, id: TransactionId) -> Option<u64>
+        ensures ended { result ≡ option_map (λ a. a.number) (at id self.old.client.requests.asked) }
+        ensures after { self.new ≡ after_time_out id self.old }
+        ensures once { IfSome result (λ number. IsOver number self.new.client.requests) }
+        ensures over { (number : ℕ) → IsOver number self.old.client.requests
+            → IsOver number self.new.client.requests }
+    {
+        let agent = &mut self.agent;
+        withdraw(agent, id);
+        self.client.time_out(id)
     }
 
     /// Returns the next retransmission that is due, if there is one (see

@@ -5,7 +5,7 @@ use super::client_outcomes::{Drops, Input, Output, RequestError, RequestId, resu
 use super::client_settings::ClientBuilder;
 use crate::Instant;
 use crate::copies::granted;
-use crate::exported::stun_agent::agent::StunAgent;
+use crate::exported::stun_agent::agent::StunAgentBuilder;
 use crate::exported::stun_client::credentials::Credentials;
 use crate::exported::stun_client_endpoint::endpoint::{ClientEndpoint, Settings};
 use crate::exported::stun_client_endpoint::told::{Polled, Received};
@@ -24,6 +24,10 @@ use core::net::SocketAddr;
 /// It retransmits, answers challenges and verifies signatures. Each request ends exactly once, in
 /// [`Output::Ended`]. Take every `now` from one clock that never goes back, such as
 /// [`Clock`](super::Clock).
+///
+/// A request without an answer ends after its plan, 39.5 seconds by default, and one that is challenged
+/// within twice that, 79 seconds, at the first `poll` from then on (see
+/// [`Retransmission`](super::Retransmission)).
 ///
 /// The algorithm is chosen by the challenge that is answered. Earlier messages count in two cases: a
 /// signed 438 without a list is judged by the list of the challenge before, and a challenge that is
@@ -92,7 +96,7 @@ impl fmt::Debug for Client {
 
 impl Client {
     pub(super) fn new(
-        agent: StunAgent<Global>,
+        agent: StunAgentBuilder<Global>,
         server: SocketAddr,
         credentials: Credentials<Global>,
         settings: Settings<Global>,

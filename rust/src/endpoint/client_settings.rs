@@ -4,7 +4,7 @@ use super::client::Client;
 use crate::attributes::TYPES;
 use crate::copies::{granted, text};
 use crate::credentials::{LongTermCredentials, ShortTermCredentials};
-use crate::exported::stun_agent::agent::StunAgent;
+use crate::exported::stun_agent::agent::{RequestRto, StunAgent, StunAgentBuilder};
 use crate::exported::stun_auth::auth::Feature;
 use crate::exported::stun_client::credentials as core_credentials;
 use crate::exported::stun_client::preferences::Preferences;
@@ -107,7 +107,12 @@ impl Credentials {
 }
 
 /// When a request is sent, and how long the client waits for its response (RFC 8489, section
-/// 6.2.1).
+/// 6.2.1): the plan of a message, 39.5 seconds by default.
+///
+/// A message that is sent again for a challenge has a plan of its own, but after its first plan a
+/// request answers no challenge
+/// ([`LateChallenge`](super::DropReason::LateChallenge)). So each request ends within two plans, 79
+/// seconds by default, at the first [`poll`](super::Client::poll) from then on.
 ///
 /// # Examples
 ///
@@ -171,8 +176,7 @@ pub enum Transport {
     #[default]
     Datagram,
     /// A stream: a request is sent once, and the client waits as long as it would for datagrams
-    /// (39.5 seconds, unless you set other timeouts), and as long again after each challenge that
-    /// it answers.
+    /// (39.5 seconds, unless you set other timeouts; see [`Retransmission`]).
     Stream,
 }
 
@@ -374,7 +378,7 @@ impl ClientBuilder {
         if !self.preferences.hmac_sha1 && !self.preferences.hmac_sha256 {
             return Err(ClientBuildError::NoAlgorithm);
         }
-        let agent = self.agent();
+        let (agent, timeouts) = (self.agent(), self.timeouts());
         let credentials = self
             .credentials
             .core(self.preferences, self.accepts_unsigned);
@@ -384,6 +388,7 @@ impl ClientBuilder {
             requires_fingerprint: self.requires_fingerprint,
             understood,
             challenges: self.challenges,
+            timeouts,
         };
         Ok(Client::new(
             agent,
@@ -394,23 +399,30 @@ impl ClientBuilder {
         ))
     }
 
-    /// Builds the agent with the timers of the requests.
-    fn agent(&self) -> StunAgent<Global> {
-        let transport = match self.transport {
-            Transport::Datagram => TransportType::Udp,
-            Transport::Stream => TransportType::Tcp,
-        };
+    /// Returns when a request is sent again, and when it ends.
+    fn timeouts(&self) -> RequestRto {
         let Retransmission {
             first,
             most,
             sends,
             last,
         } = self.plan;
+        RequestRto {
+            initial: first,
+            max: most,
+            retransmits: sends,
+            last_retransmit: last,
+        }
+    }
+
+    /// Begins the agent that has the timers of the requests.
+    fn agent(&self) -> StunAgentBuilder<Global> {
+        let transport = match self.transport {
+            Transport::Datagram => TransportType::Udp,
+            Transport::Stream => TransportType::Tcp,
+        };
         // The agent only returns its local address, so any will do.
-        StunAgent::builder(Global, transport, self.server)
-            .request_retransmits(first, most, sends, last)
-            .stats(true)
-            .build()
+        StunAgent::builder(Global, transport, self.server).stats(true)
     }
 }
 

@@ -69,6 +69,11 @@ impl<K: Ord, V, A: Allocator> BTreeMap<K, V, A> {
         }
     }
 
+    /// Returns the entry with the least key.
+    pub fn first_key_value(&self) -> Option<(&K, &V)> {
+        self.iter().next()
+    }
+
     /// Returns the entry of a key if it is the one at the end of the path `recent`.
     fn find_recent<Q: Ord + ?Sized>(&self, key: &Q) -> Option<Spot<'_, K, V>>
     where

@@ -63,6 +63,7 @@ pub fn drop_number(why: DropReason) -> u32
         DropReason::UnanswerableChallenge => 10,
         DropReason::WeakerChallenge => 11,
         DropReason::OutOfMemory => 12,
+        DropReason::LateChallenge => 14,
         // There is no other one in this release.
         _ => 0,
     }

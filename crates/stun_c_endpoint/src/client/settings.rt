@@ -5,11 +5,13 @@ ghost use Rattle.stun_extra.specs.Unknown.{types_of};
 ghost use Rattle.stun_client.specs.Judging.{identity_of};
 ghost use Rattle.stun_c_endpoint.specs.Given.{Makes};
 ghost use Rattle.stun_c_endpoint.specs.declared.handle.endpoint.Kept.TheVariants as kind;
-ghost use Rattle.stun_c_endpoint.specs.ClientsGiven.{MakesClient, agent_given, algorithm_given};
+ghost use Rattle.stun_agent.specs.Timing.{settings_of};
+ghost use Rattle.stun_c_endpoint.specs.ClientsGiven.{MakesClient, algorithm_given};
 ghost use Rattle.stun_c_endpoint.specs.ClientsGiven.{client_given, client_refusal, feature_given};
 ghost use Rattle.stun_c_endpoint.specs.ClientsGiven.{identity_given, is_half_user, is_out_of_range};
 ghost use Rattle.stun_c_endpoint.specs.ClientsGiven.{or_else};
-ghost use Rattle.stun_c_endpoint.specs.ClientsGiven.{preferences_given, transport_given};
+ghost use Rattle.stun_c_endpoint.specs.ClientsGiven.{preferences_given, timeouts_given};
+ghost use Rattle.stun_c_endpoint.specs.ClientsGiven.{transport_given};
 ghost use Rattle.stun_c_endpoint.specs.code.Building.{Builds};
 
 use crate::handle::endpoint::{EndpointHandle, Kept};
@@ -18,7 +20,7 @@ use std::alloc::{AllocError, Global};
 use std::marker::Model;
 use std::net::SocketAddr;
 use std::time::Duration;
-use stun_agent::agent::StunAgent;
+use stun_agent::agent::{RequestRto, StunAgent};
 use stun_auth::auth::Feature;
 use stun_base::attribute_type::AttributeType;
 use stun_base::key::IntegrityKey;
@@ -227,18 +229,16 @@ impl ClientOptions {
         }
     }
 
-    /// Creates the agent that has the timers. Its own address is never used.
-    fn agent(&self, alloc: Global, server: SocketAddr) -> StunAgent<Global>
-        ensures { result ≡ agent_given server self.now }
+    /// Returns when a request is sent again, and when it ends.
+    fn timeouts(&self) -> RequestRto
+        ensures { settings_of result ≡ timeouts_given self.now }
     {
-        StunAgent::builder(alloc, self.transport(), server)
-            .request_retransmits(
-                Duration::from_nanos(or_else(self.initial, INITIAL)),
-                Duration::from_nanos(or_else(self.longest, LONGEST)),
-                or_else_small(self.transmissions, TRANSMISSIONS),
-                Duration::from_nanos(or_else(self.last, LAST)),
-            )
-            .build()
+        RequestRto {
+            initial: Duration::from_nanos(or_else(self.initial, INITIAL)),
+            max: Duration::from_nanos(or_else(self.longest, LONGEST)),
+            retransmits: or_else_small(self.transmissions, TRANSMISSIONS),
+            last_retransmit: Duration::from_nanos(or_else(self.last, LAST)),
+        }
     }
 
     /// Creates the credentials of a user, if there is one.
@@ -353,7 +353,8 @@ impl<'a> ClientGiven<'a> {
         requires software { software.now ≡ self.now.software }
         ensures { IfOk result (λ client. client ≡ client_given self.now server) }
     {
-        let agent = self.options.agent(alloc, server);
+        // The agent's own address is never used.
+        let agent = StunAgent::builder(alloc, self.options.transport(), server);
         let credentials = self.options.credentials(alloc, name, password)?;
         let software = text_if_any(alloc, software)?;
         let settings = Settings {
@@ -361,6 +362,7 @@ impl<'a> ClientGiven<'a> {
             requires_fingerprint: self.options.requires_fingerprint,
             understood: understood(alloc, self.understood)?,
             challenges: or_else_small(self.options.challenges, CHALLENGES),
+            timeouts: self.options.timeouts(),
         };
         ClientEndpoint::new(alloc, agent, server, credentials, settings, self.seed)
     }

@@ -1,13 +1,14 @@
 //! The next thing to do for a client.
-ghost use Rattle.std.specs.Option.{option_map};
+ghost use Rattle.std.specs.Option.{IfSome, option_map};
 ghost use Rattle.std.specs.Prelude.{◌≡◌};
 ghost use Rattle.stun_client_loop.specs.Loops.{after_transmit};
-ghost use Rattle.stun_client_endpoint.specs.Endpoints.{Polls, ends_step, id_in};
+ghost use Rattle.stun_client_endpoint.specs.Endpoints.{Polls, WaitsInTime, ends_step, given_up, id_in};
+ghost use Rattle.stun_client_endpoint.specs.Endpoints.{overdue_step};
 ghost use Rattle.stun_client_endpoint.specs.Endpoints.{repeated, repeated_id, repeats_step};
 ghost use Rattle.stun_client_endpoint.specs.Endpoints.{step, timers_step, told_of, until_of};
 
 use crate::endpoint::ClientEndpoint;
-use crate::pending::{first_unsent, hand_out, take, take_ended};
+use crate::pending::{first_bound, first_unsent, hand_out, overdue, take, take_ended};
 use crate::told::Polled;
 use std::alloc::Allocator;
 use stun_base::header::MessageHeader;
@@ -20,9 +21,12 @@ impl<A: Allocator + Copy> ClientEndpoint<A> {
     /// and `cancel`, and when the wait is over. It does not allocate.
     ///
     /// First come the bytes that were not returned yet, then those that are due to be sent again,
-    /// then the requests that have ended, and then a request whose timers are over.
+    /// then the requests that have ended, then a request for which twice the time of a plan has passed,
+    /// and then one whose timers are over. So if it returns `Wait`, less time has passed since each
+    /// outstanding request was started, and the wait ends before more has.
     pub fn poll(&mut self, now: Instant) -> Polled<A>
-        ensures { Polls now self.old (told_of result) self.new }
+        ensures polled { Polls now self.old (told_of result) self.new }
+        ensures in_time { WaitsInTime now (told_of result) self.new }
     {
         loop {
             if let Some(polled) = self.step(now) {
@@ -34,7 +38,9 @@ impl<A: Allocator + Copy> ClientEndpoint<A> {
     /// Takes one step: hands out bytes that were not handed out yet, or goes on.
     #[tactic(auto, unfolding(crate::specs::Endpoints::step))]
     fn step(&mut self, now: Instant) -> Option<Polled<A>>
-        ensures { (option_map told_of result, self.new) ≡ step now self.old }
+        ensures stepped { (option_map told_of result, self.new) ≡ step now self.old }
+        ensures in_time { IfSome (option_map told_of result)
+            (λ told. WaitsInTime now told self.new) }
     {
         match first_unsent(&self.requests) {
             Some(number) => {
@@ -61,8 +67,27 @@ impl<A: Allocator + Copy> ClientEndpoint<A> {
     {
         match take_ended(&mut self.requests) {
             Some(ended) => Some(Polled::Ended(ended)),
+            None => self.overdue_step(now),
+        }
+    }
+
+    /// Hands out the end of a request that is overdue, or goes on.
+    fn overdue_step(&mut self, now: Instant) -> Option<Polled<A>>
+        ensures { (option_map told_of result, self.new) ≡ overdue_step now self.old }
+    {
+        match overdue(&self.requests, self.plan, now) {
+            Some((number, id)) => self.give_up(number, id),
             None => self.timers_step(now),
         }
+    }
+
+    /// Ends a request as not answered in time.
+    fn give_up(&mut self, number: u64, id: TransactionId) -> Option<Polled<A>>
+        ensures { (option_map told_of result, self.new) ≡ given_up self.old (number, id) }
+    {
+        self.state.time_out(id);
+        let pending = take(&mut self.requests, number)?;
+        Some(Polled::Ended(pending.into_timed_out(number)))
     }
 
     /// Hands out what the timers come to, if anything.
@@ -79,15 +104,12 @@ impl<A: Allocator + Copy> ClientEndpoint<A> {
         }
     }
 
-    /// Returns until when to wait, if a request is stored.
+    /// Returns until when to wait, if a request is stored: at most until the first one is overdue.
     fn until(&self, until: Instant) -> Option<Instant>
-        ensures { result ≡ until_of until self.now.requests }
+        ensures { result ≡ until_of self.now.plan until self.now.requests }
     {
-        if self.requests.is_empty() {
-            None
-        } else {
-            Some(until)
-        }
+        let bound = first_bound(&self.requests, self.plan)?;
+        Some(until.min(bound))
     }
 }
 

@@ -16,7 +16,7 @@ ghost use Rattle.stun_client_endpoint.specs.Written.{request_bytes};
 use crate::ended::{DropReason, RequestEnd, reason_of};
 use crate::endpoint::ClientEndpoint;
 use crate::endpoint::requesting::message;
-use crate::pending::{finish, get, note, send};
+use crate::pending::{finish, get, is_late, note, send};
 use crate::reading::code_of;
 use crate::told::{Received, RequestError};
 use std::alloc::Allocator;
@@ -32,8 +32,9 @@ impl<A: Allocator + Copy> ClientEndpoint<A> {
     /// to the next client on the socket. If it is `Consumed`, `poll` returns what comes of it.
     ///
     /// A response ends its request if it is believed (see `Client::receive`), and a challenge sends
-    /// it again under another transaction ID, or ends it if that was done as often as it may be. If
-    /// an allocation fails, or no transaction ID is left, the response is dropped as `OutOfMemory`.
+    /// it again under another transaction ID, or ends it if that was done as often as it may be. After
+    /// the first plan of the request a challenge is dropped as `LateChallenge`. If an allocation fails,
+    /// or no transaction ID is left, the response is dropped as `OutOfMemory`.
     #[tactic(auto, unfolding(crate::specs::Endpoints::received))]
     pub fn receive<'a>(&mut self, bytes: &'a [u8], from: SocketAddr, now: Instant) -> Received<'a>
         ensures received { UnlessMemory (λ is_heard. received is_heard from bytes.now now self.old)
@@ -143,7 +144,7 @@ impl<A: Allocator + Copy> ClientEndpoint<A> {
     }
 
     /// Sends a request again, signed for this challenge or not at all, or ends it if that was done
-    /// as often as it may be.
+    /// as often as it may be. After the first plan of the request the challenge is dropped.
     fn challenged(
         &mut self,
         number: u64,
@@ -159,6 +160,9 @@ impl<A: Allocator + Copy> ClientEndpoint<A> {
             return Received::NotOurs;
         };
         let method = asked.method();
+        if is_late(&self.requests, number, now) {
+            return self.drop_for(number, DropReason::LateChallenge, message);
+        }
         if asked.challenges() >= self.challenges {
             return self.unauthorized(number, message, now);
         }

@@ -1,7 +1,9 @@
 //! Starting requests.
 ghost use Rattle.std.specs.Option.{IfSome, IsSome, option_copied, option_map};
-ghost use Rattle.std.specs.Prelude.{◌≡◌, ◌<◌, ◌⊎◌, ℕ, Err, IfErr, IfOk, IsErr, IsOkUnless};
-ghost use Rattle.std.specs.Prelude.{MatchOption, None, Ok, OnErr, OnOk, true};
+ghost use Rattle.std.specs.Prelude.{◌≡◌, ◌<◌, ◌≤◌, ◌⊎◌, ℕ, Err, IfErr, IfOk, IsErr, IsOkUnless};
+ghost use Rattle.std.specs.Prelude.{MatchOption, None, Ok, OnErr, OnOk, max, true};
+ghost use Rattle.std.specs.Duration.{as_nanos};
+ghost use Rattle.stun_base.specs.Moments.{moment_after};
 ghost use Rattle.stun_client.specs.Ids.{id_of};
 ghost use Rattle.stun_client.specs.Requests.{LAST_NUMBER};
 ghost use Rattle.stun_client_loop.specs.Loops.{after_request, request_refused};
@@ -18,6 +20,7 @@ use crate::numbers::{NumberedId, free_number};
 use crate::pending::{Pending, Pendings, put, send, take};
 use crate::told::RequestError;
 use std::alloc::Allocator;
+use std::time::Duration;
 use stun_base::instant::Instant;
 use stun_client::challenge::Challenge;
 use stun_client::client::Client;
@@ -94,7 +97,8 @@ impl<A: Allocator + Copy> ClientEndpoint<A> {
         ensures same { OnErr result (self.new ≡ self.old) }
     {
         let request = self.next;
-        let pending = Pending::new(self.alloc, body);
+        let until = until_from(self.latest, self.plan, now);
+        let pending = Pending::new(self.alloc, body, until);
         register(
             &mut self.requests,
             &mut self.state,
@@ -104,10 +108,20 @@ impl<A: Allocator + Copy> ClientEndpoint<A> {
             bytes,
             now,
         )?;
+        self.latest = until;
         self.next = request + 1;
         self.next_id = number + 1;
         Ok(request)
     }
+}
+
+/// Returns when the first plan of a request ends that starts now. If times go back, not before that of
+/// an earlier request.
+fn until_from(latest: Instant, plan: Duration, now: Instant) -> Instant
+    ensures until { result ≡ max latest (moment_after now (as_nanos plan)) }
+    ensures low { latest ≤ result }
+{
+    latest.max(now + plan)
 }
 
 /// Writes a message that is signed for this challenge.

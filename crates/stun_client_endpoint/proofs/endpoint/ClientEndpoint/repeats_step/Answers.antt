@@ -1,5 +1,6 @@
 -- The agent sends a request again, or the step goes on.
 use Rattle.std.proofs.Common.{◌≡◌, ◌∙◌, ap, rules}
+use Rattle.std.specs.Duration.{as_nanos}
 use Rattle.stun_client_endpoint.specs.Endpoints.{Endpoint, repeats_step}
 use Rattle.stun_client_endpoint.proofs.PollLemmas.{repeats_none, repeats_some}
 use Rattle.stun_client_endpoint.proofs.endpoint.ClientEndpoint.repeats_step.Goals as goal
@@ -10,6 +11,8 @@ returns-in-Some g c =
       form = c.self.inside.form;
       understood = c.self.inside.understood.items;
       challenges = c.self.inside.challenges;
+      plan = as_nanos c.self.inside.plan;
+      latest = c.self.inside.latest;
       seed = c.self.inside.seed;
       next_id = c.self.inside.next_id;
       state = c.self.inside.state;
@@ -26,6 +29,8 @@ returns-in-None g c =
       form = c.self.inside.form;
       understood = c.self.inside.understood.items;
       challenges = c.self.inside.challenges;
+      plan = as_nanos c.self.inside.plan;
+      latest = c.self.inside.latest;
       seed = c.self.inside.seed;
       next_id = c.self.inside.next_id;
       state = c.self.inside.state;

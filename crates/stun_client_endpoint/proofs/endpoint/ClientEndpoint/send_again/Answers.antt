@@ -1,12 +1,13 @@
 -- The loop sends the request again, which is stored with its new bytes.
+use Rattle.std.proofs.Common.{refl}
 use Rattle.stun_client_endpoint.proofs.PendingLemmas.{stored_changed}
 use Rattle.stun_client_endpoint.proofs.ReceivingLemmas.{again_same, sent_again}
 use Rattle.stun_client_endpoint.proofs.endpoint.ClientEndpoint.send_again.Goals as goal
 
 pub invariant_of-self : goal.invariant_of-self
 invariant_of-self g c =
-    stored_changed c.self.inside.next c.self.inside.state c.again.new.self _ _
-    c.self.inside.requests.entries c.send.new.all.entries c.self.invariant c.send.ensures
+    stored_changed c.self.inside.next c.self.inside.latest c.self.inside.state c.again.new.self _ _
+    c.self.inside.requests.entries c.send.new.all.entries (λ p. refl) c.self.invariant c.send.ensures
     (again_same c.self.inside.state c.again.new.self c.args.message.now c.as_slice.result.now
     c.args.challenge c.args.now c.in-Ok.ensures.after)
 

@@ -390,6 +390,18 @@ impl fmt::Display for Judged {
 }
 
 /// Why a check failed.
+///
+/// # Examples
+///
+/// ```
+/// use seatcrane_stun::endpoint::ice::{Failure, Outcome};
+///
+/// /// Whether to try the pair again, as after an error that may pass.
+/// fn is_passing(outcome: Outcome) -> bool {
+///     matches!(outcome, Outcome::Failed(Failure::Error(500)))
+/// }
+/// # assert!(!is_passing(Outcome::Failed(Failure::OtherPath)));
+/// ```
 #[derive(Clone, Copy, Debug, PartialEq, Eq, Hash)]
 #[non_exhaustive]
 pub enum Failure {
@@ -433,6 +445,17 @@ impl fmt::Display for Failure {
 }
 
 /// Why a datagram is dropped.
+///
+/// # Examples
+///
+/// ```
+/// use seatcrane_stun::endpoint::ice::DropReason;
+///
+/// let mut dropped = [0; DropReason::COUNT];
+/// let why = DropReason::WrongSignature;
+/// dropped[why.index()] += 1;
+/// assert_eq!(why.name(), "WrongSignature");
+/// ```
 #[derive(Clone, Copy, Debug, PartialEq, Eq, Hash)]
 #[non_exhaustive]
 pub enum DropReason {

@@ -177,6 +177,21 @@ impl OpenServer {
 }
 
 /// What a datagram comes to at an [`OpenServer`].
+///
+/// # Examples
+///
+/// ```
+/// use seatcrane_stun::endpoint::OpenReceived;
+///
+/// /// Returns the response to send, if there is one now.
+/// fn response(received: OpenReceived<'_>) -> Option<Vec<u8>> {
+///     match received {
+///         OpenReceived::Answer(answer) => Some(answer.into_bytes()),
+///         OpenReceived::Request(request) => request.reply().error(400, "Bad Request").finish().ok(),
+///         _ => None, // an indication, a response, or a datagram that is dropped
+///     }
+/// }
+/// ```
 #[must_use = "it may be a response to send, or a request to respond to"]
 #[derive(Debug)]
 #[non_exhaustive]
@@ -337,6 +352,20 @@ impl ShortTermServer {
 }
 
 /// What a datagram comes to at a [`ShortTermServer`].
+///
+/// # Examples
+///
+/// ```
+/// use seatcrane_stun::endpoint::ShortTermReceived;
+///
+/// fn log(received: &ShortTermReceived<'_>) {
+///     match received {
+///         ShortTermReceived::NotSigned(refusal) => println!("dropped an indication: {refusal}"),
+///         ShortTermReceived::Dropped(why) => println!("dropped: {why}"),
+///         _ => {}
+///     }
+/// }
+/// ```
 #[must_use = "it may be a response to send, or a request to respond to"]
 #[derive(Debug)]
 #[non_exhaustive]

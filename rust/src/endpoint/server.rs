@@ -477,6 +477,23 @@ impl Server {
 }
 
 /// What a datagram comes to without its user, or that it needs the user.
+///
+/// # Examples
+///
+/// ```
+/// use seatcrane_stun::endpoint::{Identified, Received, Server, User};
+///
+/// fn judged<'a>(
+///     server: &'a Server,
+///     identified: Identified<'a>,
+///     user: Option<&'a User>,
+/// ) -> Received<'a> {
+///     match identified {
+///         Identified::Done(received) => received,
+///         Identified::Lookup(lookup) => server.resume(lookup, user),
+///     }
+/// }
+/// ```
 #[must_use = "it may be a response to send, or a request that waits for its user"]
 #[derive(Debug)]
 pub enum Identified<'a> {
@@ -490,6 +507,21 @@ pub enum Identified<'a> {
 ///
 /// A client that sends its request again causes another look-up; merge them by
 /// [`transaction_id`](Self::transaction_id).
+///
+/// # Examples
+///
+/// ```
+/// use seatcrane_stun::auth::NamedUser;
+/// use seatcrane_stun::endpoint::Lookup;
+///
+/// /// The key of the row of a user.
+/// fn key(lookup: &Lookup<'_>) -> String {
+///     match lookup.user_id() {
+///         NamedUser::ByName(name) => format!("name:{name}"),
+///         NamedUser::ByHash(hash) => format!("hash:{hash:02x?}"),
+///     }
+/// }
+/// ```
 #[must_use = "the request waits for `Server::resume`"]
 #[derive(Debug)]
 pub struct Lookup<'a> {

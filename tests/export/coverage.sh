@@ -21,7 +21,8 @@ export LLVM_PROFILE_FILE="$target/raw/%p-%m.profraw"
 export LD_LIBRARY_PATH="$at/usr/lib/x86_64-linux-gnu${LD_LIBRARY_PATH:+:$LD_LIBRARY_PATH}"
 tools/rust.sh --export >/dev/null
 (cd target/export && cargo test --quiet --workspace --exclude seatcrane-stun-c --features tracing \
-    --lib --bins --tests --examples && cargo build --quiet --package seatcrane-checks) >"$target/log" 2>&1 || { cat "$target/log" >&2; exit 1; }
+    --lib --bins --tests --examples && cargo build --quiet --package seatcrane-checks) \
+    >"$target/log" 2>&1 || { cat "$target/log" >&2; exit 1; }
 "$target/debug/transcripts" tests/transcripts/*.txt >>"$target/log"
 python3 tests/programs/captures/check.py "$target/debug/stun_inspect" >>"$target/log"
 "$merge" merge -sparse -o "$target/all.profdata" "$target"/raw/*.profraw

@@ -9,8 +9,8 @@ from pathlib import Path
 
 # The first that fits: a part of the path in target/export, and what it is called.
 PIECES = (("/src/exported/", None), ("/src/kit/tests", None), ("/src/kit/", "rust/src/kit"),
-          ("/src/endpoint", "rust/src/endpoint"), ("/capi/src/calls/", None),
-          ("/capi/src/", "rust/capi/src"), ("/checks/", None), ("/examples/", None),
+          ("/src/endpoint", "rust/src/endpoint"), ("/capi/", None), ("/checks/", None),
+          ("/examples/", None),
           ("/tests/", None), ("/bench/", None), ("target/export/src/", "rust/src, the rest"))
 
 

@@ -8,6 +8,7 @@ cd "$(dirname "$0")"
 if [ "${1-}" = exported ]; then
     CC=${CC:-cc}
     archive=../target/c/libstunp.a system='-lpthread -ldl' told='the exported crate, not proved'
+    inlined=''
     mkdir -p out
     tried() {
         shift
@@ -15,12 +16,12 @@ if [ "${1-}" = exported ]; then
     }
 else
     . ./common.sh
-    system='' told='the archive, proved'
+    system='' told='the archive, proved' inlined=-DSTUNP_INLINE_CALLS=1
 fi
 tried 'the driver' $CC -O1 -g -Wall -Wextra -Werror -fsanitize=address,undefined \
-    -fno-sanitize-recover=all -I../include hostile.c "$archive" $system -o out/hostile
+    -fno-sanitize-recover=all -I../include $inlined hostile.c "$archive" $system -o out/hostile
 out/hostile
 tried 'the growth' $CC -O2 -std=c99 -D_DEFAULT_SOURCE -Wall -Wextra -Werror -I../include \
-    growth.c "$archive" $system -lm -o out/growth
+    $inlined growth.c "$archive" $system -lm -o out/growth
 echo "microseconds, by $told"
 out/growth

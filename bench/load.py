@@ -147,8 +147,9 @@ def main():
           "| Lost | Dropped by the kernel |\n|---|---|---|---|---|---|---|---|")
     with tempfile.TemporaryDirectory() as folder:
         load = pathlib.Path(folder) / "load"
-        subprocess.run(["cc", "-O2", f"-I{check.TOP}/include", HERE / "load.c", check.STATELESS,
-                        *check.harness.BESIDE.split(), "-o", load], check=True)
+        subprocess.run(["cc", "-O2", f"-I{check.TOP}/include", *check.harness.inlined(),
+                        HERE / "load.c", check.STATELESS, *check.harness.BESIDE.split(), "-o", load],
+                       check=True)
         rows = [("u", 64, 1), ("ug", 64, 1), ("usg", 64, 1), ("s", 64, 1), ("usg", 1000, 1)]
         for workers in sorted({1, CORES}):
             for mix, window, loaders in rows:

@@ -6,6 +6,7 @@ set -eu
 cd "$(dirname "$0")"
 . ./common.sh
 tried 'the driver' $CC -O2 -Wall -Wextra -Werror -Wno-deprecated-declarations -I../include \
+    -DSTUNP_INLINE_CALLS=1 \
     bench.c "$archive" -lcrypto -o out/bench
 
 # Instructions of one call: those from entering its function to leaving it, over so many calls.

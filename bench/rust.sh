@@ -21,7 +21,8 @@ measured() {
     (cd ../target/export
      cargo build --quiet --release -p seatcrane-stun-c --target-dir "$out" "$@"
      cargo build --quiet --release -p seatcrane-stun --example bench --target-dir "$out" "$@")
-    $CC -O2 -Wno-deprecated-declarations -I../include bench.c "$out/release/libstunp.a" \
+    $CC -O2 -Wno-deprecated-declarations -I../include -DSTUNP_INLINE_CALLS=1 bench.c \
+        "$out/release/libstunp.a" \
         -lcrypto -lpthread -ldl -lm -o "$out/bench"
     : > "$out/counts"
     printf '\nThe calls for C beside OpenSSL:\n\n'

@@ -130,7 +130,7 @@ def build(room, chosen):
     if chosen.exported:
         over = [os.path.join(TOP, "target", "c", "libstunp.a"), "-lpthread", "-ldl", "-lm"]
     else:
-        over = list(archives(chosen.built))
+        over = ["-DSTUNP_INLINE_CALLS=1", *archives(chosen.built)]
     source = os.path.join(HERE, "state.c")
     program = os.path.join(room, "state")
     compiler = os.environ.get("CC", "").split() or ["cc"]

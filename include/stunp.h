@@ -20,10 +20,10 @@
  *   stunp_state.h and stunp_endpoint.h.
  * - The exported one is libstunp.so and libstunp.a in target/c, which `make lib` builds from the
  *   same sources with cargo and a C compiler, also for other processors. It has the calls of all
- *   three headers, is tested, and is not proved. Calls that have their body in a header, such as
- *   stunp_strerror, are symbols of it too, for programs that do not read C. It needs malloc, abort
- *   and the functions of <string.h>. If you link the archive with -Wl,--gc-sections, your program
- *   contains only what it calls.
+ *   three headers, is tested, and is not proved. The calls that are done in C, such as
+ *   stunp_strerror, are in it too: no code of these headers is compiled into your program
+ *   (STUNP_INLINE_CALLS). It needs malloc, abort and the functions of <string.h>. If you link the
+ *   archive with -Wl,--gc-sections, your program contains only what it calls.
  *
  * The archives are position independent, so you may link them into a shared library. The library
  * then exports their calls too, unless you link it with -Wl,--exclude-libs,ALL.
@@ -217,10 +217,21 @@ extern "C" {
 #define STUNP_CHANGES(p, n)
 #endif
 
-/* How the calls are declared whose bodies are in the headers. A program need not define it: the
- * library itself does, to have each of them as a symbol, for callers that do not read C. */
+/* Whether the calls that are done in C are compiled into your program: those that are declared with
+ * STUNP_INLINED, such as stunp_is_signed. With 0 they are declared here and their bodies are in the
+ * library, so that a later libstunp.so of the same release line corrects programs that were built
+ * with an earlier one. That is how the exported library is used, shared or not. The proved archives
+ * do not have these calls. For them define it as 1 before you include a header of this library;
+ * `make install` of the proved archives does that in the installed header. */
+#ifndef STUNP_INLINE_CALLS
+#define STUNP_INLINE_CALLS 0
+#endif
 #ifndef STUNP_INLINED
+#if STUNP_INLINE_CALLS
 #define STUNP_INLINED static inline
+#else
+#define STUNP_INLINED
+#endif
 #endif
 
 /* The version of this header: 10000 times its first number, plus 100 times its second, plus its
@@ -642,13 +653,7 @@ int64_t stunp_read_types(const uint8_t *message, size_t length, size_t place, ui
  *   STUNP_MISSING_ATTRIBUTE  no attribute of this type is visible
  *   STUNP_NOT_TEXT           the value is not UTF-8 */
 STUNP_INLINED int64_t stunp_find_text(const uint8_t *message, size_t length, uint32_t type,
-                                      size_t *text_length) {
-    size_t value_length;
-    int64_t place = stunp_find(message, length, type, &value_length);
-    if (place < 0) return place;
-    int64_t text = stunp_read_text(message, length, (size_t)place, text_length);
-    return text < 0 ? text : place;
-}
+                                      size_t *text_length);
 
 /* Reads the number in the first visible attribute of a type (stunp_read_number).
  *
@@ -660,11 +665,7 @@ STUNP_INLINED int64_t stunp_find_text(const uint8_t *message, size_t length, uin
  *   STUNP_MISSING_ATTRIBUTE    no attribute of this type is visible
  *   STUNP_MALFORMED_ATTRIBUTE  the value does not have 1, 2, 4 or 8 bytes */
 STUNP_INLINED int64_t stunp_find_number(const uint8_t *message, size_t length, uint32_t type,
-                                        uint64_t *number) {
-    size_t value_length;
-    int64_t place = stunp_find(message, length, type, &value_length);
-    return place < 0 ? place : stunp_read_number(message, length, (size_t)place, number);
-}
+                                        uint64_t *number);
 
 /* Reads the address in the first visible attribute of a type, not XORed (stunp_read_address).
  *
@@ -676,12 +677,7 @@ STUNP_INLINED int64_t stunp_find_number(const uint8_t *message, size_t length, u
  *   STUNP_MALFORMED_ATTRIBUTE  the value is not an address
  *   STUNP_BUFFER_TOO_SMALL     `out` has no room for the address */
 STUNP_INLINED int64_t stunp_find_address(const uint8_t *message, size_t length, uint32_t type,
-                                         uint8_t *out, size_t out_length, uint16_t *port) {
-    size_t value_length;
-    int64_t place = stunp_find(message, length, type, &value_length);
-    if (place < 0) return place;
-    return stunp_read_address(message, length, (size_t)place, out, out_length, port);
-}
+                                         uint8_t *out, size_t out_length, uint16_t *port);
 
 /* Reads the XORed address in the first visible attribute of a type (stunp_read_xor_address).
  *
@@ -695,12 +691,7 @@ STUNP_INLINED int64_t stunp_find_address(const uint8_t *message, size_t length, 
  *   STUNP_MALFORMED_ATTRIBUTE  the value is not an address
  *   STUNP_BUFFER_TOO_SMALL     `out` has no room for the address */
 STUNP_INLINED int64_t stunp_find_xor_address(const uint8_t *message, size_t length, uint32_t type,
-                                             uint8_t *out, size_t out_length, uint16_t *port) {
-    size_t value_length;
-    int64_t place = stunp_find(message, length, type, &value_length);
-    if (place < 0) return place;
-    return stunp_read_xor_address(message, length, (size_t)place, out, out_length, port);
-}
+                                             uint8_t *out, size_t out_length, uint16_t *port);
 
 /* Reads the list of types in the first visible attribute of a type (stunp_read_types).
  *
@@ -711,12 +702,7 @@ STUNP_INLINED int64_t stunp_find_xor_address(const uint8_t *message, size_t leng
  *   STUNP_MISSING_ATTRIBUTE    no attribute of this type is visible
  *   STUNP_MALFORMED_ATTRIBUTE  the value has an odd number of bytes */
 STUNP_INLINED int64_t stunp_find_types(const uint8_t *message, size_t length, uint32_t type,
-                                       uint16_t *types, size_t types_length) {
-    size_t value_length;
-    int64_t place = stunp_find(message, length, type, &value_length);
-    if (place < 0) return place;
-    return stunp_read_types(message, length, (size_t)place, types, types_length);
-}
+                                       uint16_t *types, size_t types_length);
 
 /* ---- What a response reports */
 
@@ -767,9 +753,7 @@ int64_t stunp_verify(const uint8_t *message, size_t length, const void *key, siz
 /* Returns whether a message is signed with this key: whether stunp_verify returns an algorithm. */
 STUNP_USE_RESULT STUNP_READS(1, 2) STUNP_READS(3, 4)
 STUNP_INLINED bool stunp_is_signed(const uint8_t *message, size_t length, const void *key,
-                                   size_t key_length) {
-    return stunp_verify(message, length, key, key_length) > 0;
-}
+                                   size_t key_length);
 
 /* Checks the FINGERPRINT of a message (section 14.7).
  *
@@ -783,9 +767,7 @@ int64_t stunp_check_fingerprint(const uint8_t *message, size_t length);
 /* Returns whether the last attribute of a message is a FINGERPRINT that matches the message:
  * whether stunp_check_fingerprint returns STUNP_RIGHT_FINGERPRINT. */
 STUNP_USE_RESULT STUNP_READS(1, 2)
-STUNP_INLINED bool stunp_has_right_fingerprint(const uint8_t *message, size_t length) {
-    return stunp_check_fingerprint(message, length) == STUNP_RIGHT_FINGERPRINT;
-}
+STUNP_INLINED bool stunp_has_right_fingerprint(const uint8_t *message, size_t length);
 
 /* Lists the attributes of a message that its receiver must understand and does not know: the types
  * of its visible attributes that are below 32768 and are not among `known`. They are listed in the
@@ -980,88 +962,49 @@ int64_t stunp_add_fingerprint(uint8_t *buffer, size_t room, size_t length);
 
 /* Stores the result of a call that appends to the message of a writer: the new length, or an error.
  * With it you can write calls of your own for a writer, like stunp_write_bytes below. */
-STUNP_INLINED void stunp_writer_took(stunp_writer *writer, int64_t answer) {
-    if (answer < 0) writer->refusal = answer;
-    else writer->length = (size_t)answer;
-}
+STUNP_INLINED void stunp_writer_took(stunp_writer *writer, int64_t answer);
 
 /* Returns a writer that continues the message at the front of a buffer of `room` bytes. `answer` is
  * what the call that wrote the message returned, such as stunp_refuse_unknown: the length of the
  * message, or an error, which the writer then keeps. */
-STUNP_INLINED stunp_writer stunp_write_on(int64_t answer, uint8_t *bytes, size_t room) {
-    stunp_writer writer = {bytes, room, 0, 0, {0, 0}};
-    stunp_writer_took(&writer, answer);
-    return writer;
-}
+STUNP_INLINED stunp_writer stunp_write_on(int64_t answer, uint8_t *bytes, size_t room);
 
 /* Starts a message without attributes (stunp_begin) in a buffer of `room` bytes, and returns a
  * writer for it. */
 STUNP_INLINED stunp_writer stunp_write(stunp_message_class message_class, uint32_t method,
-                                       const uint8_t id[12], uint8_t *bytes, size_t room) {
-    int64_t begun = stunp_begin(message_class, method, id, STUNP_ID_LENGTH, bytes, room);
-    return stunp_write_on(begun, bytes, room);
-}
+                                       const uint8_t id[12], uint8_t *bytes, size_t room);
 
 /* Appends an attribute with this value (stunp_add). */
 STUNP_INLINED void stunp_write_bytes(stunp_writer *writer, uint32_t type, const void *value,
-                                     size_t value_length) {
-    if (writer->refusal < 0) return;
-    stunp_writer_took(writer, stunp_add(writer->bytes, writer->room, writer->length, type, value,
-                                        value_length));
-}
+                                     size_t value_length);
 
 /* Appends an attribute with this text (stunp_add). The zero byte that ends the text is not
  * written. */
-STUNP_INLINED void stunp_write_text(stunp_writer *writer, uint32_t type, const char *text) {
-    stunp_write_bytes(writer, type, text, strlen(text));
-}
+STUNP_INLINED void stunp_write_text(stunp_writer *writer, uint32_t type, const char *text);
 
 /* Appends an attribute with a number of `size` bytes (stunp_add_number). */
 STUNP_INLINED void stunp_write_number(stunp_writer *writer, uint32_t type, uint64_t number,
-                                      size_t size) {
-    if (writer->refusal < 0) return;
-    stunp_writer_took(writer, stunp_add_number(writer->bytes, writer->room, writer->length, type,
-                                               number, size));
-}
+                                      size_t size);
 
 /* Appends an attribute with an address that is not XORed (stunp_add_address). */
 STUNP_INLINED void stunp_write_address(stunp_writer *writer, uint32_t type, const uint8_t *address,
-                                       size_t address_length, uint32_t port) {
-    if (writer->refusal < 0) return;
-    stunp_writer_took(writer, stunp_add_address(writer->bytes, writer->room, writer->length, type,
-                                                address, address_length, port));
-}
+                                       size_t address_length, uint32_t port);
 
 /* Appends an attribute with an XORed address (stunp_add_xor_address), such as
  * STUNP_XOR_MAPPED_ADDRESS. */
 STUNP_INLINED void stunp_write_xor_address(stunp_writer *writer, uint32_t type,
                                            const uint8_t *address, size_t address_length,
-                                           uint32_t port) {
-    if (writer->refusal < 0) return;
-    stunp_writer_took(writer, stunp_add_xor_address(writer->bytes, writer->room, writer->length,
-                                                    type, address, address_length, port));
-}
+                                           uint32_t port);
 
 /* Appends ERROR-CODE (stunp_add_error). The zero byte that ends the reason is not written. */
-STUNP_INLINED void stunp_write_error(stunp_writer *writer, uint32_t code, const char *reason) {
-    if (writer->refusal < 0) return;
-    stunp_writer_took(writer, stunp_add_error(writer->bytes, writer->room, writer->length, code,
-                                              reason, strlen(reason)));
-}
+STUNP_INLINED void stunp_write_error(stunp_writer *writer, uint32_t code, const char *reason);
 
 /* Signs the message (stunp_sign). */
 STUNP_INLINED void stunp_write_integrity(stunp_writer *writer, stunp_algorithm algorithm,
-                                         const void *key, size_t key_length) {
-    if (writer->refusal < 0) return;
-    stunp_writer_took(writer, stunp_sign(writer->bytes, writer->room, writer->length, algorithm,
-                                         key, key_length));
-}
+                                         const void *key, size_t key_length);
 
 /* Appends FINGERPRINT (stunp_add_fingerprint). */
-STUNP_INLINED void stunp_write_fingerprint(stunp_writer *writer) {
-    if (writer->refusal < 0) return;
-    stunp_writer_took(writer, stunp_add_fingerprint(writer->bytes, writer->room, writer->length));
-}
+STUNP_INLINED void stunp_write_fingerprint(stunp_writer *writer);
 
 /* Returns 0 if every call with this writer succeeded. The message is then in the first
  * `writer->length` bytes of the buffer.
@@ -1069,7 +1012,7 @@ STUNP_INLINED void stunp_write_fingerprint(stunp_writer *writer) {
  * Otherwise returns the error of the first call that failed. The buffer then holds the message
  * without what that call and the ones after it would have added. */
 STUNP_USE_RESULT STUNP_NOT_NULL(1)
-STUNP_INLINED int64_t stunp_written(const stunp_writer *writer) { return writer->refusal; }
+STUNP_INLINED int64_t stunp_written(const stunp_writer *writer);
 
 /* ---- Whole messages */
 
@@ -1211,42 +1154,7 @@ int64_t stunp_error_text(int64_t answer, uint8_t *out, size_t out_length);
 
 /* Returns the text of stunp_error_text for a result of a call. The text is a constant: do not free
  * it. */
-STUNP_INLINED const char *stunp_strerror(int64_t answer) {
-    static const char *const texts[] = {
-        "no error",
-        "bytes are missing at the end",
-        "the bytes are not a STUN message",
-        "bytes come after the message",
-        "the message has no integrity attribute",
-        "the integrity attribute is malformed",
-        "the digest is not that of the message",
-        "an argument is out of range",
-        "a text is not UTF-8",
-        "a text is too long for its attribute",
-        "the buffer is too small",
-        "the attribute is not written by this call",
-        "the message is closed by an integrity attribute or FINGERPRINT",
-        "the message has an attribute of this type",
-        "the message would be too long",
-        "the attribute is missing",
-        "the attribute is malformed",
-        "an allocation failed",
-        "the handle is empty",
-        "the handle is full already",
-        "a request of this id is outstanding",
-        "this call does not take the message or its address",
-        "the message is not sufficiently authenticated",
-        "the request is not well-formed",
-        "the nonce is not the current one",
-        "a required feature is not supported",
-        "a request would be sent again without a wait",
-        "as many addresses are kept as may be",
-        "there is no key to sign with",
-        "the handle has a value of another kind, realm or algorithm",
-    };
-    if (answer >= 0) return texts[0];
-    return answer >= STUNP_WRONG_HANDLE ? texts[-answer] : "unknown refusal";
-}
+STUNP_INLINED const char *stunp_strerror(int64_t answer);
 
 /* Returns the version of the archive. It equals STUNP_VERSION if header and archive come from the
  * same release. Never fails. */
@@ -1266,6 +1174,10 @@ bool stunp_is_proved(void);
 int64_t stunp_release_0_2(void);
 #if defined __GNUC__ && defined STUNP_CHECK_RELEASE
 static int64_t (*const stunp_release_wanted)(void) __attribute__((used)) = stunp_release_0_2;
+#endif
+
+#if STUNP_INLINE_CALLS
+#include "stunp_inline.h"
 #endif
 
 #ifdef __cplusplus

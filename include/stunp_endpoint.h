@@ -719,30 +719,7 @@ int64_t stunp_endpoint_server_new_open(stunp_endpoint_server *server, const void
  * and then those of stunp_endpoint_server_new_with, or of stunp_endpoint_server_new_short_term. */
 STUNP_INLINED int64_t
 stunp_endpoint_server_new(stunp_endpoint_server *server,
-                          const stunp_endpoint_server_settings *settings) {
-    if (settings->size != sizeof *settings) return STUNP_BAD_ARGUMENT;
-    size_t software_length = settings->software == NULL ? 0 : strlen(settings->software);
-    if (settings->credentials != STUNP_LONG_TERM) {
-        if (settings->realm != NULL || settings->secret != NULL || settings->previous_secret != NULL
-            || settings->nonce_seconds != 0 || settings->algorithms != 0
-            || settings->anonymous_username != 0
-            || (uint32_t)settings->credentials > STUNP_NO_CREDENTIALS)
-            return STUNP_BAD_ARGUMENT;
-        return (settings->credentials == STUNP_SHORT_TERM ? stunp_endpoint_server_new_short_term
-                                                          : stunp_endpoint_server_new_open)(
-            server, settings->software, software_length, settings->understood,
-            settings->understood_count, settings->answers_binding,
-            settings->requires_fingerprint);
-    }
-    if (settings->secret == NULL || settings->realm == NULL) return STUNP_BAD_ARGUMENT;
-    bool has_previous = settings->previous_secret != NULL;
-    return stunp_endpoint_server_new_with(
-        server, settings->realm, strlen(settings->realm), settings->software, software_length,
-        settings->secret, has_previous ? settings->previous_secret : settings->secret, has_previous,
-        settings->understood, settings->understood_count, settings->nonce_seconds,
-        settings->algorithms, (uint32_t)settings->anonymous_username, settings->answers_binding,
-        settings->requires_fingerprint);
-}
+                          const stunp_endpoint_server_settings *settings);
 
 /* Frees a server and makes its handle empty. The pointer must not be null. This call is for callers
  * that have the symbols of the archive and not this header; in C and C++ use
@@ -752,9 +729,7 @@ void stunp_endpoint_server_clear(stunp_endpoint_server *server);
 
 /* Frees a server and makes its handle empty. Does nothing if the handle is empty or the pointer is
  * null. Tables of users that it made go on. */
-STUNP_INLINED void stunp_endpoint_server_free(stunp_endpoint_server *server) {
-    if (server != NULL) stunp_endpoint_server_clear(server);
-}
+STUNP_INLINED void stunp_endpoint_server_free(stunp_endpoint_server *server);
 
 /* ---- Users
  *
@@ -780,11 +755,7 @@ int64_t stunp_endpoint_users_new_own(stunp_endpoint_users *users, stunp_endpoint
  *   STUNP_WRONG_HANDLE   it has no server, or one without credentials
  *   STUNP_OUT_OF_MEMORY  an allocation failed */
 STUNP_INLINED int64_t stunp_endpoint_users_new(stunp_endpoint_users *users,
-                                               const stunp_endpoint_server *server) {
-    stunp_endpoint_server own = {false, NULL};
-    if (server != NULL) own = *server;
-    return stunp_endpoint_users_new_own(users, &own);
-}
+                                               const stunp_endpoint_server *server);
 
 /* Adds a user with a password, or replaces what the table has of a user of this name, and derives
  * the keys (sections 9.1.1 and 9.2.2).
@@ -834,9 +805,7 @@ void stunp_endpoint_users_clear(stunp_endpoint_users *users);
 
 /* Frees a table and makes its handle empty. Does nothing if the handle is empty or the pointer is
  * null. */
-STUNP_INLINED void stunp_endpoint_users_free(stunp_endpoint_users *users) {
-    if (users != NULL) stunp_endpoint_users_clear(users);
-}
+STUNP_INLINED void stunp_endpoint_users_free(stunp_endpoint_users *users);
 
 /* Creates a table with the user that you found, or with nobody if `found` is null.
  * stunp_endpoint_server_resume and stunp_endpoint_server_cause_for call it.
@@ -853,23 +822,7 @@ STUNP_INLINED void stunp_endpoint_users_free(stunp_endpoint_users *users) {
  *   STUNP_OUT_OF_MEMORY  an allocation failed */
 STUNP_INLINED int64_t stunp_endpoint_users_new_found(stunp_endpoint_users *users,
                                                      const stunp_endpoint_server *server,
-                                                     const stunp_found_user *found) {
-    if (found != NULL
-        && (found->size != sizeof *found || found->name == NULL
-            || (found->password != NULL ? found->password[0] == 0
-                                        : found->sha1_key == NULL && found->sha256_key == NULL)))
-        return STUNP_BAD_ARGUMENT;
-    int64_t made = stunp_endpoint_users_new(users, server);
-    if (made < 0 || found == NULL) return made;
-    made = found->password != NULL
-               ? stunp_endpoint_users_add(users, found->name, found->name_length, found->password,
-                                          strlen(found->password))
-               : stunp_endpoint_users_add_keys(users, found->name, found->name_length,
-                                               found->sha1_key, found->sha1_key ? 16 : 0,
-                                               found->sha256_key, found->sha256_key ? 32 : 0);
-    if (made < 0) stunp_endpoint_users_free(users);
-    return made;
-}
+                                                     const stunp_found_user *found);
 
 /* ---- Datagrams */
 
@@ -925,36 +878,10 @@ STUNP_INLINED int64_t
 stunp_endpoint_server_receive(const stunp_endpoint_server *server,
                               const stunp_endpoint_users *users, const uint8_t *bytes,
                               size_t length, const stunp_address *from, uint64_t unix_seconds,
-                              uint8_t *out, size_t room, stunp_received *received) {
-    stunp_endpoint_server own = {false, NULL};
-    stunp_endpoint_users own_users = {false, NULL};
-    if (server != NULL) own = *server;
-    if (users != NULL) own_users = *users;
-    stunp_received unread = STUNP_INIT(stunp_received);
-    return stunp_endpoint_server_receive_own(&own, &own_users, bytes, length, from, unix_seconds,
-                                             out, room, received == NULL ? &unread : received);
-}
+                              uint8_t *out, size_t room, stunp_received *received);
 
 /* Returns a text for the reason of STUNP_DROPPED, as stunp_strerror does for an error. */
-STUNP_INLINED const char *stunp_drop_text(uint32_t why) {
-    switch (why) {
-    case STUNP_DROP_NOT_STUN: return "it is not STUN";
-    case STUNP_DROP_MALFORMED: return "it is not what its header says";
-    case STUNP_DROP_WRONG_FINGERPRINT: return "its FINGERPRINT is wrong";
-    case STUNP_DROP_MISSING_FINGERPRINT: return "it has no FINGERPRINT";
-    case STUNP_DROP_UNKNOWN_ATTRIBUTE: return "an indication has an unknown attribute";
-    case STUNP_DROP_NOT_SIGNED: return "an indication is not signed by a user";
-    case STUNP_DROP_OTHER_METHOD: return "its method is not Binding";
-    case STUNP_DROP_NOT_ASKED: return "it is a response to no check";
-    case STUNP_DROP_WRONG_SIGNATURE: return "a response is not signed by the peer";
-    case STUNP_DROP_NOT_VERIFIED: return "it is not signed as it must be";
-    case STUNP_DROP_UNANSWERABLE_CHALLENGE: return "it is a challenge that cannot be answered";
-    case STUNP_DROP_WEAKER_CHALLENGE: return "it is a weaker challenge than one before";
-    case STUNP_DROP_OUT_OF_MEMORY: return "an allocation failed";
-    case STUNP_DROP_LATE_CHALLENGE: return "it is a challenge that arrived too late";
-    default: return "it is not dropped";
-    }
-}
+STUNP_INLINED const char *stunp_drop_text(uint32_t why);
 
 /* Returns why a datagram is refused, like stunp_endpoint_server_cause, with handles that nothing
  * else uses during the call. They stay as they are.
@@ -994,32 +921,11 @@ STUNP_USE_RESULT
 STUNP_INLINED int64_t
 stunp_endpoint_server_cause(const stunp_endpoint_server *server, const stunp_endpoint_users *users,
                             const uint8_t *bytes, size_t length, const stunp_address *from,
-                            uint64_t unix_seconds) {
-    stunp_endpoint_server own = {false, NULL};
-    stunp_endpoint_users own_users = {false, NULL};
-    if (server != NULL) own = *server;
-    if (users != NULL) own_users = *users;
-    return stunp_endpoint_server_cause_own(&own, &own_users, bytes, length, from, unix_seconds);
-}
+                            uint64_t unix_seconds);
 
 /* Returns a text for a result of stunp_endpoint_server_cause: for a stunp_cause, for 0, or for an
  * error, whose text is that of stunp_strerror. */
-STUNP_INLINED const char *stunp_cause_text(int64_t cause) {
-    switch (cause) {
-    case STUNP_CAUSE_NO_SIGNATURE: return "the request is not signed";
-    case STUNP_CAUSE_INCOMPLETE: return "the realm, the nonce or the user name is missing";
-    case STUNP_CAUSE_OTHER_ALGORITHMS:
-        return "the password algorithms are not those that were offered";
-    case STUNP_CAUSE_OTHER_FEATURES: return "the security bits of the nonce are not the server's";
-    case STUNP_CAUSE_STALE_NONCE: return "the nonce is not valid any more";
-    case STUNP_CAUSE_WRONG_CREDENTIALS:
-        return "the user is unknown, or the signature is not the user's";
-    case STUNP_CAUSE_UNKNOWN_ATTRIBUTE:
-        return "the request has an attribute that is not understood";
-    case 0: return "it is not refused";
-    default: return cause < 0 ? stunp_strerror(cause) : "the request is refused";
-    }
-}
+STUNP_INLINED const char *stunp_cause_text(int64_t cause);
 
 /* ---- Look-ups: users in a database */
 
@@ -1052,13 +958,7 @@ STUNP_USE_RESULT
 STUNP_INLINED int64_t
 stunp_endpoint_server_identify(const stunp_endpoint_server *server, const uint8_t *bytes,
                                size_t length, const stunp_address *from, uint64_t unix_seconds,
-                               uint8_t *out, size_t room, stunp_received *received) {
-    stunp_endpoint_server own = {false, NULL};
-    if (server != NULL) own = *server;
-    stunp_received unread = STUNP_INIT(stunp_received);
-    return stunp_endpoint_server_identify_own(&own, bytes, length, from, unix_seconds, out, room,
-                                              received == NULL ? &unread : received);
-}
+                               uint8_t *out, size_t room, stunp_received *received);
 
 /* Judges the request of a STUNP_LOOKUP by the user that you found, or by nobody if `found` is null.
  * The other arguments are those of stunp_endpoint_server_identify, with the time at which the
@@ -1078,22 +978,7 @@ STUNP_INLINED int64_t
 stunp_endpoint_server_resume(const stunp_endpoint_server *server, const stunp_found_user *found,
                              const uint8_t *bytes, size_t length, const stunp_address *from,
                              uint64_t unix_seconds, uint8_t *out, size_t room,
-                             stunp_received *received) {
-    stunp_endpoint_users users = {false, NULL};
-    int64_t kind = stunp_endpoint_users_new_found(&users, server, found);
-    if (kind >= 0)
-        kind = stunp_endpoint_server_receive(server, &users, bytes, length, from, unix_seconds, out,
-                                             room, received);
-    else if (received != NULL) {
-        received->kind = STUNP_FAILED, received->length = 0;
-        if (received->size == sizeof *received) {
-            received->why = 0, received->code = 0, received->method = 0, received->algorithm = 0;
-            received->needed = 0, received->name_length = 0, received->is_hash = false;
-        }
-    }
-    stunp_endpoint_users_free(&users);
-    return kind;
-}
+                             stunp_received *received);
 
 /* Returns why stunp_endpoint_server_resume refuses a request, like stunp_endpoint_server_cause with
  * a table of this one user. Pass what you passed to stunp_endpoint_server_resume. For an answer of
@@ -1111,14 +996,7 @@ STUNP_USE_RESULT
 STUNP_INLINED int64_t
 stunp_endpoint_server_cause_for(const stunp_endpoint_server *server, const stunp_found_user *found,
                                 const uint8_t *bytes, size_t length, const stunp_address *from,
-                                uint64_t unix_seconds) {
-    stunp_endpoint_users users = {false, NULL};
-    int64_t cause = stunp_endpoint_users_new_found(&users, server, found);
-    if (cause >= 0)
-        cause = stunp_endpoint_server_cause(server, &users, bytes, length, from, unix_seconds);
-    stunp_endpoint_users_free(&users);
-    return cause;
-}
+                                uint64_t unix_seconds);
 
 /* ---- Replies
  *
@@ -1134,37 +1012,22 @@ stunp_endpoint_server_cause_for(const stunp_endpoint_server *server, const stunp
 /* Starts the success response to a request in a buffer of `room` bytes, and returns a writer for
  * it. */
 STUNP_INLINED stunp_writer stunp_reply_success(const stunp_reply *reply, uint8_t *out,
-                                               size_t room) {
-    return stunp_write(STUNP_SUCCESS, reply->method, reply->id, out, room);
-}
+                                               size_t room);
 
 /* Starts an error response to a request, with ERROR-CODE, and returns a writer for it. `code` is 300
  * to 699. */
 STUNP_INLINED stunp_writer stunp_reply_error(const stunp_reply *reply, uint32_t code,
-                                             const char *reason, uint8_t *out, size_t room) {
-    stunp_writer answer = stunp_write(STUNP_ERROR, reply->method, reply->id, out, room);
-    stunp_write_error(&answer, code, reason);
-    return answer;
-}
+                                             const char *reason, uint8_t *out, size_t room);
 
 /* Ends the response of a writer: signs it, and adds FINGERPRINT if the request had one.
  *
  * Returns the length of the response, or the first error of any call with this writer, including those
  * of stunp_sign and stunp_add_fingerprint. */
 STUNP_USE_RESULT
-STUNP_INLINED int64_t stunp_reply_finish(const stunp_reply *reply, stunp_writer *answer) {
-    if (reply->integrity != 0)
-        stunp_write_integrity(answer, (stunp_algorithm)reply->integrity, reply->key,
-                              reply->key_length);
-    if (reply->has_fingerprint) stunp_write_fingerprint(answer);
-    return stunp_written(answer) < 0 ? stunp_written(answer) : (int64_t)answer->length;
-}
+STUNP_INLINED int64_t stunp_reply_finish(const stunp_reply *reply, stunp_writer *answer);
 
 /* Overwrites a reply and the key that it contains. */
-STUNP_INLINED void stunp_reply_wipe(stunp_reply *reply) {
-    volatile uint8_t *bytes = (volatile uint8_t *)reply;
-    for (size_t i = 0; i < sizeof *reply; i++) bytes[i] = 0;
-}
+STUNP_INLINED void stunp_reply_wipe(stunp_reply *reply);
 
 /* ---- Connectivity checks of ICE
  *
@@ -1192,16 +1055,7 @@ int64_t stunp_ice_checker_new_with(stunp_ice_checker *checker, const void *name,
  *   STUNP_BAD_ARGUMENT  `size` is wrong, or a text is null
  * and then those of stunp_ice_checker_new_with. */
 STUNP_INLINED int64_t stunp_ice_checker_new(stunp_ice_checker *checker,
-                                            const stunp_ice_settings *settings) {
-    if (settings->size != sizeof *settings || settings->name == NULL || settings->password == NULL
-        || settings->peer_name == NULL || settings->peer_password == NULL)
-        return STUNP_BAD_ARGUMENT;
-    return stunp_ice_checker_new_with(
-        checker, settings->name, strlen(settings->name), settings->password,
-        strlen(settings->password), settings->peer_name, strlen(settings->peer_name),
-        settings->peer_password, strlen(settings->peer_password), settings->tie_breaker,
-        settings->is_controlling);
-}
+                                            const stunp_ice_settings *settings);
 
 /* Frees an agent and makes its handle empty. The pointer must not be null. This call is for callers
  * that have the symbols of the archive and not this header; in C and C++ use
@@ -1211,9 +1065,7 @@ void stunp_ice_checker_clear(stunp_ice_checker *checker);
 
 /* Frees an agent and makes its handle empty. Does nothing if the handle is empty or the pointer is
  * null. */
-STUNP_INLINED void stunp_ice_checker_free(stunp_ice_checker *checker) {
-    if (checker != NULL) stunp_ice_checker_clear(checker);
-}
+STUNP_INLINED void stunp_ice_checker_free(stunp_ice_checker *checker);
 
 /* Returns 1 if the agent controls now, and so nominates pairs, or 0 if the peer does. In a
  * condition an error would count as true: call stunp_ice_checker_controls there. Errors:
@@ -1224,9 +1076,7 @@ int64_t stunp_ice_checker_is_controlling(stunp_ice_checker *checker);
 
 /* Returns whether the agent controls now: whether stunp_ice_checker_is_controlling returns 1. */
 STUNP_USE_RESULT STUNP_NOT_NULL(1)
-STUNP_INLINED bool stunp_ice_checker_controls(stunp_ice_checker *checker) {
-    return stunp_ice_checker_is_controlling(checker) == 1;
-}
+STUNP_INLINED bool stunp_ice_checker_controls(stunp_ice_checker *checker);
 
 /* Sets another tie-breaker. After STUNP_ICE_CONFLICT an agent must have a new random one before its
  * next check (section 16.1).
@@ -1263,11 +1113,7 @@ STUNP_USE_RESULT
 STUNP_INLINED int64_t stunp_ice_checker_check(stunp_ice_checker *checker, const uint8_t id[12],
                                               const stunp_address *to, uint32_t priority,
                                               bool nominate, uint8_t *out, size_t room,
-                                              stunp_ice_check *check) {
-    stunp_ice_check unread;
-    return stunp_ice_checker_check_with(checker, id, to, priority, nominate, out, room,
-                                        check == NULL ? &unread : check);
-}
+                                              stunp_ice_check *check);
 
 /* Judges a datagram, like stunp_ice_checker_receive. `check` counts if `has_check` is true, and must
  * not be null even if it does not count; nor may `received`.
@@ -1313,13 +1159,7 @@ STUNP_USE_RESULT
 STUNP_INLINED int64_t stunp_ice_checker_receive(stunp_ice_checker *checker, const uint8_t *bytes,
                                                 size_t length, const stunp_address *from,
                                                 const stunp_ice_check *check, uint8_t *out,
-                                                size_t room, stunp_ice_received *received) {
-    stunp_ice_check none = {{0}, {{0}, 0, 0}, false, false};
-    stunp_ice_received unread = STUNP_INIT(stunp_ice_received);
-    return stunp_ice_checker_receive_with(checker, bytes, length, from, check != NULL,
-                                          check == NULL ? &none : check, out, room,
-                                          received == NULL ? &unread : received);
-}
+                                                size_t room, stunp_ice_received *received);
 
 /* ---- Clients
  *
@@ -1548,29 +1388,7 @@ int64_t stunp_endpoint_client_new_with(stunp_endpoint_client *client, const stun
  * and then those of stunp_endpoint_client_new_with. */
 STUNP_INLINED int64_t
 stunp_endpoint_client_new(stunp_endpoint_client *client,
-                          const stunp_endpoint_client_settings *settings) {
-    if (settings->size != sizeof *settings || settings->seed == NULL
-        || (settings->name == NULL) != (settings->password == NULL)
-        || (settings->name != NULL && (settings->name[0] == 0 || settings->password[0] == 0)))
-        return STUNP_BAD_ARGUMENT;
-    stunp_client_options options;
-    options.initial = settings->initial, options.longest = settings->longest;
-    options.last = settings->last, options.transmissions = settings->transmissions;
-    options.challenges = settings->challenges;
-    options.credentials = (uint32_t)settings->credentials;
-    options.algorithms = settings->algorithms;
-    options.anonymous_username = (uint32_t)settings->anonymous_username;
-    options.is_stream = settings->is_stream;
-    options.accepts_unsigned = settings->accepts_unsigned;
-    options.has_fingerprint = settings->has_fingerprint;
-    options.requires_fingerprint = settings->requires_fingerprint;
-    return stunp_endpoint_client_new_with(
-        client, &settings->server, settings->seed, settings->name,
-        settings->name == NULL ? 0 : strlen(settings->name), settings->password,
-        settings->password == NULL ? 0 : strlen(settings->password), settings->software,
-        settings->software == NULL ? 0 : strlen(settings->software), settings->understood,
-        settings->understood_count, &options);
-}
+                          const stunp_endpoint_client_settings *settings);
 
 /* Frees a client and makes its handle empty. The pointer must not be null. This call is for callers
  * that have the symbols of the archive and not this header; in C and C++ use
@@ -1580,35 +1398,16 @@ void stunp_endpoint_client_clear(stunp_endpoint_client *client);
 
 /* Frees a client and makes its handle empty. Does nothing if the handle is empty or the pointer is
  * null. */
-STUNP_INLINED void stunp_endpoint_client_free(stunp_endpoint_client *client) {
-    if (client != NULL) stunp_endpoint_client_clear(client);
-}
+STUNP_INLINED void stunp_endpoint_client_free(stunp_endpoint_client *client);
 
 /* Returns a body without attributes, in a buffer of `room` bytes. */
-STUNP_INLINED stunp_body stunp_body_on(uint8_t *bytes, size_t room) {
-    stunp_body body = {bytes, room, 0, 0};
-    return body;
-}
+STUNP_INLINED stunp_body stunp_body_on(uint8_t *bytes, size_t room);
 
 /* Adds an attribute, like stunp_body_add, of any type: STUNP_XOR_PEER_ADDRESS with an address that is
  * not XORed yet. Use stunp_body_add and stunp_body_add_peer. */
 STUNP_READS(3, 4)
 STUNP_INLINED int64_t stunp_body_put(stunp_body *body, uint32_t type, const void *value,
-                                     size_t length) {
-    if (body->refusal < 0) return body->refusal;
-    size_t whole = 4 + (length + 3) / 4 * 4, left = STUNP_BODY_MAX - body->length;
-    if (type > 65535) body->refusal = STUNP_BAD_ARGUMENT;
-    else if (length > left || whole > left) body->refusal = STUNP_MESSAGE_TOO_LONG;
-    else if (whole > body->room - body->length) body->refusal = STUNP_BUFFER_TOO_SMALL;
-    if (body->refusal < 0) return body->refusal;
-    uint8_t *at = body->bytes + body->length;
-    memset(at, 0, whole);
-    at[0] = (uint8_t)(type >> 8), at[1] = (uint8_t)type;
-    at[2] = (uint8_t)(length >> 8), at[3] = (uint8_t)length;
-    if (length > 0) memcpy(at + 4, value, length);
-    body->length += whole;
-    return 0;
-}
+                                     size_t length);
 
 /* Adds an attribute with this value to a body. Types may repeat, and are in the request in the order
  * in which they were added. Once a call with a body has failed, the next ones do nothing.
@@ -1622,10 +1421,7 @@ STUNP_INLINED int64_t stunp_body_put(stunp_body *body, uint32_t type, const void
  *                           the buffer */
 STUNP_READS(3, 4)
 STUNP_INLINED int64_t stunp_body_add(stunp_body *body, uint32_t type, const void *value,
-                                     size_t length) {
-    if (body->refusal == 0 && type == STUNP_XOR_PEER_ADDRESS) body->refusal = STUNP_NOT_ALLOWED;
-    return stunp_body_put(body, type, value, length);
-}
+                                     size_t length);
 
 /* Adds an attribute with a number of `size` bytes in network order, like stunp_body_add.
  *
@@ -1633,14 +1429,7 @@ STUNP_INLINED int64_t stunp_body_add(stunp_body *body, uint32_t type, const void
  *   STUNP_BAD_ARGUMENT  `size` is not 1, 2, 4 or 8, or the number does not fit into `size` bytes
  * and then those of stunp_body_add. */
 STUNP_INLINED int64_t stunp_body_add_number(stunp_body *body, uint32_t type, uint64_t number,
-                                            size_t size) {
-    uint8_t value[8];
-    bool fits = size == 8 || ((size == 1 || size == 2 || size == 4) && number >> size * 8 == 0);
-    if (body->refusal == 0 && !fits) body->refusal = STUNP_BAD_ARGUMENT;
-    if (body->refusal < 0) return body->refusal;
-    for (size_t i = size; i-- > 0; number >>= 8) value[i] = (uint8_t)(number & 255);
-    return stunp_body_add(body, type, value, size);
-}
+                                            size_t size);
 
 /* Adds STUNP_XOR_PEER_ADDRESS with this address (RFC 8656, section 18.3), like stunp_body_add. It is
  * XORed when the request is written.
@@ -1648,14 +1437,7 @@ STUNP_INLINED int64_t stunp_body_add_number(stunp_body *body, uint32_t type, uin
  * Returns 0, or the first error of any call with this body. Errors:
  *   STUNP_BAD_ARGUMENT  it is not an IPv4 or IPv6 address
  * and then those of stunp_body_add. */
-STUNP_INLINED int64_t stunp_body_add_peer(stunp_body *body, const stunp_address *peer) {
-    uint8_t family = peer->length == 4 ? 1 : 2;
-    uint8_t value[20] = {0, family, (uint8_t)(peer->port >> 8), (uint8_t)peer->port};
-    if (body->refusal == 0 && peer->length != 4 && peer->length != 16)
-        body->refusal = STUNP_BAD_ARGUMENT;
-    memcpy(value + 4, peer->octets, 16);
-    return stunp_body_put(body, STUNP_XOR_PEER_ADDRESS, value, peer->length == 4 ? 8 : 20);
-}
+STUNP_INLINED int64_t stunp_body_add_peer(stunp_body *body, const stunp_address *peer);
 
 /* Starts a request, like stunp_endpoint_client_request. `body` has the attributes one after the other,
  * each with its header and padded to a multiple of 4 bytes, as in a message; but the addresses of
@@ -1697,13 +1479,7 @@ int64_t stunp_endpoint_client_request_with(stunp_endpoint_client *client, uint32
  *                              test of the method */
 STUNP_INLINED int64_t stunp_endpoint_client_request(stunp_endpoint_client *client, uint32_t method,
                                                     const stunp_body *body, uint64_t now,
-                                                    uint64_t *request) {
-    uint64_t unread;
-    if (body != NULL && body->refusal < 0) return body->refusal;
-    return stunp_endpoint_client_request_with(client, method, body == NULL ? NULL : body->bytes,
-                                              body == NULL ? 0 : body->length, now,
-                                              request == NULL ? &unread : request);
-}
+                                                    uint64_t *request);
 
 /* Reads a datagram, like stunp_endpoint_client_receive. `why` must not be null.
  *
@@ -1738,11 +1514,7 @@ int64_t stunp_endpoint_client_receive_with(stunp_endpoint_client *client, const 
 STUNP_INLINED int64_t stunp_endpoint_client_receive(stunp_endpoint_client *client,
                                                     const uint8_t *bytes, size_t length,
                                                     const stunp_address *from, uint64_t now,
-                                                    uint32_t *why) {
-    uint32_t unread = 0;
-    return stunp_endpoint_client_receive_with(client, bytes, length, from, now,
-                                              why == NULL ? &unread : why);
-}
+                                                    uint32_t *why);
 
 /* Finds the next thing to do, like stunp_endpoint_client_poll. `event` must not be null.
  *
@@ -1767,19 +1539,11 @@ int64_t stunp_endpoint_client_poll_with(stunp_endpoint_client *client, uint64_t 
  *                           number, and `event->result`, which is then not 0, its result */
 STUNP_USE_RESULT
 STUNP_INLINED int64_t stunp_endpoint_client_poll(stunp_endpoint_client *client, uint64_t now,
-                                                 uint8_t *out, size_t room, stunp_event *event) {
-    stunp_event unread = STUNP_INIT(stunp_event);
-    return stunp_endpoint_client_poll_with(client, now, out, room,
-                                           event == NULL ? &unread : event);
-}
+                                                 uint8_t *out, size_t room, stunp_event *event);
 
 /* Returns for how many milliseconds to wait after STUNP_WAIT, as poll() of POSIX takes them: -1, for
  * ever, if no request is outstanding. It is never 0. */
-STUNP_INLINED int stunp_poll_timeout(const stunp_event *event, uint64_t now) {
-    uint64_t left = event->until > now ? (event->until - now) / 1000000 : 0;
-    if (event->until == UINT64_MAX) return -1;
-    return left < 1000000000 ? (int)left + 1 : 1000000000;
-}
+STUNP_INLINED int stunp_poll_timeout(const stunp_event *event, uint64_t now);
 
 /* Ends a request with STUNP_RESULT_CANCELLED, which stunp_endpoint_client_poll then returns.
  *
@@ -1802,19 +1566,7 @@ int64_t stunp_endpoint_client_dropped(stunp_endpoint_client *client, uint64_t re
                                       stunp_dropped *dropped);
 
 /* Returns a text for a stunp_result, as stunp_strerror does for an error. */
-STUNP_INLINED const char *stunp_result_text(uint32_t result) {
-    switch (result) {
-    case STUNP_RESULT_SUCCESS: return "a success";
-    case STUNP_RESULT_REFUSED: return "refused by the server";
-    case STUNP_RESULT_REDIRECTED: return "sent to another server";
-    case STUNP_RESULT_TIMED_OUT: return "no answer in time";
-    case STUNP_RESULT_UNAUTHORIZED: return "challenged too often";
-    case STUNP_RESULT_NOT_UNDERSTOOD: return "the response has an attribute that is not understood";
-    case STUNP_RESULT_MALFORMED: return "the response is an error without a code";
-    case STUNP_RESULT_CANCELLED: return "cancelled";
-    default: return "the request has not ended";
-    }
-}
+STUNP_INLINED const char *stunp_result_text(uint32_t result);
 
 /* ---- Versions */
 
@@ -1829,6 +1581,10 @@ int64_t stunp_endpoint_release_0_2(void);
 #if defined __GNUC__ && defined STUNP_CHECK_RELEASE
 static int64_t (*const stunp_endpoint_release_wanted)(void) __attribute__((used)) =
     stunp_endpoint_release_0_2;
+#endif
+
+#if STUNP_INLINE_CALLS
+#include "stunp_endpoint_inline.h"
 #endif
 
 #ifdef __cplusplus

@@ -508,9 +508,7 @@ void stunp_agent_clear(stunp_agent *agent);
 
 /* Frees an agent and makes its handle empty. Does nothing if the handle is empty or the pointer is
  * null. */
-STUNP_INLINED void stunp_agent_free(stunp_agent *agent) {
-    if (agent != NULL) stunp_agent_clear(agent);
-}
+STUNP_INLINED void stunp_agent_free(stunp_agent *agent);
 
 /* ---- Agents: messages */
 
@@ -784,9 +782,7 @@ void stunp_server_clear(stunp_server *server);
 
 /* Frees a server and makes its handle empty. Does nothing if the handle is empty or the pointer is
  * null. */
-STUNP_INLINED void stunp_server_free(stunp_server *server) {
-    if (server != NULL) stunp_server_clear(server);
-}
+STUNP_INLINED void stunp_server_free(stunp_server *server);
 
 /* ---- Servers: users */
 
@@ -869,9 +865,7 @@ int64_t stunp_server_validate(stunp_server *server, const uint8_t *message, size
  * stunp_server_validate_of_keys, stunp_server_validate_user or stunp_client_validate is that the
  * message is authentic: whether it is STUNP_SHA1 or STUNP_SHA256. */
 STUNP_USE_RESULT
-STUNP_INLINED bool stunp_is_authentic(int64_t verdict) {
-    return verdict == STUNP_SHA1 || verdict == STUNP_SHA256;
-}
+STUNP_INLINED bool stunp_is_authentic(int64_t verdict);
 
 /* Writes the name of the user who was validated last at an address to the front of `name`, and its
  * length to `*name_length`.
@@ -930,11 +924,7 @@ int64_t stunp_server_sign(stunp_server *server, uint8_t *buffer, size_t room, si
 /* Signs the message of a writer (stunp_server_sign), which keeps the new length or the error. Does
  * nothing if an earlier call with this writer has failed. */
 STUNP_INLINED void stunp_write_server_sign(stunp_writer *writer, stunp_server *server,
-                                           const stunp_address *to) {
-    if (writer->refusal < 0) return;
-    stunp_writer_took(writer, stunp_server_sign(server, writer->bytes, writer->room,
-                                                writer->length, to));
-}
+                                           const stunp_address *to);
 
 /* ---- Servers: messages with users in a database
  *
@@ -1099,12 +1089,7 @@ int64_t stunp_server_sign_of_keys(stunp_server *server, uint8_t *buffer, size_t 
 STUNP_INLINED void stunp_write_server_sign_of(stunp_writer *writer, stunp_server *server,
                                               const stunp_address *to, const void *name,
                                               size_t name_length, const void *password,
-                                              size_t password_length) {
-    if (writer->refusal < 0) return;
-    stunp_writer_took(writer, stunp_server_sign_of(server, writer->bytes, writer->room,
-                                                   writer->length, to, name, name_length,
-                                                   password, password_length));
-}
+                                              size_t password_length);
 
 /* Signs the message of a writer (stunp_server_sign_of_keys), which keeps the new length or the
  * error. Does nothing if an earlier call with this writer has failed. */
@@ -1112,13 +1097,7 @@ STUNP_INLINED void stunp_write_server_sign_of_keys(stunp_writer *writer, stunp_s
                                                    const stunp_address *to, const void *name,
                                                    size_t name_length, const uint8_t *sha1,
                                                    size_t sha1_length, const uint8_t *sha256,
-                                                   size_t sha256_length) {
-    if (writer->refusal < 0) return;
-    stunp_writer_took(writer, stunp_server_sign_of_keys(server, writer->bytes, writer->room,
-                                                        writer->length, to, name, name_length,
-                                                        sha1, sha1_length, sha256,
-                                                        sha256_length));
-}
+                                                   size_t sha256_length);
 
 /* ---- Servers: messages with prepared users
  *
@@ -1185,9 +1164,7 @@ void stunp_user_clear(stunp_user *user);
 
 /* Frees a user and makes its handle empty. Does nothing if the handle is empty or the pointer is
  * null. */
-STUNP_INLINED void stunp_user_free(stunp_user *user) {
-    if (user != NULL) stunp_user_clear(user);
-}
+STUNP_INLINED void stunp_user_free(stunp_user *user);
 
 /* Authenticates a message like stunp_server_validate, as a server whose only user is this one. Pass
  * the user whom stunp_server_named_user returns: the users that were added to the server are
@@ -1243,11 +1220,7 @@ int64_t stunp_server_sign_user(stunp_server *server, uint8_t *buffer, size_t roo
 /* Signs the message of a writer (stunp_server_sign_user), which keeps the new length or the error.
  * Does nothing if an earlier call with this writer has failed. */
 STUNP_INLINED void stunp_write_server_sign_user(stunp_writer *writer, stunp_server *server,
-                                                const stunp_address *to, const stunp_user *user) {
-    if (writer->refusal < 0) return;
-    stunp_writer_took(writer, stunp_server_sign_user(server, writer->bytes, writer->room,
-                                                     writer->length, to, user));
-}
+                                                const stunp_address *to, const stunp_user *user);
 
 /* ---- Servers: records of addresses
  *
@@ -1405,9 +1378,7 @@ void stunp_client_clear(stunp_client *client);
 
 /* Frees a client and makes its handle empty. Does nothing if the handle is empty or the pointer is
  * null. */
-STUNP_INLINED void stunp_client_free(stunp_client *client) {
-    if (client != NULL) stunp_client_clear(client);
-}
+STUNP_INLINED void stunp_client_free(stunp_client *client);
 
 /* ---- Clients: messages */
 
@@ -1444,11 +1415,7 @@ int64_t stunp_client_sign(const stunp_client *client, uint8_t *buffer, size_t ro
 
 /* Signs the message of a writer (stunp_client_sign), which keeps the new length or the error. Does
  * nothing if an earlier call with this writer has failed. */
-STUNP_INLINED void stunp_write_client_sign(stunp_writer *writer, const stunp_client *client) {
-    if (writer->refusal < 0) return;
-    stunp_writer_took(writer, stunp_client_sign(client, writer->bytes, writer->room,
-                                                writer->length));
-}
+STUNP_INLINED void stunp_write_client_sign(stunp_writer *writer, const stunp_client *client);
 
 /* Returns the algorithm with which stunp_client_sign would sign now. Does not allocate.
  *
@@ -1522,6 +1489,10 @@ int64_t stunp_state_release_0_2(void);
 #if defined __GNUC__ && defined STUNP_CHECK_RELEASE
 static int64_t (*const stunp_state_release_wanted)(void) __attribute__((used)) =
     stunp_state_release_0_2;
+#endif
+
+#if STUNP_INLINE_CALLS
+#include "stunp_state_inline.h"
 #endif
 
 #ifdef __cplusplus

@@ -50,6 +50,8 @@ heap='../examples/c/heap.c'
 
 # The headers are C99 and C++17, with all warnings.
 strict='-Wall -Wextra -Wpedantic -Wconversion -Werror -I../include -I../examples/c'
+bodies=$(inlined "$STUN_C")
+strict="$strict $bodies"
 has_plus=''
 if there "${CXX-}" c++; then has_plus=yes; fi
 for header in stunp stunp_state stunp_endpoint; do
@@ -132,7 +134,7 @@ neighbour() {
         >"$scratch/probe.c"
     shift 3
     $cc -std=gnu11 "$scratch/probe.c" "$@" -o "$scratch/probe" 2>/dev/null || return 0
-    $cc -std=gnu11 -O1 -g -Wall -Wextra -Werror -I../include -I../examples/c -D"$macro" \
+    $cc -std=gnu11 -O1 -g -Wall -Wextra -Werror -I../include -I../examples/c $bodies -D"$macro" \
         c/beside.c $heap $archives "$@" -o "$scratch/beside"
     passes beside "$scratch/beside"
     neighbours="$neighbours $name"

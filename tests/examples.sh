@@ -71,6 +71,7 @@ if there "${CXX-}" c++; then
         "$scratch/empty"; } 2>/dev/null || sanitized=''
     ${CC:-cc} -O1 -I../include -c ../examples/c/heap.c -o "$scratch/heap.o"
     ${CXX:-c++} -std=c++17 -Wall -Wextra -Wpedantic -Werror $sanitized -I../include \
+        $(inlined "$STUN_C") \
         cpp/check.cpp "$scratch/heap.o" "$STUN_STATE" "$STUN_ENDPOINT" "$STUN_C" $LIBRARIES -o "$scratch/wrapped"
     "$scratch/wrapped" >"$scratch/said"
     cmp "$scratch/said" cpp/check.txt

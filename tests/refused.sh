@@ -16,6 +16,7 @@ fi
 scratch=$(mktemp -d)
 trap 'rm -rf "$scratch"' EXIT
 strict='-std=c99 -Wall -Wextra -Werror -Wenum-conversion -I../include'
+strict="$strict $(inlined "${STUN_C-}")"
 
 # wants WORD COMMAND..: the command fails, and prints this word.
 wants() {

@@ -36,6 +36,11 @@ esac
 printf '#include "%s"\n' stunp.h stunp_state.h stunp_endpoint.h > "$out/included.c"
 ${CC:-cc} -O0 -Iinclude -c "$out/included.c" -o "$out/included.o"
 [ -z "$(nm -u "$out/included.o")" ] || fail 'a program that includes the headers wants the library'
+# The calls that are done in C are the library's, so that a later one corrects programs that are built.
+sed -n 's/^ \*     //p; /\*\/$/q' include/stunp_endpoint.h > "$out/serve.h"
+${CC:-cc} -O2 -w -Iinclude -x c -c "$out/serve.h" -o "$out/serve.o"
+! nm "$out/serve.o" | grep -i ' [tw] stunp_' >&2 || fail 'calls of the headers are compiled into programs'
+nm -u "$out/serve.o" | grep -q ' U stunp_reply_finish$' || fail 'the example does not end a reply'
 
 # Calls with a body in the headers, for a program that reads no C.
 python3 - "$out/libstunp.so" <<'CALLS'

@@ -186,6 +186,13 @@ def wrapped_in_c(scratch):
     return prints(text_of("tests/cpp/check.txt"), ["sh", "-ec", shown + "./a.out"], cwd=scratch)
 
 
+def inlined(archives):
+    """The option over archives that lack the calls that are done in C, as the proved ones do
+    (STUNP_INLINE_CALLS of stunp.h)."""
+    listed = subprocess.run([os.environ.get("NM", "nm"), *archives], capture_output=True, text=True)
+    return [] if " T stunp_strerror\n" in listed.stdout else ["-DSTUNP_INLINE_CALLS=1"]
+
+
 def in_c(archives):
     named = os.environ.get("CC", "").split()
     if not named and shutil.which("cc") is None:
@@ -196,7 +203,7 @@ def in_c(archives):
         with open(source, "w") as opened:
             opened.write(block_named("c"))
         compiler = [*(named or ["cc"]), "-Wall", "-Wextra", "-Werror",
-                    "-I" + os.path.join(TOP, "include"), source]
+                    "-I" + os.path.join(TOP, "include"), *inlined(archives), source]
         if not prints("", compiler + archives + ["-o", program]):
             return False
         with open(os.path.join(TOP, "examples/request.hex")) as sample:

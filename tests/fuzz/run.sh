@@ -12,6 +12,7 @@ top=$(cd "$(dirname "$0")/../.." && pwd)
 seconds=${1:-10}
 messages=${STUN_C:-$top/crates/stun_c/out/libstun_c.a}
 state=${STUN_STATE:-$top/crates/stun_state/out/libstun_state.a}
+. "$top/tools/compiler.sh"
 scratch=$(mktemp -d)
 trap 'rm -rf "$scratch"' EXIT
 corpus=${2:-$scratch/corpus}
@@ -21,7 +22,7 @@ mkdir -p "$corpus"
 # build COMPILER..: the driver over the archives. Those of the exported crate want threads too.
 build() {
     "$@" -std=c99 -D_DEFAULT_SOURCE -O1 -g -Wall -Wextra -Werror -I"$top/include" \
-        -I"$top/examples/c" "$top/tests/fuzz/fuzz.c" "$top/examples/c/heap.c" \
+        -I"$top/examples/c" $(inlined "$messages") "$top/tests/fuzz/fuzz.c" "$top/examples/c/heap.c" \
         "$state" "$messages" -lpthread -ldl -lm -o "$scratch/fuzz"
 }
 
@@ -52,7 +53,6 @@ for clang in "${CLANG:-clang}" clang-19 clang-16 clang-15 clang-14; do
 done
 
 cc=${CC:-cc}
-. "$top/tools/compiler.sh"
 if ! there "${CC-}" cc; then
     echo 'fuzz: no C compiler'
     exit 0

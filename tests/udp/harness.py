@@ -43,6 +43,13 @@ def scaled(seconds):
 # ---- Programs
 
 
+def inlined():
+    """The option for programs over an archive that lacks the calls that are done in C, as the
+    proved ones do (STUNP_INLINE_CALLS of stunp.h)."""
+    listed = subprocess.run([os.environ.get("NM", "nm"), STATELESS], capture_output=True, text=True)
+    return [] if " T stunp_strerror\n" in listed.stdout else ["-DSTUNP_INLINE_CALLS=1"]
+
+
 def compiler():
     """The words of the C compiler: those of CC, or `cc`."""
     return os.environ.get("CC", "").split() or ["cc"]
@@ -78,7 +85,7 @@ def build(folder):
 def build_helpers(folder):
     """Builds the programs and the library of this folder's own."""
     parts = TOP / "examples/c"
-    command = [*compiler(), "-O1", f"-I{TOP}/include", f"-I{parts}"]
+    command = [*compiler(), "-O1", f"-I{TOP}/include", f"-I{parts}", *inlined()]
     archives = (STATE, ENDPOINT, STATELESS, *BESIDE.split())
     wiped = (HERE / "wiped.c", parts / "heap.c", *archives, "-o", folder / "wiped")
     subprocess.run([*command, *wiped], check=True)

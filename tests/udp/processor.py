@@ -68,7 +68,7 @@ def main():
     words.add_argument("--rust", type=pathlib.Path, default=RUST)
     chosen = words.parse_args()
     with harness.scratch() as folder, contextlib.ExitStack() as stack:
-        command = [*harness.compiler(), "-O2", f"-I{harness.TOP}/include"]
+        command = [*harness.compiler(), "-O2", f"-I{harness.TOP}/include", *harness.inlined()]
         subprocess.run([*command, harness.HERE / "echo.c", "-o", folder / "echo"], check=True)
         load = folder / "load"
         subprocess.run([*command, harness.TOP / "bench/load.c", harness.STATELESS,

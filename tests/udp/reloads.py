@@ -248,7 +248,8 @@ def bars(folder, servers):
     values = ("CFLAGS=-O2", f"OUT={plain}", f"STATE={harness.STATE}", f"SYSTEM={harness.BESIDE}",
               f"ENDPOINT={harness.ENDPOINT}", f"LIBRARY={harness.STATELESS}")
     subprocess.run(["make", "-s", "-C", harness.TOP / "examples/c", *values, "udp"], check=True)
-    words = ("-O2", f"-I{harness.TOP}/include", harness.TOP / "bench/load.c", harness.STATELESS)
+    words = ("-O2", f"-I{harness.TOP}/include", *harness.inlined(),
+             harness.TOP / "bench/load.c", harness.STATELESS)
     subprocess.run([*harness.compiler(), *words, *harness.BESIDE.split(), "-o", load], check=True)
     c = plain / "udp_server"
     for words in ((), ("--workers", "2")):

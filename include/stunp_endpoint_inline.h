@@ -1,0 +1,363 @@
+/* stunp_endpoint_inline.h: the bodies of the calls of stunp_endpoint.h that are done in C, over
+ * those of the library. stunp_endpoint.h includes it if they are compiled into the program
+ * (STUNP_INLINE_CALLS of stunp.h). Do not include it yourself. */
+#ifndef STUNP_ENDPOINT_INLINE_H
+#define STUNP_ENDPOINT_INLINE_H
+
+STUNP_INLINED int64_t
+stunp_endpoint_server_new(stunp_endpoint_server *server,
+                          const stunp_endpoint_server_settings *settings) {
+    if (settings->size != sizeof *settings) return STUNP_BAD_ARGUMENT;
+    size_t software_length = settings->software == NULL ? 0 : strlen(settings->software);
+    if (settings->credentials != STUNP_LONG_TERM) {
+        if (settings->realm != NULL || settings->secret != NULL || settings->previous_secret != NULL
+            || settings->nonce_seconds != 0 || settings->algorithms != 0
+            || settings->anonymous_username != 0
+            || (uint32_t)settings->credentials > STUNP_NO_CREDENTIALS)
+            return STUNP_BAD_ARGUMENT;
+        return (settings->credentials == STUNP_SHORT_TERM ? stunp_endpoint_server_new_short_term
+                                                          : stunp_endpoint_server_new_open)(
+            server, settings->software, software_length, settings->understood,
+            settings->understood_count, settings->answers_binding,
+            settings->requires_fingerprint);
+    }
+    if (settings->secret == NULL || settings->realm == NULL) return STUNP_BAD_ARGUMENT;
+    bool has_previous = settings->previous_secret != NULL;
+    return stunp_endpoint_server_new_with(
+        server, settings->realm, strlen(settings->realm), settings->software, software_length,
+        settings->secret, has_previous ? settings->previous_secret : settings->secret, has_previous,
+        settings->understood, settings->understood_count, settings->nonce_seconds,
+        settings->algorithms, (uint32_t)settings->anonymous_username, settings->answers_binding,
+        settings->requires_fingerprint);
+}
+
+STUNP_INLINED void stunp_endpoint_server_free(stunp_endpoint_server *server) {
+    if (server != NULL) stunp_endpoint_server_clear(server);
+}
+
+STUNP_INLINED int64_t stunp_endpoint_users_new(stunp_endpoint_users *users,
+                                               const stunp_endpoint_server *server) {
+    stunp_endpoint_server own = {false, NULL};
+    if (server != NULL) own = *server;
+    return stunp_endpoint_users_new_own(users, &own);
+}
+
+STUNP_INLINED void stunp_endpoint_users_free(stunp_endpoint_users *users) {
+    if (users != NULL) stunp_endpoint_users_clear(users);
+}
+
+STUNP_INLINED int64_t stunp_endpoint_users_new_found(stunp_endpoint_users *users,
+                                                     const stunp_endpoint_server *server,
+                                                     const stunp_found_user *found) {
+    if (found != NULL
+        && (found->size != sizeof *found || found->name == NULL
+            || (found->password != NULL ? found->password[0] == 0
+                                        : found->sha1_key == NULL && found->sha256_key == NULL)))
+        return STUNP_BAD_ARGUMENT;
+    int64_t made = stunp_endpoint_users_new(users, server);
+    if (made < 0 || found == NULL) return made;
+    made = found->password != NULL
+               ? stunp_endpoint_users_add(users, found->name, found->name_length, found->password,
+                                          strlen(found->password))
+               : stunp_endpoint_users_add_keys(users, found->name, found->name_length,
+                                               found->sha1_key, found->sha1_key ? 16 : 0,
+                                               found->sha256_key, found->sha256_key ? 32 : 0);
+    if (made < 0) stunp_endpoint_users_free(users);
+    return made;
+}
+
+STUNP_INLINED int64_t
+stunp_endpoint_server_receive(const stunp_endpoint_server *server,
+                              const stunp_endpoint_users *users, const uint8_t *bytes,
+                              size_t length, const stunp_address *from, uint64_t unix_seconds,
+                              uint8_t *out, size_t room, stunp_received *received) {
+    stunp_endpoint_server own = {false, NULL};
+    stunp_endpoint_users own_users = {false, NULL};
+    if (server != NULL) own = *server;
+    if (users != NULL) own_users = *users;
+    stunp_received unread = STUNP_INIT(stunp_received);
+    return stunp_endpoint_server_receive_own(&own, &own_users, bytes, length, from, unix_seconds,
+                                             out, room, received == NULL ? &unread : received);
+}
+
+STUNP_INLINED const char *stunp_drop_text(uint32_t why) {
+    switch (why) {
+    case STUNP_DROP_NOT_STUN: return "it is not STUN";
+    case STUNP_DROP_MALFORMED: return "it is not what its header says";
+    case STUNP_DROP_WRONG_FINGERPRINT: return "its FINGERPRINT is wrong";
+    case STUNP_DROP_MISSING_FINGERPRINT: return "it has no FINGERPRINT";
+    case STUNP_DROP_UNKNOWN_ATTRIBUTE: return "an indication has an unknown attribute";
+    case STUNP_DROP_NOT_SIGNED: return "an indication is not signed by a user";
+    case STUNP_DROP_OTHER_METHOD: return "its method is not Binding";
+    case STUNP_DROP_NOT_ASKED: return "it is a response to no check";
+    case STUNP_DROP_WRONG_SIGNATURE: return "a response is not signed by the peer";
+    case STUNP_DROP_NOT_VERIFIED: return "it is not signed as it must be";
+    case STUNP_DROP_UNANSWERABLE_CHALLENGE: return "it is a challenge that cannot be answered";
+    case STUNP_DROP_WEAKER_CHALLENGE: return "it is a weaker challenge than one before";
+    case STUNP_DROP_OUT_OF_MEMORY: return "an allocation failed";
+    case STUNP_DROP_LATE_CHALLENGE: return "it is a challenge that arrived too late";
+    default: return "it is not dropped";
+    }
+}
+
+STUNP_INLINED int64_t
+stunp_endpoint_server_cause(const stunp_endpoint_server *server, const stunp_endpoint_users *users,
+                            const uint8_t *bytes, size_t length, const stunp_address *from,
+                            uint64_t unix_seconds) {
+    stunp_endpoint_server own = {false, NULL};
+    stunp_endpoint_users own_users = {false, NULL};
+    if (server != NULL) own = *server;
+    if (users != NULL) own_users = *users;
+    return stunp_endpoint_server_cause_own(&own, &own_users, bytes, length, from, unix_seconds);
+}
+
+STUNP_INLINED const char *stunp_cause_text(int64_t cause) {
+    switch (cause) {
+    case STUNP_CAUSE_NO_SIGNATURE: return "the request is not signed";
+    case STUNP_CAUSE_INCOMPLETE: return "the realm, the nonce or the user name is missing";
+    case STUNP_CAUSE_OTHER_ALGORITHMS:
+        return "the password algorithms are not those that were offered";
+    case STUNP_CAUSE_OTHER_FEATURES: return "the security bits of the nonce are not the server's";
+    case STUNP_CAUSE_STALE_NONCE: return "the nonce is not valid any more";
+    case STUNP_CAUSE_WRONG_CREDENTIALS:
+        return "the user is unknown, or the signature is not the user's";
+    case STUNP_CAUSE_UNKNOWN_ATTRIBUTE:
+        return "the request has an attribute that is not understood";
+    case 0: return "it is not refused";
+    default: return cause < 0 ? stunp_strerror(cause) : "the request is refused";
+    }
+}
+
+STUNP_INLINED int64_t
+stunp_endpoint_server_identify(const stunp_endpoint_server *server, const uint8_t *bytes,
+                               size_t length, const stunp_address *from, uint64_t unix_seconds,
+                               uint8_t *out, size_t room, stunp_received *received) {
+    stunp_endpoint_server own = {false, NULL};
+    if (server != NULL) own = *server;
+    stunp_received unread = STUNP_INIT(stunp_received);
+    return stunp_endpoint_server_identify_own(&own, bytes, length, from, unix_seconds, out, room,
+                                              received == NULL ? &unread : received);
+}
+
+STUNP_INLINED int64_t
+stunp_endpoint_server_resume(const stunp_endpoint_server *server, const stunp_found_user *found,
+                             const uint8_t *bytes, size_t length, const stunp_address *from,
+                             uint64_t unix_seconds, uint8_t *out, size_t room,
+                             stunp_received *received) {
+    stunp_endpoint_users users = {false, NULL};
+    int64_t kind = stunp_endpoint_users_new_found(&users, server, found);
+    if (kind >= 0)
+        kind = stunp_endpoint_server_receive(server, &users, bytes, length, from, unix_seconds, out,
+                                             room, received);
+    else if (received != NULL) {
+        received->kind = STUNP_FAILED, received->length = 0;
+        if (received->size == sizeof *received) {
+            received->why = 0, received->code = 0, received->method = 0, received->algorithm = 0;
+            received->needed = 0, received->name_length = 0, received->is_hash = false;
+        }
+    }
+    stunp_endpoint_users_free(&users);
+    return kind;
+}
+
+STUNP_INLINED int64_t
+stunp_endpoint_server_cause_for(const stunp_endpoint_server *server, const stunp_found_user *found,
+                                const uint8_t *bytes, size_t length, const stunp_address *from,
+                                uint64_t unix_seconds) {
+    stunp_endpoint_users users = {false, NULL};
+    int64_t cause = stunp_endpoint_users_new_found(&users, server, found);
+    if (cause >= 0)
+        cause = stunp_endpoint_server_cause(server, &users, bytes, length, from, unix_seconds);
+    stunp_endpoint_users_free(&users);
+    return cause;
+}
+
+STUNP_INLINED stunp_writer stunp_reply_success(const stunp_reply *reply, uint8_t *out,
+                                               size_t room) {
+    return stunp_write(STUNP_SUCCESS, reply->method, reply->id, out, room);
+}
+
+STUNP_INLINED stunp_writer stunp_reply_error(const stunp_reply *reply, uint32_t code,
+                                             const char *reason, uint8_t *out, size_t room) {
+    stunp_writer answer = stunp_write(STUNP_ERROR, reply->method, reply->id, out, room);
+    stunp_write_error(&answer, code, reason);
+    return answer;
+}
+
+STUNP_INLINED int64_t stunp_reply_finish(const stunp_reply *reply, stunp_writer *answer) {
+    if (reply->integrity != 0)
+        stunp_write_integrity(answer, (stunp_algorithm)reply->integrity, reply->key,
+                              reply->key_length);
+    if (reply->has_fingerprint) stunp_write_fingerprint(answer);
+    return stunp_written(answer) < 0 ? stunp_written(answer) : (int64_t)answer->length;
+}
+
+STUNP_INLINED void stunp_reply_wipe(stunp_reply *reply) {
+    volatile uint8_t *bytes = (volatile uint8_t *)reply;
+    for (size_t i = 0; i < sizeof *reply; i++) bytes[i] = 0;
+}
+
+STUNP_INLINED int64_t stunp_ice_checker_new(stunp_ice_checker *checker,
+                                            const stunp_ice_settings *settings) {
+    if (settings->size != sizeof *settings || settings->name == NULL || settings->password == NULL
+        || settings->peer_name == NULL || settings->peer_password == NULL)
+        return STUNP_BAD_ARGUMENT;
+    return stunp_ice_checker_new_with(
+        checker, settings->name, strlen(settings->name), settings->password,
+        strlen(settings->password), settings->peer_name, strlen(settings->peer_name),
+        settings->peer_password, strlen(settings->peer_password), settings->tie_breaker,
+        settings->is_controlling);
+}
+
+STUNP_INLINED void stunp_ice_checker_free(stunp_ice_checker *checker) {
+    if (checker != NULL) stunp_ice_checker_clear(checker);
+}
+
+STUNP_INLINED bool stunp_ice_checker_controls(stunp_ice_checker *checker) {
+    return stunp_ice_checker_is_controlling(checker) == 1;
+}
+
+STUNP_INLINED int64_t stunp_ice_checker_check(stunp_ice_checker *checker, const uint8_t id[12],
+                                              const stunp_address *to, uint32_t priority,
+                                              bool nominate, uint8_t *out, size_t room,
+                                              stunp_ice_check *check) {
+    stunp_ice_check unread;
+    return stunp_ice_checker_check_with(checker, id, to, priority, nominate, out, room,
+                                        check == NULL ? &unread : check);
+}
+
+STUNP_INLINED int64_t stunp_ice_checker_receive(stunp_ice_checker *checker, const uint8_t *bytes,
+                                                size_t length, const stunp_address *from,
+                                                const stunp_ice_check *check, uint8_t *out,
+                                                size_t room, stunp_ice_received *received) {
+    stunp_ice_check none = {{0}, {{0}, 0, 0}, false, false};
+    stunp_ice_received unread = STUNP_INIT(stunp_ice_received);
+    return stunp_ice_checker_receive_with(checker, bytes, length, from, check != NULL,
+                                          check == NULL ? &none : check, out, room,
+                                          received == NULL ? &unread : received);
+}
+
+STUNP_INLINED int64_t
+stunp_endpoint_client_new(stunp_endpoint_client *client,
+                          const stunp_endpoint_client_settings *settings) {
+    if (settings->size != sizeof *settings || settings->seed == NULL
+        || (settings->name == NULL) != (settings->password == NULL)
+        || (settings->name != NULL && (settings->name[0] == 0 || settings->password[0] == 0)))
+        return STUNP_BAD_ARGUMENT;
+    stunp_client_options options;
+    options.initial = settings->initial, options.longest = settings->longest;
+    options.last = settings->last, options.transmissions = settings->transmissions;
+    options.challenges = settings->challenges;
+    options.credentials = (uint32_t)settings->credentials;
+    options.algorithms = settings->algorithms;
+    options.anonymous_username = (uint32_t)settings->anonymous_username;
+    options.is_stream = settings->is_stream;
+    options.accepts_unsigned = settings->accepts_unsigned;
+    options.has_fingerprint = settings->has_fingerprint;
+    options.requires_fingerprint = settings->requires_fingerprint;
+    return stunp_endpoint_client_new_with(
+        client, &settings->server, settings->seed, settings->name,
+        settings->name == NULL ? 0 : strlen(settings->name), settings->password,
+        settings->password == NULL ? 0 : strlen(settings->password), settings->software,
+        settings->software == NULL ? 0 : strlen(settings->software), settings->understood,
+        settings->understood_count, &options);
+}
+
+STUNP_INLINED void stunp_endpoint_client_free(stunp_endpoint_client *client) {
+    if (client != NULL) stunp_endpoint_client_clear(client);
+}
+
+STUNP_INLINED stunp_body stunp_body_on(uint8_t *bytes, size_t room) {
+    stunp_body body = {bytes, room, 0, 0};
+    return body;
+}
+
+STUNP_INLINED int64_t stunp_body_put(stunp_body *body, uint32_t type, const void *value,
+                                     size_t length) {
+    if (body->refusal < 0) return body->refusal;
+    size_t whole = 4 + (length + 3) / 4 * 4, left = STUNP_BODY_MAX - body->length;
+    if (type > 65535) body->refusal = STUNP_BAD_ARGUMENT;
+    else if (length > left || whole > left) body->refusal = STUNP_MESSAGE_TOO_LONG;
+    else if (whole > body->room - body->length) body->refusal = STUNP_BUFFER_TOO_SMALL;
+    if (body->refusal < 0) return body->refusal;
+    uint8_t *at = body->bytes + body->length;
+    memset(at, 0, whole);
+    at[0] = (uint8_t)(type >> 8), at[1] = (uint8_t)type;
+    at[2] = (uint8_t)(length >> 8), at[3] = (uint8_t)length;
+    if (length > 0) memcpy(at + 4, value, length);
+    body->length += whole;
+    return 0;
+}
+
+STUNP_INLINED int64_t stunp_body_add(stunp_body *body, uint32_t type, const void *value,
+                                     size_t length) {
+    if (body->refusal == 0 && type == STUNP_XOR_PEER_ADDRESS) body->refusal = STUNP_NOT_ALLOWED;
+    return stunp_body_put(body, type, value, length);
+}
+
+STUNP_INLINED int64_t stunp_body_add_number(stunp_body *body, uint32_t type, uint64_t number,
+                                            size_t size) {
+    uint8_t value[8];
+    bool fits = size == 8 || ((size == 1 || size == 2 || size == 4) && number >> size * 8 == 0);
+    if (body->refusal == 0 && !fits) body->refusal = STUNP_BAD_ARGUMENT;
+    if (body->refusal < 0) return body->refusal;
+    for (size_t i = size; i-- > 0; number >>= 8) value[i] = (uint8_t)(number & 255);
+    return stunp_body_add(body, type, value, size);
+}
+
+STUNP_INLINED int64_t stunp_body_add_peer(stunp_body *body, const stunp_address *peer) {
+    uint8_t family = peer->length == 4 ? 1 : 2;
+    uint8_t value[20] = {0, family, (uint8_t)(peer->port >> 8), (uint8_t)peer->port};
+    if (body->refusal == 0 && peer->length != 4 && peer->length != 16)
+        body->refusal = STUNP_BAD_ARGUMENT;
+    memcpy(value + 4, peer->octets, 16);
+    return stunp_body_put(body, STUNP_XOR_PEER_ADDRESS, value, peer->length == 4 ? 8 : 20);
+}
+
+STUNP_INLINED int64_t stunp_endpoint_client_request(stunp_endpoint_client *client, uint32_t method,
+                                                    const stunp_body *body, uint64_t now,
+                                                    uint64_t *request) {
+    uint64_t unread;
+    if (body != NULL && body->refusal < 0) return body->refusal;
+    return stunp_endpoint_client_request_with(client, method, body == NULL ? NULL : body->bytes,
+                                              body == NULL ? 0 : body->length, now,
+                                              request == NULL ? &unread : request);
+}
+
+STUNP_INLINED int64_t stunp_endpoint_client_receive(stunp_endpoint_client *client,
+                                                    const uint8_t *bytes, size_t length,
+                                                    const stunp_address *from, uint64_t now,
+                                                    uint32_t *why) {
+    uint32_t unread = 0;
+    return stunp_endpoint_client_receive_with(client, bytes, length, from, now,
+                                              why == NULL ? &unread : why);
+}
+
+STUNP_INLINED int64_t stunp_endpoint_client_poll(stunp_endpoint_client *client, uint64_t now,
+                                                 uint8_t *out, size_t room, stunp_event *event) {
+    stunp_event unread = STUNP_INIT(stunp_event);
+    return stunp_endpoint_client_poll_with(client, now, out, room,
+                                           event == NULL ? &unread : event);
+}
+
+STUNP_INLINED int stunp_poll_timeout(const stunp_event *event, uint64_t now) {
+    uint64_t left = event->until > now ? (event->until - now) / 1000000 : 0;
+    if (event->until == UINT64_MAX) return -1;
+    return left < 1000000000 ? (int)left + 1 : 1000000000;
+}
+
+STUNP_INLINED const char *stunp_result_text(uint32_t result) {
+    switch (result) {
+    case STUNP_RESULT_SUCCESS: return "a success";
+    case STUNP_RESULT_REFUSED: return "refused by the server";
+    case STUNP_RESULT_REDIRECTED: return "sent to another server";
+    case STUNP_RESULT_TIMED_OUT: return "no answer in time";
+    case STUNP_RESULT_UNAUTHORIZED: return "challenged too often";
+    case STUNP_RESULT_NOT_UNDERSTOOD: return "the response has an attribute that is not understood";
+    case STUNP_RESULT_MALFORMED: return "the response is an error without a code";
+    case STUNP_RESULT_CANCELLED: return "cancelled";
+    default: return "the request has not ended";
+    }
+}
+
+#endif

@@ -43,7 +43,8 @@ DATE = """#!/bin/sh
 echo 10000
 """
 MADE = [f"tools/{name}" for name in
-        ("parts.py", "crates.py", "wrong.py", "proof.py", "compiler.sh")]
+        ("parts.py", "crates.py", "wrong.py", "proof.py", "shown.py", "export/export_text.py",
+         "compiler.sh")]
 wrong = []
 
 
@@ -58,7 +59,7 @@ def lay(top, gate):
     write(top / ".ci/run", gate)
     for name in MADE:
         write(top / name, (TOP / name).read_text())
-    write(top / "crates.txt", "one:\n")
+    write(top / "crates.txt", "one:\nstun_c:\nstun_state:\nstun_c_endpoint: stun_state\n")
     write(top / "crates/one/src/lib.rt", "fn one() {}\n")
     write(top / "crates/one/out/one", "")
     write(top / "tests/wrong/one/two.edit", "file: src/lib.rt\nold: one\nnew: two\n")
@@ -86,6 +87,12 @@ def run(top, shell="sh", **words):
     # The watch beside the proofs is ended with them, on a loaded machine before it has begun.
     noted = sorted(line for line in ran.read_text().splitlines() if "--watch" not in line)
     return gate.stdout.splitlines(), gate.returncode, noted
+
+
+def keep(top):
+    """Writes what a run found into the records."""
+    subprocess.run([sys.executable, "tools/parts.py", "keep"], cwd=top, stdout=subprocess.DEVNULL,
+                   check=True, env={**os.environ, "PATH": f"{top}/bin:{os.environ['PATH']}"})
 
 
 def expect(what, is_so, lines):
@@ -123,17 +130,28 @@ def tried(top):
            and lines[-2].endswith("cannot do: least: a part: left out, it is not there"), lines)
 
     lines, status, _ = run(top)
-    keep = [sys.executable, "tools/parts.py", "keep"]
-    subprocess.run(keep, cwd=top, stdout=subprocess.DEVNULL, check=True,
-                   env={**os.environ, "PATH": f"{top}/bin:{os.environ['PATH']}"})
+    keep(top)
     lines, status, ran = run(top)
     expect("what the record has does not run", status == 0 and not say(ran, "--turn")
-           and not say(ran, "least.sh") and say(ran, "check.sh")
+           and not say(ran, "least.sh") and not say(ran, "check.sh")
+           and not say(ran, "archives.sh") and say(ran, "differ.py")
            and say(lines, "not called for"), lines)
     write(top / "rust/src/kit/map.rs", "// another file\n")
     lines, status, ran = run(top)
     expect("what changed runs", status == 0 and say(ran, "--turn") and say(ran, "least.sh")
-           and not say(ran, "bare.sh"), lines)
+           and not say(ran, "bare.sh") and not say(ran, "check.sh"), lines)
+    write(top / "tests/c/one.c", "int one;\n")
+    lines, status, ran = run(top)
+    expect("what a part runs over is built", status == 0 and say(ran, "check.sh")
+           and say(ran, "archives.sh"), lines)
+    keep(top)
+    write(top / "crates/stun_state/src/lib.rt", "// a comment\nfn one() {}\n")
+    before = run(top)[2]
+    keep(top)
+    write(top / "crates/stun_state/src/lib.rt", "// another comment\nfn one() {}\n")
+    lines, status, ran = run(top)
+    expect("a comment in a crate calls for no archive", not say(ran, "archives.sh"), lines)
+    expect("a change of its code does", say(before, "archives.sh"), before)
 
 
 def taken_out(top, name):

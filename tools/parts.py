@@ -8,7 +8,8 @@
     tools/parts.py whole   whether what a release needs was tried on the files as they are
 
 A part without inputs in PARTS is called for in each run. One with inputs is called for if their sum
-is not that of its line in tests/RECORD, so a run depends on the files alone and not on the time or
+is not that of its line in tests/RECORD, or if a part that is called for runs over what it builds. So
+a run depends on the files alone and not on the time or
 on chance. Wrong edits have a record of their own (tools/wrong.py). A part of the plan that did not
 run counts as failed. A part that ends with LEFT_OUT cannot run on this machine, and a line of any
 part with the words `left out` names something that this machine lacks: both are listed, and a
@@ -25,6 +26,7 @@ from pathlib import Path
 
 import crates
 import proof
+import shown
 import wrong
 
 AT, RECORD = crates.TOP / "target/gate", crates.TOP / "tests/RECORD"
@@ -34,6 +36,10 @@ HEAD = "# Of each part of the gate that depends on few files: the sum of these a
 # Debian: what the exporter makes of them is the Rust that it always makes.
 EXPORT = ("tools/export", "tools/rust.sh", "rust/Cargo.toml", "rust/capi/Cargo.toml",
           "rust/checks/Cargo.toml")
+# Calls for C that are proved, each with all crates below it, and what they are tested with.
+C_CRATES = ("crate stun_c", "crate stun_state", "crate stun_c_endpoint", "tools/archives.sh")
+HEADERS = (*(f"include/{name}.h" for name in ("stunp", "stunp_endpoint", "stunp_sockaddr",
+                                              "stunp_state")), "examples/c")
 PARTS = {
     # What needs no proof.
     "rooms": (), "printed": (), "names": (), "lines": (), "links": (), "version": (),
@@ -50,8 +56,15 @@ PARTS = {
                                           ("export_plants", "export_test", "same_tokens"))),
     "kit-plants": ("rust/src/kit", "tests/export/export_plants.py"),
     # The proofs, and what they built.
-    "proofs": (), "libraries": (), "programs": (), "edits": (), "archives": (), "c-tests": (),
-    "c-pages": (), "differ": (), "examples": (),
+    "proofs": (), "libraries": (), "programs": (), "edits": (), "archives": C_CRATES,
+    "c-tests": (*C_CRATES, *HEADERS, "tests/c", "tests/cpp", "tests/fuzz", "tests/transcripts",
+                *(f"tests/{name}" for name in ("check.sh", "memory.sh", "play.py", "refused.sh",
+                                               "stun.py"))),
+    "c-pages": (*C_CRATES, *HEADERS, "README.md", "examples/README.md", "tests/cpp",
+                "tools/transcripts.py"),
+    "differ": (),
+    "examples": (*C_CRATES, *HEADERS, *EXPORT, "rust/src", "rust/examples", "include", "tests/udp",
+                 "tests/examples.sh", "tests/install.sh"),
     "browsers": (*EXPORT, "rust/src", "rust/examples", *(f"tests/udp/{name}" for name in (
         "browsers.py", "ice_browsers.py", "ice_page.html", "ice_namespaces.sh", "turn_server.py"))),
     "bare": (*EXPORT, "README.md", "Makefile", "include/Makefile", "tools/rust_c.sh",
@@ -59,6 +72,9 @@ PARTS = {
     "release": (*EXPORT, "VERSION", "Makefile", "include", "tools/release.py", "tools/archives.sh",
                 "tests/release.sh", "tests/released.sh", "tests/c/installed.c"),
 }
+# What runs over what another part builds calls for that part, too.
+OVER = {"c-tests": "archives", "c-pages": "archives", "examples": "archives",
+        "release": "archives"}
 # How a line says what this machine lacks. A number of calls that were left out says another thing.
 SAID = re.compile(r"^left out,|(?:[:;,]|\bis|\bare) left out\b")
 # What a release needs beside a gate that passed: the record of each.
@@ -66,9 +82,14 @@ OF_RELEASE = ("least", "exporter-plants", "kit-plants", "bare")
 
 
 def sum_of(inputs):
-    """A sum of files and folders."""
+    """A sum of files and folders, and of the code of crates with those below them."""
     total = hashlib.sha256()
     for name in inputs:
+        if name.startswith("crate "):
+            crate = name.removeprefix("crate ")
+            code = [shown.code_in(one) for one in (*crates.below(crate), crate)]
+            total.update(repr((crates.lines()[crate], code)).encode())
+            continue
         path = crates.TOP / name
         files = sorted(path.rglob("*")) if path.is_dir() else [path]
         for file in files:
@@ -94,6 +115,8 @@ def plan():
     known = lines_of(RECORD)
     sums = {name: sum_of(inputs) for name, inputs in PARTS.items() if inputs}
     called = [name for name in PARTS if name not in sums or known.get(name) != sums[name]]
+    called += [OVER[name] for name in called if OVER.get(name, name) not in called]
+    called = [name for name in PARTS if name in called]
     edits = wrong.called_for()
     if not edits:
         called.remove("edits")

@@ -10,8 +10,9 @@
     tools/wrong.py CRATE[/NAME] .. tries these
 
 The record, tests/wrong/RECORD, has a line for each crate: a sum of its sources, specs, proofs and
-edits, and of the crates below, as its edits were last tried and refused. A crate changed if its sum
-is another one. The line `kit:` names the toolchain that all were last tried by. WRONG_RECORD names
+edits, and of what the crates below show to it (tools/shown.py), as its edits were last tried and
+refused. A crate changed if its sum is another one: a comment, or a body in a crate below, changes
+no sum, since the proof of the crate does not read it. The line `kit:` names the toolchain that all were last tried by. WRONG_RECORD names
 another record: --gate writes target/gate/edits.record, where those of the record that stay are too.
 What is random is drawn by the sums of the crates, or by WRONG_SEED, and the seed is printed.
 
@@ -42,6 +43,7 @@ import time
 from pathlib import Path
 
 import crates
+import shown
 
 WRONG = crates.TOP / "tests/wrong"
 RECORD = Path(os.environ.get("WRONG_RECORD") or WRONG / "RECORD")
@@ -63,9 +65,10 @@ def with_edits():
 def line_of(crate):
     """The line of the record for the crate as it is, with the crates of the laws of its edits."""
     edits = edits_of(crate)
-    laws = {law[1] for law in map(LAW.match, (edit.read_text() for edit in edits)) if law}
-    sums = [crates.sum_of(crate, WRONG / crate), *map(crates.sum_of, sorted(laws - {crate}))]
-    whole = sums[0] if len(sums) == 1 else hashlib.sha256(repr(sums).encode()).hexdigest()[:32]
+    texts = [(edit.name, edit.read_text()) for edit in edits]
+    laws = {law[1] for law in (LAW.match(text) for _, text in texts) if law}
+    read = [shown.read_by(one, crates.below(one)) for one in (crate, *sorted(laws - {crate}))]
+    whole = hashlib.sha256(repr([crates.lines()[crate], texts, *read]).encode()).hexdigest()[:32]
     return f"{crate} {whole} {len(edits)}"
 
 

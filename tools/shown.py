@@ -1,0 +1,162 @@
+"""What a crate shows to the crates above it, as text: their proofs stand on this and on nothing else
+of it, so that a change of anything else leaves them as they are.
+
+Of the sources that is what is `pub` (types, constants, traits, and functions with their contracts and
+without their bodies), what is re-exported, and the impls of traits; of the definitions the modules
+that these name, and those that such a module names. Comments are left out.
+"""
+import functools
+import re
+import sys
+from pathlib import Path
+
+TOP = Path(__file__).resolve().parent.parent
+sys.path.insert(0, str(TOP / "tools/export"))
+from export_text import closing, mask  # noqa: E402
+
+FUNCTION = re.compile(
+    r'(?m)^( *)(pub(?:\([^)]*\))? )?(?:(?:final|const|unsafe|extern) |extern "\0*" )*fn \w+')
+CLAUSE = re.compile(r"\b(?:ensures|requires)\*?(?:\s+\w+)?\s*$")
+IMPL = re.compile(r"(?m)^(?:unsafe )?impl\b(?:<[^{]*?>)? (?:[^{]*\bfor )?&?([\w:]+)[^{]*\{")
+DECLARED = re.compile(r"(?m)^(pub(?:\([^)]*\))? )?(?:struct|enum|trait|type) (\w+)")
+OF_TRAIT = re.compile(r"^impl(?:<[^{]*?>)?\s+[^{]*?\bfor\b")
+HIDDEN = re.compile(r"(?m)^(?:pub\([^)]*\) )?(?:struct|enum|trait|const|static|type|mod|use|unsafe impl)"
+                    r"\b[^;{]*[;{]")
+IMPORT = re.compile(r"(?:ghost |pub )*use Rattle\.(\w+)\.specs\.([\w.]+)\.\{([^}]*)\}")
+ANTT_COMMENT = re.compile(r"(?m)(?:^|(?<=\s))--.*$")
+
+
+def without_comments(text):
+    """The code of a source file; blank lines are left out."""
+    code = "".join(old if new != " " else " " for old, new in zip(text, mask(text)))
+    return "".join(line.rstrip() + "\n" for line in code.split("\n") if line.strip())
+
+
+def code_of(path):
+    """The code of a source file, or of one of definitions or proofs."""
+    if path.suffix == ".rt":
+        return without_comments(path.read_text())
+    text = ANTT_COMMENT.sub("", path.read_text())
+    return "".join(line.rstrip() + "\n" for line in text.split("\n") if line.strip())
+
+
+def body_of(masked, found):
+    """Where the body of a function begins and ends, or its `;`."""
+    place = found.end()
+    while masked[place] not in "{;":
+        place = closing(masked, place) if masked[place] in "([" else place + 1
+    while masked[place] == "{" and CLAUSE.search(masked, found.end(), place):
+        place = closing(masked, place)
+        while masked[place] not in "{;":
+            place += 1
+    return place, closing(masked, place) if masked[place] == "{" else place + 1
+
+
+@functools.lru_cache(None)
+def hidden_types(crate):
+    """The types of a crate that it declares, and does not show."""
+    declared = [found for path in (TOP / "crates" / crate / "src").rglob("*.rt")
+                for found in DECLARED.findall(path.read_text())]
+    return {name for seen, name in declared} - {name for seen, name in declared if seen == "pub "}
+
+
+def without(text, ranges):
+    """The text without ranges of it, each of which begins after the one before."""
+    kept, at = [], 0
+    for start, end in ranges:
+        if start >= at:
+            kept.append(text[at:start])
+            at = end
+    return "".join([*kept, text[at:]])
+
+
+def public(text, hidden):
+    """What a source file shows: its imports of definitions, and the rest."""
+    text = without_comments(text)
+    masked = mask(text)
+    text = without(text, [(one.start(), closing(masked, one.end() - 1))
+                          for one in IMPL.finditer(masked) if one[1].split("::")[-1] in hidden])
+    masked, kept, at = mask(text), [], 0
+    spans = [(one.start(), closing(masked, one.end() - 1), bool(OF_TRAIT.match(one.group(0))))
+             for one in IMPL.finditer(masked)]
+    spans += [(one.start(), closing(masked, one.end() - 1), True)
+              for one in re.finditer(r"(?m)^pub trait\b[^{]*\{", masked)]
+    for found in FUNCTION.finditer(masked):
+        if found.start() < at:
+            continue
+        start, end = body_of(masked, found)
+        of_trait = any(first < found.start() < last for first, last, is_of in spans if is_of)
+        kept.append(text[at:found.start()])
+        if found[2] == "pub " or of_trait:
+            kept.append(text[found.start():start].rstrip() + ";\n")
+        at = end
+    text = "".join([*kept, text[at:]])
+    masked = mask(text)
+    text = without(text, [(one.start(), closing(masked, one.end() - 1) if one[0][-1] == "{"
+                           else one.end()) for one in HIDDEN.finditer(masked)])
+    imports = IMPORT.findall(text)
+    return imports, re.sub(r"(?m)^ *(?:ghost use .*|;?)\n", "", text)
+
+
+def words_of(text):
+    return set(re.split(r"[\s(){}\[\],;.◌]+", text))
+
+
+@functools.lru_cache(None)
+def sources(crate):
+    """The text that the sources of a crate show, and the modules of definitions that it names."""
+    shown, named = [], set()
+    for path in sorted((TOP / "crates" / crate / "src").rglob("*.rt")):
+        imports, text = public(path.read_text(), hidden_types(crate))
+        words = words_of(text)
+        named |= {(of, module) for of, module, names in imports
+                  if any(words_of(name.split(" as ")[-1]) & words - {""} for name in names.split(","))}
+        shown.append(text)
+    return "\n".join(shown), frozenset(named)
+
+
+@functools.lru_cache(None)
+def definitions(crate, module):
+    """A module of definitions without its comments, and the modules that it names."""
+    path = TOP / "crates" / crate / "specs" / (module.replace(".", "/") + ".antt")
+    if not path.is_file():
+        return "", frozenset()
+    text = code_of(path)
+    return text, frozenset((of, name) for of, name, _ in IMPORT.findall(text))
+
+
+def named_by(folder):
+    """The modules of definitions that the files of a crate name."""
+    return {(of, module) for part in ("src", "specs", "proofs")
+            for path in (folder / part).rglob("*") if path.suffix in (".rt", ".antt")
+            for of, module, _ in IMPORT.findall(path.read_text())}
+
+
+def to(crate, below):
+    """What the crates below show to a crate."""
+    texts, open_ones = [], named_by(TOP / "crates" / crate)
+    for name in sorted(below):
+        text, named = sources(name)
+        texts.append(text)
+        open_ones |= named
+    done = set()
+    while open_ones:
+        one = open_ones.pop()
+        if one[0] in below and one not in done:
+            done.add(one)
+            open_ones |= definitions(*one)[1]
+    return texts + [f"{of}.{module}\n{definitions(of, module)[0]}" for of, module in sorted(done)]
+
+
+@functools.lru_cache(None)
+def code_in(crate):
+    """The code of the files of a crate, by their paths in it."""
+    folder = TOP / "crates" / crate
+    files = sorted(path for part in ("src", "specs", "proofs") for path in (folder / part).rglob("*")
+                   if path.suffix in (".rt", ".antt"))
+    return tuple((str(path.relative_to(folder)), code_of(path)) for path in files)
+
+
+def read_by(crate, below):
+    """What the proof of a crate reads: its own code, and what the crates below show to it."""
+    return [code_in(crate), to(crate, below)]

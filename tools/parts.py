@@ -8,12 +8,11 @@
     tools/parts.py whole   whether what a release needs was tried on the files as they are
 
 A part without inputs in PARTS is called for in each run. One with inputs is called for if their sum
-is not that of its line in tests/RECORD, or if a part that is called for runs over what it builds. So
-a run depends on the files alone and not on the time or
-on chance. Wrong edits have a record of their own (tools/wrong.py). A part of the plan that did not
-run counts as failed. A part that ends with LEFT_OUT cannot run on this machine, and a line of any
-part with the words `left out` names something that this machine lacks: both are listed, and a
-release lists them too.
+is not that of its line in tests/RECORD, or if a part that is called for runs over what it builds.
+So a run depends on the files alone and not on the time or on chance. Wrong edits have a record of
+their own (tools/wrong.py). A part of the plan that did not run counts as failed. A part that ends
+with LEFT_OUT cannot run on this machine, and a line of any part with the words `left out` names
+something that this machine lacks: both are listed, and a release lists them too.
 
 .ci/run has the commands. It leaves of each part that ran target/gate/NAME.log and NAME.ended, which
 is its status.

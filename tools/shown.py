@@ -1,9 +1,9 @@
-"""What a crate shows to the crates above it, as text: their proofs stand on this and on nothing else
-of it, so that a change of anything else leaves them as they are.
+"""What a crate shows to the crates above it, as text: their proofs stand on this and on nothing
+else of it, so that a change of anything else leaves them as they are.
 
-Of the sources that is what is `pub` (types, constants, traits, and functions with their contracts and
-without their bodies), what is re-exported, and the impls of traits; of the definitions the modules
-that these name, and those that such a module names. Comments are left out.
+Of the sources that is what is `pub` (types, constants, traits, and functions with their contracts
+and without their bodies), what is re-exported, and the impls of traits; of the definitions the
+modules that these name, and those that such a module names. Comments are left out.
 """
 import functools
 import re
@@ -20,8 +20,8 @@ CLAUSE = re.compile(r"\b(?:ensures|requires)\*?(?:\s+\w+)?\s*$")
 IMPL = re.compile(r"(?m)^(?:unsafe )?impl\b(?:<[^{]*?>)? (?:[^{]*\bfor )?&?([\w:]+)[^{]*\{")
 DECLARED = re.compile(r"(?m)^(pub(?:\([^)]*\))? )?(?:struct|enum|trait|type) (\w+)")
 OF_TRAIT = re.compile(r"^impl(?:<[^{]*?>)?\s+[^{]*?\bfor\b")
-HIDDEN = re.compile(r"(?m)^(?:pub\([^)]*\) )?(?:struct|enum|trait|const|static|type|mod|use|unsafe impl)"
-                    r"\b[^;{]*[;{]")
+HIDDEN = re.compile(r"(?m)^(?:pub\([^)]*\) )?"
+                    r"(?:struct|enum|trait|const|static|type|mod|use|unsafe impl)\b[^;{]*[;{]")
 IMPORT = re.compile(r"(?:ghost |pub )*use Rattle\.(\w+)\.specs\.([\w.]+)\.\{([^}]*)\}")
 ANTT_COMMENT = re.compile(r"(?m)(?:^|(?<=\s))--.*$")
 
@@ -110,7 +110,8 @@ def sources(crate):
         imports, text = public(path.read_text(), hidden_types(crate))
         words = words_of(text)
         named |= {(of, module) for of, module, names in imports
-                  if any(words_of(name.split(" as ")[-1]) & words - {""} for name in names.split(","))}
+                  if any(words_of(name.split(" as ")[-1]) & words - {""}
+                         for name in names.split(","))}
         shown.append(text)
     return "\n".join(shown), frozenset(named)
 
@@ -152,8 +153,8 @@ def to(crate, below):
 def code_in(crate):
     """The code of the files of a crate, by their paths in it."""
     folder = TOP / "crates" / crate
-    files = sorted(path for part in ("src", "specs", "proofs") for path in (folder / part).rglob("*")
-                   if path.suffix in (".rt", ".antt"))
+    files = sorted(path for part in ("src", "specs", "proofs")
+                   for path in (folder / part).rglob("*") if path.suffix in (".rt", ".antt"))
     return tuple((str(path.relative_to(folder)), code_of(path)) for path in files)
 
 

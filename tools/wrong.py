@@ -12,21 +12,22 @@
 The record, tests/wrong/RECORD, has a line for each crate: a sum of its sources, specs, proofs and
 edits, and of what the crates below show to it (tools/shown.py), as its edits were last tried and
 refused. A crate changed if its sum is another one: a comment, or a body in a crate below, changes
-no sum, since the proof of the crate does not read it. The line `kit:` names the toolchain that all were last tried by. WRONG_RECORD names
-another record: --gate writes target/gate/edits.record, where those of the record that stay are too.
-What is random is drawn by the sums of the crates, or by WRONG_SEED, and the seed is printed.
+no sum, since the proof of the crate does not read it. The line `kit:` names the toolchain that all
+were last tried by. WRONG_RECORD names another record: --gate writes target/gate/edits.record, where
+those of the record that stay are too. What is random is drawn by the sums of the crates, or by
+WRONG_SEED, and the seed is printed.
 
 An edit is a line `file: src/..`, and then pairs of lines `old: TEXT` and `new: TEXT`; further lines
 `file:` begin the pairs of other files. It is made in a copy of the crate: first the function or the
-module of the edit alone is checked (`rattle check --only`), over the libraries that `rt ci` left, or
-else over those that `rt lib` builds. Of a crate with one or two edits to try it is checked over the
-sources of the crates below (tools/only.py), which is slower and needs no libraries. If that is still
-proved the whole crate is checked, over libraries. --show as the first word prints what the prover
-said.
+module of the edit alone is checked (`rattle check --only`), over the libraries that `rt ci` left,
+or else over those that `rt lib` builds. Of a crate with one or two edits to try it is checked over
+the sources of the crates below (tools/only.py), which is slower and needs no libraries. If that is
+still proved the whole crate is checked, over libraries. --show as the first word prints what the
+prover said.
 
 An edit may change a body together with its definition. Its first line is `law: CRATE::PATH`, which
-names a law of the crate or of one above it. Then the function of the edit must be proved, since body
-and definition agree, and the law must not, over the edited sources.
+names a law of the crate or of one above it. Then the function of the edit must be proved, since
+body and definition agree, and the law must not, over the edited sources.
 """
 import collections
 import concurrent.futures

@@ -1,0 +1,9 @@
+-- Each page that the server or its caller ends is signed by the key of the user.
+use Rattle.stun_sessions.proofs.AnsweredLemmas.{accepted_is_answered}
+use Rattle.stun_sessions.proofs.responses.accepted_requests_are_answered.Goals as goal
+
+pub returns : goal.returns
+returns c = λ s key from request client required a fine is sends decides.
+    accepted_is_answered c.signed_answers_end_requests.ensures.written
+    c.signed_answers_end_requests.ensures.binding c.begun_responses_are_pages.ensures.unknown s key
+    from request client required a fine is sends decides

@@ -25,7 +25,7 @@ use Rattle.stun_types.specs.Writing.{with_attribute}
 use Rattle.stun_types.proofs.AddingLemmas.{length-spelled_attribute, raised}
 use Rattle.stun_auth.specs.ClientStep.{STALE_NONCE, UNAUTHORIZED, is_code}
 use Rattle.stun_extra.specs.Errors.{error_code_attribute}
-use Rattle.stun_client.specs.Challenging.{code_in, is_challenge}
+use Rattle.stun_client.specs.Challenging.{code_in}
 use Rattle.stun_client.specs.Requests.{is_answer, is_answer_of}
 use Rattle.stun_exchanges.specs.Exchange.{IsPage}
 use Rattle.stun_sessions.specs.Responses.{IsFinal, IsMore, error_begun, success_begun}

@@ -1,33 +1,30 @@
 -- One request of a session, while its nonce lasts and after that.
-use Rattle.std.proofs.Common.{◌≡◌, ◌≢◌, ℕ, zero, suc, Bool, true, false, List, [], Option, Some, None}
-use Rattle.std.proofs.Common.{inl, inr, refl, ◌∙◌, ap, sym, subst, arith}
+use Rattle.std.proofs.Common.{◌≡◌, ◌≢◌, ℕ, zero, suc, Bool, true, false, List, [], Option, Some}
+use Rattle.std.proofs.Common.{None, inl, inr, refl, ◌∙◌, ap, sym}
 use Rattle.std.specs.Prelude.{cond, not, ◌&&◌, ◌||◌, unwrap_or}
 use Rattle.std.specs.Option.{is_none, option_and_then, option_map}
 use Rattle.std.specs.Str.{bytes_eq}
 use Rattle.std.specs.declared.net.socket_addr.SocketAddr.{SocketAddr}
 use Rattle.stun_base.specs.Credentials.{NameAndPassword}
-use Rattle.stun_base.specs.Header.{transaction_id_field, type_field}
 use Rattle.stun_base.specs.Keys.{long_term_key}
-use Rattle.stun_base.specs.MessageType.{method_of}
 use Rattle.stun_base.specs.declared.keys.algorithm.IntegrityAlgorithm.{IntegrityAlgorithm}
 use Rattle.stun_types.specs.Integrity.{deciding, deciding_algorithm, integrity_algorithm, is_digest}
 use Rattle.stun_types.specs.Integrity.{verified_algorithm, verified_at}
 use Rattle.stun_types.specs.Walk.{Member}
-use Rattle.stun_auth.specs.Algorithms.{contains, is_sha256, same_algorithm}
+use Rattle.stun_auth.specs.Algorithms.{is_sha256, same_algorithm}
 use Rattle.stun_auth.specs.Client.{Naming}
-use Rattle.stun_auth.specs.Nonces.{asks_for_userhash, first_has, security_bits}
+use Rattle.stun_auth.specs.Nonces.{asks_for_userhash}
 use Rattle.stun_auth.specs.Reading.{has_visible_integrity, reading_of, verified_under}
-use Rattle.stun_auth.specs.Registered.{RegisteredUser, UserSecret, key_at, key_if, key_of}
+use Rattle.stun_auth.specs.Registered.{RegisteredUser, UserSecret, key_if, key_of}
 use Rattle.stun_auth.specs.Registered.{of_password, user_named}
-use Rattle.stun_auth.specs.Seen.{ClientSeen}
 use Rattle.stun_auth.specs.Signed.{plain_name}
 use Rattle.stun_auth.specs.ClientStep.{naming_of}
 use Rattle.stun_auth.specs.Feature.{is_possible}
 use Rattle.stun_extra.specs.CanonicalAddress.{is_same_address}
-use Rattle.stun_client.specs.Challenges.{Answered, is_one, is_weaker}
+use Rattle.stun_client.specs.Challenges.{Answered, is_one}
 use Rattle.stun_client.specs.Clients.{EndpointClient, heard, responded}
-use Rattle.stun_client.specs.Judging.{believed, long_term}
-use Rattle.stun_client.specs.Requests.{AskedSeen, at}
+use Rattle.stun_client.specs.Judging.{believed}
+use Rattle.stun_client.specs.Requests.{AskedSeen}
 use Rattle.stun_client.specs.Standing.{StandingSeen, after_answer, after_success, confirmed}
 use Rattle.stun_client.specs.Standing.{is_ignored, is_standing, is_weaker_than}
 use Rattle.stun_client.specs.declared.preferences.Preferences.{Preferences}
@@ -38,11 +35,11 @@ use Rattle.stun_endpoint.specs.Nonces.{current_nonce, epoch_of, nonce_in}
 use Rattle.stun_endpoint.specs.Received.{Outcome, answered, dropped, indicated, requested}
 use Rattle.stun_endpoint.specs.Received.{responded as passed_on}
 use Rattle.stun_endpoint.specs.Settings.{Settings}
-use Rattle.stun_exchanges.specs.Agreement.{AgreeOn, IsSignedAnswer}
-use Rattle.stun_exchanges.specs.Exchange.{AnswersAreHeard, IsPage, IsRegisteredUser, IsResponseTo}
+use Rattle.stun_exchanges.specs.Agreement.{AgreeOn}
+use Rattle.stun_exchanges.specs.Exchange.{AnswersAreHeard, IsRegisteredUser}
 use Rattle.stun_exchanges.specs.Exchange.{UserSecrets, meant_for, realm_knowing}
 use Rattle.stun_exchanges.proofs.AgreementLemmas.{supported_is}
-use Rattle.stun_sessions.specs.Responses.{EndsRequest, IsAnswered}
+use Rattle.stun_sessions.specs.Responses.{EndsAtClient, OutcomeEnds}
 use Rattle.stun_sessions.specs.Sessions.{EndsThere, IsConfirmedBy, IsInSession, IsNotUnder}
 use Rattle.stun_sessions.specs.Sessions.{client_named}
 use Rattle.stun_sessions.proofs.StaleLemmas.{other_bytes}
@@ -98,13 +95,14 @@ pub ends_there : AnswersAreHeard → (s : Settings) (users : UserSecrets) (who :
     (bytes : List ℕ) (c : EndpointClient) (asked : AskedSeen)
     → IsInSession s users who p a from made bytes c asked
     → is_same_address server c.server ≡ true → (o : Outcome)
-    → IsAnswered c.requires_fingerprint bytes (long_term_key a who.username s.realm who.password) a o
+    → OutcomeEnds c.requires_fingerprint bytes
+    (long_term_key a who.username s.realm who.password) a o
     → EndsThere c server asked.number a bytes o
 ends_there heard_law s users who p a from server made bytes c asked is same o answers =
     by o answers
   where
     ended : (response : List ℕ)
-        → EndsRequest c.requires_fingerprint bytes
+        → EndsAtClient c.requires_fingerprint bytes
         (long_term_key a who.username s.realm who.password) a response
         → heard c server response ≡ responded response asked.number (believed (Some a))
     ended response ends =
@@ -117,7 +115,7 @@ ends_there heard_law s users who p a from server made bytes c asked is same o an
         }) is.signed_for ends.signed
 
     by : (o : Outcome)
-        → IsAnswered c.requires_fingerprint bytes
+        → OutcomeEnds c.requires_fingerprint bytes
         (long_term_key a who.username s.realm who.password) a o
         → EndsThere c server asked.number a bytes o
     by (answered answer) answers = ended answer.bytes answers

@@ -1,5 +1,6 @@
 -- Whoever is accepted under a nonce fails at the nonce alone once another one is current.
-use Rattle.std.proofs.Common.{◌≡◌, ◌≢◌, ℕ, zero, suc, Bool, true, false, List, [], ◌∷◌, Option, Some}
+use Rattle.std.proofs.Common.{◌≡◌, ◌≢◌, ℕ, zero, suc, Bool, true, false, List, [], ◌∷◌, Option}
+use Rattle.std.proofs.Common.{Some}
 use Rattle.std.proofs.Common.{None, refl, ◌∙◌, ap, Err}
 use Rattle.std.specs.Prelude.{cond, not, drop, ◌&&◌, ◌||◌}
 use Rattle.std.specs.List.{find}
@@ -11,7 +12,6 @@ use Rattle.stun_base.specs.MessageType.{class_in}
 use Rattle.stun_base.specs.declared.keys.algorithm.IntegrityAlgorithm.{IntegrityAlgorithm}
 use Rattle.stun_base.specs.declared.wire.message_type.MessageClass.TheVariants.{Request}
 use Rattle.stun_auth.specs.Epochs.{or_before}
-use Rattle.stun_auth.specs.Feature.{is_possible}
 use Rattle.stun_auth.specs.Nonces.{security_bits}
 use Rattle.stun_auth.specs.Reading.{Reading, reading_of}
 use Rattle.stun_auth.specs.Registered.{Registered, RegisteredUser}

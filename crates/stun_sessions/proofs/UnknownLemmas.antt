@@ -1,12 +1,11 @@
 -- The 420 of a server has room for all types that a request can have.
-use Rattle.std.proofs.Common.{◌≡◌, ◌≢◌, ◌≤◌, ◌<◌, ◌^◌, ◌+◌, ◌*◌, ℕ, Bool, true, false, refl, ap}
-use Rattle.std.proofs.Common.{List, [], ◌∷◌, ◌++◌, length, Option, Some, None, ◌∙◌, arith, sym, subst}
+use Rattle.std.proofs.Common.{◌≡◌, ◌≤◌, ◌+◌, ◌*◌, ℕ, Bool, true, false, refl, ap}
+use Rattle.std.proofs.Common.{List, [], ◌∷◌, ◌++◌, length, Option, Some, None, ◌∙◌, arith, subst}
 use Rattle.std.specs.Prelude.{codes, cond, filter, not, nat_lt, ◌==◌}
 use Rattle.std.proofs.lemmas.Bool.Decides.{nat_tests}
 use Rattle.std.proofs.lemmas.List.{length-map}
 use Rattle.std.proofs.lemmas.List.Sums.{count_by-le-length, length-filter, sum_by-cons}
 use Rattle.std.proofs.lemmas.Str.{IsUtf8-from_ascii}
-use Rattle.stun_base.specs.Attributes.{ERROR_CODE}
 use Rattle.stun_base.specs.Header.{header_refusal, length_field, transaction_id_field, type_field}
 use Rattle.stun_base.specs.MessageType.{method_of, type_number}
 use Rattle.stun_base.specs.declared.wire.attribute_type.AttributeType.{AttributeType}
@@ -19,7 +18,7 @@ use Rattle.stun_types.specs.Grammar.{spelled_attribute, spelled_message}
 use Rattle.stun_types.specs.Message.{data_refusal, either_refusal, refusal}
 use Rattle.stun_types.specs.Visible.{is_visible, visible}
 use Rattle.stun_types.specs.Walk.{Member, attributes_length, walk}
-use Rattle.stun_types.specs.Writing.{IsOpen, length_with, with_attribute}
+use Rattle.stun_types.specs.Writing.{length_with, with_attribute}
 use Rattle.stun_types.proofs.AddingLemmas.{length-spelled_attribute, raised}
 use Rattle.stun_extra.specs.Unknown.{UNKNOWN_ATTRIBUTES, is_unknown, kinds_of, refusing_answer}
 use Rattle.stun_extra.specs.Unknown.{spelled_types, types_of, unknown_attribute_error}
@@ -118,7 +117,9 @@ is_final = record {
   written = record {
     from_300 = omega arith;
     below_700 = omega arith;
-    text = IsUtf8-from_ascii (codes "Unknown Attribute") (from_small (codes "Unknown Attribute") refl);
+    text =
+        IsUtf8-from_ascii (codes "Unknown Attribute")
+        (from_small (codes "Unknown Attribute") refl);
     short = omega arith;
   };
   not_unauthenticated = λ is. omega (arith, is);

@@ -1,5 +1,5 @@
--- The responses of a server that end a request, at the client that has signed it (RFC 8489, sections
--- 6.3 and 9.2.4).
+-- The responses of a server that end a request, at the client that has signed it (RFC 8489,
+-- sections 6.3 and 9.2.4).
 use Rattle.std.specs.Prelude.{◌≡◌, ◌≢◌, ◌≤◌, ◌<◌, ◌^◌, ℕ, List, length, Bool, false, Some, None}
 use Rattle.std.specs.declared.net.socket_addr.SocketAddr.{SocketAddr}
 use Rattle.stun_base.specs.Attributes.{ERROR_CODE}
@@ -80,26 +80,26 @@ UnknownIsPage =
 -- ---- what is answered
 
 -- a response answers a request at the client that has signed it with a key, and ends it there
-pub record EndsRequest (required : Bool) (request key : List ℕ) (a : IntegrityAlgorithm)
+pub record EndsAtClient (required : Bool) (request key : List ℕ) (a : IntegrityAlgorithm)
     (response : List ℕ) : Type 0 where
   pub answers : IsResponseTo required request response
   pub signed : IsSignedAnswer required response key a
 
 -- what comes of an accepted request ends it: the answer of the server itself, or whatever page the
 -- caller ends by `Reply::finish`
-abbrev pub IsAnswered : Bool → List ℕ → List ℕ → IntegrityAlgorithm → Outcome → Type 0
-IsAnswered required request key a (answered answer) =
-    EndsRequest required request key a answer.bytes
-IsAnswered required request key a (requested accepted) =
+abbrev pub OutcomeEnds : Bool → List ℕ → List ℕ → IntegrityAlgorithm → Outcome → Type 0
+OutcomeEnds required request key a (answered answer) =
+    EndsAtClient required request key a answer.bytes
+OutcomeEnds required request key a (requested accepted) =
     (page : List ℕ) → IsPage request page
-    → EndsRequest required request key a (with_end accepted.reply.ending page)
-IsAnswered required request key a (indicated bytes) = ⊥
-IsAnswered required request key a (responded bytes) = ⊥
-IsAnswered required request key a (dropped why) = ⊥
+    → EndsAtClient required request key a (with_end accepted.reply.ending page)
+OutcomeEnds required request key a (indicated bytes) = ⊥
+OutcomeEnds required request key a (responded bytes) = ⊥
+OutcomeEnds required request key a (dropped why) = ⊥
 
 abbrev pub AcceptedAreAnswered : Type 0
 AcceptedAreAnswered =
     (s : Settings) (key : List ℕ) (from : SocketAddr) (request : List ℕ) (client : ClientSeen)
     (required : Bool) (a : IntegrityAlgorithm) → IsServer s → IsShortRequest request
     → SendsRequired required request → deciding_algorithm request ≡ Some a
-    → IsAnswered required request key a (outcome_of_accepted s key from request client)
+    → OutcomeEnds required request key a (outcome_of_accepted s key from request client)

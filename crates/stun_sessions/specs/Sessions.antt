@@ -46,8 +46,8 @@ abbrev pub IsNotPrevious : Settings → Option (List ℕ) → SocketAddr → ℕ
 IsNotPrevious s None from epoch nonce = ⊤
 IsNotPrevious s (Some secret) from epoch nonce = IsNotUnder s secret from epoch nonce
 
--- the nonce that was current at one time is none of those accepted at another. It has then expired:
--- two nonces of an address are the same only if their digests begin alike
+-- the nonce that was current at one time is none of those accepted at another. It has then
+-- expired: two nonces of an address are the same only if their digests begin alike
 pub record IsForgotten (s : Settings) (from : SocketAddr) (made now : ℕ) : Type 0 where
   pub current : IsNotUnder s s.secret from (epoch_of s now) (current_nonce s from made)
   pub previous : IsNotPrevious s s.previous from (epoch_of s now) (current_nonce s from made)
@@ -66,9 +66,9 @@ ForgottenAreStale =
 
 -- ---- one request of a session
 
--- a client of a registered user has a request outstanding that is signed for the challenge which the
--- server means by the nonce that was current at a time. The request has that transaction ID, and
--- reads so
+-- a client of a registered user has a request outstanding that is signed for the challenge which
+-- the server means by the nonce that was current at a time. The request has that transaction ID,
+-- and reads so
 pub record IsInSession (s : Settings) (users : UserSecrets) (who : NameAndPassword)
     (p : Preferences) (a : IntegrityAlgorithm) (from : SocketAddr) (made : ℕ) (bytes : List ℕ)
     (c : EndpointClient) (asked : AskedSeen) : Type 0 where
@@ -92,8 +92,8 @@ pub record IsInSession (s : Settings) (users : UserSecrets) (who : NameAndPasswo
 abbrev pub client_named : NameAndPassword → IntegrityAlgorithm → ClientSeen
 client_named who a = record { name = who.username; algorithm = a }
 
--- what a server makes of a request ends it at its client, as answered and signed by this algorithm:
--- the server's own answer, or each page that the caller ends by `Reply::finish`
+-- what a server makes of a request ends it at its client, as answered and signed by this
+-- algorithm: the server's own answer, or each page that the caller ends by `Reply::finish`
 abbrev pub EndsThere : EndpointClient → SocketAddr → ℕ → IntegrityAlgorithm → List ℕ → Outcome
     → Type 0
 EndsThere c server number a bytes (answered answer) =
@@ -120,7 +120,8 @@ OneExchangeEach =
     (client_named who a))
     × EndsThere c server asked.number a bytes outcome
 
--- a challenge is one that this server means, with the settings that it has, by some nonce of its own
+-- a challenge is one that this server means, with the settings that it has, by some nonce of its
+-- own
 pub record IsMeantHere (s : Settings) (who : NameAndPassword) (p : Preferences)
     (a : IntegrityAlgorithm) (challenge : Option Answered) : Type 0 where
   pub secret : List ℕ
@@ -135,8 +136,8 @@ abbrev pub IsConfirmedBy : Settings → NameAndPassword → Preferences → Inte
 IsConfirmedBy s who p a standing =
     (confirmed standing ≡ None) ⊎ IsMeantHere s who p a (confirmed standing)
 
--- after that, the request is answered with a 438, which has it sent again, signed for the nonce that
--- is current
+-- after that, the request is answered with a 438, which has it sent again, signed for the nonce
+-- that is current
 abbrev pub OneStaleAnswer : Type 0
 OneStaleAnswer =
     (s : Settings) (users : UserSecrets) (who : NameAndPassword) (p : Preferences)

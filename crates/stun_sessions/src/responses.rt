@@ -4,9 +4,9 @@ ghost use Rattle.stun_sessions.specs.Responses.{AcceptedAreAnswered, AddingKeeps
 ghost use Rattle.stun_sessions.specs.Responses.{ErrorsArePages, SuccessesBegin, UnknownIsPage};
 
 /// What `Reply::success` and `Reply::error` begin is a response that `finish` can end (`success`,
-/// `error`), and so it is with each attribute that the caller adds (`added`). The 420 of a server is
-/// one too (`unknown`). That such a response, once it is ended, answers the request and is signed is
-/// law `signed_answers_end_requests` of `stun_exchanges`.
+/// `error`), and so it is with each attribute that the caller adds (`added`). The 420 of a server
+/// is one too (`unknown`). That such a response, once it is ended, answers the request and is
+/// signed is law `signed_answers_end_requests` of `stun_exchanges`.
 ///
 /// Premises: an ID has 96 bits; the code is neither 401 nor 438, which a server answers by itself,
 /// and can be written, as `error` tests; an added attribute fits the message, as `add_attribute`
@@ -22,9 +22,9 @@ pub fn begun_responses_are_pages()
     stun_exchanges::exchanges::signed_answers_end_requests();
 }
 
-/// Each response to an accepted request is signed with the key of its user and answers the request:
-/// the answer to a Binding request and the 420, which the server writes by itself, and each that the
-/// caller ends with `Reply::finish`.
+/// Each response to an accepted request is signed with the key of its user and answers the
+/// request: the answer to a Binding request and the 420, which the server writes by itself, and
+/// each that the caller ends with `Reply::finish`.
 ///
 /// Premises: the server was built; the request is signed, as each accepted one is, and has at most
 /// 65,552 bytes; an ID has 96 bits; and a client that requires FINGERPRINT sends one.

@@ -32,12 +32,13 @@ pub fn each_request_takes_one_exchange()
 }
 
 /// Once its nonce has expired, the client's request is answered with one 438, and the 438 has it
-/// sent again, signed for the nonce that is current then (`renewed`). So that one takes one exchange
-/// again. New requests are signed for the challenge that was answered last (`stays`).
+/// sent again, signed for the nonce that is current then (`renewed`). So that one takes one
+/// exchange again. New requests are signed for the challenge that was answered last (`stays`).
 ///
-/// Premises, beside those of `each_request_takes_one_exchange` and of `forgotten_nonces_are_stale`:
-/// what a success has confirmed last at the client, if anything, is a challenge of this server with
-/// the settings that it has. It is so at a client that is made for one server whose settings stay.
+/// Premises, beside those of `each_request_takes_one_exchange` and of
+/// `forgotten_nonces_are_stale`: what a success has confirmed last at the client, if anything, is
+/// a challenge of this server with the settings that it has. It is so at a client that is made for
+/// one server whose settings stay.
 pub fn an_expired_nonce_takes_one_stale_answer()
     ensures renewed { OneStaleAnswer }
     ensures stays { ChallengesStay }

@@ -6,7 +6,7 @@ use Rattle.std.specs.Prelude.{None}
 use Rattle.stun_endpoint.specs.Judged.{key_of_client}
 use Rattle.stun_endpoint.specs.Received.{Outcome, outcome_of_accepted}
 use Rattle.stun_exchanges.specs.Exchange.{realm_knowing}
-use Rattle.stun_sessions.specs.Responses.{IsAnswered}
+use Rattle.stun_sessions.specs.Responses.{OutcomeEnds}
 use Rattle.stun_sessions.specs.Sessions.{EndsThere, client_named}
 use Rattle.stun_sessions.proofs.SessionLemmas.{decides, ends_there, key_again}
 use Rattle.stun_sessions.proofs.sessions.each_request_takes_one_exchange.Goals as goal
@@ -22,7 +22,7 @@ returns c = λ s users who p a from server made now bytes client asked is within
     let answers = c.accepted_requests_are_answered.ensures s (key_of_client realm seen) from bytes seen
     client.requires_fingerprint a is.built is.message is.sends
     (decides bytes key a (is.reads.digest_verifies (record { algorithm = a; key = key }) refl)) in
-    let under_key = subst (λ (k : List ℕ). IsAnswered client.requires_fingerprint bytes k a outcome)
+    let under_key = subst (λ (k : List ℕ). OutcomeEnds client.requires_fingerprint bytes k a outcome)
     (key_again s users who p a is.registered is.agree) answers in (
       accepted,
       subst (λ (o : Outcome). EndsThere client server asked.number a bytes o) (sym accepted)

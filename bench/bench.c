@@ -103,20 +103,19 @@ static int64_t verify_sha256(void) {
 }
 
 static int64_t build(void) {
-    return stunp_build_signed(STUNP_SHA1, short_term + 8, STUNP_ID_LENGTH, bytes("evtj:h6vY"), 9,
+    return stunp_build_signed(STUNP_SHA1, short_term + 8, STUNP_ID_LENGTH,
+                              (const char *)bytes("evtj:h6vY"), 9,
                               bytes(password), strlen(password), out, sizeof out);
 }
 
 static int64_t md5_key(void) {
-    return stunp_long_term_key(STUNP_SHA1, bytes(username), strlen(username), bytes(realm),
-                               strlen(realm), bytes(user_password), strlen(user_password), out,
-                               sizeof out);
+    return stunp_long_term_key(STUNP_SHA1, username, strlen(username), realm, strlen(realm),
+                               user_password, strlen(user_password), out, sizeof out);
 }
 
 static int64_t sha256_key(void) {
-    return stunp_long_term_key(STUNP_SHA256, bytes(username), strlen(username), bytes(realm),
-                               strlen(realm), bytes(user_password), strlen(user_password), out,
-                               sizeof out);
+    return stunp_long_term_key(STUNP_SHA256, username, strlen(username), realm, strlen(realm),
+                               user_password, strlen(user_password), out, sizeof out);
 }
 
 static void digest_short(void) {

@@ -92,18 +92,17 @@ static void run_mutations(void) {
 typedef int64_t writer(uint8_t *out, size_t room);
 
 static int64_t write_request(uint8_t *out, size_t room) {
-    return stunp_build_signed(STUNP_SHA256, sample + 8, STUNP_ID_LENGTH,
-                              (const uint8_t *)"evtj:h6vY", 9, (const uint8_t *)password,
-                              strlen(password), out, room);
+    return stunp_build_signed(STUNP_SHA256, sample + 8, STUNP_ID_LENGTH, "evtj:h6vY", 9,
+                              (const uint8_t *)password, strlen(password), out, room);
 }
 
 static int64_t write_key(uint8_t *out, size_t room) {
-    return stunp_long_term_key(STUNP_SHA256, (const uint8_t *)"a", 1, (const uint8_t *)"b", 1,
-                               (const uint8_t *)"c", 1, out, room);
+    return stunp_long_term_key(STUNP_SHA256, "a", 1, "b", 1, "c", 1, out, room);
 }
 
 static int64_t write_hash(uint8_t *out, size_t room) {
-    return stunp_userhash((const uint8_t *)"a", 1, (const uint8_t *)"b", 1, out, room);
+    return stunp_userhash("a", 1,
+                          "b", 1, out, room);
 }
 
 /* With each room up to 100 bytes: too little is refused and leaves the buffer, and what is left
@@ -126,28 +125,36 @@ static void run_arguments(void) {
     static uint8_t name[514], out[STUNP_LONGEST_SIGNED];
     memset(name, 'a', sizeof name);
     const uint8_t *id = sample + 8, *key = (const uint8_t *)password;
-    if (stunp_build_signed(2, id, 12, name, 513, key, 1, out, sizeof out) != 576)
+    if (stunp_build_signed(2, id, 12, (const char *)name, 513, key, 1, out, sizeof out) != 576)
         fail("the longest name", 513);
-    if (stunp_build_signed(1, id, 12, name, 0, key, 0, out, sizeof out) != 48)
+    if (stunp_build_signed(1, id, 12, (const char *)name, 0, key, 0, out, sizeof out) != 48)
         fail("no name and no key", 0);
-    if (stunp_build_signed(2, id, 12, name, 514, key, 1, out, sizeof out) != STUNP_TEXT_TOO_LONG)
+    if (stunp_build_signed(2, id, 12, (const char *)name, 514, key, 1, out,
+                           sizeof out) != STUNP_TEXT_TOO_LONG)
         fail("too long a name", 514);
     name[513] = 0xff;
-    if (stunp_build_signed(2, id, 12, name, 514, key, 1, out, sizeof out) != STUNP_NOT_TEXT)
+    if (stunp_build_signed(2, id, 12, (const char *)name, 514, key, 1, out,
+                           sizeof out) != STUNP_NOT_TEXT)
         fail("no text", 514);
-    if (stunp_build_signed(2, id, 11, name, 514, key, 1, out, sizeof out) != STUNP_BAD_ARGUMENT)
+    if (stunp_build_signed(2, id, 11, (const char *)name, 514, key, 1, out,
+                           sizeof out) != STUNP_BAD_ARGUMENT)
         fail("a short id", 11);
-    if (stunp_build_signed(3, id, 12, name, 514, key, 1, out, sizeof out) != STUNP_BAD_ARGUMENT)
+    if (stunp_build_signed(3, id, 12, (const char *)name, 514, key, 1, out,
+                           sizeof out) != STUNP_BAD_ARGUMENT)
         fail("algorithm", 3);
-    if (stunp_build_signed(0, id, 12, name, 1, key, 1, out, sizeof out) != STUNP_BAD_ARGUMENT)
+    if (stunp_build_signed(0, id, 12, (const char *)name, 1, key, 1, out,
+                           sizeof out) != STUNP_BAD_ARGUMENT)
         fail("algorithm", 0);
-    if (stunp_long_term_key(3, name, 1, name, 1, name, 514, out, 0) != STUNP_BAD_ARGUMENT)
+    if (stunp_long_term_key(3, (const char *)name, 1, (const char *)name, 1, (const char *)name,
+                            514, out, 0) != STUNP_BAD_ARGUMENT)
         fail("algorithm of a key", 3);
-    if (stunp_long_term_key(1, name, 1, name, 1, name, 514, out, 0) != STUNP_NOT_TEXT)
+    if (stunp_long_term_key(1, (const char *)name, 1, (const char *)name, 1, (const char *)name,
+                            514, out, 0) != STUNP_NOT_TEXT)
         fail("a password that is no text", 1);
-    if (stunp_long_term_key(1, name, 1, name, 1, name, 513, out, 15) != STUNP_BUFFER_TOO_SMALL)
+    if (stunp_long_term_key(1, (const char *)name, 1, (const char *)name, 1, (const char *)name,
+                            513, out, 15) != STUNP_BUFFER_TOO_SMALL)
         fail("room for a key", 15);
-    if (stunp_userhash(name, 514, name, 1, out, 0) != STUNP_NOT_TEXT)
+    if (stunp_userhash((const char *)name, 514, (const char *)name, 1, out, 0) != STUNP_NOT_TEXT)
         fail("a user name that is no text", 1);
 }
 

@@ -69,7 +69,8 @@ static void sign(struct datagram *out, const uint8_t *challenge, size_t length) 
     size_t offer_length = value_of(challenge, length, STUNP_PASSWORD_ALGORITHMS, &offer);
     if (realm == NULL || nonce == NULL) fail("load: no challenge");
     if (getrandom(id, sizeof id, 0) != sizeof id) fail("getrandom");
-    if (stunp_long_term_key(STUNP_SHA1, name, strlen(name), realm, realm_length, password,
+    if (stunp_long_term_key(STUNP_SHA1, name, strlen(name), (const char *)realm, realm_length,
+                            password,
                             strlen(password), key, sizeof key) < 0)
         fail("load: no key");
     int64_t at = stunp_begin(STUNP_REQUEST, STUNP_BINDING, id, sizeof id, out->bytes, room);

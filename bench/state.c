@@ -248,7 +248,8 @@ static bool serves(enum call call) {
 /* ---- A message of 44 bytes under a key of four. */
 
 static bool verifies(void) {
-    return stunp_verify(signed_request.bytes, signed_request.length, "pass", 4) == STUNP_SHA1;
+    return stunp_verify(signed_request.bytes, signed_request.length, (const uint8_t *)"pass",
+                        4) == STUNP_SHA1;
 }
 
 static bool parses(void) { return stunp_parse(signed_request.bytes, signed_request.length) == 0; }
@@ -334,7 +335,7 @@ static void prepare(enum call call, uint32_t size) {
     case VERIFIES:
         signed_request = message_of(STUNP_REQUEST, 2);
         signed_request.length = (size_t)stunp_sign(signed_request.bytes, 512, 20, STUNP_SHA1,
-            "pass", 4);
+            (const uint8_t *)"pass", 4);
         break;
     default:
         prepare_agent(size, call == ENDS_ONE ? 1 : 7,

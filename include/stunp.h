@@ -39,11 +39,14 @@
  *
  * Which of the structs that you own may change their size in a compatible release:
  *
- * - Structs that begin with their size may grow from 1.0 on: stunp_timeouts, stunp_statistics, and
- *   those of stunp_endpoint.h that STUNP_INIT initializes. The library then accepts each size that
- *   a compatible release had. Before 1.0 it accepts only its own.
- * - All others keep their size. A later release that needs more room adds a struct, and calls that
- *   take it.
+ * - The structs of stunp_endpoint.h that STUNP_INIT initializes may grow at their end: settings,
+ *   found users and what a datagram or an event comes to. The library accepts the smaller size of an
+ *   earlier compatible release: settings that a program does not know are 0, and results that it
+ *   does not know are not written. It refuses a larger size than its own, so a program does not run
+ *   with an earlier library than it was compiled for.
+ * - All others keep their size, also stunp_timeouts and stunp_statistics, which begin with it: the
+ *   library accepts only its own. A later release that needs more room adds a struct, and calls
+ *   that take it.
  * - stunp_writer has a reserved field for later releases.
  * - stunp_header, stunp_cursor and stunp_address are final, and have all that the calls need: the
  *   header of a message has no other fields, and only stunp_walk reads a cursor. stunp_address has
@@ -70,9 +73,10 @@
  *    stunp_write_text, stunp_write_number, stunp_write_address, stunp_write_xor_address,
  *    stunp_write_error, stunp_write_integrity, stunp_write_fingerprint, stunp_written
  *   whole messages: stunp_build_signed, stunp_refuse_unknown
- *   keys: stunp_long_term_key, stunp_userhash
+ *   keys: stunp_short_term_key, stunp_long_term_key, stunp_userhash
  *   packets and streams: stunp_is_stun, stunp_next_frame, stunp_next_packet_frame,
  *    stunp_next_turn_frame
+ *   memory of the exported library: stunp_set_memory
  *   errors and versions: stunp_error_text, stunp_strerror, stunp_version, stunp_is_proved,
  *    stunp_release_0_2
  *
@@ -94,8 +98,8 @@
  * Each call may run in many threads at the same time, if each has an output of its own. You may
  * pass a buffer, a cursor or a writer from one thread to another if you synchronize the two, for
  * example with a mutex or a join. The libraries contain no thread-local data. The proved ones
- * contain no writable data, and the exported ones two bytes, which store whether the processor has
- * SHA instructions, and are read and written atomically.
+ * contain no writable data, and the exported ones a few words, which store whether the processor
+ * has SHA instructions and with what the library allocates, and are read and written atomically.
  *
  * No call is written to run in constant time.
  *
@@ -162,13 +166,14 @@
  *         stunp_write_text(&check, STUNP_USERNAME, name);
  *         stunp_write_number(&check, STUNP_PRIORITY, 0x6e0001ff, 4);
  *         stunp_write_number(&check, STUNP_ICE_CONTROLLING, controlling, 8);
- *         stunp_write_integrity(&check, STUNP_SHA1, password, strlen(password));
+ *         stunp_write_integrity(&check, STUNP_SHA1, stunp_short_term_key(password),
+ *                               strlen(password));
  *         stunp_write_fingerprint(&check);
  *         return stunp_written(&check) < 0 ? 0 : check.length;
  *     }
  *     int is_check(const uint8_t *bytes, size_t length, const char *password, uint64_t *priority) {
  *         return stunp_has_right_fingerprint(bytes, length)
- *             && stunp_is_signed(bytes, length, password, strlen(password))
+ *             && stunp_is_signed(bytes, length, stunp_short_term_key(password), strlen(password))
  *             && stunp_find_number(bytes, length, STUNP_PRIORITY, priority) == 4;
  *     }
  */
@@ -217,6 +222,15 @@ extern "C" {
 #define STUNP_CHANGES(p, n)
 #endif
 
+/* Marks a datagram and the buffer for what is made of it: two places, because the call may write to
+ * one while it reads the other. If you pass one buffer for both, GCC warns (-Wrestrict, which is in
+ * -Wall). */
+#if defined __GNUC__ || defined _MSC_VER
+#define STUNP_RESTRICT __restrict
+#else
+#define STUNP_RESTRICT
+#endif
+
 /* Whether the calls that are done in C are compiled into your program: those that are declared with
  * STUNP_INLINED, such as stunp_is_signed. With 0 they are declared here and their bodies are in the
  * library, so that a later libstunp.so of the same release line corrects programs that were built
@@ -233,6 +247,11 @@ extern "C" {
 #define STUNP_INLINED
 #endif
 #endif
+
+/* The values that are one of a few have the type of their enumeration, in structs and as arguments.
+ * So compilers warn if you compare or exchange those of two enumerations, or leave one out of a
+ * `switch`. Results of calls are numbers, because they may be errors. Methods, types of attributes
+ * and sets of algorithms are numbers too. */
 
 /* The version of this header: 10000 times its first number, plus 100 times its second, plus its
  * third. stunp_version returns that of the archive. */
@@ -424,7 +443,8 @@ typedef struct {
 } stunp_cursor;
 
 /* A message that is being written, for the calls stunp_write_*. Get one from stunp_write or
- * stunp_write_on. You may read the fields; only the calls that take a writer may change them. */
+ * stunp_write_on. You may read the fields; only the calls that take a writer may change them. It
+ * points to your buffer: do not return one from the function whose variable the buffer is. */
 typedef struct {
     uint8_t *bytes;       /* your buffer, which starts with the message */
     size_t room;          /* the length of the buffer */
@@ -503,7 +523,8 @@ int64_t stunp_method(const uint8_t *message, size_t length);
  *                           the bytes are not one whole message (stunp_parse)
  *   STUNP_BUFFER_TOO_SMALL  `out_length` is less than 12 */
 STUNP_READS(1, 2) STUNP_WRITES(3, 4)
-int64_t stunp_id(const uint8_t *message, size_t length, uint8_t *out, size_t out_length);
+int64_t stunp_id(const uint8_t *STUNP_RESTRICT message, size_t length, uint8_t *STUNP_RESTRICT out,
+                 size_t out_length);
 
 /* ---- Finding attributes
  *
@@ -604,8 +625,8 @@ int64_t stunp_read_number(const uint8_t *message, size_t length, size_t place, u
  *   STUNP_MALFORMED_ATTRIBUTE  the value is not an address
  *   STUNP_BUFFER_TOO_SMALL     `out` has no room for the address */
 STUNP_USE_RESULT STUNP_READS(1, 2) STUNP_WRITES(4, 5) STUNP_NOT_NULL(6)
-int64_t stunp_read_address(const uint8_t *message, size_t length, size_t place, uint8_t *out,
-                           size_t out_length, uint16_t *port);
+int64_t stunp_read_address(const uint8_t *STUNP_RESTRICT message, size_t length, size_t place,
+                           uint8_t *STUNP_RESTRICT out, size_t out_length, uint16_t *port);
 
 /* Reads an address and a port that are XORed with the magic cookie and the transaction id, as in
  * XOR-MAPPED-ADDRESS (section 14.2), XOR-PEER-ADDRESS and XOR-RELAYED-ADDRESS (RFC 8656, sections
@@ -619,8 +640,8 @@ int64_t stunp_read_address(const uint8_t *message, size_t length, size_t place, 
  *   STUNP_MALFORMED_ATTRIBUTE  the value is not an address
  *   STUNP_BUFFER_TOO_SMALL     `out` has no room for the address */
 STUNP_USE_RESULT STUNP_READS(1, 2) STUNP_WRITES(4, 5) STUNP_NOT_NULL(6)
-int64_t stunp_read_xor_address(const uint8_t *message, size_t length, size_t place, uint8_t *out,
-                               size_t out_length, uint16_t *port);
+int64_t stunp_read_xor_address(const uint8_t *STUNP_RESTRICT message, size_t length, size_t place,
+                               uint8_t *STUNP_RESTRICT out, size_t out_length, uint16_t *port);
 
 /* Reads the list of attribute types in UNKNOWN-ATTRIBUTES (section 14.13).
  *
@@ -676,8 +697,9 @@ STUNP_INLINED int64_t stunp_find_number(const uint8_t *message, size_t length, u
  *   STUNP_MISSING_ATTRIBUTE    no attribute of this type is visible
  *   STUNP_MALFORMED_ATTRIBUTE  the value is not an address
  *   STUNP_BUFFER_TOO_SMALL     `out` has no room for the address */
-STUNP_INLINED int64_t stunp_find_address(const uint8_t *message, size_t length, uint32_t type,
-                                         uint8_t *out, size_t out_length, uint16_t *port);
+STUNP_INLINED int64_t stunp_find_address(const uint8_t *STUNP_RESTRICT message, size_t length,
+                                         uint32_t type, uint8_t *STUNP_RESTRICT out,
+                                         size_t out_length, uint16_t *port);
 
 /* Reads the XORed address in the first visible attribute of a type (stunp_read_xor_address).
  *
@@ -690,8 +712,9 @@ STUNP_INLINED int64_t stunp_find_address(const uint8_t *message, size_t length, 
  *   STUNP_MISSING_ATTRIBUTE    no attribute of this type is visible
  *   STUNP_MALFORMED_ATTRIBUTE  the value is not an address
  *   STUNP_BUFFER_TOO_SMALL     `out` has no room for the address */
-STUNP_INLINED int64_t stunp_find_xor_address(const uint8_t *message, size_t length, uint32_t type,
-                                             uint8_t *out, size_t out_length, uint16_t *port);
+STUNP_INLINED int64_t stunp_find_xor_address(const uint8_t *STUNP_RESTRICT message, size_t length,
+                                             uint32_t type, uint8_t *STUNP_RESTRICT out,
+                                             size_t out_length, uint16_t *port);
 
 /* Reads the list of types in the first visible attribute of a type (stunp_read_types).
  *
@@ -729,30 +752,30 @@ int64_t stunp_error_code(const uint8_t *message, size_t length);
  *   STUNP_MALFORMED_ATTRIBUTE  the first visible XOR-MAPPED-ADDRESS is malformed
  *   STUNP_BUFFER_TOO_SMALL     `out` has no room for the address */
 STUNP_USE_RESULT STUNP_READS(1, 2) STUNP_WRITES(3, 4) STUNP_NOT_NULL(5)
-int64_t stunp_xor_mapped_address(const uint8_t *message, size_t length, uint8_t *out,
-                                 size_t out_length, uint16_t *port);
+int64_t stunp_xor_mapped_address(const uint8_t *STUNP_RESTRICT message, size_t length,
+                                 uint8_t *STUNP_RESTRICT out, size_t out_length, uint16_t *port);
 
 /* ---- Checks */
 
-/* Verifies the signature of a message with a key: a short-term password (section 9.1.1) or a
- * long-term key (section 9.2.2). The key may have any length.
+/* Verifies the signature of a message with a key: a short-term password (stunp_short_term_key) or a
+ * long-term key (stunp_long_term_key). The key may have any length.
  *
  * If MESSAGE-INTEGRITY-SHA256 is visible, only that attribute is checked; otherwise
  * MESSAGE-INTEGRITY is. A truncated HMAC-SHA256 is not accepted. FINGERPRINT is not checked.
  *
- * Returns the algorithm of a valid signature, STUNP_SHA1 or STUNP_SHA256. Test it with `> 0`, or
- * call stunp_is_signed. Errors:
+ * Returns the algorithm of a valid signature, STUNP_SHA1 or STUNP_SHA256. An error counts as true
+ * in a condition and as a bool: call stunp_is_signed there, or test the result with `> 0`. Errors:
  *   STUNP_TRUNCATED, STUNP_NOT_STUN, STUNP_TOO_LARGE
  *                              the bytes are not one whole message (stunp_parse)
  *   STUNP_NO_INTEGRITY         the message has no visible integrity attribute: it is unsigned
  *   STUNP_MALFORMED_INTEGRITY  the integrity attribute has a length that its type cannot have
  *   STUNP_INTEGRITY_FAILED     the signature is not valid for this message and key */
 STUNP_USE_RESULT STUNP_READS(1, 2) STUNP_READS(3, 4)
-int64_t stunp_verify(const uint8_t *message, size_t length, const void *key, size_t key_length);
+int64_t stunp_verify(const uint8_t *message, size_t length, const uint8_t *key, size_t key_length);
 
 /* Returns whether a message is signed with this key: whether stunp_verify returns an algorithm. */
 STUNP_USE_RESULT STUNP_READS(1, 2) STUNP_READS(3, 4)
-STUNP_INLINED bool stunp_is_signed(const uint8_t *message, size_t length, const void *key,
+STUNP_INLINED bool stunp_is_signed(const uint8_t *message, size_t length, const uint8_t *key,
                                    size_t key_length);
 
 /* Checks the FINGERPRINT of a message (section 14.7).
@@ -916,13 +939,13 @@ int64_t stunp_add_xor_mapped_address(uint8_t *buffer, size_t room, size_t length
  *   STUNP_BUFFER_TOO_SMALL  the attribute does not fit into `room` bytes */
 STUNP_USE_RESULT STUNP_CHANGES(1, 2) STUNP_READS(5, 6)
 int64_t stunp_add_error(uint8_t *buffer, size_t room, size_t length, uint32_t code,
-                        const void *reason, size_t reason_length);
+                        const char *reason, size_t reason_length);
 
 /* Signs the message: appends MESSAGE-INTEGRITY for STUNP_SHA1, or MESSAGE-INTEGRITY-SHA256 for
  * STUNP_SHA256 (sections 14.5 and 14.6), 24 or 36 bytes.
  *
- * The key may have any length. It is a short-term password, or a long-term key
- * (stunp_long_term_key). Add all other attributes first: only FINGERPRINT may follow.
+ * The key may have any length. It is a short-term password (stunp_short_term_key) or a long-term
+ * key (stunp_long_term_key). Add all other attributes first: only FINGERPRINT may follow.
  *
  * Returns the new length of the message. Errors:
  *   STUNP_BAD_ARGUMENT      the algorithm is neither of the two, or `length` exceeds `room`
@@ -933,7 +956,7 @@ int64_t stunp_add_error(uint8_t *buffer, size_t room, size_t length, uint32_t co
  *   STUNP_BUFFER_TOO_SMALL  the attribute does not fit into `room` bytes */
 STUNP_USE_RESULT STUNP_CHANGES(1, 2) STUNP_READS(5, 6)
 int64_t stunp_sign(uint8_t *buffer, size_t room, size_t length, stunp_algorithm algorithm,
-                   const void *key, size_t key_length);
+                   const uint8_t *key, size_t key_length);
 
 /* Appends FINGERPRINT, 8 bytes, to a message that is signed or not (section 14.7). It must be the
  * last attribute. The signature stays valid.
@@ -1001,7 +1024,7 @@ STUNP_INLINED void stunp_write_error(stunp_writer *writer, uint32_t code, const 
 
 /* Signs the message (stunp_sign). */
 STUNP_INLINED void stunp_write_integrity(stunp_writer *writer, stunp_algorithm algorithm,
-                                         const void *key, size_t key_length);
+                                         const uint8_t *key, size_t key_length);
 
 /* Appends FINGERPRINT (stunp_add_fingerprint). */
 STUNP_INLINED void stunp_write_fingerprint(stunp_writer *writer);
@@ -1030,7 +1053,7 @@ STUNP_INLINED int64_t stunp_written(const stunp_writer *writer);
  *   STUNP_BUFFER_TOO_SMALL  the request does not fit into `out` */
 STUNP_USE_RESULT STUNP_READS(2, 3) STUNP_READS(4, 5) STUNP_READS(6, 7) STUNP_WRITES(8, 9)
 int64_t stunp_build_signed(stunp_algorithm algorithm, const uint8_t *id, size_t id_length,
-                           const void *username, size_t username_length, const void *key,
+                           const char *username, size_t username_length, const uint8_t *key,
                            size_t key_length, uint8_t *out, size_t out_length);
 
 /* Writes the error response to a request that has unknown attributes (sections 6.3.1 and 14.13).
@@ -1049,10 +1072,15 @@ int64_t stunp_build_signed(stunp_algorithm algorithm, const uint8_t *id, size_t 
  *   STUNP_BAD_ARGUMENT      the message is not a request
  *   STUNP_BUFFER_TOO_SMALL  the response does not fit into `out` */
 STUNP_USE_RESULT STUNP_READS(1, 2) STUNP_READS(3, 4) STUNP_WRITES(5, 6)
-int64_t stunp_refuse_unknown(const uint8_t *request, size_t length, const uint16_t *known,
-                             size_t known_length, uint8_t *out, size_t out_length);
+int64_t stunp_refuse_unknown(const uint8_t *STUNP_RESTRICT request, size_t length,
+                             const uint16_t *known, size_t known_length,
+                             uint8_t *STUNP_RESTRICT out, size_t out_length);
 
 /* ---- Keys */
+
+/* Returns the key of a user with short-term credentials (section 9.1.1): the password itself, of
+ * which each byte but the zero at its end is one of the key. So its length is strlen(password). */
+STUNP_INLINED const uint8_t *stunp_short_term_key(const char *password);
 
 /* Makes the long-term key of a user in a realm (section 9.2.2): the hash of
  * `username:realm:password`, with MD5 for STUNP_SHA1 and with SHA-256 for STUNP_SHA256. The key
@@ -1069,8 +1097,8 @@ int64_t stunp_refuse_unknown(const uint8_t *request, size_t length, const uint16
  *   STUNP_NOT_TEXT          one of the three texts is not UTF-8
  *   STUNP_BUFFER_TOO_SMALL  the key does not fit into `out` */
 STUNP_USE_RESULT STUNP_READS(2, 3) STUNP_READS(4, 5) STUNP_READS(6, 7) STUNP_WRITES(8, 9)
-int64_t stunp_long_term_key(stunp_algorithm algorithm, const void *username, size_t username_length,
-                            const void *realm, size_t realm_length, const void *password,
+int64_t stunp_long_term_key(stunp_algorithm algorithm, const char *username, size_t username_length,
+                            const char *realm, size_t realm_length, const char *password,
                             size_t password_length, uint8_t *out, size_t out_length);
 
 /* Makes the hash that stands for a user in a realm, for the attribute USERHASH (section 14.4):
@@ -1080,7 +1108,7 @@ int64_t stunp_long_term_key(stunp_algorithm algorithm, const void *username, siz
  *   STUNP_NOT_TEXT          one of the two texts is not UTF-8
  *   STUNP_BUFFER_TOO_SMALL  `out_length` is less than 32 */
 STUNP_USE_RESULT STUNP_READS(1, 2) STUNP_READS(3, 4) STUNP_WRITES(5, 6)
-int64_t stunp_userhash(const void *username, size_t username_length, const void *realm,
+int64_t stunp_userhash(const char *username, size_t username_length, const char *realm,
                        size_t realm_length, uint8_t *out, size_t out_length);
 
 /* ---- Packets and streams */
@@ -1139,6 +1167,38 @@ int64_t stunp_next_packet_frame(const uint8_t *bytes, size_t length);
  *   STUNP_NOT_STUN  no message starts here, whatever bytes may follow */
 STUNP_USE_RESULT STUNP_READS(1, 2)
 int64_t stunp_next_turn_frame(const uint8_t *bytes, size_t length);
+
+/* ---- Memory of the exported library */
+
+/* What allocates `length` bytes, as malloc does: returns their address, a multiple of 16, or
+ * null. */
+typedef void *(*stunp_allocate)(size_t length);
+/* What resizes a block, as realloc does: returns its address, a multiple of 16, or null and leaves
+ * the block as it was. */
+typedef void *(*stunp_resize)(void *at, size_t length);
+/* What frees a block, as free does. */
+typedef void (*stunp_release)(void *at);
+
+/* Sets the functions with which the exported library allocates, in place of malloc, realloc and
+ * free. Call it once, before any other call and before your program has several threads:
+ *
+ *     if (stunp_set_memory(je_malloc, je_realloc, je_free) < 0) abort();
+ *
+ * The functions must return, so they must not leave by longjmp or an exception, and they must make
+ * no call of this library. Every thread that calls the library calls them, possibly at the same
+ * time as others. No length is 0 or above PTRDIFF_MAX. If `allocate` returns an address that is not
+ * a multiple of 16, the block is freed, and the call fails with STUNP_OUT_OF_MEMORY. Blocks contain
+ * passwords and keys, and the library does not overwrite them before it frees or resizes them.
+ *
+ * The proved archives do not have this call: they allocate with three functions of your program
+ * (stunp_state.h). If the program has these, the exported library uses them too, unless it has made
+ * this call.
+ *
+ * Returns 0. Errors:
+ *   STUNP_BAD_ARGUMENT         one of the three is null
+ *   STUNP_ALREADY_IN_PROGRESS  the library has allocated already, or this call was made before */
+STUNP_USE_RESULT
+int64_t stunp_set_memory(stunp_allocate allocate, stunp_resize resize, stunp_release release);
 
 /* ---- Errors and versions */
 

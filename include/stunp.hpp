@@ -2,6 +2,7 @@
 // themselves, messages that keep their length, views as arguments and results that own what they
 // return. The endpoints are in the namespaces stunp::endpoint and stunp::ice.
 //
+// What is here is compiled into your program, and decides nothing about messages: the library does.
 // Nothing throws, except std::bad_alloc where a vector or a string of this header finds no memory.
 // A call that is not here is made with `ask`, as in
 //
@@ -14,6 +15,7 @@
 #include "stunp_endpoint.h"
 #include "stunp_state.h"
 #include <array>
+#include <cassert>
 #include <optional>
 #include <string>
 #include <string_view>
@@ -22,28 +24,49 @@
 #include <utility>
 #include <vector>
 
+// The result points to this argument, so clang warns if the argument is a temporary (-Wdangling).
+#if defined __has_cpp_attribute
+#if __has_cpp_attribute(clang::lifetimebound)
+#define STUNP_POINTED_TO [[clang::lifetimebound]]
+#endif
+#endif
+#ifndef STUNP_POINTED_TO
+#define STUNP_POINTED_TO
+#endif
+
 namespace stunp {
 
 using bytes = std::vector<uint8_t>;
 
-// Bytes that a call reads: those of a text, a vector or an array. It does not own them.
+// Bytes that a call reads: those of a text, a vector or an array. It does not own them. So make one
+// of a temporary only as an argument of a call: `stunp::view v = std::string(..)` points to a text
+// that is gone. Clang warns of that, GCC does not.
 class view {
     const uint8_t *first_;
     size_t size_;
 
   public:
     view(const uint8_t *first, size_t size) : first_(first), size_(size) {}
-    view(std::string_view text)
+    view(std::string_view text STUNP_POINTED_TO)
         : view(reinterpret_cast<const uint8_t *>(text.data()), text.size()) {}
     view(const char *text = "") : view(std::string_view(text)) {}
-    view(const std::string &text) : view(std::string_view(text)) {}
-    view(const bytes &of) : view(of.data(), of.size()) {}
-    template <size_t N> view(const std::array<uint8_t, N> &of) : view(of.data(), N) {}
-    template <size_t N> view(const uint8_t (&of)[N]) : view(of, N) {}
+    view(const std::string &text STUNP_POINTED_TO) : view(std::string_view(text)) {}
+    view(const bytes &of STUNP_POINTED_TO) : view(of.data(), of.size()) {}
+    template <size_t N>
+    view(const std::array<uint8_t, N> &of STUNP_POINTED_TO) : view(of.data(), N) {}
+    template <size_t N> view(const uint8_t (&of STUNP_POINTED_TO)[N]) : view(of, N) {}
     const uint8_t *data() const { return first_; }
     size_t size() const { return size_; }
     std::string_view text() const { return {reinterpret_cast<const char *>(first_), size_}; }
     bytes copy() const { return bytes(first_, first_ + size_); }
+};
+
+// Where the bytes of a view begin, for a call of C that takes a text, a key or a value there.
+struct pointer {
+    const uint8_t *first;
+    operator const uint8_t *() const { return first; }
+    operator const char *() const { return reinterpret_cast<const char *>(first); }
+    operator const void *() const { return first; }
 };
 
 // Makes a call of C, to which a view is a pointer and a length. An array of bytes of C is passed as
@@ -52,7 +75,7 @@ template <class T> auto spread(const T &one) {
     if constexpr (std::is_convertible_v<const T &, view>
                   && !std::is_same_v<std::remove_extent_t<T>, uint8_t>) {
         view all(one);
-        return std::make_tuple(all.data(), all.size());
+        return std::make_tuple(pointer{all.data()}, all.size());
     } else {
         return std::make_tuple(one);
     }
@@ -61,7 +84,9 @@ template <class Call, class... Arguments> auto call(Call of, const Arguments &..
     return std::apply(of, std::tuple_cat(spread(arguments)...));
 }
 
-// A value, or the error of a call, a number below zero with its text.
+// A value, or the error of a call, a number below zero with its text. Test it before you take the
+// value: without one, `*` and `->` stop the program (assert), or with NDEBUG are a value as it
+// begins.
 template <class T = int64_t> class [[nodiscard]] result {
     int64_t answer_;
     T value_;
@@ -70,11 +95,11 @@ template <class T = int64_t> class [[nodiscard]] result {
     explicit result(int64_t answer, T value = T{})
         : answer_(answer), value_(answer < 0 ? T{} : std::move(value)) {}
     explicit operator bool() const { return answer_ >= 0; }
-    T &operator*() & { return value_; }
-    const T &operator*() const & { return value_; }
-    T operator*() && { return std::move(value_); }
-    T *operator->() { return &value_; }
-    const T *operator->() const { return &value_; }
+    T &operator*() & { return assert(answer_ >= 0), value_; }
+    const T &operator*() const & { return assert(answer_ >= 0), value_; }
+    T operator*() && { return assert(answer_ >= 0), std::move(value_); }
+    T *operator->() { return assert(answer_ >= 0), &value_; }
+    const T *operator->() const { return assert(answer_ >= 0), &value_; }
     int64_t number() const { return answer_; }
     const char *text() const { return stunp_strerror(answer_); }
 };
@@ -380,39 +405,46 @@ namespace endpoint {
 using settings = stunp_endpoint_server_settings; // from STUNP_INIT(stunp::endpoint::settings)
 using client_settings = stunp_endpoint_client_settings; // from STUNP_INIT of it, too
 struct users;
-struct server;
+class server;
 
 // What a datagram comes to: one of `answer`, `request`, `indication`, `response`, `lookup` and
-// `dropped` is not null. It has a key of the user, and wipes it at its end.
+// `dropped` is not null; none is of one that no call has judged yet. It has a key of the user, and
+// wipes it at its end. To allocate no buffer for each datagram, pass the same one to the calls
+// again.
 class received {
     stunp_received told_ = STUNP_INIT(stunp_received);
-    bytes answer_;
-    friend struct server;
+    bytes buffer_;
+    view answer_;
+    friend class server;
 
     // Makes a call again with more room, where an answer wants that.
+    template <class Judge> result<stunp_kind> judged(Judge judge) {
+        if (buffer_.size() < 2048) buffer_.resize(2048);
+        int64_t kind = judge(buffer_.data(), buffer_.size(), &told_);
+        if (kind == STUNP_BUFFER_TOO_SMALL) {
+            buffer_.resize(told_.needed);
+            kind = judge(buffer_.data(), buffer_.size(), &told_);
+        }
+        answer_ = view(buffer_.data(), kind == STUNP_ANSWER ? told_.length : 0);
+        return result<stunp_kind>(kind, kind < 0 ? STUNP_FAILED : stunp_kind(kind));
+    }
     template <class Judge> static result<received> of(Judge judge) {
         received got;
-        got.answer_.resize(2048);
-        int64_t kind = judge(got.answer_.data(), got.answer_.size(), &got.told_);
-        if (kind == STUNP_BUFFER_TOO_SMALL) {
-            got.answer_.resize(got.told_.needed);
-            kind = judge(got.answer_.data(), got.answer_.size(), &got.told_);
-        }
-        got.answer_.resize(kind == STUNP_ANSWER ? got.told_.length : 0);
+        int64_t kind = got.judged(judge).number();
         return result<received>(kind, std::move(got));
     }
     const stunp_received *if_is(stunp_kind kind) const {
-        return told_.kind == uint32_t(kind) ? &told_ : nullptr;
+        return told_.kind == kind ? &told_ : nullptr;
     }
 
   public:
-    received() = default;
+    received() { told_.kind = STUNP_FAILED; }
     received(received &&) = default;
     received &operator=(received &&) = default;
     ~received() { stunp_reply_wipe(&told_.reply); }
 
     // Send it to where the datagram came from. `told().code` is the code of an error.
-    const bytes *answer() const { return if_is(STUNP_ANSWER) ? &answer_ : nullptr; }
+    const view *answer() const { return if_is(STUNP_ANSWER) ? &answer_ : nullptr; }
     // Answer it, now or later (`success` and `error` below).
     const stunp_reply *request() const { return if_is(STUNP_IS_REQUEST) ? &told_.reply : nullptr; }
     const stunp_received *indication() const { return if_is(STUNP_IS_INDICATION); }
@@ -427,35 +459,63 @@ class received {
     const stunp_received &told() const { return told_; }
 };
 
-struct server : handle<stunp_endpoint_server, stunp_endpoint_server_clear> {
+class server : public handle<stunp_endpoint_server, stunp_endpoint_server_clear> {
+    auto judge(const stunp_endpoint_users *by, view datagram, const address &from,
+               uint64_t unix_seconds) const {
+        return [=, &from](uint8_t *out, size_t room, stunp_received *told) {
+            return stunp_endpoint_server_receive(get(), by, datagram.data(), datagram.size(), &from,
+                                                 unix_seconds, out, room, told);
+        };
+    }
+    auto asker(view datagram, const address &from, uint64_t unix_seconds) const {
+        return [=, &from](uint8_t *out, size_t room, stunp_received *told) {
+            return stunp_endpoint_server_identify(get(), datagram.data(), datagram.size(), &from,
+                                                  unix_seconds, out, room, told);
+        };
+    }
+    auto resumer(const stunp_found_user *found, view datagram, const address &from,
+                 uint64_t unix_seconds) const {
+        return [=, &from](uint8_t *out, size_t room, stunp_received *told) {
+            return stunp_endpoint_server_resume(get(), found, datagram.data(), datagram.size(),
+                                                &from, unix_seconds, out, room, told);
+        };
+    }
+
+  public:
     static result<server> make(const settings &of) {
         server made;
         int64_t answer = stunp_endpoint_server_new(made.get(), &of);
         return result<server>(answer, std::move(made));
     }
+    // Judges a datagram. Each of these calls also takes a `received` that is kept, and then returns
+    // what the datagram comes to.
     result<received> receive(const users &by, view datagram, const address &from,
                              uint64_t unix_seconds) const;
+    result<stunp_kind> receive(received &kept, const users &by, view datagram, const address &from,
+                               uint64_t unix_seconds) const;
     // The same of a server without credentials.
     result<received> receive(view datagram, const address &from) const {
-        return received::of([&](uint8_t *out, size_t room, stunp_received *told) {
-            return stunp_endpoint_server_receive(get(), nullptr, datagram.data(), datagram.size(),
-                                                 &from, 0, out, room, told);
-        });
+        return received::of(judge(nullptr, datagram, from, 0));
+    }
+    result<stunp_kind> receive(received &kept, view datagram, const address &from) const {
+        return kept.judged(judge(nullptr, datagram, from, 0));
     }
     // As far as that is possible without the user (stunp_endpoint_server_identify).
     result<received> identify(view datagram, const address &from, uint64_t unix_seconds) const {
-        return received::of([&](uint8_t *out, size_t room, stunp_received *told) {
-            return stunp_endpoint_server_identify(get(), datagram.data(), datagram.size(), &from,
-                                                  unix_seconds, out, room, told);
-        });
+        return received::of(asker(datagram, from, unix_seconds));
+    }
+    result<stunp_kind> identify(received &kept, view datagram, const address &from,
+                                uint64_t unix_seconds) const {
+        return kept.judged(asker(datagram, from, unix_seconds));
     }
     // By the user who was found, or by nobody.
     result<received> resume(const stunp_found_user *found, view datagram, const address &from,
                             uint64_t unix_seconds) const {
-        return received::of([&](uint8_t *out, size_t room, stunp_received *told) {
-            return stunp_endpoint_server_resume(get(), found, datagram.data(), datagram.size(),
-                                                &from, unix_seconds, out, room, told);
-        });
+        return received::of(resumer(found, datagram, from, unix_seconds));
+    }
+    result<stunp_kind> resume(received &kept, const stunp_found_user *found, view datagram,
+                              const address &from, uint64_t unix_seconds) const {
+        return kept.judged(resumer(found, datagram, from, unix_seconds));
     }
     // Why `receive` refuses a request: a stunp_cause, or 0 if it does not. stunp_cause_text has the
     // text of `number()`.
@@ -486,10 +546,11 @@ struct users : handle<stunp_endpoint_users, stunp_endpoint_users_clear> {
 
 inline result<received> server::receive(const users &by, view datagram, const address &from,
                                         uint64_t unix_seconds) const {
-    return received::of([&](uint8_t *out, size_t room, stunp_received *told) {
-        return stunp_endpoint_server_receive(get(), by.get(), datagram.data(), datagram.size(),
-                                             &from, unix_seconds, out, room, told);
-    });
+    return received::of(judge(by.get(), datagram, from, unix_seconds));
+}
+inline result<stunp_kind> server::receive(received &kept, const users &by, view datagram,
+                                          const address &from, uint64_t unix_seconds) const {
+    return kept.judged(judge(by.get(), datagram, from, unix_seconds));
 }
 inline result<> server::cause(const users &by, view datagram, const address &from,
                               uint64_t unix_seconds) const {
@@ -567,7 +628,7 @@ class client : public handle<stunp_endpoint_client, stunp_endpoint_client_clear>
     }
     // Reads a datagram. `why` gets the reason of STUNP_DROPPED.
     result<stunp_kind> receive(view datagram, const address &from, uint64_t now,
-                               uint32_t *why = nullptr) {
+                               stunp_drop *why = nullptr) {
         return ask<stunp_kind>(stunp_endpoint_client_receive, get(), datagram, &from, now, why);
     }
     // Finds the next thing to do. Call it until it says `wait`.
@@ -579,7 +640,7 @@ class client : public handle<stunp_endpoint_client, stunp_endpoint_client_clear>
         next.datagram = view(room_.data(), next.told.length);
         return result<event>(kind, next);
     }
-    // Ends a request, unless it has ended already.
+    // Ends a request, and returns whether it had not ended already.
     result<bool> cancel(uint64_t request) {
         return ask<bool>(stunp_endpoint_client_cancel, get(), request);
     }
@@ -635,15 +696,21 @@ struct checker : handle<stunp_ice_checker, stunp_ice_checker_clear> {
     // `stored` is the check with the ID of the datagram, or null.
     result<received> receive(view datagram, const address &from, const stunp_ice_check *stored) {
         received got;
-        got.answer.resize(2048);
+        int64_t kind = receive(got, datagram, from, stored).number();
+        return result<received>(kind, std::move(got));
+    }
+    // The same into a `received` that is kept, whose memory is used again.
+    result<stunp_kind> receive(received &kept, view datagram, const address &from,
+                               const stunp_ice_check *stored) {
+        kept.answer.resize(2048);
         auto judge = [&] {
             return stunp_ice_checker_receive(get(), datagram.data(), datagram.size(), &from, stored,
-                                             got.answer.data(), got.answer.size(), &got.told);
+                                             kept.answer.data(), kept.answer.size(), &kept.told);
         };
         int64_t kind = judge();
-        if (kind == STUNP_BUFFER_TOO_SMALL) got.answer.resize(got.told.needed), kind = judge();
-        got.answer.resize(kind == STUNP_ANSWER ? got.told.length : 0);
-        return result<received>(kind, std::move(got));
+        if (kind == STUNP_BUFFER_TOO_SMALL) kept.answer.resize(kept.told.needed), kind = judge();
+        kept.answer.resize(kind == STUNP_ANSWER ? kept.told.length : 0);
+        return result<stunp_kind>(kind, kind < 0 ? STUNP_FAILED : stunp_kind(kind));
     }
 };
 

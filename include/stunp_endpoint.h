@@ -262,7 +262,8 @@
  *    stunp_body_add_peer, stunp_endpoint_client_request_with, stunp_endpoint_client_request,
  *    stunp_endpoint_client_receive_with, stunp_endpoint_client_receive,
  *    stunp_endpoint_client_poll_with, stunp_endpoint_client_poll, stunp_poll_timeout,
- *    stunp_endpoint_client_cancel, stunp_endpoint_client_dropped, stunp_result_text
+ *    stunp_endpoint_client_cancel, stunp_endpoint_client_try_cancel, stunp_endpoint_client_dropped,
+ *    stunp_result_text
  *   versions: stunp_endpoint_version, stunp_endpoint_release_0_2
  *
  *
@@ -319,7 +320,8 @@ extern "C" {
 
 /* ---- Types */
 
-/* The handles. The fields are not yours to write. */
+/* The handles. The fields are not yours to write. A copy of a handle is the same handle: once one
+ * of them was freed, do not use or free the others, because no call notices that. */
 typedef struct stunp_endpoint_server { bool is_full; void *state; } stunp_endpoint_server;
 typedef struct stunp_endpoint_users { bool is_full; void *state; } stunp_endpoint_users;
 typedef struct stunp_ice_checker { bool is_full; void *state; } stunp_ice_checker;
@@ -411,8 +413,8 @@ typedef enum stunp_kind {
     STUNP_LOOKUP = 5,        /* a request that waits for its user: look up `name`, and call
                               * stunp_endpoint_server_resume. Its signature is not checked yet */
     STUNP_NOT_OURS = 6,      /* at a client: it is for somebody else, or for nobody */
-    STUNP_FAILED = 7         /* `kind` of a stunp_received, a stunp_ice_received or a stunp_event after
-                              * a call that failed. The call itself returns the error */
+    STUNP_FAILED = 7         /* `kind` of a stunp_received or a stunp_ice_received after a call that
+                              * failed. The call itself returns the error */
 } stunp_kind;
 
 /* Why a datagram is dropped. */
@@ -535,8 +537,8 @@ typedef struct {
  * nothing else is written.
  *
  *   size         sizeof (stunp_received), set by STUNP_INIT once, before the loop
- *   kind         a stunp_kind
- *   why          STUNP_DROPPED: a stunp_drop
+ *   kind         what it comes to
+ *   why          STUNP_DROPPED: why
  *   code         STUNP_ANSWER: the code of an error, 400, 401, 420 or 438; 0 of a success.
  *                STUNP_DROP_NOT_SIGNED: 400 or 401
  *   method       STUNP_IS_REQUEST, _IS_INDICATION, _IS_RESPONSE, STUNP_LOOKUP: the method of the
@@ -557,8 +559,8 @@ typedef struct {
  * Serve the user in `name`. Never use USERNAME of the message, which may name another user. */
 typedef struct {
     size_t size;
-    uint32_t kind;
-    uint32_t why;
+    stunp_kind kind;
+    stunp_drop why;
     uint32_t code;
     uint16_t method;
     uint16_t algorithm;
@@ -630,9 +632,9 @@ typedef struct {
  * error `kind` is STUNP_FAILED and `length` is 0. If `size` is wrong, nothing else is written.
  *
  *   size            sizeof (stunp_ice_received), set by STUNP_INIT once, before the loop
- *   kind            a stunp_kind
- *   why             STUNP_DROPPED: a stunp_drop
- *   outcome         STUNP_ANSWER, STUNP_IS_RESPONSE: a stunp_ice_outcome
+ *   kind            what it comes to
+ *   why             STUNP_DROPPED: why
+ *   outcome         STUNP_ANSWER, STUNP_IS_RESPONSE: what the check or its answer comes to
  *   code            the code of an error response: 487 of STUNP_ICE_PEER_SWITCHES and _CONFLICT; 400,
  *                   401 or 420 of STUNP_ICE_REFUSED; any other of STUNP_ICE_ERROR
  *   priority        STUNP_ICE_ACCEPTED: the priority in the check, which a peer-reflexive candidate
@@ -647,9 +649,9 @@ typedef struct {
  *                   candidates, it is a new peer-reflexive one (section 7.2.5.3.1) */
 typedef struct {
     size_t size;
-    uint32_t kind;
-    uint32_t why;
-    uint32_t outcome;
+    stunp_kind kind;
+    stunp_drop why;
+    stunp_ice_outcome outcome;
     uint32_t code;
     uint32_t priority;
     uint16_t not_understood;
@@ -677,8 +679,8 @@ typedef struct {
  *   STUNP_TEXT_TOO_LONG  the realm or SOFTWARE has more than 763 bytes
  *   STUNP_OUT_OF_MEMORY  an allocation failed */
 STUNP_READS(2, 3) STUNP_READS(4, 5) STUNP_READS(9, 10) STUNP_NOT_NULL(1, 6, 7)
-int64_t stunp_endpoint_server_new_with(stunp_endpoint_server *server, const void *realm,
-                                       size_t realm_length, const void *software,
+int64_t stunp_endpoint_server_new_with(stunp_endpoint_server *server, const char *realm,
+                                       size_t realm_length, const char *software,
                                        size_t software_length, const uint8_t secret[32],
                                        const uint8_t previous_secret[32], bool has_previous_secret,
                                        const uint16_t *understood, size_t understood_length,
@@ -696,7 +698,7 @@ int64_t stunp_endpoint_server_new_with(stunp_endpoint_server *server, const void
  *   STUNP_TEXT_TOO_LONG  SOFTWARE has more than 763 bytes
  *   STUNP_OUT_OF_MEMORY  an allocation failed */
 STUNP_READS(2, 3) STUNP_READS(4, 5) STUNP_NOT_NULL(1)
-int64_t stunp_endpoint_server_new_short_term(stunp_endpoint_server *server, const void *software,
+int64_t stunp_endpoint_server_new_short_term(stunp_endpoint_server *server, const char *software,
                                              size_t software_length, const uint16_t *understood,
                                              size_t understood_length, bool answers_binding,
                                              bool requires_fingerprint);
@@ -705,7 +707,7 @@ int64_t stunp_endpoint_server_new_short_term(stunp_endpoint_server *server, cons
  *
  * Returns 0. Errors: those of stunp_endpoint_server_new_short_term. */
 STUNP_READS(2, 3) STUNP_READS(4, 5) STUNP_NOT_NULL(1)
-int64_t stunp_endpoint_server_new_open(stunp_endpoint_server *server, const void *software,
+int64_t stunp_endpoint_server_new_open(stunp_endpoint_server *server, const char *software,
                                        size_t software_length, const uint16_t *understood,
                                        size_t understood_length, bool answers_binding,
                                        bool requires_fingerprint);
@@ -758,7 +760,8 @@ STUNP_INLINED int64_t stunp_endpoint_users_new(stunp_endpoint_users *users,
                                                const stunp_endpoint_server *server);
 
 /* Adds a user with a password, or replaces what the table has of a user of this name, and derives
- * the keys (sections 9.1.1 and 9.2.2).
+ * the keys (sections 9.1.1 and 9.2.2). The name comes first: if you exchange the two, the call adds
+ * a user whose name is the password.
  *
  * Returns 0. Errors:
  *   STUNP_EMPTY_HANDLE   the handle is empty
@@ -768,8 +771,8 @@ STUNP_INLINED int64_t stunp_endpoint_users_new(stunp_endpoint_users *users,
  *   STUNP_BAD_ARGUMENT   the password has no bytes
  *   STUNP_OUT_OF_MEMORY  an allocation failed */
 STUNP_READS(2, 3) STUNP_READS(4, 5) STUNP_NOT_NULL(1)
-int64_t stunp_endpoint_users_add(stunp_endpoint_users *users, const void *name, size_t name_length,
-                                 const void *password, size_t password_length);
+int64_t stunp_endpoint_users_add(stunp_endpoint_users *users, const char *name, size_t name_length,
+                                 const char *password, size_t password_length);
 
 /* Adds a user with keys that were stored in place of a password (stunp_long_term_key), or replaces
  * what the table has of a user of this name. The keys must have been made for the realm of the
@@ -783,7 +786,7 @@ int64_t stunp_endpoint_users_add(stunp_endpoint_users *users, const void *name, 
  *   STUNP_BAD_ARGUMENT   `sha1_length` is neither 0 nor 16, or `sha256_length` neither 0 nor 32
  *   STUNP_OUT_OF_MEMORY  an allocation failed */
 STUNP_READS(2, 3) STUNP_READS(4, 5) STUNP_READS(6, 7) STUNP_NOT_NULL(1)
-int64_t stunp_endpoint_users_add_keys(stunp_endpoint_users *users, const void *name,
+int64_t stunp_endpoint_users_add_keys(stunp_endpoint_users *users, const char *name,
                                       size_t name_length, const uint8_t *sha1, size_t sha1_length,
                                       const uint8_t *sha256, size_t sha256_length);
 
@@ -794,7 +797,7 @@ int64_t stunp_endpoint_users_add_keys(stunp_endpoint_users *users, const void *n
  *   STUNP_WRONG_HANDLE  it has no table
  *   STUNP_NOT_TEXT      the name is not UTF-8 */
 STUNP_READS(2, 3) STUNP_NOT_NULL(1)
-int64_t stunp_endpoint_users_remove(stunp_endpoint_users *users, const void *name,
+int64_t stunp_endpoint_users_remove(stunp_endpoint_users *users, const char *name,
                                     size_t name_length);
 
 /* Frees a table and makes its handle empty. The pointer must not be null. This call is for callers
@@ -832,10 +835,11 @@ STUNP_INLINED int64_t stunp_endpoint_users_new_found(stunp_endpoint_users *users
  * Returns and fails as stunp_endpoint_server_receive does. */
 STUNP_USE_RESULT STUNP_READS(3, 4) STUNP_WRITES(7, 8) STUNP_NOT_NULL(1, 2, 5, 9)
 int64_t stunp_endpoint_server_receive_own(stunp_endpoint_server *server,
-                                          stunp_endpoint_users *users, const uint8_t *message,
+                                          stunp_endpoint_users *users,
+                                          const uint8_t *STUNP_RESTRICT message,
                                           size_t message_length, const stunp_address *from,
-                                          uint64_t unix_seconds, uint8_t *out, size_t room,
-                                          stunp_received *received);
+                                          uint64_t unix_seconds, uint8_t *STUNP_RESTRICT out,
+                                          size_t room, stunp_received *received);
 
 /* Judges the datagram of `length` bytes that arrived from the address `from`, and writes the result
  * to `*received`. If it gets an answer at once, that is written to the front of `out`.
@@ -876,12 +880,13 @@ int64_t stunp_endpoint_server_receive_own(stunp_endpoint_server *server,
 STUNP_USE_RESULT
 STUNP_INLINED int64_t
 stunp_endpoint_server_receive(const stunp_endpoint_server *server,
-                              const stunp_endpoint_users *users, const uint8_t *bytes,
-                              size_t length, const stunp_address *from, uint64_t unix_seconds,
-                              uint8_t *out, size_t room, stunp_received *received);
+                              const stunp_endpoint_users *users,
+                              const uint8_t *STUNP_RESTRICT bytes, size_t length,
+                              const stunp_address *from, uint64_t unix_seconds,
+                              uint8_t *STUNP_RESTRICT out, size_t room, stunp_received *received);
 
 /* Returns a text for the reason of STUNP_DROPPED, as stunp_strerror does for an error. */
-STUNP_INLINED const char *stunp_drop_text(uint32_t why);
+STUNP_INLINED const char *stunp_drop_text(stunp_drop why);
 
 /* Returns why a datagram is refused, like stunp_endpoint_server_cause, with handles that nothing
  * else uses during the call. They stay as they are.
@@ -934,10 +939,11 @@ STUNP_INLINED const char *stunp_cause_text(int64_t cause);
  *
  * Returns and fails as stunp_endpoint_server_identify does. */
 STUNP_USE_RESULT STUNP_READS(2, 3) STUNP_WRITES(6, 7) STUNP_NOT_NULL(1, 4, 8)
-int64_t stunp_endpoint_server_identify_own(stunp_endpoint_server *server, const uint8_t *message,
+int64_t stunp_endpoint_server_identify_own(stunp_endpoint_server *server,
+                                           const uint8_t *STUNP_RESTRICT message,
                                            size_t message_length, const stunp_address *from,
-                                           uint64_t unix_seconds, uint8_t *out, size_t room,
-                                           stunp_received *received);
+                                           uint64_t unix_seconds, uint8_t *STUNP_RESTRICT out,
+                                           size_t room, stunp_received *received);
 
 /* Judges the datagram of `length` bytes that arrived from the address `from`, as far as that is
  * possible without its user. It comes to STUNP_LOOKUP if it is a signed request that names a user,
@@ -956,9 +962,10 @@ int64_t stunp_endpoint_server_identify_own(stunp_endpoint_server *server, const 
  * and then those of stunp_endpoint_server_receive. */
 STUNP_USE_RESULT
 STUNP_INLINED int64_t
-stunp_endpoint_server_identify(const stunp_endpoint_server *server, const uint8_t *bytes,
-                               size_t length, const stunp_address *from, uint64_t unix_seconds,
-                               uint8_t *out, size_t room, stunp_received *received);
+stunp_endpoint_server_identify(const stunp_endpoint_server *server,
+                               const uint8_t *STUNP_RESTRICT bytes, size_t length,
+                               const stunp_address *from, uint64_t unix_seconds,
+                               uint8_t *STUNP_RESTRICT out, size_t room, stunp_received *received);
 
 /* Judges the request of a STUNP_LOOKUP by the user that you found, or by nobody if `found` is null.
  * The other arguments are those of stunp_endpoint_server_identify, with the time at which the
@@ -976,9 +983,9 @@ stunp_endpoint_server_identify(const stunp_endpoint_server *server, const uint8_
 STUNP_USE_RESULT
 STUNP_INLINED int64_t
 stunp_endpoint_server_resume(const stunp_endpoint_server *server, const stunp_found_user *found,
-                             const uint8_t *bytes, size_t length, const stunp_address *from,
-                             uint64_t unix_seconds, uint8_t *out, size_t room,
-                             stunp_received *received);
+                             const uint8_t *STUNP_RESTRICT bytes, size_t length,
+                             const stunp_address *from, uint64_t unix_seconds,
+                             uint8_t *STUNP_RESTRICT out, size_t room, stunp_received *received);
 
 /* Returns why stunp_endpoint_server_resume refuses a request, like stunp_endpoint_server_cause with
  * a table of this one user. Pass what you passed to stunp_endpoint_server_resume. For an answer of
@@ -1042,10 +1049,10 @@ STUNP_INLINED void stunp_reply_wipe(stunp_reply *reply);
  *                        password has fewer than 22 bytes or more than 256
  *   STUNP_OUT_OF_MEMORY  an allocation failed */
 STUNP_READS(2, 3) STUNP_READS(4, 5) STUNP_READS(6, 7) STUNP_READS(8, 9) STUNP_NOT_NULL(1)
-int64_t stunp_ice_checker_new_with(stunp_ice_checker *checker, const void *name,
-                                   size_t name_length, const void *password,
-                                   size_t password_length, const void *peer_name,
-                                   size_t peer_name_length, const void *peer_password,
+int64_t stunp_ice_checker_new_with(stunp_ice_checker *checker, const char *name,
+                                   size_t name_length, const char *password,
+                                   size_t password_length, const char *peer_name,
+                                   size_t peer_name_length, const char *peer_password,
                                    size_t peer_password_length, uint64_t tie_breaker,
                                    bool is_controlling);
 
@@ -1120,9 +1127,10 @@ STUNP_INLINED int64_t stunp_ice_checker_check(stunp_ice_checker *checker, const 
  *
  * Returns and fails as stunp_ice_checker_receive does. */
 STUNP_USE_RESULT STUNP_READS(2, 3) STUNP_WRITES(7, 8) STUNP_NOT_NULL(1, 4, 6, 9)
-int64_t stunp_ice_checker_receive_with(stunp_ice_checker *checker, const uint8_t *message,
-                                       size_t message_length, const stunp_address *from,
-                                       bool has_check, const stunp_ice_check *check, uint8_t *out,
+int64_t stunp_ice_checker_receive_with(stunp_ice_checker *checker,
+                                       const uint8_t *STUNP_RESTRICT message, size_t message_length,
+                                       const stunp_address *from, bool has_check,
+                                       const stunp_ice_check *check, uint8_t *STUNP_RESTRICT out,
                                        size_t room, stunp_ice_received *received);
 
 /* Judges the datagram of `length` bytes that arrived from the address `from`, and writes the result to
@@ -1156,10 +1164,12 @@ int64_t stunp_ice_checker_receive_with(stunp_ice_checker *checker, const uint8_t
  *   STUNP_BUFFER_TOO_SMALL  the answer does not fit into `room` bytes. `received->needed` is then its
  *                           length */
 STUNP_USE_RESULT
-STUNP_INLINED int64_t stunp_ice_checker_receive(stunp_ice_checker *checker, const uint8_t *bytes,
-                                                size_t length, const stunp_address *from,
-                                                const stunp_ice_check *check, uint8_t *out,
-                                                size_t room, stunp_ice_received *received);
+STUNP_INLINED int64_t stunp_ice_checker_receive(stunp_ice_checker *checker,
+                                                const uint8_t *STUNP_RESTRICT bytes, size_t length,
+                                                const stunp_address *from,
+                                                const stunp_ice_check *check,
+                                                uint8_t *STUNP_RESTRICT out, size_t room,
+                                                stunp_ice_received *received);
 
 /* ---- Clients
  *
@@ -1271,7 +1281,9 @@ typedef enum stunp_event_kind {
     STUNP_WAIT = 0,     /* wait for a datagram, or until the time `until` */
     STUNP_TRANSMIT = 1, /* send the first `length` bytes of the buffer to the server. If they are lost,
                          * they are sent again */
-    STUNP_ENDED = 2     /* the request `request` has ended, as `result` says */
+    STUNP_ENDED = 2,    /* the request `request` has ended, as `result` says */
+    STUNP_NO_EVENT = 7  /* `kind` of a stunp_event after a call that failed. The call itself returns the
+                         * error */
 } stunp_event_kind;
 
 /* How a request ended. */
@@ -1297,22 +1309,22 @@ typedef enum stunp_result {
 /* What was dropped for a request. Show it to people, and never act on it, because anybody can send it.
  *
  *   count  how many responses to it were dropped
- *   why    why the last of them was: a stunp_drop
+ *   why    why the last of them was
  *   code   the error code of the last of them, or 0 if it had none */
 typedef struct {
     uint32_t count;
-    uint32_t why;
+    stunp_drop why;
     uint32_t code;
 } stunp_dropped;
 
 /* What to do next. A field is 0 unless its line names the kind or the result. After an error `kind`
- * is STUNP_FAILED and `length` is 0. After STUNP_BUFFER_TOO_SMALL the other fields are those of the
- * event whose bytes are lost, so that `result` and `request` say which request has ended, if one has.
- * If `size` is wrong, nothing but `kind` and `length` is written.
+ * is STUNP_NO_EVENT and `length` is 0. After STUNP_BUFFER_TOO_SMALL the other fields are those of
+ * the event whose bytes are lost, so that `result` and `request` say which request has ended, if
+ * one has. If `size` is wrong, nothing but `kind` and `length` is written.
  *
  *   size            sizeof (stunp_event), set by STUNP_INIT once, before the loop
- *   kind            a stunp_event_kind, or STUNP_FAILED
- *   result          STUNP_ENDED: a stunp_result
+ *   kind            what to do
+ *   result          STUNP_ENDED: how the request has ended
  *   request         STUNP_ENDED: the number of the request
  *   until           STUNP_WAIT: when to call stunp_endpoint_client_poll again if nothing has
  *                   arrived, in nanoseconds of your clock, like `now`; UINT64_MAX if no request is
@@ -1320,7 +1332,7 @@ typedef struct {
  *   length          STUNP_TRANSMIT: how many bytes to send. STUNP_ENDED: the length of the response
  *                   in the buffer, or 0 if the result is STUNP_RESULT_TIMED_OUT, _UNAUTHORIZED or
  *                   _CANCELLED
- *   needed          STUNP_FAILED: after STUNP_BUFFER_TOO_SMALL, how many bytes were lost
+ *   needed          STUNP_NO_EVENT: after STUNP_BUFFER_TOO_SMALL, how many bytes were lost
  *   code            STUNP_RESULT_REFUSED: the code of the error. STUNP_RESULT_REDIRECTED: 300
  *   not_understood  STUNP_RESULT_NOT_UNDERSTOOD: the type of the attribute
  *   signed_by       STUNP_ENDED: the stunp_algorithm of the signature that was verified, or 0 if
@@ -1328,8 +1340,8 @@ typedef struct {
  *   dropped         STUNP_RESULT_TIMED_OUT: what was dropped for the request */
 typedef struct {
     size_t size;
-    uint32_t kind;
-    uint32_t result;
+    stunp_event_kind kind;
+    stunp_result result;
     uint64_t request;
     uint64_t until;
     size_t length;
@@ -1343,7 +1355,8 @@ typedef struct {
 /* The attributes of a request, in a buffer of yours. stunp_endpoint_client_request copies them, so
  * you may reuse the body and its buffer as soon as it returns. The client writes its copy again
  * when it answers a challenge. You may read the fields, but change them only by the calls that take
- * a body.
+ * a body. It points to your buffer: do not return one from the function whose variable the buffer
+ * is.
  *
  *     uint8_t room[64];
  *     stunp_body body = stunp_body_on(room, sizeof room);
@@ -1373,9 +1386,9 @@ typedef struct {
  *   STUNP_OUT_OF_MEMORY  an allocation failed */
 STUNP_READS(4, 5) STUNP_READS(6, 7) STUNP_READS(8, 9) STUNP_READS(10, 11) STUNP_NOT_NULL(1, 2, 3, 12)
 int64_t stunp_endpoint_client_new_with(stunp_endpoint_client *client, const stunp_address *server,
-                                       const uint8_t seed[32], const void *name,
-                                       size_t name_length, const void *password,
-                                       size_t password_length, const void *software,
+                                       const uint8_t seed[32], const char *name,
+                                       size_t name_length, const char *password,
+                                       size_t password_length, const char *software,
                                        size_t software_length, const uint16_t *understood,
                                        size_t understood_length,
                                        const stunp_client_options *options);
@@ -1514,7 +1527,7 @@ int64_t stunp_endpoint_client_receive_with(stunp_endpoint_client *client, const 
 STUNP_INLINED int64_t stunp_endpoint_client_receive(stunp_endpoint_client *client,
                                                     const uint8_t *bytes, size_t length,
                                                     const stunp_address *from, uint64_t now,
-                                                    uint32_t *why);
+                                                    stunp_drop *why);
 
 /* Finds the next thing to do, like stunp_endpoint_client_poll. `event` must not be null.
  *
@@ -1528,7 +1541,7 @@ int64_t stunp_endpoint_client_poll_with(stunp_endpoint_client *client, uint64_t 
  * each. Call it after each request, receive and cancel and when a wait is over, and repeat it until
  * it returns STUNP_WAIT. Otherwise requests are not sent, and you do not learn how they ended.
  *
- * Returns a stunp_event_kind. Errors, after which `event->kind` is STUNP_FAILED:
+ * Returns a stunp_event_kind. Errors, after which `event->kind` is STUNP_NO_EVENT:
  *   STUNP_EMPTY_HANDLE      the handle is empty
  *   STUNP_WRONG_HANDLE      it has no client
  *   STUNP_BAD_ARGUMENT      `event->size` is wrong
@@ -1548,17 +1561,24 @@ STUNP_INLINED int stunp_poll_timeout(const stunp_event *event, uint64_t now);
 /* Ends a request with STUNP_RESULT_CANCELLED, which stunp_endpoint_client_poll then returns.
  *
  * Returns 1, or 0 if the request has ended already. In a condition an error would count as true:
- * compare the result with 1. Errors:
+ * call stunp_endpoint_client_try_cancel there. Errors:
  *   STUNP_EMPTY_HANDLE  the handle is empty
  *   STUNP_WRONG_HANDLE  it has no client */
 STUNP_NOT_NULL(1)
 int64_t stunp_endpoint_client_cancel(stunp_endpoint_client *client, uint64_t request);
 
+/* Ends a request like stunp_endpoint_client_cancel, and returns whether that call returns 1: false
+ * if the request has ended already, or the handle has no client. */
+STUNP_NOT_NULL(1)
+STUNP_INLINED bool stunp_endpoint_client_try_cancel(stunp_endpoint_client *client,
+                                                    uint64_t request);
+
 /* Writes to `*dropped` what was dropped for an outstanding request. Call it before you cancel the
  * request, because the client then forgets it. If the request times out, the event has it.
  * `dropped` must not be null.
  *
- * Returns 1, or 0 if the request has ended already. Errors:
+ * Returns 1, or 0 if the request has ended already. In a condition an error would count as true:
+ * compare the result with 1. Errors:
  *   STUNP_EMPTY_HANDLE  the handle is empty
  *   STUNP_WRONG_HANDLE  it has no client */
 STUNP_USE_RESULT STUNP_NOT_NULL(1, 3)
@@ -1566,7 +1586,7 @@ int64_t stunp_endpoint_client_dropped(stunp_endpoint_client *client, uint64_t re
                                       stunp_dropped *dropped);
 
 /* Returns a text for a stunp_result, as stunp_strerror does for an error. */
-STUNP_INLINED const char *stunp_result_text(uint32_t result);
+STUNP_INLINED const char *stunp_result_text(stunp_result result);
 
 /* ---- Versions */
 

@@ -4,10 +4,47 @@
 #ifndef STUNP_ENDPOINT_INLINE_H
 #define STUNP_ENDPOINT_INLINE_H
 
+/* Whether a struct that begins with its size has one that a release of this line had: it ends with
+ * the field `last` of 0.2.0, or later. Fields that a later release adds begin where the struct
+ * ended, and are 0 in a struct that ends before them. */
+#define STUNP_HAS_SIZE(type, last, size)                                     \
+    ((size) >= offsetof(type, last) + sizeof ((type *)0)->last               \
+     && (size) <= sizeof(type) && (size) % sizeof(size_t) == 0)
+
+/* Returns where a call writes its result: to the caller's struct, or to `whole`, which has the size
+ * of this release, if the caller's is null or ends earlier (`is_earlier`). */
+static inline void *stunp_result_place(void *theirs, bool is_earlier, void *whole, size_t size) {
+    size_t given;
+    if (theirs == NULL) return whole;
+    if (!is_earlier) return theirs;
+    memcpy(&given, theirs, sizeof given);
+    memcpy(whole, theirs, given);
+    memcpy(whole, &size, sizeof size);
+    return whole;
+}
+
+/* Copies a result that was written to `whole` to the caller's struct, as far as that goes. */
+static inline void stunp_result_back(void *theirs, const void *written) {
+    size_t given;
+    if (theirs == NULL || theirs == written) return;
+    memcpy(&given, theirs, sizeof given);
+    memcpy((uint8_t *)theirs + sizeof given, (const uint8_t *)written + sizeof given,
+           given - sizeof given);
+}
+
+/* Whether the caller's struct ends earlier than that of this release. */
+#define STUNP_IS_EARLIER(type, last, theirs)                                 \
+    ((theirs) != NULL && (theirs)->size < sizeof(type)                       \
+     && STUNP_HAS_SIZE(type, last, (theirs)->size))
+
 STUNP_INLINED int64_t
 stunp_endpoint_server_new(stunp_endpoint_server *server,
                           const stunp_endpoint_server_settings *settings) {
-    if (settings->size != sizeof *settings) return STUNP_BAD_ARGUMENT;
+    stunp_endpoint_server_settings all = STUNP_INIT(stunp_endpoint_server_settings);
+    if (!STUNP_HAS_SIZE(stunp_endpoint_server_settings, requires_fingerprint, settings->size))
+        return STUNP_BAD_ARGUMENT;
+    memcpy(&all, settings, settings->size);
+    settings = &all;
     size_t software_length = settings->software == NULL ? 0 : strlen(settings->software);
     if (settings->credentials != STUNP_LONG_TERM) {
         if (settings->realm != NULL || settings->secret != NULL || settings->previous_secret != NULL
@@ -49,8 +86,14 @@ STUNP_INLINED void stunp_endpoint_users_free(stunp_endpoint_users *users) {
 STUNP_INLINED int64_t stunp_endpoint_users_new_found(stunp_endpoint_users *users,
                                                      const stunp_endpoint_server *server,
                                                      const stunp_found_user *found) {
+    stunp_found_user all = STUNP_INIT(stunp_found_user);
+    if (found != NULL) {
+        if (!STUNP_HAS_SIZE(stunp_found_user, sha256_key, found->size)) return STUNP_BAD_ARGUMENT;
+        memcpy(&all, found, found->size);
+        found = &all;
+    }
     if (found != NULL
-        && (found->size != sizeof *found || found->name == NULL
+        && (found->name == NULL
             || (found->password != NULL ? found->password[0] == 0
                                         : found->sha1_key == NULL && found->sha256_key == NULL)))
         return STUNP_BAD_ARGUMENT;
@@ -68,19 +111,25 @@ STUNP_INLINED int64_t stunp_endpoint_users_new_found(stunp_endpoint_users *users
 
 STUNP_INLINED int64_t
 stunp_endpoint_server_receive(const stunp_endpoint_server *server,
-                              const stunp_endpoint_users *users, const uint8_t *bytes,
-                              size_t length, const stunp_address *from, uint64_t unix_seconds,
-                              uint8_t *out, size_t room, stunp_received *received) {
+                              const stunp_endpoint_users *users,
+                              const uint8_t *STUNP_RESTRICT bytes, size_t length,
+                              const stunp_address *from, uint64_t unix_seconds,
+                              uint8_t *STUNP_RESTRICT out, size_t room, stunp_received *received) {
     stunp_endpoint_server own = {false, NULL};
     stunp_endpoint_users own_users = {false, NULL};
     if (server != NULL) own = *server;
     if (users != NULL) own_users = *users;
-    stunp_received unread = STUNP_INIT(stunp_received);
-    return stunp_endpoint_server_receive_own(&own, &own_users, bytes, length, from, unix_seconds,
-                                             out, room, received == NULL ? &unread : received);
+    stunp_received whole = STUNP_INIT(stunp_received);
+    stunp_received *into = (stunp_received *)stunp_result_place(
+        received, STUNP_IS_EARLIER(stunp_received, is_hash, received), &whole, sizeof whole);
+    int64_t kind = stunp_endpoint_server_receive_own(&own, &own_users, bytes, length, from,
+                                                     unix_seconds, out, room, into);
+    stunp_result_back(received, into);
+    if (into == &whole) stunp_reply_wipe(&whole.reply);
+    return kind;
 }
 
-STUNP_INLINED const char *stunp_drop_text(uint32_t why) {
+STUNP_INLINED const char *stunp_drop_text(stunp_drop why) {
     switch (why) {
     case STUNP_DROP_NOT_STUN: return "it is not STUN";
     case STUNP_DROP_MALFORMED: return "it is not what its header says";
@@ -129,21 +178,27 @@ STUNP_INLINED const char *stunp_cause_text(int64_t cause) {
 }
 
 STUNP_INLINED int64_t
-stunp_endpoint_server_identify(const stunp_endpoint_server *server, const uint8_t *bytes,
-                               size_t length, const stunp_address *from, uint64_t unix_seconds,
-                               uint8_t *out, size_t room, stunp_received *received) {
+stunp_endpoint_server_identify(const stunp_endpoint_server *server,
+                               const uint8_t *STUNP_RESTRICT bytes, size_t length,
+                               const stunp_address *from, uint64_t unix_seconds,
+                               uint8_t *STUNP_RESTRICT out, size_t room, stunp_received *received) {
     stunp_endpoint_server own = {false, NULL};
     if (server != NULL) own = *server;
-    stunp_received unread = STUNP_INIT(stunp_received);
-    return stunp_endpoint_server_identify_own(&own, bytes, length, from, unix_seconds, out, room,
-                                              received == NULL ? &unread : received);
+    stunp_received whole = STUNP_INIT(stunp_received);
+    stunp_received *into = (stunp_received *)stunp_result_place(
+        received, STUNP_IS_EARLIER(stunp_received, is_hash, received), &whole, sizeof whole);
+    int64_t kind = stunp_endpoint_server_identify_own(&own, bytes, length, from, unix_seconds, out,
+                                                      room, into);
+    stunp_result_back(received, into);
+    if (into == &whole) stunp_reply_wipe(&whole.reply);
+    return kind;
 }
 
 STUNP_INLINED int64_t
 stunp_endpoint_server_resume(const stunp_endpoint_server *server, const stunp_found_user *found,
-                             const uint8_t *bytes, size_t length, const stunp_address *from,
-                             uint64_t unix_seconds, uint8_t *out, size_t room,
-                             stunp_received *received) {
+                             const uint8_t *STUNP_RESTRICT bytes, size_t length,
+                             const stunp_address *from, uint64_t unix_seconds,
+                             uint8_t *STUNP_RESTRICT out, size_t room, stunp_received *received) {
     stunp_endpoint_users users = {false, NULL};
     int64_t kind = stunp_endpoint_users_new_found(&users, server, found);
     if (kind >= 0)
@@ -151,8 +206,9 @@ stunp_endpoint_server_resume(const stunp_endpoint_server *server, const stunp_fo
                                              room, received);
     else if (received != NULL) {
         received->kind = STUNP_FAILED, received->length = 0;
-        if (received->size == sizeof *received) {
-            received->why = 0, received->code = 0, received->method = 0, received->algorithm = 0;
+        if (STUNP_HAS_SIZE(stunp_received, is_hash, received->size)) {
+            received->why = (stunp_drop)0, received->code = 0, received->method = 0;
+            received->algorithm = 0;
             received->needed = 0, received->name_length = 0, received->is_hash = false;
         }
     }
@@ -199,8 +255,13 @@ STUNP_INLINED void stunp_reply_wipe(stunp_reply *reply) {
 
 STUNP_INLINED int64_t stunp_ice_checker_new(stunp_ice_checker *checker,
                                             const stunp_ice_settings *settings) {
-    if (settings->size != sizeof *settings || settings->name == NULL || settings->password == NULL
-        || settings->peer_name == NULL || settings->peer_password == NULL)
+    stunp_ice_settings all = STUNP_INIT(stunp_ice_settings);
+    if (!STUNP_HAS_SIZE(stunp_ice_settings, is_controlling, settings->size))
+        return STUNP_BAD_ARGUMENT;
+    memcpy(&all, settings, settings->size);
+    settings = &all;
+    if (settings->name == NULL || settings->password == NULL || settings->peer_name == NULL
+        || settings->peer_password == NULL)
         return STUNP_BAD_ARGUMENT;
     return stunp_ice_checker_new_with(
         checker, settings->name, strlen(settings->name), settings->password,
@@ -226,21 +287,31 @@ STUNP_INLINED int64_t stunp_ice_checker_check(stunp_ice_checker *checker, const 
                                         check == NULL ? &unread : check);
 }
 
-STUNP_INLINED int64_t stunp_ice_checker_receive(stunp_ice_checker *checker, const uint8_t *bytes,
-                                                size_t length, const stunp_address *from,
-                                                const stunp_ice_check *check, uint8_t *out,
-                                                size_t room, stunp_ice_received *received) {
+STUNP_INLINED int64_t stunp_ice_checker_receive(stunp_ice_checker *checker,
+                                                const uint8_t *STUNP_RESTRICT bytes, size_t length,
+                                                const stunp_address *from,
+                                                const stunp_ice_check *check,
+                                                uint8_t *STUNP_RESTRICT out, size_t room,
+                                                stunp_ice_received *received) {
     stunp_ice_check none = {{0}, {{0}, 0, 0}, false, false};
-    stunp_ice_received unread = STUNP_INIT(stunp_ice_received);
-    return stunp_ice_checker_receive_with(checker, bytes, length, from, check != NULL,
-                                          check == NULL ? &none : check, out, room,
-                                          received == NULL ? &unread : received);
+    stunp_ice_received whole = STUNP_INIT(stunp_ice_received);
+    stunp_ice_received *into = (stunp_ice_received *)stunp_result_place(
+        received, STUNP_IS_EARLIER(stunp_ice_received, mapped, received), &whole, sizeof whole);
+    int64_t kind = stunp_ice_checker_receive_with(checker, bytes, length, from, check != NULL,
+                                                  check == NULL ? &none : check, out, room, into);
+    stunp_result_back(received, into);
+    return kind;
 }
 
 STUNP_INLINED int64_t
 stunp_endpoint_client_new(stunp_endpoint_client *client,
                           const stunp_endpoint_client_settings *settings) {
-    if (settings->size != sizeof *settings || settings->seed == NULL
+    stunp_endpoint_client_settings all = STUNP_INIT(stunp_endpoint_client_settings);
+    if (!STUNP_HAS_SIZE(stunp_endpoint_client_settings, requires_fingerprint, settings->size))
+        return STUNP_BAD_ARGUMENT;
+    memcpy(&all, settings, settings->size);
+    settings = &all;
+    if (settings->seed == NULL
         || (settings->name == NULL) != (settings->password == NULL)
         || (settings->name != NULL && (settings->name[0] == 0 || settings->password[0] == 0)))
         return STUNP_BAD_ARGUMENT;
@@ -327,17 +398,22 @@ STUNP_INLINED int64_t stunp_endpoint_client_request(stunp_endpoint_client *clien
 STUNP_INLINED int64_t stunp_endpoint_client_receive(stunp_endpoint_client *client,
                                                     const uint8_t *bytes, size_t length,
                                                     const stunp_address *from, uint64_t now,
-                                                    uint32_t *why) {
-    uint32_t unread = 0;
-    return stunp_endpoint_client_receive_with(client, bytes, length, from, now,
-                                              why == NULL ? &unread : why);
+                                                    stunp_drop *why) {
+    uint32_t told = 0;
+    int64_t kind =
+        stunp_endpoint_client_receive_with(client, bytes, length, from, now, &told);
+    if (kind == STUNP_DROPPED && why != NULL) *why = (stunp_drop)told;
+    return kind;
 }
 
 STUNP_INLINED int64_t stunp_endpoint_client_poll(stunp_endpoint_client *client, uint64_t now,
                                                  uint8_t *out, size_t room, stunp_event *event) {
-    stunp_event unread = STUNP_INIT(stunp_event);
-    return stunp_endpoint_client_poll_with(client, now, out, room,
-                                           event == NULL ? &unread : event);
+    stunp_event whole = STUNP_INIT(stunp_event);
+    stunp_event *into = (stunp_event *)stunp_result_place(
+        event, STUNP_IS_EARLIER(stunp_event, dropped, event), &whole, sizeof whole);
+    int64_t kind = stunp_endpoint_client_poll_with(client, now, out, room, into);
+    stunp_result_back(event, into);
+    return kind;
 }
 
 STUNP_INLINED int stunp_poll_timeout(const stunp_event *event, uint64_t now) {
@@ -346,7 +422,12 @@ STUNP_INLINED int stunp_poll_timeout(const stunp_event *event, uint64_t now) {
     return left < 1000000000 ? (int)left + 1 : 1000000000;
 }
 
-STUNP_INLINED const char *stunp_result_text(uint32_t result) {
+STUNP_INLINED bool stunp_endpoint_client_try_cancel(stunp_endpoint_client *client,
+                                                    uint64_t request) {
+    return stunp_endpoint_client_cancel(client, request) == 1;
+}
+
+STUNP_INLINED const char *stunp_result_text(stunp_result result) {
     switch (result) {
     case STUNP_RESULT_SUCCESS: return "a success";
     case STUNP_RESULT_REFUSED: return "refused by the server";

@@ -20,16 +20,18 @@ STUNP_INLINED int64_t stunp_find_number(const uint8_t *message, size_t length, u
     return place < 0 ? place : stunp_read_number(message, length, (size_t)place, number);
 }
 
-STUNP_INLINED int64_t stunp_find_address(const uint8_t *message, size_t length, uint32_t type,
-                                         uint8_t *out, size_t out_length, uint16_t *port) {
+STUNP_INLINED int64_t stunp_find_address(const uint8_t *STUNP_RESTRICT message, size_t length,
+                                         uint32_t type, uint8_t *STUNP_RESTRICT out,
+                                         size_t out_length, uint16_t *port) {
     size_t value_length;
     int64_t place = stunp_find(message, length, type, &value_length);
     if (place < 0) return place;
     return stunp_read_address(message, length, (size_t)place, out, out_length, port);
 }
 
-STUNP_INLINED int64_t stunp_find_xor_address(const uint8_t *message, size_t length, uint32_t type,
-                                             uint8_t *out, size_t out_length, uint16_t *port) {
+STUNP_INLINED int64_t stunp_find_xor_address(const uint8_t *STUNP_RESTRICT message, size_t length,
+                                             uint32_t type, uint8_t *STUNP_RESTRICT out,
+                                             size_t out_length, uint16_t *port) {
     size_t value_length;
     int64_t place = stunp_find(message, length, type, &value_length);
     if (place < 0) return place;
@@ -44,7 +46,7 @@ STUNP_INLINED int64_t stunp_find_types(const uint8_t *message, size_t length, ui
     return stunp_read_types(message, length, (size_t)place, types, types_length);
 }
 
-STUNP_INLINED bool stunp_is_signed(const uint8_t *message, size_t length, const void *key,
+STUNP_INLINED bool stunp_is_signed(const uint8_t *message, size_t length, const uint8_t *key,
                                    size_t key_length) {
     return stunp_verify(message, length, key, key_length) > 0;
 }
@@ -110,7 +112,7 @@ STUNP_INLINED void stunp_write_error(stunp_writer *writer, uint32_t code, const 
 }
 
 STUNP_INLINED void stunp_write_integrity(stunp_writer *writer, stunp_algorithm algorithm,
-                                         const void *key, size_t key_length) {
+                                         const uint8_t *key, size_t key_length) {
     if (writer->refusal < 0) return;
     stunp_writer_took(writer, stunp_sign(writer->bytes, writer->room, writer->length, algorithm,
                                          key, key_length));
@@ -122,6 +124,10 @@ STUNP_INLINED void stunp_write_fingerprint(stunp_writer *writer) {
 }
 
 STUNP_INLINED int64_t stunp_written(const stunp_writer *writer) { return writer->refusal; }
+
+STUNP_INLINED const uint8_t *stunp_short_term_key(const char *password) {
+    return (const uint8_t *)password;
+}
 
 STUNP_INLINED const char *stunp_strerror(int64_t answer) {
     static const char *const texts[] = {

@@ -112,8 +112,8 @@
  * the two may go on using it.
  *
  * These rules are trusted, not proved. The libraries contain no thread-local data. The proved ones
- * contain no writable data, and the exported ones two bytes, which store whether the processor has
- * SHA instructions, and are read and written atomically.
+ * contain no writable data, and the exported ones a few words, which store whether the processor
+ * has SHA instructions and with what the library allocates, and are read and written atomically.
  *
  *
  * Time and random numbers
@@ -308,13 +308,16 @@ extern "C" {
  * is trusted.
  *
  * A program that lacks them does not link to the proved archive. The exported libstunp.a and
- * libstunp.so then use malloc, and do so too if one of the three is missing. They find the three in
- * any object file of the program, in whatever order it is linked. But a linker takes nothing from a
- * library for a function that may be missing. If yours are in a static library, link with
- * -Wl,-u,rattle_alloc, as the pkg-config file of stunp_heap does. If they are in a shared library
- * of your own, put -Wl,--no-as-needed before it. libstunp.so finds only functions that the program
- * exports: if you compile with -fvisibility=hidden, give the three the attribute
- * `visibility("default")`, or they are not called and malloc is.
+ * libstunp.so then use malloc, or what the program passes to stunp_set_memory (stunp.h), which is
+ * the simpler way to give them an allocator. If only one or two of the three are there, each call
+ * that allocates fails with STUNP_OUT_OF_MEMORY.
+ *
+ * The exported libraries find the three in any object file of the program, in whatever order it is
+ * linked. But a linker takes nothing from a library for a function that may be missing. If yours
+ * are in a static library, link with -Wl,-u,rattle_alloc, as the pkg-config file of stunp_heap
+ * does. If they are in a shared library of your own, put -Wl,--no-as-needed before it. libstunp.so
+ * finds only functions that the program exports: if you compile with -fvisibility=hidden, give the
+ * three the attribute `visibility("default")`, or they are not called and malloc is.
  *
  * If an allocation fails, the call fails with STUNP_OUT_OF_MEMORY. The functions must return, so
  * they must not leave by longjmp or an exception, and they must not make a call on a handle. Every
@@ -726,7 +729,7 @@ int64_t stunp_agent_forget_peer(stunp_agent *agent, const stunp_address *peer);
  *   STUNP_NOT_TEXT       the realm is not UTF-8
  *   STUNP_OUT_OF_MEMORY  an allocation failed */
 STUNP_READS(2, 3) STUNP_NOT_NULL(1)
-int64_t stunp_server_new(stunp_server *server, const void *realm, size_t realm_length);
+int64_t stunp_server_new(stunp_server *server, const char *realm, size_t realm_length);
 
 /* Sets the algorithms that the server supports: STUNP_SHA1, STUNP_SHA256, or
  * STUNP_SHA1 | STUNP_SHA256.
@@ -797,8 +800,8 @@ STUNP_INLINED void stunp_server_free(stunp_server *server);
  *   STUNP_NOT_TEXT       the name or the password is not UTF-8
  *   STUNP_OUT_OF_MEMORY  the user could not be stored */
 STUNP_READS(2, 3) STUNP_READS(4, 5) STUNP_NOT_NULL(1)
-int64_t stunp_server_add_user(stunp_server *server, const void *name, size_t name_length,
-                              const void *password, size_t password_length);
+int64_t stunp_server_add_user(stunp_server *server, const char *name, size_t name_length,
+                              const char *password, size_t password_length);
 
 /* Removes a user, if there is one of this name. Messages in that name are refused from now on.
  *
@@ -810,7 +813,7 @@ int64_t stunp_server_add_user(stunp_server *server, const void *name, size_t nam
  *   STUNP_EMPTY_HANDLE, STUNP_WRONG_HANDLE
  *   STUNP_NOT_TEXT  the name is not UTF-8 */
 STUNP_READS(2, 3) STUNP_NOT_NULL(1)
-int64_t stunp_server_remove_user(stunp_server *server, const void *name, size_t name_length);
+int64_t stunp_server_remove_user(stunp_server *server, const char *name, size_t name_length);
 
 /* ---- Servers: messages */
 
@@ -971,9 +974,9 @@ STUNP_INLINED void stunp_write_server_sign(stunp_writer *writer, stunp_server *s
  *   STUNP_BUFFER_TOO_SMALL  the name or hash does not fit into `room` bytes. `*name_length` is then
  *                           written all the same: it is the length that is needed */
 STUNP_USE_RESULT STUNP_READS(2, 3) STUNP_WRITES(5, 6) STUNP_NOT_NULL(1, 4, 7)
-int64_t stunp_server_named_user(const stunp_server *server, const uint8_t *message, size_t length,
-                                const stunp_address *from, uint8_t *name, size_t room,
-                                size_t *name_length);
+int64_t stunp_server_named_user(const stunp_server *server, const uint8_t *STUNP_RESTRICT message,
+                                size_t length, const stunp_address *from,
+                                uint8_t *STUNP_RESTRICT name, size_t room, size_t *name_length);
 
 /* Authenticates a message like stunp_server_validate, as a server whose only user has this name and
  * password. Use the name from your database, in clear even if the message has a hash of it.
@@ -996,7 +999,7 @@ int64_t stunp_server_named_user(const stunp_server *server, const uint8_t *messa
 STUNP_USE_RESULT STUNP_READS(2, 3) STUNP_READS(7, 8) STUNP_READS(9, 10) STUNP_NOT_NULL(1, 4, 6)
 int64_t stunp_server_validate_of(stunp_server *server, const uint8_t *message, size_t length,
                                  const stunp_address *from, uint64_t now, const uint32_t words[16],
-                                 const void *name, size_t name_length, const void *password,
+                                 const char *name, size_t name_length, const char *password,
                                  size_t password_length);
 
 /* Like stunp_server_validate_of, with stored keys in place of the password.
@@ -1026,7 +1029,7 @@ STUNP_USE_RESULT STUNP_READS(2, 3) STUNP_READS(7, 8) STUNP_READS(9, 10) STUNP_RE
 STUNP_NOT_NULL(1, 4, 6)
 int64_t stunp_server_validate_of_keys(stunp_server *server, const uint8_t *message, size_t length,
                                       const stunp_address *from, uint64_t now,
-                                      const uint32_t words[16], const void *name,
+                                      const uint32_t words[16], const char *name,
                                       size_t name_length, const uint8_t *sha1, size_t sha1_length,
                                       const uint8_t *sha256, size_t sha256_length);
 
@@ -1053,8 +1056,8 @@ int64_t stunp_server_validate_of_keys(stunp_server *server, const uint8_t *messa
  *                            client's algorithm */
 STUNP_USE_RESULT STUNP_CHANGES(2, 3) STUNP_READS(6, 7) STUNP_READS(8, 9) STUNP_NOT_NULL(1, 5)
 int64_t stunp_server_sign_of(stunp_server *server, uint8_t *buffer, size_t room, size_t length,
-                             const stunp_address *to, const void *name, size_t name_length,
-                             const void *password, size_t password_length);
+                             const stunp_address *to, const char *name, size_t name_length,
+                             const char *password, size_t password_length);
 
 /* Like stunp_server_sign_of, with stored keys in place of the password (see
  * stunp_server_validate_of_keys).
@@ -1080,21 +1083,21 @@ int64_t stunp_server_sign_of(stunp_server *server, uint8_t *buffer, size_t room,
 STUNP_USE_RESULT STUNP_CHANGES(2, 3) STUNP_READS(6, 7) STUNP_READS(8, 9) STUNP_READS(10, 11)
 STUNP_NOT_NULL(1, 5)
 int64_t stunp_server_sign_of_keys(stunp_server *server, uint8_t *buffer, size_t room, size_t length,
-                                  const stunp_address *to, const void *name, size_t name_length,
+                                  const stunp_address *to, const char *name, size_t name_length,
                                   const uint8_t *sha1, size_t sha1_length, const uint8_t *sha256,
                                   size_t sha256_length);
 
 /* Signs the message of a writer (stunp_server_sign_of), which keeps the new length or the error.
  * Does nothing if an earlier call with this writer has failed. */
 STUNP_INLINED void stunp_write_server_sign_of(stunp_writer *writer, stunp_server *server,
-                                              const stunp_address *to, const void *name,
-                                              size_t name_length, const void *password,
+                                              const stunp_address *to, const char *name,
+                                              size_t name_length, const char *password,
                                               size_t password_length);
 
 /* Signs the message of a writer (stunp_server_sign_of_keys), which keeps the new length or the
  * error. Does nothing if an earlier call with this writer has failed. */
 STUNP_INLINED void stunp_write_server_sign_of_keys(stunp_writer *writer, stunp_server *server,
-                                                   const stunp_address *to, const void *name,
+                                                   const stunp_address *to, const char *name,
                                                    size_t name_length, const uint8_t *sha1,
                                                    size_t sha1_length, const uint8_t *sha256,
                                                    size_t sha256_length);
@@ -1136,8 +1139,8 @@ STUNP_INLINED void stunp_write_server_sign_of_keys(stunp_writer *writer, stunp_s
  *   STUNP_NOT_TEXT       the name or the password is not UTF-8
  *   STUNP_OUT_OF_MEMORY  the user could not be stored */
 STUNP_READS(3, 4) STUNP_READS(5, 6) STUNP_NOT_NULL(1, 2)
-int64_t stunp_user_new(stunp_user *user, const stunp_server *server, const void *name,
-                       size_t name_length, const void *password, size_t password_length);
+int64_t stunp_user_new(stunp_user *user, const stunp_server *server, const char *name,
+                       size_t name_length, const char *password, size_t password_length);
 
 /* Like stunp_user_new, with stored keys in place of the password: those that stunp_long_term_key
  * makes of the name, the server's realm and the password. `sha1` is for STUNP_SHA1, with
@@ -1153,7 +1156,7 @@ int64_t stunp_user_new(stunp_user *user, const stunp_server *server, const void 
  *   STUNP_BAD_ARGUMENT   a key has a length that is neither 0 nor that of its algorithm
  *   STUNP_OUT_OF_MEMORY  the user could not be stored */
 STUNP_READS(3, 4) STUNP_READS(5, 6) STUNP_READS(7, 8) STUNP_NOT_NULL(1, 2)
-int64_t stunp_user_new_of_keys(stunp_user *user, const stunp_server *server, const void *name,
+int64_t stunp_user_new_of_keys(stunp_user *user, const stunp_server *server, const char *name,
                                size_t name_length, const uint8_t *sha1, size_t sha1_length,
                                const uint8_t *sha256, size_t sha256_length);
 
@@ -1343,8 +1346,8 @@ int64_t stunp_client_new(stunp_client *client);
  *   STUNP_NOT_TEXT       the name or the password is not UTF-8
  *   STUNP_OUT_OF_MEMORY  an allocation failed */
 STUNP_READS(2, 3) STUNP_READS(4, 5) STUNP_NOT_NULL(1)
-int64_t stunp_client_set_credentials(stunp_client *client, const void *name, size_t name_length,
-                                     const void *password, size_t password_length);
+int64_t stunp_client_set_credentials(stunp_client *client, const char *name, size_t name_length,
+                                     const char *password, size_t password_length);
 
 /* Sets the algorithms that the client supports: STUNP_SHA1, STUNP_SHA256, or
  * STUNP_SHA1 | STUNP_SHA256. They take effect when the client accepts its next 401.

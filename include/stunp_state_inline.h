@@ -24,8 +24,8 @@ STUNP_INLINED void stunp_write_server_sign(stunp_writer *writer, stunp_server *s
 }
 
 STUNP_INLINED void stunp_write_server_sign_of(stunp_writer *writer, stunp_server *server,
-                                              const stunp_address *to, const void *name,
-                                              size_t name_length, const void *password,
+                                              const stunp_address *to, const char *name,
+                                              size_t name_length, const char *password,
                                               size_t password_length) {
     if (writer->refusal < 0) return;
     stunp_writer_took(writer, stunp_server_sign_of(server, writer->bytes, writer->room,
@@ -34,7 +34,7 @@ STUNP_INLINED void stunp_write_server_sign_of(stunp_writer *writer, stunp_server
 }
 
 STUNP_INLINED void stunp_write_server_sign_of_keys(stunp_writer *writer, stunp_server *server,
-                                                   const stunp_address *to, const void *name,
+                                                   const stunp_address *to, const char *name,
                                                    size_t name_length, const uint8_t *sha1,
                                                    size_t sha1_length, const uint8_t *sha256,
                                                    size_t sha256_length) {

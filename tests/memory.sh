@@ -1,6 +1,7 @@
 #!/bin/sh
 # Tests which memory the exported library uses, for each way in which a program may be linked: the
-# program's three functions, wherever they are, and malloc if the program does not have all three.
+# functions that are passed (stunp_set_memory), the program's three functions, wherever they are,
+# malloc if the program has none of these, and nothing if it has only some.
 #
 #     tests/memory.sh FOLDER      with libstunp.a and libstunp.so of tools/rust_c.sh
 #
@@ -14,10 +15,11 @@ scratch=$(mktemp -d)
 trap 'rm -rf "$scratch"' EXIT
 strict='-std=c99 -O1 -Wall -Wextra -Wpedantic -Werror -fPIC -I../include'
 archive=$folder/libstunp.a
-main=$scratch/main.o three=$scratch/three.o two=$scratch/two.o
+main=$scratch/main.o three=$scratch/three.o two=$scratch/two.o passed=$scratch/passed.o
 $cc $strict -c c/memory.c -o "$main"
 $cc $strict -DFUNCTIONS -c c/memory.c -o "$three"
 $cc $strict -DFUNCTIONS -DPART -c c/memory.c -o "$two"
+$cc $strict -DPASSED -c c/memory.c -o "$passed"
 ar rcs "$scratch/libthree.a" "$three"
 $cc -shared "$three" -o "$scratch/libthree.so"
 
@@ -39,6 +41,23 @@ prints() {
     count=$((count + 1))
 }
 
+# refuses OPTION..: a program that is linked so gets no memory.
+refuses() {
+    $cc "$@" -o "$scratch/linked" || { echo "memory: $*: is not linked" >&2; exit 1; }
+    printed=$("$scratch/linked") || { echo "memory: $*: ended with $?" >&2; exit 1; }
+    [ "$printed" = 'an allocation failed' ] ||
+        { echo "memory: $*: printed '$printed'" >&2; exit 1; }
+    count=$((count + 1))
+}
+
+# What is passed counts before all others.
+through='passed
+all given back
+done'
+prints "$through" "$passed" "$archive" $LIBRARIES
+prints "$through" "$passed" "$three" "$archive" $LIBRARIES
+prints "$through" "$passed" "$two" "$archive" $LIBRARIES
+prints "$through" "$passed" "-L$folder" -l:libstunp.so "-Wl,-rpath,$folder"
 # Objects of the program, in each order.
 prints "$whole" "$main" "$three" "$archive" $LIBRARIES
 prints "$whole" "$archive" "$main" "$three" "$archive" $LIBRARIES
@@ -60,9 +79,9 @@ prints "$whole" "$main" "-L$folder" -l:libstunp.so -Wl,--no-as-needed "$scratch/
 # No functions, or not all.
 prints done "$main" "$archive" $LIBRARIES
 prints done -no-pie "$main" "$archive" $LIBRARIES
-prints done "$main" "$two" "$archive" $LIBRARIES
+refuses "$main" "$two" "$archive" $LIBRARIES
 prints done "$main" "-L$folder" -l:libstunp.so "-Wl,-rpath,$folder"
-prints done "$main" "$two" "-L$folder" -l:libstunp.so "-Wl,-rpath,$folder"
+refuses "$main" "$two" "-L$folder" -l:libstunp.so "-Wl,-rpath,$folder"
 prints done "$main" "$archive" "$scratch/libthree.a" $LIBRARIES
 # Static programs, where the C library can be linked so.
 for static in -static -static-pie; do

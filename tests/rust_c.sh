@@ -36,10 +36,11 @@ esac
 printf '#include "%s"\n' stunp.h stunp_state.h stunp_endpoint.h > "$out/included.c"
 ${CC:-cc} -O0 -Iinclude -c "$out/included.c" -o "$out/included.o"
 [ -z "$(nm -u "$out/included.o")" ] || fail 'a program that includes the headers wants the library'
-# The calls that are done in C are the library's, so that a later one corrects programs that are built.
+# The calls that are done in C are the library's, so that a later one corrects programs.
 sed -n 's/^ \*     //p; /\*\/$/q' include/stunp_endpoint.h > "$out/serve.h"
 ${CC:-cc} -O2 -w -Iinclude -x c -c "$out/serve.h" -o "$out/serve.o"
-! nm "$out/serve.o" | grep -i ' [tw] stunp_' >&2 || fail 'calls of the headers are compiled into programs'
+! nm "$out/serve.o" | grep -i ' [tw] stunp_' >&2 ||
+    fail 'calls of the headers are compiled into programs'
 nm -u "$out/serve.o" | grep -q ' U stunp_reply_finish$' || fail 'the example does not end a reply'
 
 # Calls with a body in the headers, for a program that reads no C.
@@ -90,6 +91,10 @@ done
 expect "refused: passed" env STUN_C="$out/libstunp.a" STUN_STATE="$out/libstunp.a" \
     LIBRARIES="$libraries" tests/refused.sh
 LIBRARIES="$libraries" tests/memory.sh "$out"
+# Programs that use the calls as they are not meant, and one that is built for this library and runs
+# with the next.
+tests/misuse.sh "$out"
+tests/next.sh
 # These look at the memory that is taken. `worked` has the examples of the headers.
 sed -n 's/^ \*     //p; /\*\/$/q' include/stunp.h > "$out/answer.h"
 sed -n 's/^ \*     //p; /\*\/$/q' include/stunp_state.h > "$out/ask.h"

@@ -40,6 +40,13 @@ PASSED = {
 # The enum of a number by its name in Rattle and Rust.
 ENUMS = {"class": "stunp_message_class", "message_class": "stunp_message_class",
          "algorithm": "stunp_algorithm", "transport": "stunp_transport", "feature": "stunp_feature"}
+# The enum of a number in a struct.
+FIELDS = {("Received", "kind"): "stunp_kind", ("Received", "why"): "stunp_drop",
+          ("IceReceived", "kind"): "stunp_kind", ("IceReceived", "why"): "stunp_drop",
+          ("IceReceived", "outcome"): "stunp_ice_outcome", ("Dropped", "why"): "stunp_drop",
+          ("Event", "kind"): "stunp_event_kind", ("Event", "result"): "stunp_result"}
+# Calls that only the exported library has (rust/capi/src/memory.rs).
+EXPORTED_ONLY = ("stunp_set_memory",)
 # Where the numbers of an enum stand in the sources, each beside its name.
 NUMBERS = {
     "stunp_message_class": ("stun_c/src/header.rt", r"MessageClass::(\w+) => (\d+)"),
@@ -81,6 +88,7 @@ LENGTHS = {
     "MOST_KNOWN": ("stun_c/src/unknown.rt", "MOST_KNOWN"),
     "NAME_MAX": ("stun_c_endpoint/src/received.rt", "NAME_ROOM"),
     "FAILED": ("stun_c_endpoint/src/received.rt", "FAILED"),
+    "NO_EVENT": ("stun_c_endpoint/src/received.rt", "FAILED"),
 }
 # The definitions of attribute types, and one of them: its RFC, and the file and line.
 TYPES = ("crates/stun_base/specs/Attributes.antt", "crates/stun_extra/specs/AttributeTypes.antt")
@@ -182,10 +190,11 @@ def with_constants(text, functions):
                    for kind in kinds] for name, kinds in functions.items()}
 
 def functions_of_header(text):
-    """Bytes that are read may have any type in C."""
+    """Bytes that are read are texts, keys or values of any type in C."""
     def kind(one):
-        one = re.sub(r"(\w+)\[\d+\]$", r"*\1", one.strip())
-        return re.sub(r"\w+$", "", one).strip().replace("const void *", "const uint8_t *")
+        one = re.sub(r"(\w+)\[\d+\]$", r"*\1", one.replace("STUNP_RESTRICT ", "").strip())
+        one = re.sub(r"\w+$", "", one).strip()
+        return re.sub(r"^const (?:void|char) \*", "const uint8_t *", one)
     return {name: [result] + [kind(one) for one in listed.split(",") if kind(one)]
             for result, name, listed in re.findall(r"^(\w+) (\w+)\(([^)]*)\);", text, re.MULTILINE)}
 
@@ -231,8 +240,8 @@ def structs_of_rust(text, enums):
     structs = re.compile(r"repr\(C\)\][^;{]*?struct (Address|Cursor|Header|Timeouts|Statistics|"
                          r"Received|Reply|IceCheck|IceReceived|Event|Dropped|ClientOptions) "
                          r"\{(.*?)\}", re.DOTALL)
-    return {PASSED[name]: [(in_c(kind, field, "", enums)[0], field + size)
-                           for field, kind, size in fields.findall(body)]
+    return {PASSED[name]: [(FIELDS.get((name, field)) or in_c(kind, field, "", enums)[0],
+                            field + size) for field, kind, size in fields.findall(body)]
             for name, body in structs.findall(text)}
 
 def structs_of_header(text):
@@ -451,13 +460,14 @@ def main():
     crates = read(*border())
     enums = enums_of_header(header)
     # An enum that is passed has the size of a u32: no number is below zero or above an int.
-    passed = {name: numbers for name, numbers in enums.items() if name in ENUMS.values()}
+    passed = {name: numbers for name, numbers in enums.items()
+              if name in {*ENUMS.values(), *FIELDS.values()}}
     compare("enum", {name: True for name in passed},
             {name: all(0 <= number < 2**31 for number in numbers)
              and len(set(numbers)) == len(numbers) > 0 for name, numbers in passed.items()})
     # The functions that give memory are the program's.
     declared = {name: kinds for name, kinds in functions_of_header(header).items()
-                if name.startswith("stunp_")}
+                if name.startswith("stunp_") and name not in EXPORTED_ONLY}
     before = r'#\[(?:unsafe\(no_mangle\)|no_mangle)\]\s*(?:pub |unsafe )?extern "C" '
     defined = with_constants(crates, functions_of_rust(crates, before, enums))
     compare("declaration", declared, defined)

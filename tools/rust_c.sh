@@ -1,25 +1,29 @@
 #!/bin/sh
 # Builds the calls for C of the exported crate, and leaves in target/c libstunp.a, libstunp.so and
 # the latter under the name that the loader looks for. With --build it exports first, as `make lib`
-# does, and tests and installs nothing; a second word names another folder than target/c. Otherwise
-# target/export must be there (tools/rust.sh), and tests/rust_c.sh follows. It needs cargo, a C
-# compiler and the binutils; the variables of make (CC, CFLAGS, LDFLAGS, AR, LD, NM, OBJCOPY) and of
-# cargo (CARGO_BUILD_TARGET, CARGO_TARGET_DIR) name others.
+# does, and tests and installs nothing; a second word names another folder than target/c. With
+# --link FOLDER HEADERS it links what cargo has built with the calls of other headers
+# (tests/next.sh). Otherwise target/export must be there (tools/rust.sh), and tests/rust_c.sh
+# follows. It needs cargo, a C compiler and the binutils; the variables of make (CC, CFLAGS,
+# LDFLAGS, AR, LD, NM, OBJCOPY) and of cargo (CARGO_BUILD_TARGET, CARGO_TARGET_DIR) name others.
 set -eu
 cd "$(dirname "$0")/.."
-out=$PWD/target/c cc=${CC:-cc}
-[ "${1-}" != --build ] || { out=${2:-$out} && tools/rust.sh --export; }
+out=$PWD/target/c cc=${CC:-cc} headers=include
+case ${1-} in
+--build) out=${2:-$out} && tools/rust.sh --export ;;
+--link) out=$2 headers=$3 ;;
+esac
 mkdir -p "$out"
 rm -f "$out"/libstunp*
 # Fewer functions are copied to where they are called than by default: the shared library is a sixth
 # smaller, and calls take 3 to 9 percent more instructions (bench/README.md).
-(cd target/export && cargo rustc --quiet --release -p seatcrane-stun-c -- \
+[ "${1-}" = --link ] || (cd target/export && cargo rustc --quiet --release -p seatcrane-stun-c -- \
     -C llvm-args=-inline-threshold=70)
 built=${CARGO_TARGET_DIR:-target/export/target}
 built=$built/${CARGO_BUILD_TARGET:+$CARGO_BUILD_TARGET/}release/libstunp.a
 # What programs in C have from the headers is here for others: small, and without tables to unwind.
 $cc -std=c99 ${CFLAGS--Os -fno-asynchronous-unwind-tables} -fPIC -ffunction-sections \
-    -fdata-sections -Iinclude -c rust/capi/inline.c -o "$out/inline.o"
+    -fdata-sections -I"$headers" -c rust/capi/inline.c -o "$out/inline.o"
 
 # One object, in which no symbol is seen but the calls. Each function is a section of its own, so a
 # linker that is told --gc-sections takes in what a program calls.
@@ -37,5 +41,8 @@ $cc -shared -nostartfiles -Wl,-Bsymbolic-functions ${LDFLAGS--Wl,-z,relro,-z,now
 # A copy: `rt ci` refuses a repository in which a link stands.
 cp "$out/$shared" "$out/libstunp.so"
 rm "$out/one.o" "$out/inline.o"
-[ "${1-}" = --build ] || exec tests/rust_c.sh "$@"
-echo "The libraries are in ${out#"$PWD/"}: libstunp.a and $shared."
+case ${1-} in
+--link) ;;
+--build) echo "The libraries are in ${out#"$PWD/"}: libstunp.a and $shared." ;;
+*) exec tests/rust_c.sh "$@" ;;
+esac

@@ -19,15 +19,18 @@ static void must(int64_t result, const char *what) {
 static int parse(void) { return stunp_parse(sample, SAMPLE_LENGTH) != 0; }
 
 static int verify(void) {
-    return stunp_verify(sample, SAMPLE_LENGTH, password, PASSWORD_LENGTH) != STUNP_SHA1;
+    return stunp_verify(sample, SAMPLE_LENGTH, (const uint8_t *)password,
+                        PASSWORD_LENGTH) != STUNP_SHA1;
 }
 
 static int verify256(void) {
-    return stunp_verify(sample256, sizeof sample256, password, PASSWORD_LENGTH) != STUNP_SHA256;
+    return stunp_verify(sample256, sizeof sample256, (const uint8_t *)password,
+                        PASSWORD_LENGTH) != STUNP_SHA256;
 }
 
 static int build(void) {
-    return stunp_build_signed(STUNP_SHA1, sample + 8, 12, "evtj:h6vY", 9, password, PASSWORD_LENGTH,
+    return stunp_build_signed(STUNP_SHA1, sample + 8, 12, "evtj:h6vY", 9,
+                              (const uint8_t *)password, PASSWORD_LENGTH,
                               out, sizeof out) != 60;
 }
 
@@ -174,7 +177,7 @@ static void prepare(void) {
     stunp_write_bytes(&message, STUNP_PRIORITY, sample + 44, 4);
     stunp_write_bytes(&message, STUNP_ICE_CONTROLLED, sample + 52, 8);
     stunp_write_bytes(&message, STUNP_USERNAME, sample + 64, 9);
-    stunp_write_integrity(&message, STUNP_SHA256, password, PASSWORD_LENGTH);
+    stunp_write_integrity(&message, STUNP_SHA256, (const uint8_t *)password, PASSWORD_LENGTH);
     stunp_write_fingerprint(&message);
     must(stunp_written(&message), "a message signed with HMAC-SHA256");
     prepare_checks();

@@ -24,7 +24,8 @@ int main(int count, char **words) {
     const char *name = words[2], *password = words[3];
     stunp_algorithm algorithm = *words[1] == '1' ? STUNP_SHA1 : STUNP_SHA256;
     if (getrandom(id, sizeof id, 0) != sizeof id) return fails("getrandom", "no random bytes");
-    int64_t answer = stunp_build_signed(algorithm, id, sizeof id, name, strlen(name), password,
+    int64_t answer = stunp_build_signed(algorithm, id, sizeof id, name, strlen(name),
+                                        stunp_short_term_key(password),
                                         strlen(password), bytes, sizeof bytes);
     stunp_writer request = stunp_write_on(answer, bytes, sizeof bytes);
     if (answer < 0) return fails("refused", stunp_strerror(answer));

@@ -28,7 +28,8 @@ int main(int count, char **words) {
         perror("standard input");
         return 1;
     }
-    int64_t verdict = stunp_verify(message, length, words[1], strlen(words[1]));
+    int64_t verdict = stunp_verify(message, length, stunp_short_term_key(words[1]),
+                                   strlen(words[1]));
     puts(text_of(verdict));
     return verdict > 0 ? 0 : 1;
 }

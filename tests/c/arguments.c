@@ -10,6 +10,8 @@
 #include <string.h>
 
 #define BYTES(text) (const uint8_t *)(text), sizeof(text) - 1
+#define TEXT(text) (text), sizeof(text) - 1
+#define REASON (const char *)reason, 764
 #define CHECK(answer, wanted) check(answer, wanted, __LINE__)
 
 static void check(int64_t answer, int64_t wanted, int line) {
@@ -93,11 +95,11 @@ static void writes(void) {
     CHECK(stunp_add(out, 28, 20, STUNP_SOFTWARE, BYTES("a")), 28);
     CHECK(stunp_add_xor_mapped_address(out, 100, 28, response_id, 5, 1), STUNP_BAD_ARGUMENT);
     CHECK(stunp_add_xor_mapped_address(out, 100, 28, response_id, 4, 65536), STUNP_BAD_ARGUMENT);
-    CHECK(stunp_add_error(out, 100, 28, 700, reason, 764), STUNP_BAD_ARGUMENT);
-    CHECK(stunp_add_error(out, 100, 28, 300, reason, 764), STUNP_TEXT_TOO_LONG);
+    CHECK(stunp_add_error(out, 100, 28, 700, REASON), STUNP_BAD_ARGUMENT);
+    CHECK(stunp_add_error(out, 100, 28, 300, REASON), STUNP_TEXT_TOO_LONG);
     reason[0] = 0xff;
-    CHECK(stunp_add_error(out, 100, 28, 299, reason, 764), STUNP_BAD_ARGUMENT);
-    CHECK(stunp_add_error(out, 100, 28, 300, reason, 764), STUNP_NOT_TEXT);
+    CHECK(stunp_add_error(out, 100, 28, 299, REASON), STUNP_BAD_ARGUMENT);
+    CHECK(stunp_add_error(out, 100, 28, 300, REASON), STUNP_NOT_TEXT);
     CHECK(stunp_sign(out, 51, 28, STUNP_SHA1, response_id, 12), STUNP_BUFFER_TOO_SMALL);
     CHECK(stunp_sign(out, 64, 28, STUNP_SHA256, response_id, 12), 64);
     CHECK(stunp_verify(out, 64, response_id, 12), STUNP_SHA256);
@@ -111,18 +113,18 @@ static void writes_keys(void) {
                               "\x23\x04\xd9\x89\xc9\xd0\xaf\x3a\x8c\x7e\x18\x4b\x4f\x9b\xb4\xa1";
     uint8_t out[33];
     out[32] = 0xa5;
-    CHECK(stunp_long_term_key(STUNP_SHA256, BYTES(user_name), BYTES("example.org"),
-                              BYTES("TheMatrIX"), out, sizeof out),
+    CHECK(stunp_long_term_key(STUNP_SHA256, TEXT(user_name), TEXT("example.org"),
+                              TEXT("TheMatrIX"), out, sizeof out),
           STUNP_SHA256_KEY_LENGTH);
-    CHECK(stunp_long_term_key(STUNP_SHA256, BYTES(user_name), BYTES(""), BYTES("\xff"), out, 0),
+    CHECK(stunp_long_term_key(STUNP_SHA256, TEXT(user_name), TEXT(""), TEXT("\xff"), out, 0),
           STUNP_NOT_TEXT);
-    CHECK(stunp_long_term_key(STUNP_SHA256, BYTES(user_name), BYTES(""), BYTES("TheMatrIX"), out,
+    CHECK(stunp_long_term_key(STUNP_SHA256, TEXT(user_name), TEXT(""), TEXT("TheMatrIX"), out,
                               31), STUNP_BUFFER_TOO_SMALL);
-    CHECK(stunp_long_term_key(STUNP_SHA1, BYTES(user_name), BYTES(""), BYTES("TheMatrIX"), out, 15),
+    CHECK(stunp_long_term_key(STUNP_SHA1, TEXT(user_name), TEXT(""), TEXT("TheMatrIX"), out, 15),
           STUNP_BUFFER_TOO_SMALL);
-    CHECK(stunp_userhash(BYTES(user_name), BYTES("example.org"), out, 31), STUNP_BUFFER_TOO_SMALL);
-    CHECK(stunp_userhash(BYTES(user_name), BYTES("\xff"), out, 0), STUNP_NOT_TEXT);
-    CHECK(stunp_userhash(BYTES("\xff"), BYTES("example.org"), out, 32), STUNP_NOT_TEXT);
+    CHECK(stunp_userhash(TEXT(user_name), TEXT("example.org"), out, 31), STUNP_BUFFER_TOO_SMALL);
+    CHECK(stunp_userhash(TEXT(user_name), TEXT("\xff"), out, 0), STUNP_NOT_TEXT);
+    CHECK(stunp_userhash(TEXT("\xff"), TEXT("example.org"), out, 32), STUNP_NOT_TEXT);
     CHECK(memcmp(out, key, 32), 0);
     CHECK(out[32], 0xa5);
 }
@@ -130,9 +132,10 @@ static void writes_keys(void) {
 /* The call that writes a whole request: its longest one, and each refusal before those that come
  * after it. */
 static void builds(void) {
-    static uint8_t name[514], out[STUNP_LONGEST_SIGNED];
+    static uint8_t bytes[514], out[STUNP_LONGEST_SIGNED];
     const uint8_t *id = response_id;
-    memset(name, 'a', sizeof name);
+    const char *name = (const char *)bytes;
+    memset(bytes, 'a', sizeof bytes);
     CHECK(stunp_build_signed(STUNP_SHA256, id, 12, name, 513, BYTES("key"), out, sizeof out),
           STUNP_LONGEST_SIGNED);
     CHECK(stunp_verify(out, sizeof out, BYTES("key")), STUNP_SHA256);
@@ -140,14 +143,14 @@ static void builds(void) {
           STUNP_BUFFER_TOO_SMALL);
     CHECK(stunp_build_signed(STUNP_SHA256, id, 12, name, 514, BYTES("key"), out, 0),
           STUNP_TEXT_TOO_LONG);
-    name[513] = 0xff;
+    bytes[513] = 0xff;
     CHECK(stunp_build_signed(STUNP_SHA256, id, 12, name, 514, BYTES("key"), out, 0),
           STUNP_NOT_TEXT);
     CHECK(stunp_build_signed(STUNP_SHA256, id, 11, name, 514, BYTES("key"), out, 0),
           STUNP_BAD_ARGUMENT);
     CHECK(stunp_verify(out, sizeof out, BYTES("key")), STUNP_SHA256);
-    CHECK(stunp_build_signed(STUNP_SHA1, id, 12, name, 0, name, 0, out, 48), 48);
-    CHECK(stunp_verify(out, 48, name, 0), STUNP_SHA1);
+    CHECK(stunp_build_signed(STUNP_SHA1, id, 12, name, 0, bytes, 0, out, 48), 48);
+    CHECK(stunp_verify(out, 48, bytes, 0), STUNP_SHA1);
 }
 
 /* Numbers that are none of their enum, which C++ does not let pass. */
@@ -161,8 +164,9 @@ static void refuses_numbers(void) {
     CHECK(stunp_sign(out, 64, 20, 3, response_id, 12), STUNP_BAD_ARGUMENT);
     CHECK(stunp_sign(out, 64, 65, 3, response_id, 12), STUNP_BAD_ARGUMENT);
     CHECK(stunp_long_term_key(3, "\xff", 1, "", 0, "", 0, out, 0), STUNP_BAD_ARGUMENT);
-    CHECK(stunp_build_signed(0, response_id, 12, "\xff", 1, "", 0, out, 0), STUNP_BAD_ARGUMENT);
-    CHECK(stunp_build_signed(3, response_id, 12, "\xff", 1, "", 0, out, 0), STUNP_BAD_ARGUMENT);
+    CHECK(stunp_build_signed(0, response_id, 12, "\xff", 1, NULL, 0, out, 0),
+          STUNP_BAD_ARGUMENT);
+    CHECK(stunp_build_signed(3, response_id, 12, "\xff", 1, NULL, 0, out, 0), STUNP_BAD_ARGUMENT);
     CHECK(stunp_parse(out, 20), 0);
 #endif
 }
@@ -193,7 +197,7 @@ static void reads_nothing(void) {
     CHECK(stunp_error_code(NULL, 0), STUNP_TRUNCATED);
     CHECK(stunp_xor_mapped_address(NULL, 0, octets, 16, &port), STUNP_TRUNCATED);
     CHECK(stunp_xor_mapped_address(BYTES(response), NULL, 0, &port), STUNP_BUFFER_TOO_SMALL);
-    CHECK(stunp_verify(NULL, 0, "a", 1), STUNP_TRUNCATED);
+    CHECK(stunp_verify(NULL, 0, BYTES("a")), STUNP_TRUNCATED);
     CHECK(stunp_verify(BYTES(response), NULL, 0), STUNP_INTEGRITY_FAILED);
     CHECK(stunp_check_fingerprint(NULL, 0), STUNP_TRUNCATED);
     CHECK(stunp_unknown_types(NULL, 0, NULL, 0, NULL, 0), STUNP_TRUNCATED);

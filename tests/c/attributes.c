@@ -292,12 +292,12 @@ static void writes_samples(void) {
     stunp_write_number(&writer, STUNP_PRIORITY, 0x6e0001ff, 4);
     stunp_write_number(&writer, STUNP_ICE_CONTROLLED, 0x932ff9b151263b36, 8);
     stunp_write_text(&writer, STUNP_USERNAME, "evtj:h6vY");
-    stunp_write_integrity(&writer, STUNP_SHA1, password, sizeof password - 1);
+    stunp_write_integrity(&writer, STUNP_SHA1, (const uint8_t *)password, sizeof password - 1);
     stunp_write_fingerprint(&writer);
     CHECK(stunp_written(&writer), 0);
     CHECK((int64_t)writer.length, 108);
     CHECK(memcmp(out + 4, request + 4, 69), 0);
-    CHECK(stunp_verify(out, 108, password, sizeof password - 1), STUNP_SHA1);
+    CHECK(stunp_verify(out, 108, (const uint8_t *)password, sizeof password - 1), STUNP_SHA1);
     CHECK(stunp_check_fingerprint(out, 108), STUNP_RIGHT_FINGERPRINT);
 
     stunp_writer answer = stunp_write(STUNP_SUCCESS, STUNP_BINDING, id, out, sizeof out);
@@ -328,7 +328,7 @@ static void keeps_the_first_refusal(void) {
     stunp_write_address(&writer, STUNP_MAPPED_ADDRESS, peer_4, 3, 1);
     stunp_write_xor_address(&writer, STUNP_XOR_PEER_ADDRESS, peer_4, 3, 1);
     stunp_write_error(&writer, 299, "");
-    stunp_write_integrity(&writer, STUNP_SHA1, "", 0);
+    stunp_write_integrity(&writer, STUNP_SHA1, (const uint8_t *)"", 0);
     stunp_write_fingerprint(&writer);
     CHECK(stunp_written(&writer), STUNP_BUFFER_TOO_SMALL);
     CHECK((int64_t)writer.length, 28);

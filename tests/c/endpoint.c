@@ -155,39 +155,51 @@ static void users_in_order(void) {
     stunp_endpoint_server as_server = {users->is_full, users->state};
     want("null", stunp_endpoint_users_new(&empty, NULL), STUNP_EMPTY_HANDLE);
     want("of users", stunp_endpoint_users_new(&empty, &as_server), STUNP_WRONG_HANDLE);
-    want("to a server", stunp_endpoint_users_add(&as_users, &byte, 1, "", 0), STUNP_WRONG_HANDLE);
-    want("to a server", stunp_endpoint_users_add_keys(&as_users, &byte, 1, key, 1, key, 1),
+    want("to a server", stunp_endpoint_users_add(&as_users, (const char *)&byte, 1, "", 0),
          STUNP_WRONG_HANDLE);
-    want("of a server", stunp_endpoint_users_remove(&as_users, &byte, 1), STUNP_WRONG_HANDLE);
+    want("to a server", stunp_endpoint_users_add_keys(&as_users, (const char *)&byte, 1, key, 1,
+                                                      key, 1),
+         STUNP_WRONG_HANDLE);
+    want("of a server", stunp_endpoint_users_remove(&as_users, (const char *)&byte, 1),
+         STUNP_WRONG_HANDLE);
     want("as it was", as_users.is_full && as_users.state == realm.server.state, true);
-    want("none", stunp_endpoint_users_add(&empty, &byte, 1, "", 0), STUNP_EMPTY_HANDLE);
-    want("none", stunp_endpoint_users_add_keys(&empty, &byte, 1, key, 1, key, 1),
+    want("none", stunp_endpoint_users_add(&empty, (const char *)&byte, 1, "", 0),
          STUNP_EMPTY_HANDLE);
-    want("none", stunp_endpoint_users_remove(&empty, &byte, 1), STUNP_EMPTY_HANDLE);
-    want("name", stunp_endpoint_users_add(users, &byte, 1, "", 0), STUNP_NOT_TEXT);
-    want("password", stunp_endpoint_users_add(users, name, 514, &byte, 1), STUNP_NOT_TEXT);
-    want("long", stunp_endpoint_users_add(users, name, 514, "", 0), STUNP_TEXT_TOO_LONG);
-    want("no password", stunp_endpoint_users_add(users, name, 513, "", 0), STUNP_BAD_ARGUMENT);
-    want("no password", stunp_endpoint_users_add(users, name, 513, NULL, 0), STUNP_BAD_ARGUMENT);
-    want("longest", stunp_endpoint_users_add(users, name, 513, "p", 1), 0);
-    want("keys", stunp_endpoint_users_add_keys(users, &byte, 1, key, 15, key, 32), STUNP_NOT_TEXT);
-    want("keys", stunp_endpoint_users_add_keys(users, name, 514, key, 15, key, 32),
+    want("none", stunp_endpoint_users_add_keys(&empty, (const char *)&byte, 1, key, 1, key, 1),
+         STUNP_EMPTY_HANDLE);
+    want("none", stunp_endpoint_users_remove(&empty, (const char *)&byte, 1), STUNP_EMPTY_HANDLE);
+    want("name", stunp_endpoint_users_add(users, (const char *)&byte, 1, "", 0), STUNP_NOT_TEXT);
+    want("password", stunp_endpoint_users_add(users, (const char *)name, 514, (const char *)&byte,
+                                              1), STUNP_NOT_TEXT);
+    want("long", stunp_endpoint_users_add(users, (const char *)name, 514, "", 0),
          STUNP_TEXT_TOO_LONG);
-    want("SHA-1", stunp_endpoint_users_add_keys(users, name, 513, key, 15, key, 32),
+    want("no password", stunp_endpoint_users_add(users, (const char *)name, 513, "", 0),
          STUNP_BAD_ARGUMENT);
-    want("SHA-256", stunp_endpoint_users_add_keys(users, name, 513, key, 16, key, 33),
+    want("no password", stunp_endpoint_users_add(users, (const char *)name, 513, NULL, 0),
          STUNP_BAD_ARGUMENT);
-    want("both", stunp_endpoint_users_add_keys(users, name, 513, key, 16, key, 32), 0);
-    want("neither", stunp_endpoint_users_add_keys(users, name, 513, NULL, 0, NULL, 0), 0);
-    want("removed", stunp_endpoint_users_remove(users, name, 513), 0);
-    want("nobody", stunp_endpoint_users_remove(users, name, 513), 0);
-    want("no name", stunp_endpoint_users_remove(users, &byte, 1), STUNP_NOT_TEXT);
+    want("longest", stunp_endpoint_users_add(users, (const char *)name, 513, "p", 1), 0);
+    want("keys", stunp_endpoint_users_add_keys(users, (const char *)&byte, 1, key, 15, key, 32),
+         STUNP_NOT_TEXT);
+    want("keys", stunp_endpoint_users_add_keys(users, (const char *)name, 514, key, 15, key, 32),
+         STUNP_TEXT_TOO_LONG);
+    want("SHA-1", stunp_endpoint_users_add_keys(users, (const char *)name, 513, key, 15, key, 32),
+         STUNP_BAD_ARGUMENT);
+    want("SHA-256", stunp_endpoint_users_add_keys(users, (const char *)name, 513, key, 16, key, 33),
+         STUNP_BAD_ARGUMENT);
+    want("both", stunp_endpoint_users_add_keys(users, (const char *)name, 513, key, 16, key, 32),
+         0);
+    want("neither", stunp_endpoint_users_add_keys(users, (const char *)name, 513, NULL, 0, NULL,
+                                                  0), 0);
+    want("removed", stunp_endpoint_users_remove(users, (const char *)name, 513), 0);
+    want("nobody", stunp_endpoint_users_remove(users, (const char *)name, 513), 0);
+    want("no name", stunp_endpoint_users_remove(users, (const char *)&byte, 1), STUNP_NOT_TEXT);
     stunp_heap_bound(0);
     want("memory", stunp_endpoint_users_add(users, "b", 1, "c", 1), STUNP_OUT_OF_MEMORY);
     want("memory", stunp_endpoint_users_add_keys(users, "b", 1, key, 16, key, 32),
          STUNP_OUT_OF_MEMORY);
     want("memory", stunp_endpoint_users_new(&empty, &realm.server), STUNP_OUT_OF_MEMORY);
-    want("text first", stunp_endpoint_users_add(users, &byte, 1, "", 0), STUNP_NOT_TEXT);
+    want("text first", stunp_endpoint_users_add(users, (const char *)&byte, 1, "", 0),
+         STUNP_NOT_TEXT);
     stunp_heap_bound(SIZE_MAX);
     free_realm(&realm);
 }
@@ -319,7 +331,8 @@ static void causes(void) {
     plain.length--;
     want("no message", cause_of(&realm, &plain, &from, NOW, 0), 0);
     struct message bare = message_of(STUNP_REQUEST, 3);
-    int64_t length = stunp_sign(bare.bytes, sizeof bare.bytes, bare.length, STUNP_SHA1, "key", 3);
+    int64_t length = stunp_sign(bare.bytes, sizeof bare.bytes, bare.length, STUNP_SHA1,
+                                (const uint8_t *)"key", 3);
     bare.length = (size_t)length;
     want("bare", cause_of(&realm, &bare, &from, NOW, 400), STUNP_CAUSE_INCOMPLETE);
     take_challenge(&realm, NOW);
@@ -730,7 +743,7 @@ static struct message signed_by(stunp_message_class class, uint32_t number, cons
     struct message message = message_of(class, number);
     stunp_writer writer = stunp_write_on(20, message.bytes, sizeof message.bytes);
     if (name != NULL) stunp_write_text(&writer, STUNP_USERNAME, name);
-    stunp_write_integrity(&writer, algorithm, password, strlen(password));
+    stunp_write_integrity(&writer, algorithm, (const uint8_t *)password, strlen(password));
     want("signed", stunp_written(&writer), 0);
     message.length = writer.length;
     return message;
@@ -761,7 +774,8 @@ static void password_of(size_t length, stunp_algorithm algorithm, bool is_looked
                                   ? stunp_reply_error(&received.reply, 400, "", out, sizeof out)
                                   : stunp_reply_success(&received.reply, out, sizeof out);
         int64_t written = stunp_reply_finish(&received.reply, &answer);
-        want("under the password", stunp_verify(out, (size_t)written, password, length), algorithm);
+        want("under the password", stunp_verify(out, (size_t)written, (const uint8_t *)password,
+                                                length), algorithm);
     }
     free_realm(&realm);
 }
@@ -796,9 +810,11 @@ static void short_term_server(stunp_algorithm algorithm) {
     want("in a realm", judge(&other, &request, 0, sizeof out, &received), STUNP_WRONG_HANDLE);
     want("no look-ups", stunp_endpoint_server_identify(&realm.server, request.bytes, request.length,
          &from, 0, out, sizeof out, &received), STUNP_WRONG_HANDLE);
-    want("no keys", stunp_endpoint_users_add_keys(&realm.users, &byte, 1, key, 16, key, 32),
+    want("no keys", stunp_endpoint_users_add_keys(&realm.users, (const char *)&byte, 1, key, 16,
+                                                  key, 32),
          STUNP_WRONG_HANDLE);
-    want("name", stunp_endpoint_users_add(&realm.users, &byte, 1, "", 0), STUNP_NOT_TEXT);
+    want("name", stunp_endpoint_users_add(&realm.users, (const char *)&byte, 1, "", 0),
+         STUNP_NOT_TEXT);
     want("nobody", judge(&realm, &request, 0, sizeof out, &received), STUNP_ANSWER);
     want("401", received.code, 401);
     int64_t added = STUNP_OUT_OF_MEMORY;
@@ -816,7 +832,7 @@ static void short_term_server(stunp_algorithm algorithm) {
     want("algorithm", received.algorithm, algorithm);
     stunp_writer answer = stunp_reply_success(&received.reply, out, sizeof out);
     int64_t length = stunp_reply_finish(&received.reply, &answer);
-    want("signed", stunp_verify(out, (size_t)length, "a password", 10), algorithm);
+    want("signed", stunp_verify(out, (size_t)length, (const uint8_t *)"a password", 10), algorithm);
     /* The user is looked up. */
     stunp_found_user found = STUNP_INIT(stunp_found_user);
     found.name = "name", found.name_length = 4, found.password = "a password";
@@ -844,7 +860,8 @@ static void short_term_server(stunp_algorithm algorithm) {
     want("code", received.code, 401);
     want("removed", stunp_endpoint_users_remove(&realm.users, "name", 4), 0);
     want("nobody", stunp_endpoint_users_remove(&realm.users, "name", 4), 0);
-    want("no name", stunp_endpoint_users_remove(&realm.users, &byte, 1), STUNP_NOT_TEXT);
+    want("no name", stunp_endpoint_users_remove(&realm.users, (const char *)&byte, 1),
+         STUNP_NOT_TEXT);
     request = signed_by(STUNP_REQUEST, 6, "name", algorithm, "another");
     want("removed", judge(&realm, &request, 0, sizeof out, &received), STUNP_ANSWER);
     want("code", received.code, 401);

@@ -158,7 +158,8 @@ static void writes_answer(const uint8_t *message, size_t length, const uint16_t 
     static uint8_t wanted[40000];
     const uint32_t method = (uint32_t)stunp_method(message, length);
     int64_t end = stunp_begin(STUNP_ERROR, method, message + 8, 12, wanted, sizeof wanted);
-    end = stunp_add_error(wanted, sizeof wanted, (size_t)end, 420, BYTES("Unknown Attribute"));
+    end = stunp_add_error(wanted, sizeof wanted, (size_t)end, 420,
+                          (const char *)BYTES("Unknown Attribute"));
     end = stunp_add(wanted, sizeof wanted, (size_t)end, STUNP_UNKNOWN_ATTRIBUTES, types,
                     types_length);
     CHECK(end >= 56, 1);

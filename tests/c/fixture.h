@@ -35,7 +35,7 @@ static inline void want_no_blocks(const char *what) {
     want(what, (int64_t)stunp_heap_bytes(), 0);
 }
 
-static inline const uint8_t *text(const char *letters) { return (const uint8_t *)letters; }
+static inline const char *text(const char *letters) { return letters; }
 
 /* The IPv4 address of a number. */
 static inline stunp_address address_of(uint32_t number) {

@@ -16,8 +16,9 @@ static void refuse_servers(stunp_server *server, int64_t wanted) {
     want("set_algorithms", stunp_server_set_algorithms(server, 9), wanted);
     want("set_anonymous_username", stunp_server_set_anonymous_username(server, STUNP_AUTO), wanted);
     want("set_nonce_expiry", stunp_server_set_nonce_expiry(server, 9), wanted);
-    want("add_user", stunp_server_add_user(server, &byte, 1, &byte, 1), wanted);
-    want("remove_user", stunp_server_remove_user(server, &byte, 1), wanted);
+    want("add_user", stunp_server_add_user(server, (const char *)&byte, 1, (const char *)&byte, 1),
+         wanted);
+    want("remove_user", stunp_server_remove_user(server, (const char *)&byte, 1), wanted);
     want("set_most_addresses", stunp_server_set_most_addresses(server, 9), wanted);
     want("address_count", stunp_server_address_count(server), wanted);
     want("remove_client", stunp_server_remove_client(server, &nowhere), wanted);
@@ -31,11 +32,13 @@ static void refuse_servers(stunp_server *server, int64_t wanted) {
     want("named_user", stunp_server_named_user(server, &other, 1, &nowhere, &byte, 1, &length),
          wanted);
     want("validate_of", stunp_server_validate_of(server, &byte, 1, &nowhere, 0, some_words,
-         &byte, 1, "", 0), wanted);
-    want("sign_of", stunp_server_sign_of(server, &byte, 1, 2, &nowhere, &other, 1, "", 0), wanted);
+         (const char *)&byte, 1, "", 0), wanted);
+    want("sign_of", stunp_server_sign_of(server, &byte, 1, 2, &nowhere, (const char *)&other, 1,
+                                         "", 0), wanted);
     want("validate_of_keys", stunp_server_validate_of_keys(server, &byte, 1, &nowhere, 0,
-         some_words, &byte, 1, &byte, 1, &byte, 1), wanted);
-    want("sign_of_keys", stunp_server_sign_of_keys(server, &byte, 1, 2, &nowhere, &other, 1,
+         some_words, (const char *)&byte, 1, &byte, 1, &byte, 1), wanted);
+    want("sign_of_keys", stunp_server_sign_of_keys(server, &byte, 1, 2, &nowhere,
+                                                   (const char *)&other, 1,
          &other, 1, &other, 1), wanted);
     stunp_server_free(server);
     want("outputs", byte == 0xff && length == 7, 1);
@@ -46,11 +49,11 @@ static void empty_servers(void) {
     stunp_server server = {0};
     uint8_t byte = 0xff;
     refuse_servers(&server, STUNP_EMPTY_HANDLE);
-    want("no text", stunp_server_new(&server, &byte, 1), STUNP_NOT_TEXT);
+    want("no text", stunp_server_new(&server, (const char *)&byte, 1), STUNP_NOT_TEXT);
     want("still empty", server.kind, 0);
     want_no_blocks("empty servers");
     want("new", stunp_server_new(&server, text("realm"), 5), 0);
-    want("new again", stunp_server_new(&server, &byte, 1), STUNP_FULL_HANDLE);
+    want("new again", stunp_server_new(&server, (const char *)&byte, 1), STUNP_FULL_HANDLE);
     stunp_server_free(&server);
     stunp_server_free(&server);
     want_no_blocks("servers");
@@ -79,11 +82,13 @@ static void servers(void) {
     }
     want("set_nonce_expiry", stunp_server_set_nonce_expiry(server, 0), 0);
     want("set_nonce_expiry", stunp_server_set_nonce_expiry(server, UINT64_MAX), 0);
-    want("a name that is no text", stunp_server_add_user(server, &byte, 1, text("a"), 1),
+    want("a name that is no text", stunp_server_add_user(server, (const char *)&byte, 1, text("a"),
+                                                         1),
          STUNP_NOT_TEXT);
-    want("a password that is no text", stunp_server_add_user(server, text("a"), 1, &byte, 1),
+    want("a password that is no text", stunp_server_add_user(server, text("a"), 1,
+                                                             (const char *)&byte, 1),
          STUNP_NOT_TEXT);
-    want("remove_user", stunp_server_remove_user(server, &byte, 1), STUNP_NOT_TEXT);
+    want("remove_user", stunp_server_remove_user(server, (const char *)&byte, 1), STUNP_NOT_TEXT);
     want("remove_client", stunp_server_remove_client(server, &nowhere), STUNP_BAD_ARGUMENT);
     want("forget", stunp_server_forget(server, &nowhere), STUNP_BAD_ARGUMENT);
     want("validate, nowhere", stunp_server_validate(server, &byte, 1, &nowhere, 0, some_words),
@@ -224,7 +229,7 @@ static void sign(void) {
     static uint8_t longest[764];
     memset(longest, 'r', sizeof longest);
     stunp_server wide = {0};
-    want("a long realm", stunp_server_new(&wide, longest, sizeof longest), 0);
+    want("a long realm", stunp_server_new(&wide, (const char *)longest, sizeof longest), 0);
     struct message request = message_of(STUNP_REQUEST, 1);
     verdict = stunp_server_validate(&wide, request.bytes, request.length, &from, 0, some_words);
     want("unsigned", verdict, STUNP_UNAUTHORIZED);
@@ -404,14 +409,16 @@ static void most_room(void) {
     memset(realm, 'r', sizeof realm);
     memset(name, 'n', sizeof name);
     memset(nonce + strlen(nonce), 'o', sizeof nonce - 13);
-    want("a server", stunp_server_new(&pair.server, realm, sizeof realm), 0);
+    want("a server", stunp_server_new(&pair.server, (const char *)realm, sizeof realm), 0);
     want("algorithms", stunp_server_set_algorithms(&pair.server, STUNP_SHA1 | STUNP_SHA256), 0);
-    want("a user", stunp_server_add_user(&pair.server, name, sizeof name, text("password"), 8), 0);
+    want("a user", stunp_server_add_user(&pair.server, (const char *)name, sizeof name,
+                                         text("password"), 8), 0);
     want("a client", stunp_client_new(&pair.client), 0);
     want("algorithms", stunp_client_set_algorithms(&pair.client, STUNP_SHA1 | STUNP_SHA256), 0);
     want("no hidden names", stunp_client_set_anonymous_username(&pair.client, STUNP_DISABLED), 0);
     want("credentials",
-         stunp_client_set_credentials(&pair.client, name, sizeof name, text("password"), 8), 0);
+         stunp_client_set_credentials(&pair.client, (const char *)name, sizeof name,
+                                      text("password"), 8), 0);
     challenge(&pair, &from, 0);
     want("a challenge", (int64_t)answer_of(&pair, 1, 401, &from).length, ERROR_LENGTH + CHALLENGE);
     validate(&pair, &from, 0, STUNP_SHA256);
@@ -432,7 +439,8 @@ static void most_room(void) {
     want("a client", stunp_client_new(&pair.client), 0);
     want("algorithms", stunp_client_set_algorithms(&pair.client, STUNP_SHA256), 0);
     want("credentials",
-         stunp_client_set_credentials(&pair.client, name, sizeof name, text("password"), 8), 0);
+         stunp_client_set_credentials(&pair.client, (const char *)name, sizeof name,
+                                      text("password"), 8), 0);
     want("a 401", stunp_client_validate(&pair.client, answer.bytes, answer.length), STUNP_RESEND);
     memcpy(bytes, request.bytes, request.length);
     const int64_t wanted = STUNP_HEADER_LENGTH + BY_CLIENT + 2 * EACH_ALGORITHM;
@@ -449,7 +457,8 @@ static void most_room(void) {
 /* Each call on a handle that has no client. */
 static void refuse_clients(stunp_client *client, int64_t wanted) {
     uint8_t byte = 0xff;
-    want("set_credentials", stunp_client_set_credentials(client, &byte, 1, &byte, 1), wanted);
+    want("set_credentials", stunp_client_set_credentials(client, (const char *)&byte, 1,
+                                                         (const char *)&byte, 1), wanted);
     want("set_algorithms", stunp_client_set_algorithms(client, 9), wanted);
     want("set_anonymous_username", stunp_client_set_anonymous_username(client, STUNP_AUTO), wanted);
     want("signing_algorithm", stunp_client_signing_algorithm(client), wanted);
@@ -465,8 +474,10 @@ static void clients(void) {
     refuse_clients(&client, STUNP_EMPTY_HANDLE);
     want("new", stunp_client_new(&client), 0);
     want("new again", stunp_client_new(&client), STUNP_FULL_HANDLE);
-    want("no text", stunp_client_set_credentials(&client, &byte, 1, text("a"), 1), STUNP_NOT_TEXT);
-    want("no text", stunp_client_set_credentials(&client, text("a"), 1, &byte, 1), STUNP_NOT_TEXT);
+    want("no text", stunp_client_set_credentials(&client, (const char *)&byte, 1, text("a"), 1),
+         STUNP_NOT_TEXT);
+    want("no text", stunp_client_set_credentials(&client, text("a"), 1, (const char *)&byte, 1),
+         STUNP_NOT_TEXT);
     REFUSES_MESSAGES("validate", stunp_client_validate(&client, bytes, length));
     stunp_client_free(&client);
     stunp_client_free(&client);
@@ -503,7 +514,7 @@ static void other_objects(void) {
         }
         if (one != &server) {
             refuse_servers(&one->server, STUNP_WRONG_HANDLE);
-            want("full", stunp_server_new(&one->server, &byte, 1), STUNP_FULL_HANDLE);
+            want("full", stunp_server_new(&one->server, (const char *)&byte, 1), STUNP_FULL_HANDLE);
             want("no server for a user", stunp_user_new(&none_user, &one->server, "", 0, "", 0),
                  STUNP_WRONG_HANDLE);
         }

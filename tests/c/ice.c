@@ -136,7 +136,8 @@ static void sample_request(void) {
     want("nominated", got.nominated, false);
     want("switched", got.switched, false);
     want("code", got.code, 0);
-    want("signed", stunp_verify(out, got.length, password, strlen(password)), STUNP_SHA1);
+    want("signed", stunp_verify(out, got.length, (const uint8_t *)password, strlen(password)),
+         STUNP_SHA1);
     want("FINGERPRINT", stunp_has_right_fingerprint(out, got.length), true);
     want("seen", stunp_xor_mapped_address(out, got.length, octets, 16, &port), 4);
     want_same("seen", octets, from.octets, 4);
@@ -158,7 +159,8 @@ static void sample_request(void) {
         want("code", got.code, switches ? 0 : 487);
         want("priority", got.priority, switches ? PRIORITY : 0);
         want("role", stunp_ice_checker_is_controlling(&agent), switches);
-        want("signed", stunp_verify(out, got.length, password, strlen(password)), STUNP_SHA1);
+        want("signed", stunp_verify(out, got.length, (const uint8_t *)password, strlen(password)),
+             STUNP_SHA1);
         want("error", stunp_error_code(out, got.length), switches ? STUNP_MISSING_ATTRIBUTE : 487);
         stunp_ice_checker_free(&agent);
     }
@@ -172,7 +174,8 @@ static void sample_responses(void) {
     int64_t length = stunp_ice_checker_check(&agent, id, &from, PRIORITY, true, out, sizeof out,
                                              &check);
     want("its length", length, 20 + 4 + 12 + 8 + 12 + 24 + 8);
-    want("signed", stunp_verify(out, (size_t)length, password, strlen(password)), STUNP_SHA1);
+    want("signed", stunp_verify(out, (size_t)length, (const uint8_t *)password, strlen(password)),
+         STUNP_SHA1);
     want("FINGERPRINT", stunp_has_right_fingerprint(out, (size_t)length), true);
     want_same("id", check.id, id, STUNP_ID_LENGTH);
     want_same("to", &check.to, &from, sizeof from);
@@ -281,7 +284,8 @@ static size_t check_with(uint8_t *bytes, const char *name, bool has_priority, ui
     if (has_priority) stunp_write_number(&check, STUNP_PRIORITY, 7, 4);
     if (unknown != 0) stunp_write_number(&check, unknown, 7, 4);
     stunp_write_bytes(&check, STUNP_USE_CANDIDATE, NULL, 0);
-    if (signs != NULL) stunp_write_integrity(&check, algorithm, signs, strlen(signs));
+    if (signs != NULL) stunp_write_integrity(&check, algorithm, (const uint8_t *)signs,
+                                             strlen(signs));
     stunp_write_fingerprint(&check);
     want("written", stunp_written(&check), 0);
     return check.length;
@@ -296,7 +300,8 @@ static void judged(stunp_ice_checker *agent, const uint8_t *bytes, size_t length
     want("code", got.code, code);
     want("in the answer", stunp_error_code(out, got.length),
          code == 0 ? STUNP_MISSING_ATTRIBUTE : (int64_t)code);
-    want("signed", stunp_verify(out, got.length, password, strlen(password)), signature);
+    want("signed", stunp_verify(out, got.length, (const uint8_t *)password, strlen(password)),
+         signature);
     want("FINGERPRINT", stunp_has_right_fingerprint(out, got.length), true);
     want("nominated", got.nominated, code == 0);
 }
@@ -370,7 +375,7 @@ static stunp_ice_received response_to(stunp_ice_checker *agent, const stunp_ice_
                                       bytes, sizeof bytes);
     if (code > 1) stunp_write_error(&answer, code, "");
     if (unknown != 0) stunp_write_number(&answer, unknown, 7, 4);
-    stunp_write_integrity(&answer, STUNP_SHA1, password, strlen(password));
+    stunp_write_integrity(&answer, STUNP_SHA1, (const uint8_t *)password, strlen(password));
     stunp_write_fingerprint(&answer);
     want("response", stunp_ice_checker_receive(agent, bytes, answer.length, &from, check, NULL, 0,
          &got), STUNP_IS_RESPONSE);
@@ -419,7 +424,7 @@ static void longest(void) {
     for (; length + 4 <= most; length += 4) memcpy(large + length, "\x77\x77\0\0", 4);
     large[2] = (uint8_t)((length - 20) >> 8), large[3] = (uint8_t)(length - 20);
     check = stunp_write_on((int64_t)length, large, sizeof large);
-    stunp_write_integrity(&check, STUNP_SHA256, password, strlen(password));
+    stunp_write_integrity(&check, STUNP_SHA256, (const uint8_t *)password, strlen(password));
     stunp_write_fingerprint(&check);
     want("written", stunp_written(&check), 0);
     want("420", stunp_ice_checker_receive(&agent, large, check.length, &from, NULL, out,

@@ -1,7 +1,7 @@
 /* Prints whose memory the library uses. tests/memory.sh links it in several ways, with FUNCTIONS
  * as its second part: the three functions of stunp_state.h, which print that they are called when
  * the first block is allocated, or with PART two of them. The program itself refers to none of
- * them. */
+ * them. With PASSED it passes functions of its own. */
 #include "stunp_state.h"
 #include <stdio.h>
 #include <stdlib.h>
@@ -31,14 +31,42 @@ void rattle_dealloc(void *at) {
     free(at);
 }
 #else
+#ifdef PASSED
+static size_t passed;
+
+static void *allocate(size_t length) {
+    if (passed++ == 0) puts("passed");
+    return malloc(length);
+}
+
+static void release(void *at) {
+    if (--passed == 0) puts("all given back");
+    free(at);
+}
+
+/* Functions are passed once, all three, and before the library allocates. */
+static int pass(void) {
+    if (stunp_set_memory(allocate, NULL, release) != STUNP_BAD_ARGUMENT) return 10;
+    if (stunp_set_memory(allocate, realloc, release) != 0) return 11;
+    if (stunp_set_memory(malloc, realloc, free) != STUNP_ALREADY_IN_PROGRESS) return 12;
+    return 0;
+}
+#endif
+
 int main(void) {
+#ifdef PASSED
+    int refused = pass();
+    if (refused != 0) return refused;
+#endif
     stunp_server server = {0};
     stunp_agent agent = {0};
     uint32_t words[16] = {0};
     uint8_t request[STUNP_HEADER_LENGTH], id[STUNP_ID_LENGTH] = {1};
     if (stunp_begin(STUNP_REQUEST, STUNP_BINDING, id, sizeof id, request, sizeof request) < 0)
         return 1;
-    if (stunp_server_new(&server, "realm", 5) != 0) return 2;
+    int64_t made = stunp_server_new(&server, "realm", 5);
+    if (made == STUNP_OUT_OF_MEMORY) puts(stunp_strerror(made));
+    if (made != 0) return made != STUNP_OUT_OF_MEMORY;
     for (uint16_t port = 1; port < 100; port++) {
         const stunp_address from = {{192, 0, 2, 1}, port, 4};
         if (stunp_server_validate(&server, request, sizeof request, &from, 0, words)
@@ -49,6 +77,9 @@ int main(void) {
     if (stunp_agent_new(&agent, STUNP_UDP, &local) != 0) return 4;
     stunp_agent_free(&agent);
     stunp_server_free(&server);
+#ifndef PASSED
+    if (stunp_set_memory(malloc, realloc, free) != STUNP_ALREADY_IN_PROGRESS) return 5;
+#endif
     puts("done");
     return 0;
 }

@@ -143,6 +143,7 @@ static void wrote_all(block *out, bool is_written) { out->written = is_written ?
 /* A call of its words, in the order of its arguments. */
 #define CALL(name, words, answer) static int64_t name(void) { words; return answer; }
 #define ALL(block) (block)->at, (block)->length
+#define LETTERS(block) (const char *)(block)->at, (block)->length
 #define USED(block) (block)->at, (block)->length, (block)->used
 #define VALUE(type, block) ((type *)(void *)(block)->at)
 
@@ -181,15 +182,16 @@ CALL(add, block *message = buffer(); uint32_t type = short_number(); block *valu
 CALL(add_xor_mapped_address, block *message = buffer(); block *octets = bytes(),
      wrote(message, stunp_add_xor_mapped_address(USED(message), ALL(octets), short_number())))
 CALL(add_error, block *message = buffer(); uint32_t code = short_number(); block *reason = bytes(),
-     wrote(message, stunp_add_error(USED(message), code, ALL(reason))))
+     wrote(message, stunp_add_error(USED(message), code, LETTERS(reason))))
 CALL(sign, block *message = buffer(); uint32_t algorithm = short_number(); block *key = bytes(),
      wrote(message, stunp_sign(USED(message), algorithm, ALL(key))))
 CALL(long_term_key, uint32_t algorithm = short_number(); block *name = bytes();
      block *realm = bytes(); block *password = bytes();
      block *out = output(),
-     wrote(out, stunp_long_term_key(algorithm, ALL(name), ALL(realm), ALL(password), ALL(out))))
+     wrote(out, stunp_long_term_key(algorithm, LETTERS(name), LETTERS(realm), LETTERS(password),
+                                    ALL(out))))
 CALL(userhash, block *name = bytes(); block *realm = bytes(); block *out = output(),
-     wrote(out, stunp_userhash(ALL(name), ALL(realm), ALL(out))))
+     wrote(out, stunp_userhash(LETTERS(name), LETTERS(realm), ALL(out))))
 
 /* ---- The calls with state. What is made takes the place of the one before. */
 
@@ -224,7 +226,7 @@ static int64_t agent_new_with(void) {
 
 static int64_t server_new(void) {
     block *realm = bytes();
-    MAKES(server, stunp_server_new(&fresh, ALL(realm)));
+    MAKES(server, stunp_server_new(&fresh, LETTERS(realm)));
 }
 
 static int64_t client_new(void) { MAKES(client, stunp_client_new(&fresh)); }
@@ -278,8 +280,8 @@ CALL(server_set_anonymous_username, (void)0,
      stunp_server_set_anonymous_username(&server, short_number()))
 CALL(server_set_nonce_expiry, (void)0, stunp_server_set_nonce_expiry(&server, number()))
 CALL(server_add_user, block *name = bytes(); block *password = bytes(),
-     stunp_server_add_user(&server, ALL(name), ALL(password)))
-CALL(server_remove_user, block *name = bytes(), stunp_server_remove_user(&server, ALL(name)))
+     stunp_server_add_user(&server, LETTERS(name), LETTERS(password)))
+CALL(server_remove_user, block *name = bytes(), stunp_server_remove_user(&server, LETTERS(name)))
 CALL(server_remove_client, (void)0, stunp_server_remove_client(&server, address()))
 CALL(server_forget, (void)0, stunp_server_forget(&server, address()))
 CALL(server_forget_expired, uint64_t now = number(),
@@ -318,7 +320,7 @@ static int64_t server_validate(void) {
 }
 
 CALL(client_set_credentials, block *name = bytes(); block *password = bytes(),
-     stunp_client_set_credentials(&client, ALL(name), ALL(password)))
+     stunp_client_set_credentials(&client, LETTERS(name), LETTERS(password)))
 CALL(client_set_algorithms, (void)0, stunp_client_set_algorithms(&client, short_number()))
 CALL(client_set_anonymous_username, (void)0,
      stunp_client_set_anonymous_username(&client, short_number()))
@@ -354,7 +356,7 @@ static int64_t endpoint_build(void) {
     stunp_endpoint_server fresh = {false, NULL};
     stunp_endpoint_users table = {false, NULL};
     int64_t answer = stunp_endpoint_server_new_with(
-        &fresh, ALL(realm), ALL(software), secret->at,
+        &fresh, LETTERS(realm), LETTERS(software), secret->at,
         previous->length == 0 ? secret->at : previous->at, previous->length != 0,
         VALUE(uint16_t, types), types->length / 2, seconds, algorithms, names, answers_binding,
         requires_fingerprint);
@@ -369,16 +371,17 @@ static int64_t endpoint_build(void) {
 }
 
 CALL(endpoint_users_add, block *name = bytes(); block *password = bytes(),
-     stunp_endpoint_users_add(&endpoint_users, ALL(name), ALL(password)))
+     stunp_endpoint_users_add(&endpoint_users, LETTERS(name), LETTERS(password)))
 CALL(endpoint_users_add_keys, block *name = bytes(); block *sha1 = bytes(); block *sha256 = bytes(),
-     stunp_endpoint_users_add_keys(&endpoint_users, ALL(name), ALL(sha1), ALL(sha256)))
+     stunp_endpoint_users_add_keys(&endpoint_users, LETTERS(name), ALL(sha1), ALL(sha256)))
 CALL(endpoint_users_remove, block *name = bytes(),
-     stunp_endpoint_users_remove(&endpoint_users, ALL(name)))
+     stunp_endpoint_users_remove(&endpoint_users, LETTERS(name)))
 
 /* After an error a result says so, and has no length. Then it gets back what it had. */
 #define LEFT(result)                                                                       \
     if (kind < 0) {                                                                        \
-        if ((result)->kind != STUNP_FAILED || (result)->length != 0) fail("a result of before"); \
+        if ((uint32_t)(result)->kind != STUNP_FAILED || (result)->length != 0)             \
+            fail("a result of before");                                                    \
         *(result) = fresh;                                                                 \
     }
 
@@ -475,8 +478,9 @@ static stunp_ice_checker ice_checker;
 static int64_t ice_new(void) {
     block *name = bytes(), *password = bytes(), *peer_name = bytes(), *peer_password = bytes();
     uint64_t tie_breaker = number();
-    MAKES(ice_checker, stunp_ice_checker_new_with(&fresh, ALL(name), ALL(password), ALL(peer_name),
-                                                  ALL(peer_password), tie_breaker, number() != 0));
+    MAKES(ice_checker, stunp_ice_checker_new_with(&fresh, LETTERS(name), LETTERS(password),
+                                                  LETTERS(peer_name),
+                                                  LETTERS(peer_password), tie_breaker, number() != 0));
 }
 
 CALL(ice_is_controlling, (void)0, stunp_ice_checker_is_controlling(&ice_checker))
@@ -532,7 +536,7 @@ static int64_t endpoint_client_new(void) {
     options.has_fingerprint = number() != 0, options.requires_fingerprint = number() != 0;
     if (seed->length != 32) fail("no seed");
     MAKES(endpoint_client, stunp_endpoint_client_new_with(
-                               &fresh, at, seed->at, ALL(name), ALL(password), ALL(software),
+                               &fresh, at, seed->at, LETTERS(name), LETTERS(password), LETTERS(software),
                                VALUE(uint16_t, types), types->length / 2, &options));
 }
 

@@ -35,20 +35,20 @@ static void users_elsewhere(bool is_hidden) {
     want("somebody", stunp_server_named_user(server, request.bytes, request.length, &from, name,
          wanted, &length), named);
     want("the length", (int64_t)length, (int64_t)wanted);
-    want_same("who", name, is_hidden ? hash : text("name"), wanted);
+    want_same("who", name, is_hidden ? (const void *)hash : text("name"), wanted);
     want("no memory", stunp_server_validate_of(server, request.bytes, request.length, &from, 0,
          some_words, "name", 4, "password", 8), STUNP_OUT_OF_MEMORY);
     stunp_heap_bound(SIZE_MAX);
     want("without users", stunp_server_validate(server, request.bytes, request.length, &from, 0,
          some_words), STUNP_UNAUTHORIZED);
     want("of, nowhere", stunp_server_validate_of(server, request.bytes, CUT, &nowhere, 0,
-         some_words, &byte, 1, "", 0), STUNP_BAD_ARGUMENT);
+         some_words, (const char *)&byte, 1, "", 0), STUNP_BAD_ARGUMENT);
     REFUSES_MESSAGES("of", stunp_server_validate_of(server, bytes, length, &from, 0, some_words,
-                                                    &byte, 1, "", 0));
+                                                    (const char *)&byte, 1, "", 0));
     want("no name", stunp_server_validate_of(server, request.bytes, request.length, &from, 0,
-         some_words, &byte, 1, "", 0), STUNP_NOT_TEXT);
+         some_words, (const char *)&byte, 1, "", 0), STUNP_NOT_TEXT);
     want("no password", stunp_server_validate_of(server, request.bytes, request.length, &from, 0,
-         some_words, "name", 4, &byte, 1), STUNP_NOT_TEXT);
+         some_words, "name", 4, (const char *)&byte, 1), STUNP_NOT_TEXT);
     want("another password", stunp_server_validate_of(server, request.bytes, request.length,
          &from, 0, some_words, "name", 4, "Password", 8), STUNP_UNAUTHORIZED);
     want("another user", stunp_server_validate_of(server, request.bytes, request.length, &from, 0,
@@ -63,7 +63,8 @@ static void users_elsewhere(bool is_hidden) {
     const size_t room = sizeof answer.bytes;
     want("without the user", stunp_server_sign(server, answer.bytes, room, 20, &from),
          STUNP_CANNOT_SIGN);
-    want("no name", stunp_server_sign_of(server, answer.bytes, 20, 30, &nowhere, &byte, 1, "", 0),
+    want("no name", stunp_server_sign_of(server, answer.bytes, 20, 30, &nowhere,
+                                         (const char *)&byte, 1, "", 0),
          STUNP_NOT_TEXT);
     want("nowhere", stunp_server_sign_of(server, answer.bytes, 20, 30, &nowhere, "name", 4,
          "password", 8), STUNP_BAD_ARGUMENT);
@@ -217,13 +218,17 @@ static void refuses_users(struct pair *pair, const stunp_address *from) {
     stunp_user user = {0}, nobody = {0};
     struct message answer = message_of(STUNP_SUCCESS, 2), left = answer;
     uint8_t byte = 0xff;
-    want("no server", stunp_user_new(&user, &empty, &byte, 1, &byte, 1), STUNP_EMPTY_HANDLE);
-    want("no server, keys", stunp_user_new_of_keys(&user, &empty, &byte, 1, &byte, 1, &byte, 1),
+    want("no server", stunp_user_new(&user, &empty, (const char *)&byte, 1, (const char *)&byte,
+                                     1), STUNP_EMPTY_HANDLE);
+    want("no server, keys", stunp_user_new_of_keys(&user, &empty, (const char *)&byte, 1, &byte, 1,
+                                                   &byte, 1),
          STUNP_EMPTY_HANDLE);
     stunp_heap_bound(0);
-    want("no name", stunp_user_new(&user, server, &byte, 1, "", 0), STUNP_NOT_TEXT);
-    want("no password", stunp_user_new(&user, server, "name", 4, &byte, 1), STUNP_NOT_TEXT);
-    want("no name, keys", stunp_user_new_of_keys(&user, server, &byte, 1, &byte, 1, &byte, 1),
+    want("no name", stunp_user_new(&user, server, (const char *)&byte, 1, "", 0), STUNP_NOT_TEXT);
+    want("no password", stunp_user_new(&user, server, "name", 4, (const char *)&byte, 1),
+         STUNP_NOT_TEXT);
+    want("no name, keys", stunp_user_new_of_keys(&user, server, (const char *)&byte, 1, &byte, 1,
+                                                 &byte, 1),
          STUNP_NOT_TEXT);
     want("a short key", stunp_user_new_of_keys(&user, server, "name", 4, &byte, 1, NULL, 0),
          STUNP_BAD_ARGUMENT);
@@ -236,8 +241,10 @@ static void refuses_users(struct pair *pair, const stunp_address *from) {
     stunp_heap_bound(SIZE_MAX);
     want("still empty", user.kind, 0);
     want("new", stunp_user_new(&user, server, "name", 4, "password", 8), 0);
-    want("new again", stunp_user_new(&user, &empty, &byte, 1, &byte, 1), STUNP_FULL_HANDLE);
-    want("new of keys", stunp_user_new_of_keys(&user, &empty, &byte, 1, &byte, 1, &byte, 1),
+    want("new again", stunp_user_new(&user, &empty, (const char *)&byte, 1, (const char *)&byte,
+                                     1), STUNP_FULL_HANDLE);
+    want("new of keys", stunp_user_new_of_keys(&user, &empty, (const char *)&byte, 1, &byte, 1,
+                                               &byte, 1),
          STUNP_FULL_HANDLE);
     want("validate, no server", stunp_server_validate_user(&empty, &byte, 1, &nowhere, 0,
          some_words, &nobody), STUNP_EMPTY_HANDLE);

@@ -30,7 +30,7 @@ rattle_allocation rattle_realloc(void *at, size_t, size_t length, size_t) {
 void rattle_dealloc(void *at) { free(at); }
 #endif
 
-#define TEXT(letters) (const uint8_t *)(letters), sizeof(letters) - 1
+#define TEXT(letters) (letters), sizeof(letters) - 1
 
 static void want(const char *what, int64_t answer, int64_t wanted) {
     if (answer == wanted) return;
@@ -159,7 +159,8 @@ static void asks(stunp_agent *agent, const char *password, enum peer with, int64
     want("algorithms", stunp_client_set_algorithms(&client, STUNP_SHA1 | STUNP_SHA256), 0);
     const uint8_t *secret = (const uint8_t *)password;
     want("credentials",
-         stunp_client_set_credentials(&client, TEXT("name"), secret, strlen(password)), 0);
+         stunp_client_set_credentials(&client, TEXT("name"), (const char *)secret,
+                                      strlen(password)), 0);
     want("ask", ask(agent, &client, &server_address, octets, &port), wanted);
     want("transmissions", transmissions, wanted_transmissions);
     if (wanted == 4) want("the octets", memcmp(octets, client_address.octets, 4), 0);

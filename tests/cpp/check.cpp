@@ -241,7 +241,8 @@ static bool is_signed_by(const stunp::result<stunp::endpoint::received> &got,
     const stunp_reply *reply = got ? got->request() : nullptr;
     if (reply == nullptr) return false;
     auto answer = stunp::endpoint::success(*reply).sign(*reply).finish();
-    return stunp_is_signed(answer->data(), answer->size(), password.data(), password.size());
+    return stunp_is_signed(answer->data(), answer->size(), stunp::view(password).data(),
+                           password.size());
 }
 
 // A key that is longer than a block of HMAC is hashed (RFC 2104, section 2).
@@ -284,7 +285,7 @@ static void ask_until_answered(stunp::endpoint::client &client,
         auto got = server.receive(users, *next->transmit(), home, 1700000000);
         say(got);
         auto answer = stunp::bytes();
-        if (got->answer()) answer = *got->answer();
+        if (got->answer()) answer = got->answer()->copy();
         else if (auto reply = got->request())
             answer = *stunp::endpoint::success(*reply)
                           .add_address(STUNP_XOR_RELAYED_ADDRESS, home).sign(*reply).finish();

@@ -353,10 +353,11 @@ static void set_server(uint8_t setting) {
 
 static void set_client(struct bytes m, uint8_t setting) {
     size_t half = m.length / 2;
+    const char *letters = (const char *)m.at;
     named(stunp_client_set_algorithms(&world.client, setting % 5));
     named(stunp_client_set_anonymous_username(&world.client, setting / 5 % 4));
     if (setting & 1)
-        named(stunp_client_set_credentials(&world.client, m.at, half, m.at + half,
+        named(stunp_client_set_credentials(&world.client, letters, half, letters + half,
                                            m.length - half));
     else
         named(stunp_client_set_credentials(&world.client, TEXT("name"), TEXT("word")));
@@ -366,10 +367,11 @@ static void set_client(struct bytes m, uint8_t setting) {
 
 static void set_users(struct bytes m, uint8_t setting) {
     size_t half = m.length / 2;
+    const char *letters = (const char *)m.at;
     if (setting & 1)
-        named(stunp_server_add_user(&world.server, m.at, half, m.at + half, m.length - half));
+        named(stunp_server_add_user(&world.server, letters, half, letters + half, m.length - half));
     else if (setting & 2)
-        named(stunp_server_remove_user(&world.server, m.at, m.length));
+        named(stunp_server_remove_user(&world.server, letters, m.length));
     else if (setting & 4)
         named(stunp_server_remove_user(&world.server, TEXT("name")));
     else
@@ -411,7 +413,7 @@ static void make_handles(struct bytes m, uint8_t setting) {
     if (setting & 4) stunp_agent_free(&world.agent);
     bool were_full[] = {world.server.kind != 0, world.client.kind != 0, world.agent.kind != 0};
     int64_t answers[] = {
-        setting & 8 ? stunp_server_new(&world.server, m.at, m.length)
+        setting & 8 ? stunp_server_new(&world.server, (const char *)m.at, m.length)
                     : stunp_server_new(&world.server, TEXT("realm")),
         stunp_client_new(&world.client),
         setting & 16 ? stunp_agent_new_with(&world.agent, setting / 32 % 3, addresses,

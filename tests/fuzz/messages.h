@@ -366,8 +366,9 @@ static int64_t add(enum addition which, size_t room, size_t length, const struct
     case NUMBER:
         return stunp_add_number(out, room, length, STUNP_PRIORITY, more->number, more->size);
     case ERROR_OF:
-        return stunp_add_error(out, room, length, more->code, more->reason, more->reason_length);
-    case SIGNATURE: return stunp_sign(out, room, length, more->algorithm, TEXT("key"));
+        return stunp_add_error(out, room, length, more->code, (const char *)more->reason,
+                               more->reason_length);
+    case SIGNATURE: return stunp_sign(out, room, length, more->algorithm, KEY("key"));
     default: return stunp_add_fingerprint(out, room, length);
     }
 }
@@ -408,7 +409,7 @@ static void write_by_writer(struct bytes m, uint8_t setting, const struct more *
     stunp_write_number(&writer, STUNP_PRIORITY, more->number, more->size);
     stunp_write_text(&writer, STUNP_NONCE, "nonce");
     stunp_write_error(&writer, more->code, "no");
-    stunp_write_integrity(&writer, STUNP_SHA256, "key", 3);
+    stunp_write_integrity(&writer, STUNP_SHA256, KEY("key"));
     stunp_write_fingerprint(&writer);
     int64_t written = named(stunp_written(&writer));
     require(writer.length >= m.length && writer.length <= room, "written to another length");
@@ -417,7 +418,7 @@ static void write_by_writer(struct bytes m, uint8_t setting, const struct more *
     require(stunp_parse(out, writer.length) == parsed, "what was written is no message");
     if (parsed < 0) require(written < 0 && writer.length == m.length, "no message is gone on with");
     if (written == 0)
-        require(stunp_verify(out, writer.length, "key", 3) == STUNP_SHA256
+        require(stunp_verify(out, writer.length, KEY("key")) == STUNP_SHA256
                     && stunp_check_fingerprint(out, writer.length) == STUNP_RIGHT_FINGERPRINT,
                 "what a writer signed");
     stunp_writer before_more = writer;
@@ -454,7 +455,7 @@ static void write_more(struct bytes m, uint8_t setting) {
         require(stunp_find(out, end, type, &value) > 0, "what was added is hidden");
         length = end;
         if (which == SIGNATURE)
-            require(stunp_verify(out, length, TEXT("key")) == (int64_t)more.algorithm, "a digest");
+            require(stunp_verify(out, length, KEY("key")) == (int64_t)more.algorithm, "a digest");
         if (which == CHECKSUM)
             require(stunp_check_fingerprint(out, length) == STUNP_RIGHT_FINGERPRINT,
                     "a FINGERPRINT");
@@ -490,12 +491,15 @@ static void write_texts(struct bytes m, uint8_t setting) {
     memset(keys, PATTERN, sizeof keys);
     memset(hash, PATTERN, sizeof hash);
     size_t half = m.length / 2, room = setting / 4;
-    int64_t length = named(stunp_long_term_key(algorithm, m.at, half, m.at + half, m.length - half,
+    const char *letters = (const char *)m.at;
+    int64_t length = named(stunp_long_term_key(algorithm, letters, half, letters + half,
+                                               m.length - half,
                                               TEXT("word"), keys[0], room));
     require(length < 0 || length == (algorithm == STUNP_SHA1 ? 16 : 32), "a key of another length");
     for (size_t i = length < 0 ? 0 : (size_t)length; i < sizeof hash; i++)
         require(keys[0][i] == PATTERN, "behind a key");
-    int64_t hashed = named(stunp_userhash(m.at, half, m.at + half, m.length - half, hash, room));
+    int64_t hashed = named(stunp_userhash(letters, half, letters + half, m.length - half, hash,
+                                          room));
     require(hashed < 0 || hashed == 32, "a hash of another length");
     for (size_t i = hashed < 0 ? 0 : 32; i < sizeof hash; i++)
         require(hash[i] == PATTERN, "behind a hash");
@@ -503,11 +507,11 @@ static void write_texts(struct bytes m, uint8_t setting) {
     fill_out();
     size_t space = STUNP_LONGEST_SIGNED - setting;
     int64_t built =
-        named(stunp_build_signed(algorithm, id, sizeof id, m.at, half, TEXT("key"), out, space));
+        named(stunp_build_signed(algorithm, id, sizeof id, letters, half, KEY("key"), out, space));
     require_rest(built < 0 ? 0 : (size_t)built, "behind a request");
     if (built > 0)
         require(built <= (int64_t)space
-                    && stunp_verify(out, (size_t)built, TEXT("key")) == (int64_t)algorithm,
+                    && stunp_verify(out, (size_t)built, KEY("key")) == (int64_t)algorithm,
                 "a request");
 }
 

@@ -22,7 +22,8 @@ mkdir -p "$corpus"
 # build COMPILER..: the driver over the archives. Those of the exported crate want threads too.
 build() {
     "$@" -std=c99 -D_DEFAULT_SOURCE -O1 -g -Wall -Wextra -Werror -I"$top/include" \
-        -I"$top/examples/c" $(inlined "$messages") "$top/tests/fuzz/fuzz.c" "$top/examples/c/heap.c" \
+        -I"$top/examples/c" $(inlined "$messages") "$top/tests/fuzz/fuzz.c" \
+        "$top/examples/c/heap.c" \
         "$state" "$messages" -lpthread -ldl -lm -o "$scratch/fuzz"
 }
 

@@ -10,7 +10,8 @@
 enum { MOST_ATTRIBUTES = 64, ROOM = 4096, BEHIND = 64, AMPLE = 256, MOST_ADDED = 2304 };
 enum { PATTERN = 0xa5, ID_AT = 8 };
 
-#define TEXT(letters) (const uint8_t *)(letters), sizeof(letters) - 1
+#define TEXT(letters) (letters), sizeof(letters) - 1
+#define KEY(letters) (const uint8_t *)(letters), sizeof(letters) - 1
 
 static void require(bool is_so, const char *what) {
     if (is_so) return;

@@ -1,16 +1,21 @@
-//! Memory by the three functions of the program (`include/stunp_state.h`) where it has them, and
-//! otherwise by malloc.
+//! Memory by the functions that the program passes (`stunp_set_memory`), or else by the three that
+//! it has (`include/stunp_state.h`), or else by malloc.
 //!
 //! The library refers to the three weakly. So a program links without them, and where it has them
 //! they are found, whether the program is linked before or after the library, and beside the shared
-//! library too. They are called only if all three are there, so that no block is given back to
-//! another allocator than it came from.
+//! library too. If only some of the three are there, nothing is allocated: by malloc the program
+//! would not notice that its functions are not called.
+//!
+//! What allocates is chosen once, before the first block, so that no block is given back to another
+//! allocator than it came from.
 //!
 //! Where there is no operating system there is no malloc, and the program must have the three.
 
 use alloc::alloc::{GlobalAlloc, Layout};
 use core::ffi::c_void;
+use core::mem;
 use core::ptr;
+use core::sync::atomic::{AtomicPtr, AtomicU8, Ordering};
 
 #[repr(C)]
 struct Allocation {
@@ -75,12 +80,7 @@ unsafe extern "C" {
 #[cfg(target_os = "none")]
 unsafe extern "C" {
     fn rattle_alloc(length: usize, alignment: usize) -> Allocation;
-    fn rattle_realloc(
-        at: *mut c_void,
-        kept: usize,
-        length: usize,
-        alignment: usize,
-    ) -> Allocation;
+    fn rattle_realloc(at: *mut c_void, kept: usize, length: usize, alignment: usize) -> Allocation;
     fn rattle_dealloc(at: *mut c_void);
 }
 
@@ -170,56 +170,172 @@ unsafe fn again_of_malloc(at: *mut u8, layout: Layout, length: usize) -> *mut u8
     }
 }
 
-/// The functions of the program, if it has all three.
+/// Nothing has been allocated, and nothing was passed.
+const UNDECIDED: u8 = 0;
+/// The three functions of the program.
+const OF_PROGRAM: u8 = 1;
+/// malloc.
+const OF_LIBC: u8 = 2;
+/// The functions that were passed.
+const PASSED: u8 = 3;
+/// Nothing: the program has only some of the three.
+const NOTHING: u8 = 4;
+
+/// What allocates.
+static CHOSEN: AtomicU8 = AtomicU8::new(UNDECIDED);
+
+/// The functions that were passed, in the order of `stunp_set_memory`.
+static ALLOCATE: AtomicPtr<c_void> = AtomicPtr::new(ptr::null_mut());
+static RESIZE: AtomicPtr<c_void> = AtomicPtr::new(ptr::null_mut());
+static RELEASE: AtomicPtr<c_void> = AtomicPtr::new(ptr::null_mut());
+
+type Allocate = unsafe extern "C" fn(usize) -> *mut c_void;
+type Resize = unsafe extern "C" fn(*mut c_void, usize) -> *mut c_void;
+type Release = unsafe extern "C" fn(*mut c_void);
+
+/// The alignment that the functions which are passed must keep.
+const PASSED_ALIGNMENT: usize = 16;
+
+/// Sets the functions that allocate, in place of malloc, realloc and free. Returns 0, or the number
+/// of an error of `include/stunp.h`: STUNP_BAD_ARGUMENT if one is null, STUNP_ALREADY_IN_PROGRESS
+/// if what allocates has been chosen.
+#[unsafe(no_mangle)]
+pub extern "C" fn stunp_set_memory(
+    allocate: Option<Allocate>,
+    resize: Option<Resize>,
+    release: Option<Release>,
+) -> i64 {
+    let (Some(allocate), Some(resize), Some(release)) = (allocate, resize, release) else {
+        return -7;
+    };
+    if CHOSEN.load(Ordering::Acquire) != UNDECIDED {
+        return -20;
+    }
+    ALLOCATE.store(allocate as *mut c_void, Ordering::Relaxed);
+    RESIZE.store(resize as *mut c_void, Ordering::Relaxed);
+    RELEASE.store(release as *mut c_void, Ordering::Relaxed);
+    CHOSEN.store(PASSED, Ordering::Release);
+    0
+}
+
+/// The functions of the program, each of which may be missing.
 #[allow(unused_unsafe)]
 fn functions() -> &'static Functions {
-    const NONE: &Functions = &Functions {
-        alloc: None,
-        realloc: None,
-        dealloc: None,
-    };
     // SAFETY: nothing writes the table after the program has begun.
-    let found = unsafe { &functions_of_program };
-    match found {
-        Functions {
-            alloc: Some(_),
-            realloc: Some(_),
-            dealloc: Some(_),
-        } => found,
-        _ => NONE,
+    unsafe { &functions_of_program }
+}
+
+/// What allocates, which the first block decides. Threads that come here at the same time find the
+/// same.
+fn chosen() -> u8 {
+    let chosen = CHOSEN.load(Ordering::Acquire);
+    if chosen != UNDECIDED {
+        return chosen;
+    }
+    let Functions {
+        alloc,
+        realloc,
+        dealloc,
+    } = functions();
+    let found = match (alloc, realloc, dealloc) {
+        (Some(_), Some(_), Some(_)) => OF_PROGRAM,
+        (None, None, None) => OF_LIBC,
+        _ => NOTHING,
+    };
+    CHOSEN.store(found, Ordering::Release);
+    found
+}
+
+/// A block of the functions that were passed, or null, with the block given back, where it is not
+/// aligned.
+unsafe fn aligned(at: *mut c_void) -> *mut u8 {
+    if at.addr() % PASSED_ALIGNMENT == 0 {
+        return at.cast();
+    }
+    // SAFETY: the block came of these functions, and nothing uses it.
+    unsafe { free_of_passed(at) };
+    ptr::null_mut()
+}
+
+unsafe fn alloc_of_passed(layout: Layout) -> *mut u8 {
+    // SAFETY: `stunp_set_memory` stored such a function. The length is not 0.
+    unsafe {
+        let allocate: Allocate = mem::transmute(ALLOCATE.load(Ordering::Relaxed));
+        aligned(allocate(layout.size()))
+    }
+}
+
+/// The same block with another length, or a block that is moved.
+unsafe fn realloc_of_passed(at: *mut u8, layout: Layout, length: usize) -> *mut u8 {
+    let Ok(wanted) = Layout::from_size_align(length, layout.align()) else {
+        return ptr::null_mut();
+    };
+    // SAFETY: `stunp_set_memory` stored such a function. The block came of these, and the length is
+    // not 0. Two blocks do not overlap.
+    unsafe {
+        let resize: Resize = mem::transmute(RESIZE.load(Ordering::Relaxed));
+        if layout.align() <= MALLOC_ALIGNMENT {
+            return resize(at.cast(), length).cast();
+        }
+        let to = alloc_of_passed(wanted);
+        if !to.is_null() {
+            ptr::copy_nonoverlapping(at, to, layout.size().min(length));
+            free_of_passed(at.cast());
+        }
+        to
+    }
+}
+
+unsafe fn free_of_passed(at: *mut c_void) {
+    // SAFETY: `stunp_set_memory` stored such a function, and the block came of these.
+    unsafe {
+        let release: Release = mem::transmute(RELEASE.load(Ordering::Relaxed));
+        release(at);
     }
 }
 
 struct Memory;
 
-// SAFETY: a block is as long and as aligned as was asked, until it is given back. The header asks
+// SAFETY: a block is as long and as aligned as was asked, until it is given back. The headers ask
 // that of the program's functions, and malloc keeps it. Each block goes back to where it came from,
-// since `functions` always returns the same. No layout that is asked for has a length of 0.
+// since `chosen` returns the same from the first block on. No layout that is asked for has a length
+// of 0.
 unsafe impl GlobalAlloc for Memory {
     unsafe fn alloc(&self, layout: Layout) -> *mut u8 {
-        match functions().alloc {
+        match (chosen(), functions().alloc) {
             // SAFETY: as above.
-            Some(alloc) => unsafe { alloc(layout.size(), layout.align()) }.pointer(),
-            None => unsafe { of_malloc(layout) },
+            (OF_PROGRAM, Some(alloc)) => unsafe { alloc(layout.size(), layout.align()) }.pointer(),
+            // SAFETY: as above.
+            (OF_LIBC, _) => unsafe { of_malloc(layout) },
+            // SAFETY: as above.
+            (PASSED, _) => unsafe { alloc_of_passed(layout) },
+            _ => ptr::null_mut(),
         }
     }
 
     unsafe fn realloc(&self, at: *mut u8, layout: Layout, length: usize) -> *mut u8 {
         let kept = layout.size().min(length);
-        match functions().realloc {
+        match (chosen(), functions().realloc) {
             // SAFETY: the block came of `alloc` or of this function.
-            Some(again) => unsafe { again(at.cast(), kept, length, layout.align()) }.pointer(),
+            (OF_PROGRAM, Some(again)) => {
+                unsafe { again(at.cast(), kept, length, layout.align()) }.pointer()
+            }
             // SAFETY: the same.
-            None => unsafe { again_of_malloc(at, layout, length) },
+            (OF_LIBC, _) => unsafe { again_of_malloc(at, layout, length) },
+            // SAFETY: the same.
+            (PASSED, _) => unsafe { realloc_of_passed(at, layout, length) },
+            _ => ptr::null_mut(),
         }
     }
 
     unsafe fn dealloc(&self, at: *mut u8, _layout: Layout) {
-        match functions().dealloc {
+        match (chosen(), functions().dealloc) {
             // SAFETY: the block came of `alloc` or of `realloc`.
-            Some(dealloc) => unsafe { dealloc(at.cast()) },
+            (OF_PROGRAM, Some(dealloc)) => unsafe { dealloc(at.cast()) },
             // SAFETY: the same.
-            None => unsafe { free(at.cast()) },
+            (PASSED, _) => unsafe { free_of_passed(at.cast()) },
+            // SAFETY: the same.
+            _ => unsafe { free(at.cast()) },
         }
     }
 }

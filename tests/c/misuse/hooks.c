@@ -1,0 +1,22 @@
+/* Two of the three functions of an allocator: nothing is allocated, where malloc would go
+ * unnoticed.
+ *
+ * harmless: an allocation failed
+ * named: stunp_set_memory: one of the three is null */
+#include "stunp_state.h"
+#include <stdio.h>
+#include <stdlib.h>
+
+rattle_allocation rattle_alloc(size_t length, size_t alignment) {
+    void *at = malloc(length);
+    (void)alignment;
+    return (rattle_allocation){at != NULL, at};
+}
+
+void rattle_dealloc(void *at) { free(at); }
+
+int main(void) {
+    stunp_client client = {0};
+    puts(stunp_strerror(stunp_client_new(&client)));
+    return 0;
+}

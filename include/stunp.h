@@ -63,7 +63,7 @@
  *   attributes, to find: stunp_find, stunp_walk, stunp_next
  *   attributes, to read at an offset: stunp_read_text, stunp_read_number, stunp_read_address,
  *    stunp_read_xor_address, stunp_read_types
- *   attributes, to read by type: stunp_find_text, stunp_find_number, stunp_find_address,
+ *   attributes, to read by type: stunp_find_text, stunp_find_value, stunp_find_number, stunp_find_address,
  *    stunp_find_xor_address, stunp_find_types, stunp_error_code, stunp_xor_mapped_address
  *   checks: stunp_verify, stunp_is_signed, stunp_check_fingerprint, stunp_has_right_fingerprint,
  *    stunp_unknown_types
@@ -72,10 +72,12 @@
  *   writing with a writer: stunp_writer_took, stunp_write_on, stunp_write, stunp_write_bytes,
  *    stunp_write_text, stunp_write_number, stunp_write_address, stunp_write_xor_address,
  *    stunp_write_error, stunp_write_integrity, stunp_write_fingerprint, stunp_written
- *   whole messages: stunp_build_signed, stunp_refuse_unknown
+ *   whole messages: stunp_build_signed, stunp_build_keepalive, stunp_refuse_unknown
  *   keys: stunp_short_term_key, stunp_long_term_key, stunp_userhash
  *   packets and streams: stunp_is_stun, stunp_next_frame, stunp_next_packet_frame,
  *    stunp_next_turn_frame
+ *   TURN: stunp_build_channel_data, stunp_read_channel_data, stunp_channel_number,
+ *    stunp_requested_transport, stunp_write_channel_number, stunp_write_requested_transport
  *   memory of the exported library: stunp_set_memory
  *   errors and versions: stunp_error_text, stunp_strerror, stunp_version, stunp_is_proved,
  *    stunp_release_0_2
@@ -676,6 +678,19 @@ int64_t stunp_read_types(const uint8_t *message, size_t length, size_t place, ui
 STUNP_INLINED int64_t stunp_find_text(const uint8_t *message, size_t length, uint32_t type,
                                       size_t *text_length);
 
+/* Finds the value of the first visible attribute of a type, whatever bytes it has.
+ *
+ *     size_t data_length;
+ *     const uint8_t *data = stunp_find_value(message, length, STUNP_DATA, &data_length);
+ *     if (data != NULL) use(data, data_length);
+ *
+ * Returns a pointer to the value in the message, and writes the length of the value to
+ * `*value_length`. If stunp_find fails, because no such attribute is visible or the bytes are not a
+ * message, returns null, and `*value_length` is unchanged. */
+STUNP_USE_RESULT STUNP_READS(1, 2) STUNP_NOT_NULL(4)
+STUNP_INLINED const uint8_t *stunp_find_value(const uint8_t *message, size_t length, uint32_t type,
+                                              size_t *value_length);
+
 /* Reads the number in the first visible attribute of a type (stunp_read_number).
  *
  * Returns the number of bytes that the value has, and writes the number. Compare the result with
@@ -1056,6 +1071,16 @@ int64_t stunp_build_signed(stunp_algorithm algorithm, const uint8_t *id, size_t 
                            const char *username, size_t username_length, const uint8_t *key,
                            size_t key_length, uint8_t *out, size_t out_length);
 
+/* Writes a keepalive of ICE: a Binding indication with FINGERPRINT and nothing else (RFC 8445,
+ * section 11), to the front of `out`. Send one over each pair in use if nothing else was sent for
+ * 15 seconds, so that NATs in between do not forget the path (stunp_keepalive of stunp_endpoint.h
+ * is the timer). It draws no answer. The transaction id must be random.
+ *
+ * Returns the length of the message, 28. Errors:
+ *   STUNP_BUFFER_TOO_SMALL  `out_length` is less than 28 */
+STUNP_USE_RESULT STUNP_NOT_NULL(1)
+STUNP_INLINED int64_t stunp_build_keepalive(const uint8_t id[12], uint8_t *out, size_t out_length);
+
 /* Writes the error response to a request that has unknown attributes (sections 6.3.1 and 14.13).
  *
  * If each type that must be understood is among `known`, the call writes nothing and returns 0.
@@ -1167,6 +1192,75 @@ int64_t stunp_next_packet_frame(const uint8_t *bytes, size_t length);
  *   STUNP_NOT_STUN  no message starts here, whatever bytes may follow */
 STUNP_USE_RESULT STUNP_READS(1, 2)
 int64_t stunp_next_turn_frame(const uint8_t *bytes, size_t length);
+
+/* ---- TURN (RFC 8656) */
+
+/* Writes data on a channel, ChannelData (RFC 8656, section 12.4), to the front of `out`: the number
+ * of the channel, the length of the data, and the data.
+ *
+ * Over TCP pass true for `is_padded`: then zero bytes follow, up to a multiple of 4 bytes (section
+ * 12.5). Over UDP there need be none. The channels of RFC 8656 are 0x4000 to 0x4FFF. Those up to
+ * 0x7FFF are written too, because a client of RFC 5766 may have bound one.
+ *
+ * Returns the number of bytes written: 4 and the length of the data, and up to 3 of padding.
+ * Errors:
+ *   STUNP_BAD_ARGUMENT      the channel is not from 0x4000 to 0x7FFF
+ *   STUNP_MESSAGE_TOO_LONG  there are more than 65535 bytes of data
+ *   STUNP_BUFFER_TOO_SMALL  the bytes do not fit into `out` */
+STUNP_USE_RESULT STUNP_READS(2, 3) STUNP_WRITES(5, 6)
+int64_t stunp_build_channel_data(uint32_t channel, const void *STUNP_RESTRICT data,
+                                 size_t data_length, bool is_padded, uint8_t *STUNP_RESTRICT out,
+                                 size_t out_length);
+
+/* Reads data on a channel, ChannelData (RFC 8656, section 12.4), from a datagram, or from what
+ * stunp_next_turn_frame has found in a stream.
+ *
+ *     uint16_t channel;
+ *     size_t data_length;
+ *     int64_t place = stunp_read_channel_data(bytes, length, &channel, &data_length);
+ *     if (place > 0) use(channel, bytes + place, data_length);
+ *
+ * What follows the data is ignored, because a sender may pad a datagram too.
+ *
+ * Returns the offset of the data, which is 4, and writes the number of the channel, 0x4000 to
+ * 0x7FFF, and the length of the data. Errors:
+ *   STUNP_TRUNCATED  there are fewer than 4 bytes
+ *   STUNP_NOT_STUN   the first byte is not from 0x40 to 0x7F: it is no ChannelData
+ *   STUNP_TRUNCATED  there are fewer bytes of data than stated */
+STUNP_USE_RESULT STUNP_READS(1, 2) STUNP_NOT_NULL(3, 4)
+int64_t stunp_read_channel_data(const uint8_t *bytes, size_t length, uint16_t *channel,
+                                size_t *data_length);
+
+/* Returns the channel in the first visible CHANNEL-NUMBER of a message (RFC 8656, section 18.1), a
+ * number from 0x4000 to 0x7FFF. RFC 8656 has those up to 0x4FFF alone.
+ *
+ * Errors:
+ *   STUNP_TRUNCATED, STUNP_NOT_STUN, STUNP_TOO_LARGE
+ *                              the bytes are not one whole message (stunp_parse)
+ *   STUNP_MISSING_ATTRIBUTE    no CHANNEL-NUMBER is visible
+ *   STUNP_MALFORMED_ATTRIBUTE  its value does not have 4 bytes, or is not a channel */
+STUNP_USE_RESULT STUNP_READS(1, 2)
+int64_t stunp_channel_number(const uint8_t *message, size_t length);
+
+/* Returns the number of the protocol in the first visible REQUESTED-TRANSPORT of a message (RFC
+ * 8656, section 18.8): 17 for UDP, and 6 for TCP (RFC 6062).
+ *
+ * Errors:
+ *   STUNP_TRUNCATED, STUNP_NOT_STUN, STUNP_TOO_LARGE
+ *                              the bytes are not one whole message (stunp_parse)
+ *   STUNP_MISSING_ATTRIBUTE    no REQUESTED-TRANSPORT is visible
+ *   STUNP_MALFORMED_ATTRIBUTE  its value does not have 4 bytes */
+STUNP_USE_RESULT STUNP_READS(1, 2)
+int64_t stunp_requested_transport(const uint8_t *message, size_t length);
+
+/* Appends CHANNEL-NUMBER, with the number of a channel in its first 2 bytes. RFC 8656 has the
+ * channels 0x4000 to 0x4FFF (section 12). For a request of a client see
+ * stunp_body_add_channel_number. */
+STUNP_INLINED void stunp_write_channel_number(stunp_writer *writer, uint16_t channel);
+
+/* Appends REQUESTED-TRANSPORT, with the number of a protocol in its first byte: 17 for UDP. For a
+ * request of a client see stunp_body_add_requested_transport. */
+STUNP_INLINED void stunp_write_requested_transport(stunp_writer *writer, uint8_t protocol);
 
 /* ---- Memory of the exported library */
 

@@ -379,6 +379,8 @@ class message {
         return result<address>(octets, out);
     }
     result<> error_code() const { return ask(stunp_error_code, bytes_); }
+    result<> channel_number() const { return ask(stunp_channel_number, bytes_); }
+    result<> requested_transport() const { return ask(stunp_requested_transport, bytes_); }
     bool has_right_fingerprint() const { return call(stunp_has_right_fingerprint, bytes_); }
     verdict verify(view key) const { return verdict(call(stunp_verify, bytes_, key)); }
 
@@ -397,6 +399,28 @@ class message {
     iterator begin() const { return ++iterator{bytes_}; }
     std::nullptr_t end() const { return nullptr; }
 };
+
+// ---- Data on a channel of TURN (RFC 8656, section 12.4)
+
+// ChannelData that was read. It does not own its data.
+struct channel_data { uint16_t channel; view data; };
+
+// Writes data on a channel, over TCP with its padding (stunp_build_channel_data).
+inline result<bytes> build_channel_data(uint32_t channel, view data, bool is_padded = false) {
+    bytes item(4 + (data.size() + 3) / 4 * 4);
+    int64_t length = call(stunp_build_channel_data, channel, data, is_padded, item.data(),
+                          item.size());
+    item.resize(length < 0 ? 0 : size_t(length));
+    return result<bytes>(length, std::move(item));
+}
+
+// Reads data on a channel from a datagram, or from what stunp_next_turn_frame has found.
+inline result<channel_data> read_channel_data(view item) {
+    uint16_t channel = 0;
+    size_t length = 0;
+    int64_t at = call(stunp_read_channel_data, item, &channel, &length);
+    return result<channel_data>(at, {channel, {item.data() + (at < 0 ? 0 : at), length}});
+}
 
 // ---- Servers that keep nothing about their clients, and clients (stunp_endpoint.h)
 
@@ -585,12 +609,24 @@ class body {
         return stunp_body_add_number(&added_, type, number, size), *this;
     }
     body &add_peer(const address &peer) & { return stunp_body_add_peer(&added_, &peer), *this; }
+    body &add_requested_transport(uint8_t protocol) & {
+        return stunp_body_add_requested_transport(&added_, protocol), *this;
+    }
+    body &add_channel_number(uint32_t channel) & {
+        return stunp_body_add_channel_number(&added_, channel), *this;
+    }
     // The same of a temporary, which stays one.
     body &&add(uint32_t type, view value) && { return std::move(add(type, value)); }
     body &&add_number(uint32_t type, uint64_t number, size_t size) && {
         return std::move(add_number(type, number, size));
     }
     body &&add_peer(const address &peer) && { return std::move(add_peer(peer)); }
+    body &&add_requested_transport(uint8_t protocol) && {
+        return std::move(add_requested_transport(protocol));
+    }
+    body &&add_channel_number(uint32_t channel) && {
+        return std::move(add_channel_number(channel));
+    }
     const stunp_body *get() const { return &added_; }
 };
 

@@ -18,7 +18,8 @@
  * a check of the peer, or returns how a check of yours ended.
  *
  * No call performs I/O. You own the sockets, the clock, the threads and the random numbers.
- * stunp_sockaddr.h converts the addresses of sockets from and to stunp_address.
+ * stunp_sockaddr.h converts the addresses of sockets from and to stunp_address, and stunp_log.h
+ * describes a datagram in one line of text.
  * Sections without an RFC are those of RFC 8489, and in what is about ICE those of RFC 8445.
  *
  *
@@ -233,7 +234,7 @@
  * socket for all requests of a TURN allocation. Read the response in `bytes` with the calls of
  * stunp.h before you poll again: stunp_find_xor_address with STUNP_XOR_RELAYED_ADDRESS, and
  * stunp_find_number with STUNP_LIFETIME, which is in seconds. The client does not refresh the
- * allocation: start a STUNP_REFRESH request before its lifetime ends.
+ * allocation: start a STUNP_REFRESH request before its lifetime ends (stunp_keepalive_before).
  *
  * STUNP_LONGEST_MESSAGE bytes are room for any message. Fewer are enough if neither your requests
  * nor the datagrams that you pass to the client are longer.
@@ -259,11 +260,15 @@
  *   clients: stunp_endpoint_client_new_with, stunp_endpoint_client_new, stunp_endpoint_client_clear,
  *    stunp_endpoint_client_free
  *   clients, requests: stunp_body_on, stunp_body_put, stunp_body_add, stunp_body_add_number,
- *    stunp_body_add_peer, stunp_endpoint_client_request_with, stunp_endpoint_client_request,
+ *    stunp_body_add_peer, stunp_body_add_requested_transport, stunp_body_add_channel_number,
+ *    stunp_body_add_requested_family, stunp_endpoint_client_request_with,
+ *    stunp_endpoint_client_request,
  *    stunp_endpoint_client_receive_with, stunp_endpoint_client_receive,
  *    stunp_endpoint_client_poll_with, stunp_endpoint_client_poll, stunp_poll_timeout,
  *    stunp_endpoint_client_cancel, stunp_endpoint_client_try_cancel, stunp_endpoint_client_dropped,
  *    stunp_result_text
+ *   keepalives: stunp_keepalive_every, stunp_keepalive_before, stunp_keepalive_is_due,
+ *    stunp_keepalive_until
  *   versions: stunp_endpoint_version, stunp_endpoint_release_0_2
  *
  *
@@ -320,11 +325,30 @@ extern "C" {
 
 /* ---- Types */
 
-/* The handles. The fields are not yours to write. A copy of a handle is the same handle: once one
- * of them was freed, do not use or free the others, because no call notices that. */
+/* A handle of a server: its settings, which never change. Begin it with {0};
+ * stunp_endpoint_server_new fills it, and stunp_endpoint_server_free empties it. Any number of
+ * threads may pass it as const at the same time. The fields are not yours to write. A copy of a
+ * handle is the same handle: once one of them was freed, do not use or free the others, because no
+ * call notices that. */
 typedef struct stunp_endpoint_server { bool is_full; void *state; } stunp_endpoint_server;
+
+/* A handle of a table of users, which was made for a server. Begin it with {0};
+ * stunp_endpoint_users_new fills it, and stunp_endpoint_users_free empties it. Many threads may
+ * pass it as const at the same time, or one thread may change it. The fields are not yours to
+ * write. A copy of a handle is the same handle: once one of them was freed, do not use or free the
+ * others, because no call notices that. */
 typedef struct stunp_endpoint_users { bool is_full; void *state; } stunp_endpoint_users;
+
+/* A handle of an agent of ICE, which writes connectivity checks and judges those of one peer. Begin
+ * it with {0}; stunp_ice_checker_new fills it, and stunp_ice_checker_free empties it. One thread at
+ * a time uses it. The fields are not yours to write. A copy of a handle is the same handle: once
+ * one of them was freed, do not use or free the others, because no call notices that. */
 typedef struct stunp_ice_checker { bool is_full; void *state; } stunp_ice_checker;
+
+/* A handle of a client of one server, with its outstanding requests. Begin it with {0};
+ * stunp_endpoint_client_new fills it, and stunp_endpoint_client_free empties it. One thread at a
+ * time uses it. The fields are not yours to write. A copy of a handle is the same handle: once one
+ * of them was freed, do not use or free the others, because no call notices that. */
 typedef struct stunp_endpoint_client { bool is_full; void *state; } stunp_endpoint_client;
 
 /* Sets the size with which a struct of this header begins, and all else to 0. Use it in
@@ -971,6 +995,11 @@ stunp_endpoint_server_identify(const stunp_endpoint_server *server,
  * The other arguments are those of stunp_endpoint_server_identify, with the time at which the
  * datagram arrived. It is stunp_endpoint_server_receive with a table of this one user.
  *
+ * It prepares the keys of the user each time. If a user sends many requests, as a TURN client does,
+ * keep the table that stunp_endpoint_users_new_found makes, and pass it to
+ * stunp_endpoint_server_receive in place of this call, until the password changes or the account
+ * ends.
+ *
  * Returns a stunp_kind. Errors:
  *   STUNP_BAD_ARGUMENT   `found->size` is wrong, its name is null, its password is empty, or it has
  *                        neither a password nor a key
@@ -1173,11 +1202,8 @@ STUNP_INLINED int64_t stunp_ice_checker_receive(stunp_ice_checker *checker,
 
 /* ---- Clients
  *
- * A client has one server, and any number of requests at the same time. Call
- * stunp_endpoint_client_poll after each request, receive and cancel and when a wait is over, and
- * repeat it until it returns STUNP_WAIT. Otherwise requests are not sent, and you do not learn how
- * they ended. Use a client in one thread at a time. Times are nanoseconds of a clock that never
- * goes back, such as CLOCK_MONOTONIC. */
+ * A client has one server, and any number of requests at the same time. Use it in one thread at a
+ * time. */
 
 /* The longest body of a request, in bytes. What a client adds to it fits into a message, unless the
  * server's list of algorithms is very long. stunp_endpoint_client_request then fails with
@@ -1360,7 +1386,7 @@ typedef struct {
  *
  *     uint8_t room[64];
  *     stunp_body body = stunp_body_on(room, sizeof room);
- *     stunp_body_add_number(&body, STUNP_REQUESTED_TRANSPORT, 17u << 24, 4);
+ *     stunp_body_add_requested_transport(&body, 17); // UDP
  *     stunp_body_add_number(&body, STUNP_LIFETIME, 600, 4);
  *     int64_t asked = stunp_endpoint_client_request(&client, STUNP_ALLOCATE, &body, now, &request); */
 typedef struct {
@@ -1413,6 +1439,8 @@ void stunp_endpoint_client_clear(stunp_endpoint_client *client);
  * null. */
 STUNP_INLINED void stunp_endpoint_client_free(stunp_endpoint_client *client);
 
+/* ---- Bodies of requests */
+
 /* Returns a body without attributes, in a buffer of `room` bytes. */
 STUNP_INLINED stunp_body stunp_body_on(uint8_t *bytes, size_t room);
 
@@ -1451,6 +1479,35 @@ STUNP_INLINED int64_t stunp_body_add_number(stunp_body *body, uint32_t type, uin
  *   STUNP_BAD_ARGUMENT  it is not an IPv4 or IPv6 address
  * and then those of stunp_body_add. */
 STUNP_INLINED int64_t stunp_body_add_peer(stunp_body *body, const stunp_address *peer);
+
+/* Adds STUNP_REQUESTED_TRANSPORT with the number of a protocol (RFC 8656, section 18.8), like
+ * stunp_body_add: 17 for UDP, which each STUNP_ALLOCATE request asks for.
+ *
+ * Returns 0, or the first error of any call with this body. Errors: those of stunp_body_add. */
+STUNP_INLINED int64_t stunp_body_add_requested_transport(stunp_body *body, uint8_t protocol);
+
+/* Adds STUNP_CHANNEL_NUMBER with this channel (RFC 8656, section 18.1), like stunp_body_add. A
+ * STUNP_CHANNEL_BIND request also has the address of the peer (stunp_body_add_peer).
+ *
+ * Returns 0, or the first error of any call with this body. Errors:
+ *   STUNP_BAD_ARGUMENT  the channel is not from 0x4000 to 0x4FFF
+ * and then those of stunp_body_add. */
+STUNP_INLINED int64_t stunp_body_add_channel_number(stunp_body *body, uint32_t channel);
+
+/* Adds STUNP_REQUESTED_ADDRESS_FAMILY (RFC 8656, section 18.6), like stunp_body_add.
+ * `address_length` is that of an address of the family, as in stunp_address: 4 for IPv4, and 16 for
+ * IPv6. Without this attribute a server allocates an IPv4 address.
+ *
+ * Returns 0, or the first error of any call with this body. Errors:
+ *   STUNP_BAD_ARGUMENT  `address_length` is neither 4 nor 16
+ * and then those of stunp_body_add. */
+STUNP_INLINED int64_t stunp_body_add_requested_family(stunp_body *body, size_t address_length);
+
+/* ---- Requests of a client
+ *
+ * Call stunp_endpoint_client_poll after each request, receive and cancel and when a wait is over,
+ * and repeat it until it returns STUNP_WAIT. Otherwise requests are not sent, and you do not learn
+ * how they ended. Times are nanoseconds of a clock that never goes back, such as CLOCK_MONOTONIC. */
 
 /* Starts a request, like stunp_endpoint_client_request. `body` has the attributes one after the other,
  * each with its header and padded to a multiple of 4 bytes, as in a message; but the addresses of
@@ -1587,6 +1644,50 @@ int64_t stunp_endpoint_client_dropped(stunp_endpoint_client *client, uint64_t re
 
 /* Returns a text for a stunp_result, as stunp_strerror does for an error. */
 STUNP_INLINED const char *stunp_result_text(stunp_result result);
+
+/* ---- Keepalives
+ *
+ * An allocation, a permission, a channel and the path through a NAT end unless something is sent in
+ * time. A stunp_keepalive says when. It sends nothing, and is plain data. Times are nanoseconds of
+ * the clock that you pass to a client.
+ *
+ *     // After a STUNP_ALLOCATE or STUNP_REFRESH request has succeeded with this lifetime:
+ *     stunp_keepalive refresh = stunp_keepalive_before(lifetime, now);
+ *     // In the loop: a request that ends the wait at the right time, and starts the next one.
+ *     if (stunp_keepalive_is_due(&refresh, now))
+ *         stunp_endpoint_client_request(&client, STUNP_REFRESH, &body, now, &request);
+ *     event.until = stunp_keepalive_until(&refresh, event.until); // before stunp_poll_timeout */
+
+/* When something is to be sent again. You may read the fields, and set `next`.
+ *
+ *   every  the time from one to the next, in nanoseconds; 0 of one that never is due
+ *   next   when it is due, in nanoseconds of your clock; UINT64_MAX of one that never is due */
+typedef struct {
+    uint64_t every;
+    uint64_t next;
+} stunp_keepalive;
+
+/* Returns a keepalive that is due `every` nanoseconds from now on, and then again and again after
+ * that time. 0 nanoseconds mean never.
+ *
+ * Values of the RFCs: 15 seconds for a pair of ICE (RFC 8445, section 11) and for other paths
+ * through a NAT; 240 of the 300 seconds of a permission of TURN, and 540 of the 600 seconds of a
+ * channel (RFC 8656, sections 9 and 12). */
+STUNP_INLINED stunp_keepalive stunp_keepalive_every(uint64_t every, uint64_t now);
+
+/* Returns a keepalive for what lasts `lifetime` seconds from now on, such as an allocation of TURN:
+ * it is due a minute before the end (RFC 8656, section 8), or after half of the lifetime if that is
+ * less than two minutes. A lifetime of 0 means never. */
+STUNP_INLINED stunp_keepalive stunp_keepalive_before(uint64_t lifetime, uint64_t now);
+
+/* Returns whether a keepalive is due. If it is, sets the time at which it is due next: `every`
+ * nanoseconds from now on, so one that was not looked at for long is due once. */
+STUNP_USE_RESULT STUNP_NOT_NULL(1)
+STUNP_INLINED bool stunp_keepalive_is_due(stunp_keepalive *keepalive, uint64_t now);
+
+/* Returns the earlier of `until` and the time at which a keepalive is due: for how long to wait. */
+STUNP_USE_RESULT STUNP_NOT_NULL(1)
+STUNP_INLINED uint64_t stunp_keepalive_until(const stunp_keepalive *keepalive, uint64_t until);
 
 /* ---- Versions */
 

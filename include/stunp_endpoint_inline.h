@@ -385,6 +385,23 @@ STUNP_INLINED int64_t stunp_body_add_peer(stunp_body *body, const stunp_address 
     return stunp_body_put(body, STUNP_XOR_PEER_ADDRESS, value, peer->length == 4 ? 8 : 20);
 }
 
+STUNP_INLINED int64_t stunp_body_add_requested_transport(stunp_body *body, uint8_t protocol) {
+    return stunp_body_add_number(body, STUNP_REQUESTED_TRANSPORT, (uint64_t)protocol << 24, 4);
+}
+
+STUNP_INLINED int64_t stunp_body_add_channel_number(stunp_body *body, uint32_t channel) {
+    if (body->refusal == 0 && (channel < 0x4000 || channel > 0x4fff))
+        body->refusal = STUNP_BAD_ARGUMENT;
+    return stunp_body_add_number(body, STUNP_CHANNEL_NUMBER, (uint64_t)channel << 16, 4);
+}
+
+STUNP_INLINED int64_t stunp_body_add_requested_family(stunp_body *body, size_t address_length) {
+    uint64_t family = address_length == 4 ? 1 : 2;
+    if (body->refusal == 0 && address_length != 4 && address_length != 16)
+        body->refusal = STUNP_BAD_ARGUMENT;
+    return stunp_body_add_number(body, STUNP_REQUESTED_ADDRESS_FAMILY, family << 24, 4);
+}
+
 STUNP_INLINED int64_t stunp_endpoint_client_request(stunp_endpoint_client *client, uint32_t method,
                                                     const stunp_body *body, uint64_t now,
                                                     uint64_t *request) {
@@ -439,6 +456,31 @@ STUNP_INLINED const char *stunp_result_text(stunp_result result) {
     case STUNP_RESULT_CANCELLED: return "cancelled";
     default: return "the request has not ended";
     }
+}
+
+STUNP_INLINED stunp_keepalive stunp_keepalive_every(uint64_t every, uint64_t now) {
+    stunp_keepalive keepalive;
+    keepalive.every = every;
+    keepalive.next = every == 0 || every > UINT64_MAX - now ? UINT64_MAX : now + every;
+    return keepalive;
+}
+
+STUNP_INLINED stunp_keepalive stunp_keepalive_before(uint64_t lifetime, uint64_t now) {
+    const uint64_t half = 500000000, whole = 1000000000;
+    if (lifetime < 120) return stunp_keepalive_every(lifetime * half, now);
+    if (lifetime > UINT64_MAX / whole) return stunp_keepalive_every(UINT64_MAX, now);
+    return stunp_keepalive_every((lifetime - 60) * whole, now);
+}
+
+STUNP_INLINED bool stunp_keepalive_is_due(stunp_keepalive *keepalive, uint64_t now) {
+    if (keepalive->every == 0 || keepalive->next == UINT64_MAX || now < keepalive->next)
+        return false;
+    *keepalive = stunp_keepalive_every(keepalive->every, now);
+    return true;
+}
+
+STUNP_INLINED uint64_t stunp_keepalive_until(const stunp_keepalive *keepalive, uint64_t until) {
+    return keepalive->every != 0 && keepalive->next < until ? keepalive->next : until;
 }
 
 #endif

@@ -13,6 +13,12 @@ STUNP_INLINED int64_t stunp_find_text(const uint8_t *message, size_t length, uin
     return text < 0 ? text : place;
 }
 
+STUNP_INLINED const uint8_t *stunp_find_value(const uint8_t *message, size_t length, uint32_t type,
+                                              size_t *value_length) {
+    int64_t place = stunp_find(message, length, type, value_length);
+    return place < 0 ? NULL : message + place + STUNP_ATTRIBUTE_HEADER_LENGTH;
+}
+
 STUNP_INLINED int64_t stunp_find_number(const uint8_t *message, size_t length, uint32_t type,
                                         uint64_t *number) {
     size_t value_length;
@@ -127,6 +133,21 @@ STUNP_INLINED int64_t stunp_written(const stunp_writer *writer) { return writer-
 
 STUNP_INLINED const uint8_t *stunp_short_term_key(const char *password) {
     return (const uint8_t *)password;
+}
+
+STUNP_INLINED int64_t stunp_build_keepalive(const uint8_t id[12], uint8_t *out, size_t out_length) {
+    if (out_length < STUNP_HEADER_LENGTH + STUNP_FINGERPRINT_LENGTH) return STUNP_BUFFER_TOO_SMALL;
+    stunp_writer writer = stunp_write(STUNP_INDICATION, STUNP_BINDING, id, out, out_length);
+    stunp_write_fingerprint(&writer);
+    return writer.refusal < 0 ? writer.refusal : (int64_t)writer.length;
+}
+
+STUNP_INLINED void stunp_write_channel_number(stunp_writer *writer, uint16_t channel) {
+    stunp_write_number(writer, STUNP_CHANNEL_NUMBER, (uint64_t)channel << 16, 4);
+}
+
+STUNP_INLINED void stunp_write_requested_transport(stunp_writer *writer, uint8_t protocol) {
+    stunp_write_number(writer, STUNP_REQUESTED_TRANSPORT, (uint64_t)protocol << 24, 4);
 }
 
 STUNP_INLINED const char *stunp_strerror(int64_t answer) {

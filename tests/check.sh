@@ -54,7 +54,7 @@ bodies=$(inlined "$STUN_C")
 strict="$strict $bodies"
 has_plus=''
 if there "${CXX-}" c++; then has_plus=yes; fi
-for header in stunp stunp_state stunp_endpoint; do
+for header in stunp stunp_state stunp_endpoint stunp_log; do
     alone="$strict -fsyntax-only -include ../include/$header.h"
     $cc -std=c99 $alone -x c /dev/null
     [ -z "$has_plus" ] || $plus -std=c++17 $alone -x c++ /dev/null
@@ -88,7 +88,7 @@ python3 play.py "$scratch/play" transcripts/*.txt $endpoints/look-ups.*.txt \
 sed -n 's/^ \*     //p; /\*\/$/q' ../include/stunp.h >"$scratch/answer.h"
 sed -n 's/^ \*     //p; /\*\/$/q' ../include/stunp_state.h >"$scratch/ask.h"
 sed -n 's/^ \*     //p; /\*\/$/q' ../include/stunp_endpoint.h >"$scratch/serve.h"
-for name in arguments attributes extra sockaddr; do
+for name in arguments attributes extra log sockaddr; do
     $cc $c99 c/$name.c $messages -o "$scratch/$name"
     passes $name "$scratch/$name"
 done
@@ -99,7 +99,7 @@ for name in agents client endpoint handles hostile ice many users worked; do
 done
 if [ -n "$has_plus" ]; then
     $plus $plus17 -fsyntax-only -x c++ "$scratch/serve.h"
-    for name in arguments attributes extra sockaddr; do
+    for name in arguments attributes extra log sockaddr; do
         $plus $plus17 -x c++ c/$name.c -x none $messages -o "$scratch/$name"
         passes $name "$scratch/$name"
     done

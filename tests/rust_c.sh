@@ -82,7 +82,7 @@ expect() {
 }
 strict='-std=c99 -O1 -g -Wall -Wextra -Wpedantic -Werror -Iinclude -Iexamples/c -D_DEFAULT_SOURCE'
 libraries=''
-for name in arguments attributes extra sockaddr; do
+for name in arguments attributes extra log sockaddr; do
     ${CC:-cc} $strict tests/c/$name.c "$out/libstunp.a" $libraries -o "$out/$name"
     ${CC:-cc} $strict tests/c/$name.c -L"$out" -lstunp "-Wl,-rpath,$out" -o "$out/$name-shared"
     expect "$name: passed" "$out/$name"

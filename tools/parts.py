@@ -37,8 +37,9 @@ EXPORT = ("tools/export", "tools/rust.sh", "rust/Cargo.toml", "rust/capi/Cargo.t
           "rust/checks/Cargo.toml")
 # Calls for C that are proved, each with all crates below it, and what they are tested with.
 C_CRATES = ("crate stun_c", "crate stun_state", "crate stun_c_endpoint", "tools/archives.sh")
-HEADERS = (*(f"include/{name}.h" for name in ("stunp", "stunp_endpoint", "stunp_sockaddr",
-                                              "stunp_state")), "examples/c")
+HEADERS = (*(f"include/{name}.h" for name in ("stunp", "stunp_endpoint", "stunp_endpoint_inline",
+                                              "stunp_inline", "stunp_log", "stunp_sockaddr",
+                                              "stunp_state", "stunp_state_inline")), "examples/c")
 PARTS = {
     # What needs no proof.
     "rooms": (), "printed": (), "names": (), "lines": (), "links": (), "version": (),

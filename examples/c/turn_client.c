@@ -15,7 +15,7 @@
 #include <stdio.h>
 #include <string.h>
 
-enum { CHANNEL = 0x4000, CHANNEL_HEADER = 4, MOST_MEMORY = 1 << 20 };
+enum { CHANNEL = 0x4000, MOST_MEMORY = 1 << 20 };
 
 static const uint64_t REPEAT = SECOND / 2; /* data that does not come back is sent again */
 
@@ -51,30 +51,28 @@ static bool is_indication(const stunp_address *peer, const char *text, const str
     stunp_header header;
     stunp_address from;
     size_t length;
-    int64_t at = stunp_find_text(got->bytes, got->length, STUNP_DATA, &length);
+    const uint8_t *data = stunp_find_value(got->bytes, got->length, STUNP_DATA, &length);
     return stunp_read_header(got->bytes, got->length, &header) == 0
            && header.message_class == STUNP_INDICATION && header.method == STUNP_DATA_METHOD
            && find_address(got, STUNP_XOR_PEER_ADDRESS, &from) && is_same(&from, peer)
-           && at > 0 && length == strlen(text) && memcmp(got->bytes + at + 4, text, length) == 0;
+           && data != NULL && length == strlen(text) && memcmp(data, text, length) == 0;
 }
 
-/* Writes ChannelData (section 12.4): the number of the channel, a length, and the data. It is not a
- * STUN message, but is sent and compared like one. */
+/* ChannelData (section 12.4) is not a STUN message, but is sent like one. */
 static stunp_writer write_on_channel(const stunp_address *peer, const char *text, uint8_t *bytes) {
-    size_t length = strlen(text);
-    const uint8_t header[CHANNEL_HEADER] = {CHANNEL >> 8, CHANNEL & 255, length >> 8 & 255,
-                                            length & 255};
     (void)peer;
-    memcpy(bytes, header, sizeof header);
-    memcpy(bytes + CHANNEL_HEADER, text, length);
-    return stunp_write_on((int64_t)(CHANNEL_HEADER + length), bytes, MOST_BYTES);
+    return stunp_write_on(
+        stunp_build_channel_data(CHANNEL, text, strlen(text), false, bytes, MOST_BYTES), bytes,
+        MOST_BYTES);
 }
 
 static bool is_on_channel(const stunp_address *peer, const char *text, const struct datagram *got) {
-    uint8_t bytes[MOST_BYTES];
-    stunp_writer wanted = write_on_channel(peer, text, bytes);
-    return got->length >= wanted.length /* padding may follow */
-           && memcmp(got->bytes, bytes, wanted.length) == 0;
+    uint16_t channel;
+    size_t length;
+    int64_t place = stunp_read_channel_data(got->bytes, got->length, &channel, &length);
+    (void)peer;
+    return place > 0 && channel == CHANNEL && length == strlen(text)
+           && memcmp(got->bytes + place, text, length) == 0;
 }
 
 /* Sends data to the peer until it comes back. */
@@ -104,15 +102,15 @@ static bool transact(struct asker *asker, const char *step, uint32_t method, con
     return ask(asker, method, body, got) || fails(step, asker->why);
 }
 
-/* The relayed address is of IPv4 unless a family is asked for; the number of IPv6 is 2. */
+/* The relayed address is of the peer's family. */
 static bool allocate(struct asker *asker, const stunp_address *peer) {
     uint8_t room[32];
     stunp_body body = stunp_body_on(room, sizeof room);
     struct datagram got;
     stunp_address relayed;
     uint64_t seconds;
-    stunp_body_add_number(&body, STUNP_REQUESTED_TRANSPORT, IPPROTO_UDP << 24, 4);
-    if (peer->length == 16) stunp_body_add_number(&body, STUNP_REQUESTED_ADDRESS_FAMILY, 2 << 24, 4);
+    stunp_body_add_requested_transport(&body, IPPROTO_UDP);
+    if (peer->length == 16) stunp_body_add_requested_family(&body, peer->length);
     if (!transact(asker, "Allocate", STUNP_ALLOCATE, &body, &got)) return false;
     if (!find_address(&got, STUNP_XOR_RELAYED_ADDRESS, &relayed)
         || stunp_find_number(got.bytes, got.length, STUNP_LIFETIME, &seconds) != 4)
@@ -127,7 +125,7 @@ static bool run(struct asker *asker, const stunp_address *peer) {
                end = stunp_body_on(rooms[2], 32);
     struct datagram got;
     stunp_body_add_peer(&permission, peer);
-    stunp_body_add_number(&channel, STUNP_CHANNEL_NUMBER, CHANNEL << 16, 4);
+    stunp_body_add_channel_number(&channel, CHANNEL);
     stunp_body_add_peer(&channel, peer);
     stunp_body_add_number(&end, STUNP_LIFETIME, 0, 4);
     if (!allocate(asker, peer)) return false;

@@ -600,6 +600,69 @@ static void memory(void) {
     }
 }
 
+/* The attributes of TURN whose numbers are not in all of their four bytes (RFC 8656, section 18). */
+static void turn_bodies(void) {
+    static const uint8_t wanted[] = {0x00, 0x19, 0, 4, 17, 0, 0, 0, 0x00, 0x0c, 0, 4,
+                                     0x4f, 0xff, 0, 0, 0x00, 0x17, 0, 4, 2, 0, 0, 0,
+                                     0x00, 0x17, 0, 4, 1, 0, 0, 0};
+    uint8_t bytes[64];
+    stunp_body body = stunp_body_on(bytes, sizeof bytes);
+    want("transport", stunp_body_add_requested_transport(&body, 17), 0);
+    want("channel", stunp_body_add_channel_number(&body, 0x4fff), 0);
+    want("family", stunp_body_add_requested_family(&body, 16), 0);
+    want("family", stunp_body_add_requested_family(&body, 4), 0);
+    want("length", (int64_t)body.length, sizeof wanted);
+    want_same("bytes", bytes, wanted, sizeof wanted);
+    want("family", stunp_body_add_requested_family(&body, 6), STUNP_BAD_ARGUMENT);
+    want("for ever", stunp_body_add_requested_transport(&body, 17), STUNP_BAD_ARGUMENT);
+    for (uint32_t channel = 0x3fff; channel <= 0x5000; channel += 0x1001) {
+        body = stunp_body_on(bytes, sizeof bytes);
+        want("channel", stunp_body_add_channel_number(&body, channel), STUNP_BAD_ARGUMENT);
+        want("nothing", (int64_t)body.length, 0);
+    }
+    body = stunp_body_on(bytes, 7);
+    want("small", stunp_body_add_channel_number(&body, 0x4000), STUNP_BUFFER_TOO_SMALL);
+}
+
+/* A keepalive is due at its time, once however late it is asked, and never if it is none. */
+static void keepalives(void) {
+    const uint64_t second = 1000 * MILLISECOND;
+    stunp_keepalive every = stunp_keepalive_every(15 * second, 100);
+    want("first", every.next == 15 * second + 100, true);
+    want("before", stunp_keepalive_is_due(&every, 15 * second + 99), false);
+    want("until", stunp_keepalive_until(&every, UINT64_MAX) == every.next, true);
+    want("until", stunp_keepalive_until(&every, 7) == 7, true);
+    want("at", stunp_keepalive_is_due(&every, 15 * second + 100), true);
+    want("once", stunp_keepalive_is_due(&every, 15 * second + 100), false);
+    want("late", stunp_keepalive_is_due(&every, 1000 * second), true);
+    want("once", stunp_keepalive_is_due(&every, 1000 * second), false);
+    want("next", every.next == 1015 * second, true);
+    every.next = 1001 * second;
+    want("set", stunp_keepalive_is_due(&every, 1001 * second), true);
+    static const uint64_t lifetimes[][2] = {{600, 540}, {3600, 3540}, {120, 60}};
+    for (size_t i = 0; i < COUNT(lifetimes); i++)
+        want("before", stunp_keepalive_before(lifetimes[i][0], 5).next
+                       == 5 + lifetimes[i][1] * second, true);
+    want("half", stunp_keepalive_before(119, 0).next == 59500 * MILLISECOND, true);
+    want("half", stunp_keepalive_before(1, 0).next == 500 * MILLISECOND, true);
+    stunp_keepalive never[] = {stunp_keepalive_every(0, 9), stunp_keepalive_before(0, 9),
+                               stunp_keepalive_before(UINT64_MAX, 9),
+                               stunp_keepalive_every(UINT64_MAX, 9)};
+    for (size_t i = 0; i < COUNT(never); i++) {
+        want("never", stunp_keepalive_is_due(&never[i], UINT64_MAX - 1), false);
+        want("never", stunp_keepalive_until(&never[i], 12345) == 12345, true);
+    }
+    uint8_t bytes[28], copy[28] = {0};
+    memset(bytes, 0, sizeof bytes);
+    want("small", stunp_build_keepalive(seed, bytes, 27), STUNP_BUFFER_TOO_SMALL);
+    want_same("nothing", bytes, copy, sizeof bytes);
+    want("keepalive", stunp_build_keepalive(seed, bytes, 28), 28);
+    want("class", stunp_class(bytes, 28), STUNP_INDICATION);
+    want("method", stunp_method(bytes, 28), STUNP_BINDING);
+    want("fingerprint", stunp_has_right_fingerprint(bytes, 28), true);
+    want_same("id", bytes + 8, seed, 12);
+}
+
 /* The worked example of the header, against a peer at the other end of a pair of sockets. */
 static void worked(void) {
     int ends_of[2];
@@ -627,6 +690,8 @@ int main(void) {
     short_term();
     user();
     bodies();
+    turn_bodies();
+    keepalives();
     room();
     many();
     memory();

@@ -1,7 +1,7 @@
-/* FINGERPRINT, unknown attribute types, and streams of messages. The calls are tested with the
- * samples of RFC 5769, with each of their bits flipped, with messages of many types, and with
- * streams that arrive in any pieces. The expected values are counted or spelled here, and do not
- * come from the library. */
+/* FINGERPRINT, unknown attribute types, streams of messages, and channels of TURN. The calls are
+ * tested with the samples of RFC 5769, with each of their bits flipped, with messages of many
+ * types, and with streams that arrive in any pieces. The expected values are counted or spelled
+ * here, and do not come from the library. */
 #include "samples.h"
 
 /* ---- FINGERPRINT */
@@ -316,6 +316,97 @@ static void tells_packets(void) {
     CHECK(stunp_is_stun(BYTES("\x80\0\0\0\0\0\0\0\0\0\0\0\0\0\0\0\0\0\0\0")), 0);
 }
 
+/* ---- Channels of TURN (RFC 8656, sections 12.4, 12.5, 18.1 and 18.8) */
+
+/* The bytes are spelled as section 12.4 draws them, and a buffer that lacks one is left. */
+static void builds_channel_data(void) {
+    static const struct { uint32_t channel; const char *data; bool is_padded; const char *bytes;
+                          size_t length; } rows[] = {
+        {0x4001, "hello", false, "\x40\x01\x00\x05" "hello", 9},
+        {0x4001, "hello", true, "\x40\x01\x00\x05" "hello\0\0\0", 12},
+        {0x4fff, "four", true, "\x4f\xff\x00\x04" "four", 8},
+        {0x7fff, "", true, "\x7f\xff\x00\x00", 4},
+        {0x4000, "", false, "\x40\x00\x00\x00", 4},
+    };
+    for (size_t i = 0; i < COUNT(rows); i++) {
+        const size_t data_length = strlen(rows[i].data), length = rows[i].length;
+        memset(out, 0xa5, 64);
+        memcpy(before, out, 64);
+        for (size_t room = 0; room < length; room++)
+            CHECK(stunp_build_channel_data(rows[i].channel, rows[i].data, data_length,
+                                           rows[i].is_padded, out, room), STUNP_BUFFER_TOO_SMALL);
+        CHECK(memcmp(out, before, 64), 0);
+        CHECK(stunp_build_channel_data(rows[i].channel, rows[i].data, data_length,
+                                       rows[i].is_padded, out, 64), (int64_t)length);
+        CHECK(memcmp(out, rows[i].bytes, length), 0);
+        CHECK(memcmp(out + length, before, 64 - length), 0);
+        if (rows[i].is_padded) CHECK(stunp_next_turn_frame(out, length), (int64_t)length);
+    }
+    CHECK(stunp_build_channel_data(0x3fff, large, 65536, true, out, 0), STUNP_BAD_ARGUMENT);
+    CHECK(stunp_build_channel_data(0x8000, NULL, 0, true, out, 64), STUNP_BAD_ARGUMENT);
+    CHECK(stunp_build_channel_data(0x14000, NULL, 0, true, out, 64), STUNP_BAD_ARGUMENT);
+    CHECK(stunp_build_channel_data(0x4000, large, 65536, true, out, 0), STUNP_MESSAGE_TOO_LONG);
+    CHECK(stunp_build_channel_data(0x4000, large, 65535, true, out, sizeof out), 65540);
+}
+
+/* What is written is read again, also if bytes follow; one byte less is refused. */
+static void reads_channel_data(void) {
+    uint16_t channel = 7;
+    size_t length = 7;
+    for (size_t data_length = 0; data_length < 300; data_length++) {
+        memset(large, (int)data_length, data_length);
+        int64_t whole = stunp_build_channel_data((uint32_t)(0x4000 + 50 * data_length), large,
+                                                 data_length, false, out, sizeof out);
+        for (size_t behind = 0; behind < 4; behind++) {
+            CHECK(stunp_read_channel_data(out, (size_t)whole + behind, &channel, &length), 4);
+            CHECK(channel == 0x4000 + 50 * data_length && length == data_length, 1);
+            CHECK(memcmp(out + 4, large, length), 0);
+        }
+        channel = 7, length = 7;
+        for (size_t there = 0; there < (size_t)whole; there++)
+            CHECK(stunp_read_channel_data(out, there, &channel, &length), STUNP_TRUNCATED);
+        CHECK(channel == 7 && length == 7, 1);
+    }
+    for (unsigned first = 0; first < 256; first++) {
+        out[0] = (uint8_t)first, out[1] = out[2] = out[3] = 0;
+        CHECK(stunp_read_channel_data(out, 4, &channel, &length),
+              first >> 6 == 1 ? 4 : STUNP_NOT_STUN);
+        CHECK(stunp_read_channel_data(out, 3, &channel, &length), STUNP_TRUNCATED);
+    }
+}
+
+/* A request with one attribute of TURN, as its value is drawn in the RFC. */
+static int64_t numbered(uint32_t type, const char *value, size_t value_length,
+                        int64_t (*number)(const uint8_t *, size_t)) {
+    CHECK(stunp_begin(STUNP_REQUEST, STUNP_CHANNEL_BIND, id, 12, out, sizeof out), 20);
+    int64_t length = stunp_add(out, sizeof out, 20, type, value, value_length);
+    CHECK(number(out, (size_t)length - 1), STUNP_TRUNCATED);
+    return number(out, (size_t)length);
+}
+
+static void reads_numbers_of_turn(void) {
+    const uint32_t channel = STUNP_CHANNEL_NUMBER, transport = STUNP_REQUESTED_TRANSPORT;
+    CHECK(numbered(channel, "\x40\x00\x00\x00", 4, stunp_channel_number), 0x4000);
+    CHECK(numbered(channel, "\x7f\xff\x12\x34", 4, stunp_channel_number), 0x7fff);
+    CHECK(numbered(channel, "\x3f\xff\x00\x00", 4, stunp_channel_number),
+          STUNP_MALFORMED_ATTRIBUTE);
+    CHECK(numbered(channel, "\x80\x00\x00\x00", 4, stunp_channel_number),
+          STUNP_MALFORMED_ATTRIBUTE);
+    CHECK(numbered(channel, "\x40\x00", 2, stunp_channel_number), STUNP_MALFORMED_ATTRIBUTE);
+    CHECK(numbered(transport, "\x11\x00\x00\x00", 4, stunp_channel_number),
+          STUNP_MISSING_ATTRIBUTE);
+    CHECK(numbered(transport, "\x11\x00\x00\x00", 4, stunp_requested_transport), 17);
+    CHECK(numbered(transport, "\x06\x01\x02\x03", 4, stunp_requested_transport), 6);
+    CHECK(numbered(transport, "\x11", 1, stunp_requested_transport), STUNP_MALFORMED_ATTRIBUTE);
+    CHECK(numbered(channel, "\x40\x00\x00\x00", 4, stunp_requested_transport),
+          STUNP_MISSING_ATTRIBUTE);
+    stunp_writer writer = stunp_write(STUNP_REQUEST, STUNP_ALLOCATE, id, out, sizeof out);
+    stunp_write_requested_transport(&writer, 17);
+    stunp_write_channel_number(&writer, 0x4abc);
+    CHECK(stunp_written(&writer), 0);
+    CHECK(memcmp(out + 20, "\x00\x19\x00\x04\x11\0\0\0\x00\x0c\x00\x04\x4a\xbc\0\0", 16), 0);
+}
+
 int main(void) {
     checks_samples();
     notices_each_bit();
@@ -329,6 +420,9 @@ int main(void) {
     frames();
     refuses_streams();
     tells_packets();
+    builds_channel_data();
+    reads_channel_data();
+    reads_numbers_of_turn();
     puts("extra: passed");
     return 0;
 }

@@ -323,6 +323,26 @@ static void client_with_a_user() {
     static_assert(!std::is_copy_constructible_v<stunp::endpoint::body>);
 }
 
+static void data_on_a_channel() {
+    auto item = stunp::build_channel_data(0x4001, "hello", true);
+    if (!item) return show("no", item.text());
+    auto read = stunp::read_channel_data(*item);
+    if (!read) return show("not", read.text());
+    std::printf("channel %x: %.*s of %d bytes\n", unsigned(read->channel), int(read->data.size()),
+                read->data.text().data(), int(item->size()));
+    show("no channel", stunp::build_channel_data(0x3fff, "").text());
+    show("no data", stunp::read_channel_data("@").text());
+    auto body = stunp::endpoint::body().add_requested_transport(17).add_channel_number(0x4001);
+    stunp::bytes bytes(20);
+    int64_t begun = stunp_begin(STUNP_REQUEST, STUNP_CHANNEL_BIND, item->data(), 12, bytes.data(),
+                                bytes.size());
+    bytes.insert(bytes.end(), body.get()->bytes, body.get()->bytes + body.get()->length);
+    bytes[3] = uint8_t(body.get()->length);
+    stunp::message message(bytes);
+    std::printf("begun: %d, channel %x, protocol %d\n", int(begun),
+                unsigned(*message.channel_number()), int(*message.requested_transport()));
+}
+
 static void check_a_pair() {
     auto settings = STUNP_INIT(stunp::ice::settings);
     settings.name = "evtj", settings.peer_name = "h6vY";
@@ -369,6 +389,7 @@ int main() {
     other_servers();
     long_passwords();
     client_with_a_user();
+    data_on_a_channel();
     check_a_pair();
     move_handles();
 }

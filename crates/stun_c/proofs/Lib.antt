@@ -1,4 +1,5 @@
 mod Appended
+mod Channels
 mod Ending
 mod ErrorTexts
 mod Frames

@@ -14,5 +14,7 @@ pub mod Reading
 pub mod Walking
 -- what the calls over `stun_extra` return: FINGERPRINT, types that are not known, and streams
 pub mod Extra
+-- what the calls for TURN return and write
+pub mod Turn
 -- what no clause of a public call cites: what private functions alone use
 pub mod code

@@ -5,3 +5,5 @@ pub mod Room
 pub mod Ended
 -- how many bytes a frame speaks of
 pub mod Frames
+-- ChannelData and its padding, as it is written
+pub mod Channels

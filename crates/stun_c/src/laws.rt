@@ -1,7 +1,8 @@
 //! What `include/stunp.h` says of several calls: numbers of bytes, a whole walk, and what the calls
 //! over `stun_extra` refuse and write.
 
-ghost use Rattle.std.specs.Prelude.{◌≡◌, ◌≤◌, ◌+◌, ℕ, ℤ, suc, List, [], ◌∷◌, drop, take, length};
+ghost use Rattle.std.specs.Prelude.{◌≡◌, ◌≤◌, ◌<◌, ◌^◌, ◌+◌, ℕ, ℤ, suc, Bool, List, [], ◌∷◌, ◌++◌};
+ghost use Rattle.std.specs.Prelude.{drop, take, length};
 ghost use Rattle.std.specs.Prelude.{slice_get, cond, IfOk, Some, true};
 ghost use Rattle.std.specs.Option.{option_map};
 ghost use Rattle.stun_base.specs.Algorithm.{digest_length};
@@ -23,6 +24,7 @@ ghost use Rattle.stun_c.specs.Codes.{error_text};
 ghost use Rattle.stun_c.specs.Extra.{types_attribute, unknown_answer};
 ghost use Rattle.stun_c.specs.Reading.{value_at};
 ghost use Rattle.stun_c.specs.Requests.{binding_request, key_length};
+ghost use Rattle.stun_c.specs.Turn.{IsReadAs, channel_item};
 ghost use Rattle.stun_c.specs.Walking.{ahead};
 ghost use Rattle.stun_c.specs.Writing.{fit_refusal, shows_kind};
 
@@ -74,4 +76,12 @@ pub fn a_value_is_where_it_begins()
 /// What `stunp_error_text` writes has no more bytes than `STUNP_LONGEST_ERROR_TEXT`.
 pub fn an_error_text_is_short()
     ensures { (answer : ℤ) → length (error_text answer) ≤ 64 }
+{}
+
+/// What `stunp_build_channel_data` writes, `stunp_read_channel_data` reads: the same channel and
+/// the same data, with the padding of a stream or without, whatever bytes follow.
+pub fn channel_data_is_read_back()
+    ensures { (padded : Bool) (channel : ℕ) (data_bytes rest : List ℕ) → 0x4000 ≤ channel
+        → channel < 0x8000 → length data_bytes < 2 ^ 16
+        → IsReadAs channel data_bytes (channel_item padded channel data_bytes ++ rest) }
 {}

@@ -7,6 +7,7 @@
 
 ghost use Rattle.std.specs.Prelude.{◌≡◌, ◌↔◌, ◌⊎◌, drop, length, pos, slice_get, IfNone, IfSome};
 ghost use Rattle.std.specs.Prelude.{Ok, true};
+ghost use Rattle.byteorder.specs.Endian.{big_number};
 ghost use Rattle.stun_base.specs.Attributes.{XOR_MAPPED_ADDRESS};
 ghost use Rattle.stun_base.specs.Header.{header_refusal};
 ghost use Rattle.stun_types.specs.Integrity.{first_of};
@@ -28,6 +29,9 @@ ghost use Rattle.stun_c.specs.Reading.{address_in, octets_of_message, plain_octe
 ghost use Rattle.stun_c.specs.Reading.{plain_port_after, port_after, sized_after, sized_at};
 ghost use Rattle.stun_c.specs.Reading.{find_answer, finding_refusal, header_answer, header_after};
 ghost use Rattle.stun_c.specs.Requests.{signed_request, key_of_texts, userhash_of_texts};
+ghost use Rattle.stun_c.specs.Turn.{built_channel_data, channel_answer, channel_number_answer};
+ghost use Rattle.stun_c.specs.Turn.{channel_refusal, stated_data, transport_answer};
+ghost use Rattle.stun_c.specs.Turn.{set_by_data};
 ghost use Rattle.stun_c.specs.Walking.{ahead, cursor_refusal, walk_answer};
 ghost use Rattle.stun_c.specs.Writing.{begun_message, added_number, added_sized, added_address};
 ghost use Rattle.stun_c.specs.Writing.{added_numbered_address, added_plain_address, added_error};
@@ -44,6 +48,7 @@ pub mod laws;
 mod number;
 mod reading;
 mod request;
+mod turn;
 mod unknown;
 mod value;
 mod verdict;
@@ -525,4 +530,51 @@ pub extern "C" fn stunp_next_turn_frame(bytes: &[u8]) -> i64
     ensures { result ≡ wanted_number (length bytes.now) (turn_frame_of bytes.now) }
 {
     framing::next_turn_frame(bytes)
+}
+
+/// Writes data on a channel of TURN, with zeros up to a multiple of 4 bytes for a stream, and
+/// returns how many bytes were written.
+#[unsafe(no_mangle)]
+pub extern "C" fn stunp_build_channel_data(
+    channel: u32,
+    data: &[u8],
+    is_padded: bool,
+    out: &mut [u8],
+) -> i64
+    ensures { WritesWithin (built_channel_data channel data.now is_padded) out.old result out.new }
+{
+    turn::build_channel_data(channel, data, is_padded, out)
+}
+
+/// Reads the data on a channel of TURN at the front of some bytes: returns its offset, and writes
+/// the number of the channel and the length of the data.
+#[unsafe(no_mangle)]
+pub extern "C" fn stunp_read_channel_data(
+    bytes: &[u8],
+    channel: &mut u16,
+    data_length: &mut usize,
+) -> i64
+    ensures answer { result ≡ channel_answer (channel_refusal bytes.now) }
+    ensures channel { channel.new
+        ≡ set_by_data (channel_refusal bytes.now) (big_number 2 bytes.now) channel.old }
+    ensures data_length { data_length.new
+        ≡ set_by_data (channel_refusal bytes.now) (stated_data bytes.now) data_length.old }
+{
+    turn::read_channel_data(bytes, channel, data_length)
+}
+
+/// Returns the number in the first visible CHANNEL-NUMBER of a message.
+#[unsafe(no_mangle)]
+pub extern "C" fn stunp_channel_number(message: &[u8]) -> i64
+    ensures { result ≡ channel_number_answer message.now }
+{
+    turn::channel_number(message)
+}
+
+/// Returns the number of the protocol in the first visible REQUESTED-TRANSPORT of a message.
+#[unsafe(no_mangle)]
+pub extern "C" fn stunp_requested_transport(message: &[u8]) -> i64
+    ensures { result ≡ transport_answer message.now }
+{
+    turn::requested_transport(message)
 }

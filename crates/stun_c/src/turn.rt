@@ -1,0 +1,165 @@
+//! ChannelData of TURN (RFC 8656, section 12.4), which is data without a message around it, and the
+//! numbers in two of TURN's attributes.
+
+ghost use Rattle.std.specs.Prelude.{◌≡◌, ◌≤◌, ◌<◌, ◌^◌, ◌+◌, ◌++◌, Some, drop, length};
+ghost use Rattle.std.specs.Prelude.{IfErr, IfOk, OnOk};
+ghost use Rattle.byteorder.specs.Endian.{big_bytes, big_number};
+ghost use Rattle.stun_extra.specs.Turn.{is_any_channel_number};
+ghost use Rattle.stun_c.specs.Answers.{WritesWithin};
+ghost use Rattle.stun_c.specs.Turn.{built_channel_data, channel_answer, channel_in};
+ghost use Rattle.stun_c.specs.Turn.{channel_number_answer, channel_refusal, stated_data};
+ghost use Rattle.stun_c.specs.Turn.{set_by_data, transport_answer, transport_in};
+ghost use Rattle.stun_c.specs.code.Channels.{padding_length, with_padding};
+
+use crate::writing::write_zeros;
+use byteorder::{BigEndian, ByteOrder};
+use stun_base::error::StunParseError;
+use stun_extra::attribute::{ChannelNumber, RequestedTransport};
+use stun_extra::framing::CHANNEL_HEADER_LENGTH;
+use stun_numbers::refusal::Refusal;
+use stun_types::message::Message;
+
+/// The most bytes of data that the length in front of them can state.
+const MOST_DATA: usize = 65535;
+
+/// Whether a number is one of a channel of RFC 5766, whose range includes that of RFC 8656.
+fn is_channel_number(number: u32) -> bool
+    ensures { result ≡ is_any_channel_number number }
+{
+    0x4000 <= number && number < 0x8000
+}
+
+/// How many zero bytes follow data of this length.
+fn padding_length(data_length: usize, is_padded: bool) -> usize
+    ensures length { result ≡ padding_length data_length is_padded }
+    ensures short { result < 4 }
+{
+    if is_padded {
+        (4 - data_length % 4) % 4
+    } else {
+        0
+    }
+}
+
+/// Writes the number of a channel and the length of its data.
+fn write_header(header: &mut [u8], channel: u16, data_length: u16)
+    requires { length header.old ≡ 4 }
+    ensures { header.new ≡ big_bytes 2 channel ++ big_bytes 2 data_length }
+{
+    header[..2].copy_from_slice(&channel.to_be_bytes());
+    header[2..].copy_from_slice(&data_length.to_be_bytes());
+}
+
+/// Writes ChannelData and its padding to the front of a buffer that has room for it.
+fn spell(buffer: &mut [u8], channel: u16, data: &[u8], padding_length: usize)
+    requires short { length data.now < 2 ^ 16 }
+    requires room { 4 + length data.now + padding_length ≤ length buffer.old }
+    ensures { buffer.new ≡ with_padding channel data.now padding_length
+        ++ drop (4 + length data.now + padding_length) buffer.old }
+{
+    let (header, rest) = buffer.split_at_mut(CHANNEL_HEADER_LENGTH);
+    let (place, rest) = rest.split_at_mut(data.len());
+    let (padding, _) = rest.split_at_mut(padding_length);
+    write_header(header, channel, data.len() as u16);
+    place.copy_from_slice(data);
+    write_zeros(padding);
+}
+
+/// Writes data on a channel to the front of a buffer, with zeros up to a multiple of 4 bytes for a
+/// stream. Returns how many bytes were written, or the number of the error.
+pub fn build_channel_data(channel: u32, data: &[u8], is_padded: bool, out: &mut [u8]) -> i64
+    ensures { WritesWithin (built_channel_data channel data.now is_padded) out.old result out.new }
+{
+    if !is_channel_number(channel) {
+        return Refusal::BadArgument.code();
+    }
+    if data.len() > MOST_DATA {
+        return Refusal::MessageTooLong.code();
+    }
+    let padding = padding_length(data.len(), is_padded);
+    let whole = CHANNEL_HEADER_LENGTH + data.len() + padding;
+    if out.len() < whole {
+        return Refusal::BufferTooSmall.code();
+    }
+    spell(out, channel as u16, data, padding);
+    whole as i64
+}
+
+/// The channel and the length of the data, or why the bytes do not begin with whole ChannelData.
+fn channel_data_in(bytes: &[u8]) -> Result<(u16, usize), Refusal>
+    ensures ok { OnOk result (channel_refusal bytes.now ≡ None) }
+    ensures channel { IfOk result (λ parts. parts.0 ≡ big_number 2 bytes.now) }
+    ensures data { IfOk result (λ parts. parts.1 ≡ stated_data bytes.now) }
+    ensures err { IfErr result (λ refusal. channel_refusal bytes.now ≡ Some refusal) }
+{
+    if bytes.len() < CHANNEL_HEADER_LENGTH {
+        return Err(Refusal::Truncated);
+    }
+    if bytes[0] / 64 != 1 {
+        return Err(Refusal::NotStun);
+    }
+    let data_length = usize::from(BigEndian::read_u16(&bytes[2..]));
+    if bytes.len() < CHANNEL_HEADER_LENGTH + data_length {
+        return Err(Refusal::Truncated);
+    }
+    Ok((BigEndian::read_u16(bytes), data_length))
+}
+
+/// Reads the ChannelData at the front of some bytes: writes its channel and the length of its data,
+/// and returns the offset of the data, or the number of the error.
+pub fn read_channel_data(bytes: &[u8], channel: &mut u16, data_length: &mut usize) -> i64
+    ensures answer { result ≡ channel_answer (channel_refusal bytes.now) }
+    ensures channel { channel.new
+        ≡ set_by_data (channel_refusal bytes.now) (big_number 2 bytes.now) channel.old }
+    ensures data_length { data_length.new
+        ≡ set_by_data (channel_refusal bytes.now) (stated_data bytes.now) data_length.old }
+{
+    match channel_data_in(bytes) {
+        Ok((number, stated)) => {
+            *channel = number;
+            *data_length = stated;
+            CHANNEL_HEADER_LENGTH as i64
+        }
+        Err(refusal) => refusal.code(),
+    }
+}
+
+/// The channel that a message names, or why there is none.
+fn channel_in(message: &Message<'_>) -> Result<ChannelNumber, StunParseError>
+    ensures { result ≡ channel_in message.now }
+{
+    message.attribute::<ChannelNumber>()
+}
+
+/// Returns the channel that a message names, or the number of the error.
+pub fn channel_number(message: &[u8]) -> i64
+    ensures { result ≡ channel_number_answer message.now }
+{
+    match Message::from_bytes(message) {
+        Ok(message) => match channel_in(&message) {
+            Ok(number) => i64::from(number.channel()),
+            Err(error) => Refusal::from(error).code(),
+        },
+        Err(error) => Refusal::from(error).code(),
+    }
+}
+
+/// The protocol that a message asks for, or why there is none.
+fn transport_in(message: &Message<'_>) -> Result<RequestedTransport, StunParseError>
+    ensures { result ≡ transport_in message.now }
+{
+    message.attribute::<RequestedTransport>()
+}
+
+/// Returns the number of the protocol that a message asks for, or the number of the error.
+pub fn requested_transport(message: &[u8]) -> i64
+    ensures { result ≡ transport_answer message.now }
+{
+    match Message::from_bytes(message) {
+        Ok(message) => match transport_in(&message) {
+            Ok(transport) => i64::from(transport.protocol()),
+            Err(error) => Refusal::from(error).code(),
+        },
+        Err(error) => Refusal::from(error).code(),
+    }
+}

@@ -1,28 +1,47 @@
 #!/usr/bin/env python3
 """Writes the manual pages of the calls from the comments of the headers beside this file.
 
-    manual.py FOLDER     FOLDER/NAME.3 for each call, struct and enum, and for each header as a whole
+    manual.py FOLDER     FOLDER/man3/NAME.3 for each call, macro with a parameter, struct, enum and
+                         handle, and FOLDER/man7/HEADER.7 for each header as a whole
 
 The headers are the only text. A comment begins with what a call does; from `Returns` on it is the
 result, and from `Errors` on the errors in the order of testing. A comment that no declaration
-follows is about the calls after it, up to the next title (`---- Title`): their pages repeat it.
-Lines that are indented by four are code.
+follows is about the calls after it, up to the next title (`---- Title`): their pages repeat it,
+except those of calls that free something or name it. Lines that are indented by four are code. What
+stands in backquotes is bold.
 """
 import re
 import sys
 from pathlib import Path
 
 HERE = Path(__file__).resolve().parent
-HEADERS = ("stunp.h", "stunp_state.h", "stunp_endpoint.h")
+HEADERS = ("stunp.h", "stunp_state.h", "stunp_endpoint.h", "stunp_sockaddr.h", "stunp_log.h")
 PIECE = re.compile(r"^/\*(.*?)\*/\n|^((?:extern )?\w[^;{}]*?\b(\w+)\([^)]*\))(?:;| \{)"
                    r"|^typedef (?:struct|enum)\b[^\n]*?(?:\n(?!\})[^\n]*)*?\n?\} (\w+);", re.M | re.S)
-NAME = re.compile(r"\b(?:stunp|rattle)_\w+")
+# The macros that a comment is about: those that the lines after it define for C++ and for C.
+MACROS = re.compile(r"#ifdef __cplusplus\n(?:(?!#else|#endif).*\n)*#else\n"
+                    r"((?:#define \w+\(type\) .*\n)+)#endif\n")
+# How a call is declared that is compiled into the program.
+INLINE = "STUNP_INLINED |static inline |extern "
+NAME = re.compile(r"\b(?:stunp|rattle)_\w+|\bSTUNP_(?:INIT|ANEW)\b")
+# The calls whose pages have no notes of their group.
+PLAIN = re.compile(r"_(?:free|clear|text|wipe|version)$")
 ORDER = "If several apply, the call returns the first of this list."
 
 
 def escaped(line):
     line = line.replace("\\", "\\e").replace("-", "\\-")
     return "\\&" + line if line[:1] in (".", "'") else line
+
+
+def coded(line):
+    """A line of code, in whose comments backquotes are left out."""
+    return escaped(line).replace("`", "")
+
+
+def quoted(lines):
+    """Lines of text, in which what stands in backquotes is bold."""
+    return re.sub(r"`([^`]*)`", r"\\fB\1\\fR", "\n".join(lines)).split("\n")
 
 
 def paragraphs(text):
@@ -44,11 +63,11 @@ def named(lines):
     """Lines that are indented by two: names with what they mean, which may go over lines."""
     deep = min(len(line) - len(line.lstrip()) for line in lines)
     for line in lines:
-        name, _, said = line.strip().partition("  ")
+        name, _, about = line.strip().partition("  ")
         if line[deep] == " ":
             yield escaped(line.strip())
         else:
-            yield from [".TP", ".B " + escaped(name)] + [escaped(said.strip())] * (said != "")
+            yield from [".TP", ".B " + escaped(name)] + [escaped(about.strip())] * (about != "")
     yield ".PP"
 
 
@@ -58,15 +77,14 @@ def paragraph(text):
     roff, lines = [], [line.removeprefix(deep) for line in text.split("\n")]
     for kind, lines in blocks(lines):
         if kind == "code":
-            roff += [".PP", ".in +4n", ".EX", *(escaped(line[4:]) for line in lines), ".EE", ".in"]
+            roff += [".PP", ".in +4n", ".EX", *(coded(line[4:]) for line in lines), ".EE", ".in"]
         elif kind == "names":
-            roff += named(lines)
+            roff += quoted(named(lines))
         elif kind == "item":
-            for line in lines:
-                roff += [".IP \\(bu 2"] if line.startswith("- ") else []
-                roff.append(escaped(line[2:]))
+            roff += quoted(text for line in lines for text in
+                           [".IP \\(bu 2"] * line.startswith("- ") + [escaped(line[2:])])
         else:
-            roff += [".PP", *map(escaped, lines)]
+            roff += quoted([".PP", *map(escaped, lines)])
     return roff
 
 
@@ -84,19 +102,22 @@ def blocks(lines):
 def brief(text):
     """The first sentence, as a line of NAME."""
     first = re.split(r"(?<=[.:])\s(?=[A-Z]|$)|[.:]$|:\s", " ".join(text.split()))[0].rstrip(".:")
-    return escaped(first[0].lower() + first[1:])
+    return escaped(first[0].lower() + first[1:]).replace("`", "")
 
 
 def written(folder, name, header, version, what, synopsis, sections):
-    """Writes a page of NAME, SYNOPSIS and sections, each with its lines."""
-    includes = f"#include <{header}>"
-    roff = [f".TH {name} 3 \"\" \"stunp {version}\" \"STUN (RFC 8489)\"", ".SH NAME",
+    """Writes a page of NAME, SYNOPSIS and sections, each with its lines: in section 7 that of a
+    header, and in section 3 all others."""
+    includes, section = f"#include <{header}>", 7 if name == header[:-2] else 3
+    roff = [f".TH {name} {section} \"\" \"stunp {version}\" \"STUN (RFC 8489)\"", ".SH NAME",
             f"{name} \\- {what}", ".SH SYNOPSIS", ".nf", escaped(includes)]
-    roff += [".PP", *map(escaped, synopsis)] if synopsis else []
+    roff += [".PP", *map(coded, synopsis)] if synopsis else []
     roff += [".fi"]
     for title, lines in sections:
         roff += [f".SH {title.upper()}", *lines] if lines else []
-    (folder / f"{name}.3").write_text("\n".join(roff) + "\n", "utf-8")
+    to = folder / f"man{section}"
+    to.mkdir(parents=True, exist_ok=True)
+    (to / f"{name}.{section}").write_text("\n".join(roff) + "\n", "utf-8")
 
 
 def parted(comment):
@@ -111,7 +132,7 @@ def parted(comment):
             about, _, after = after.partition(":\n")
             parts[to] += paragraph(before.strip()) if before.strip() else []
             to = "ERRORS"
-            parts[to] += [".PP", escaped(f"Errors{about}:")] if about else []
+            parts[to] += quoted([".PP", escaped(f"Errors{about}:")]) if about else []
             parts[to] += paragraph(after)
         else:
             if to == "ERRORS" and not text.startswith(" "):
@@ -124,13 +145,14 @@ def parted(comment):
 
 def page(folder, header, version, declared, name, comment, shared, pages):
     lines = re.sub(r"^STUNP_(?!INLINED)[A-Z_]+.*\n", "", declared, flags=re.M).strip()
-    first = re.match(r"(?:STUNP_INLINED |extern )?", lines)[0]
+    first = re.match(f"(?:{INLINE})?", lines)[0]
     lines = lines.removeprefix(first).replace("\n" + " " * len(first), "\n").split("\n")
-    others = sorted({*NAME.findall("\n".join(comment))} & {*pages} - {name}) + [header[:-2]]
-    notes = [line for text in shared for line in paragraph(text)]
+    others = sorted({*NAME.findall("\n".join(comment))} & {*pages} - {name})
+    notes = [line for text in shared if not PLAIN.search(name) for line in paragraph(text)]
     written(folder, name, header, version, brief(comment[0]), lines,
             [*parted(comment), ("NOTES", notes),
-             ("SEE ALSO", [",\n".join(f".BR {other} (3)" for other in others)])])
+             ("SEE ALSO", [",\n".join([f".BR {other} (3)" for other in others]
+                                      + [f".BR {header[:-2]} (7)"])])])
 
 
 def overview(folder, header, version, comment):
@@ -148,22 +170,25 @@ def overview(folder, header, version, comment):
 
 
 def documented(text):
-    """The declarations of a header that have a comment: text, name, comment, and the comments on
-    the calls of this section."""
-    comment, shared, is_titled = None, [], False
+    """The declarations of a header that have a comment right before them: text, name, comment, and
+    the comments on the calls of this section."""
+    comment, end, shared, is_titled = None, 0, [], False
     for found in list(PIECE.finditer(text))[1:]:
         if found[1] is None:
             name = found[3] or found[4]
-            if comment and NAME.fullmatch(name):
+            if comment and found.start() == end and NAME.fullmatch(name):
                 is_call = found[2] is not None
                 yield (found[2] + ";" if is_call else found[0], name, comment,
                        shared if is_call else [])
             comment = None
             continue
-        comment, is_alone = paragraphs(found[1]), text[found.end()] == "\n"
+        comment, end, macros = paragraphs(found[1]), found.end(), MACROS.match(text, found.end())
+        if macros:
+            names = re.findall(r"#define (\w+)\(type\)", macros[1])
+            yield from ((f"{name}(type)", name, comment, []) for name in names)
         if comment[0].startswith("---- "):
             shared, is_titled, comment = comment[1:], True, None
-        elif is_alone:
+        elif text[end] == "\n":
             shared, comment = shared + comment * is_titled, None
 
 
@@ -171,7 +196,6 @@ def main():
     if len(sys.argv) != 2 or sys.argv[1].startswith("-"):
         sys.exit(__doc__)
     folder, version = Path(sys.argv[1]), (HERE / "../VERSION").read_text().strip()
-    folder.mkdir(parents=True, exist_ok=True)
     texts = {header: (HERE / header).read_text("utf-8") for header in HEADERS}
     pages = {name for text in texts.values() for _, name, _, _ in documented(text)}
     for header, text in texts.items():

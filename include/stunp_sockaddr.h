@@ -1,5 +1,6 @@
-/* stunp_sockaddr.h: addresses of sockets as those of this library, and back. Optional, and inline:
- * it needs no archive. POSIX, C99 and C++.
+/* stunp_sockaddr.h: addresses of sockets as those of this library, and back
+ *
+ * Optional, and inline: it needs no archive. POSIX, C99 and C++.
  *
  *     struct sockaddr_storage name;
  *     socklen_t name_length = sizeof name;

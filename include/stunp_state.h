@@ -353,11 +353,25 @@ void rattle_dealloc(void *at);
 
 /* ---- Types */
 
-/* The handles (see Handles above). `kind` is 0 if the handle is empty, and otherwise a number for
- * each of the four types. The fields are not yours to write. */
+/* A handle of an agent, which stores the outstanding requests of a client and says when each is
+ * sent again (section 6.2). Begin it with {0}; stunp_agent_new fills it, and stunp_agent_free
+ * empties it. One thread at a time uses it. `kind` is 0 if the handle is empty. The fields are not
+ * yours to write. */
 typedef struct stunp_agent { uint32_t kind; void *state; } stunp_agent;
+
+/* A handle of the server side of long-term credentials (section 9.2.4), with the users of a realm
+ * and a record for each client address. Begin it with {0}; stunp_server_new fills it, and
+ * stunp_server_free empties it. One thread at a time uses it. The fields are not yours to write. */
 typedef struct stunp_server { uint32_t kind; void *state; } stunp_server;
+
+/* A handle of the client side of long-term credentials (sections 9.2.3 and 9.2.5): one user at one
+ * server. Begin it with {0}; stunp_client_new fills it, and stunp_client_free empties it. One
+ * thread at a time uses it. The fields are not yours to write. */
 typedef struct stunp_client { uint32_t kind; void *state; } stunp_client;
+
+/* A handle of a user who is passed along with messages, with the keys for the realm and the
+ * algorithms of a server. Begin it with {0}; stunp_user_new or stunp_user_new_of_keys fills it, and
+ * stunp_user_free empties it. One thread at a time uses it. The fields are not yours to write. */
 typedef struct stunp_user { uint32_t kind; void *state; } stunp_user;
 
 /* The transport of an agent. */

@@ -489,7 +489,10 @@ int LLVMFuzzerTestOneInput(const uint8_t *input, size_t size) {
 
 #ifdef PLAIN
 
-enum { MOST_SEEDS = 512, MOST_BYTES = 1 << 14, MUTATIONS = 20000 };
+#ifndef MUTATIONS
+#define MUTATIONS 20000
+#endif
+enum { MOST_SEEDS = 512, MOST_BYTES = 1 << 14 };
 static struct {
     uint8_t *bytes;
     size_t length;

@@ -276,6 +276,43 @@ static void read_unknown(struct bytes m, int64_t parsed, uint8_t setting) {
     if (length > 0) require(stunp_error_code(out, (size_t)length) == 420, "no 420");
 }
 
+/* The number at the front of an attribute of 4 bytes, by stunp_find_number. */
+static int64_t front_number(struct bytes m, uint32_t type, unsigned shift) {
+    uint64_t number = 0;
+    int64_t size = stunp_find_number(m.at, m.length, type, &number);
+    if (size < 0) return size;
+    return size == 4 ? (int64_t)(number >> shift) : STUNP_MALFORMED_ATTRIBUTE;
+}
+
+/* What is read of TURN against what other calls say, and ChannelData against what is written. */
+static void read_turn(struct bytes m, uint8_t setting) {
+    uint16_t channel = 7;
+    size_t length = 77, room = setting % 2 == 0 ? ROOM : setting;
+    int64_t wanted = front_number(m, STUNP_CHANNEL_NUMBER, 16);
+    if (wanted >= 0 && (wanted < 0x4000 || wanted > 0x7fff)) wanted = STUNP_MALFORMED_ATTRIBUTE;
+    require(stunp_channel_number(m.at, m.length) == wanted, "another channel");
+    require(stunp_requested_transport(m.at, m.length)
+                == front_number(m, STUNP_REQUESTED_TRANSPORT, 24), "another protocol");
+    int64_t place = stunp_find(m.at, m.length, STUNP_DATA, &length);
+    size_t value_length = 77;
+    const uint8_t *value = stunp_find_value(m.at, m.length, STUNP_DATA, &value_length);
+    require((place > 0) == (value != NULL) && value_length == length, "another value");
+    require(value == NULL || value + length <= m.at + m.length, "a value outside");
+    length = 77;
+    place = named(stunp_read_channel_data(m.at, m.length, &channel, &length));
+    if (place < 0) {
+        require(channel == 7 && length == 77, "refused ChannelData is written");
+        return;
+    }
+    require(place == 4 && m.at[0] >> 6 == 1 && 4 + length <= m.length, "ChannelData outside");
+    fill_out();
+    int64_t built = stunp_build_channel_data(channel, m.at + 4, length, setting % 4 < 2, out, room);
+    size_t whole = 4 + (setting % 4 < 2 ? (length + 3) / 4 * 4 : length);
+    require(built == (whole > room ? STUNP_BUFFER_TOO_SMALL : (int64_t)whole), "not written again");
+    require_rest(built < 0 || whole > ROOM ? ROOM : whole, "ChannelData is written outside");
+    require(built < 0 || memcmp(out, m.at, 4 + length) == 0, "other ChannelData is written");
+}
+
 static void read_all(struct bytes m, uint8_t setting) {
     int64_t parsed = named(stunp_parse(m.at, m.length));
     require(parsed <= 0 && parsed >= STUNP_TOO_LARGE, "another answer of stunp_parse");
@@ -287,6 +324,7 @@ static void read_all(struct bytes m, uint8_t setting) {
     tell_error(setting);
     check_fingerprint(m, parsed);
     read_unknown(m, parsed, setting);
+    read_turn(m, setting);
     stunp_cursor anywhere = {setting, (uint32_t)setting << 24 | setting % 5};
     uint16_t type;
     size_t length;

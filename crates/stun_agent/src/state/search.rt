@@ -70,6 +70,7 @@ fn wake_up<A: Allocator, L: Ledger>(index: &Link<A>, now: Instant, reads: &mut R
 /// retransmitted. Goes only to links that tell of a request that is over, so it reads one entry,
 /// and only if it finds one. Otherwise it looks at this link alone.
 #[cycle(find_ended)]
+#[inline(always)]
 fn find_ended<A: Allocator, L: Ledger>(
     link: &Link<A>,
     now: Instant,

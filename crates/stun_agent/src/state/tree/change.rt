@@ -160,6 +160,7 @@ pub(crate) fn fits(room: Option<usize>, length: usize) -> bool
 /// of the requests before it, which are silent. Otherwise, and if no request is to be
 /// retransmitted, nothing changes.
 #[cycle(pass_slots)]
+#[inline(always)]
 pub(crate) fn pass_slots<A: Allocator>(
     link: &mut Link<A>,
     transport: TransportType,
@@ -221,6 +222,7 @@ fn pass_slots_below<A: Allocator>(
 
 /// Like `pass_slots`, but for the requests below a fork.
 #[cycle(pass_slots)]
+#[inline(always)]
 fn pass_slots_of<A: Allocator>(
     fork: &mut Fork<A>,
     transport: TransportType,
@@ -251,6 +253,7 @@ fn pass_slots_of<A: Allocator>(
 
 /// Like `pass_slots`, but for the requests below a half of a fork.
 #[cycle(pass_slots)]
+#[inline(always)]
 fn pass_slots_in<A: Allocator>(
     half: &mut Half<A>,
     transport: TransportType,
@@ -281,6 +284,7 @@ fn pass_slots_in<A: Allocator>(
 
 /// Passes every slot that is due.
 #[cycle(pass_all)]
+#[inline(always)]
 pub(crate) fn pass_all<A: Allocator>(
     link: &mut Link<A>,
     transport: TransportType,
@@ -329,6 +333,7 @@ fn pass_all_below<A: Allocator>(
 
 /// Like `pass_all`, but for the requests below a half of a fork.
 #[cycle(pass_all)]
+#[inline(always)]
 fn pass_all_in<A: Allocator>(
     half: &mut Half<A>,
     transport: TransportType,

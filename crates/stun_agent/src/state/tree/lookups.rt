@@ -76,6 +76,7 @@ pub(crate) fn next_awaited<A: Allocator>(link: &Link<A>, _leave: Uncounted) -> O
 
 /// Returns the request with the least ID among those that are due and still retransmitted.
 #[cycle(next_sent)]
+#[inline(always)]
 pub(crate) fn next_sent<A: Allocator>(
     link: &Link<A>,
     now: Instant,

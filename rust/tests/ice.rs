@@ -1,6 +1,7 @@
 //! Connectivity checks of ICE: what datagrams come to at an agent, and two agents that check each
 //! other over a network that loses, repeats and reorders.
 
+use seatcrane_stun::Instant;
 use seatcrane_stun::endpoint::ice::Role::{Controlled, Controlling};
 use seatcrane_stun::endpoint::ice::*;
 use seatcrane_stun::extra::attribute::{IceControlled, IceControlling, Priority, UseCandidate};
@@ -10,6 +11,7 @@ use seatcrane_stun::types::message::IntegrityAlgorithm::{Sha1, Sha256};
 use seatcrane_stun::types::message::*;
 use seatcrane_stun::types::prelude::*;
 use std::net::SocketAddr;
+use std::time::Duration;
 
 #[allow(dead_code)] // One of the samples is not of a check.
 mod samples;
@@ -715,5 +717,139 @@ fn agents_meet_over_a_bad_network() {
                 break;
             }
         }
+    }
+}
+
+#[test]
+fn keepalives_are_indications() {
+    let (mut a, _) = pair((Controlling, Controlled), (1, 2));
+    let bytes = Checker::keepalive(id(3));
+    assert_eq!(bytes.len(), 28);
+    assert!(matches!(
+        a.receive(&bytes, at(THERE), None),
+        Received::Indication(_)
+    ));
+}
+
+/// The order of priorities is that of RFC 8445, section 5.1.2.2: a kind before a preference.
+#[test]
+fn priorities_are_ordered() {
+    use CandidateKind::{Host, PeerReflexive, Relayed, ServerReflexive};
+    let kinds = [Host, PeerReflexive, ServerReflexive, Relayed];
+    let ranked = kinds.map(|kind| [65535, 1, 0].map(|rank| priority(kind, rank, 1)));
+    let ranked = ranked.concat();
+    assert!(ranked.windows(2).all(|two| two[0] > two[1]), "{ranked:?}");
+    assert!(priority(Host, 0, 1) > priority(Host, 0, 2));
+    // Both sides compute one number, and distinct pairs have distinct ones.
+    let mut seen = std::collections::HashSet::new();
+    for one in [1, 2, 3, (1 << 31) - 2, (1 << 31) - 1] {
+        for other in [1, 2, 3, (1 << 31) - 2, (1 << 31) - 1] {
+            assert!(seen.insert(pair_priority(one, other)));
+        }
+    }
+    assert_eq!(
+        pair_priority(u32::MAX, u32::MAX),
+        pair_priority((1 << 31) - 1, (1 << 31) - 1)
+    );
+}
+
+#[test]
+fn candidates_are_read_and_written() {
+    for line in [
+        "candidate:1 1 udp 2130706431 192.0.2.1 5000 typ host",
+        "candidate:a+/9 2 udp 1 2001:db8::1 1 typ prflx raddr :: rport 0",
+        "candidate:842163049 1 udp 1677729535 203.0.113.9 4242 typ srflx raddr 0.0.0.0 rport 0",
+        "candidate:3 1 udp 16777215 198.51.100.7 60000 typ relay raddr 203.0.113.9 rport 4242",
+    ] {
+        let candidate: Candidate = line.parse().unwrap();
+        assert_eq!(candidate.to_string(), line);
+        let further = format!("a={line} generation 0 ufrag evtj network-cost 999");
+        assert_eq!(further.replace(" udp ", " UDP ").parse(), Ok(candidate));
+    }
+    for (line, why) in [
+        (
+            "candidat:1 1 udp 1 192.0.2.1 5000 typ host",
+            CandidateError::NotCandidate,
+        ),
+        (
+            "candidate:1 1 udp 1 192.0.2.1 5000 typ",
+            CandidateError::NotCandidate,
+        ),
+        (
+            "candidate:1 1 udp 1 192.0.2.1 5000 type host",
+            CandidateError::NotCandidate,
+        ),
+        (
+            "candidate:- 1 udp 1 192.0.2.1 5000 typ host",
+            CandidateError::NotCandidate,
+        ),
+        (
+            "candidate:1 1 tcp 1 192.0.2.1 9 typ host tcptype active",
+            CandidateError::Transport,
+        ),
+        (
+            "candidate:1 0 udp 1 192.0.2.1 5000 typ host",
+            CandidateError::Component,
+        ),
+        (
+            "candidate:1 256 udp 1 192.0.2.1 5000 typ host",
+            CandidateError::Component,
+        ),
+        (
+            "candidate:1 1 udp 0 192.0.2.1 5000 typ host",
+            CandidateError::Priority,
+        ),
+        (
+            "candidate:1 1 udp 2147483648 192.0.2.1 5000 typ host",
+            CandidateError::Priority,
+        ),
+        (
+            "candidate:1 1 udp +1 192.0.2.1 5000 typ host",
+            CandidateError::Priority,
+        ),
+        (
+            "candidate:1 1 udp 1 a.local 5000 typ host",
+            CandidateError::Address,
+        ),
+        (
+            "candidate:1 1 udp 1 192.0.2.1 65536 typ host",
+            CandidateError::Address,
+        ),
+        (
+            "candidate:1 1 udp 1 192.0.2.1 5000 typ other",
+            CandidateError::Kind,
+        ),
+    ] {
+        assert_eq!(line.parse::<Candidate>(), Err(why), "{line}");
+    }
+}
+
+/// Checks are 4 to 6 seconds apart, and consent ends after 30 seconds without an answer (RFC 7675,
+/// section 5.1).
+#[test]
+fn consent_is_asked_for_and_ends() {
+    let start = Instant::ZERO + Duration::from_secs(1000);
+    for (word, wait) in [(0, 4_000), (1 << 31, 5_000), (u32::MAX, 6_000)] {
+        let (mut consent, mut now, mut asked) = (Consent::new(start, word), start, 0);
+        let over = loop {
+            match consent.poll(now, word) {
+                ConsentStep::Ask => asked += 1,
+                ConsentStep::Over => break now,
+                ConsentStep::Wait(until) => {
+                    assert!(until > now && until - now <= Duration::from_millis(wait));
+                    now = until;
+                }
+            }
+            if asked == 1 {
+                consent.answered(now);
+            }
+        };
+        // The first check was answered until the second was sent.
+        let second = start + Duration::from_millis(2 * wait);
+        assert!(
+            over - start >= Duration::from_secs(30) && over <= second + Duration::from_secs(30)
+        );
+        consent.answered(over);
+        assert_eq!(consent.poll(over, word), ConsentStep::Over);
     }
 }

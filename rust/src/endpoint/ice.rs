@@ -3,7 +3,8 @@
 //!
 //! A [`Checker`] has the credentials of both sides, the tie-breaker and the role of one agent. It
 //! writes checks, judges those of the peer and writes their answers, and judges the answers to its
-//! own. Candidates, pairs, their order and pacing, and retransmissions are yours.
+//! own. Candidates, pairs, their order and pacing, and retransmissions are yours. For them there
+//! are [`priority`], [`pair_priority`], [`Candidate`] with its line in SDP, and [`Consent`].
 //!
 //! # Examples
 //!
@@ -37,16 +38,29 @@
 //! # Ok::<(), Box<dyn std::error::Error>>(())
 //! ```
 //!
-//! In a program the checks are stored with their pairs, and a `StunAgent` says when to send them
-//! again until they end:
+//! # Restarts
+//!
+//! A restart is a new session with new credentials (RFC 8445, section 9): create a new `Checker`,
+//! and keep the old one until a pair of the new session is selected. Both receive on the same
+//! sockets. A check belongs to the one whose name begins its USERNAME, and the other would answer
+//! it 401: pass a datagram to the new `Checker` first, and to the old one if it returns
+//! [`Judged::Refused`]`(`[`Refusal::Unauthenticated`]`)`, and send the answer of the last. A
+//! response belongs to the `Checker` that wrote the check. Roles and the tie-breaker stay: begin
+//! the new one with [`Checker::role`] and [`Checker::tie_breaker`] of the old.
+//!
+//! # In a program
+//!
+//! The checks are stored with their pairs, and a `StunAgent` says when to send them again until
+//! they end:
 //!
 //! ```ignore
 //! let check = checker.check(TransactionId::generate(), pair.remote, priority, nominate);
 //! let sent = agent.send_request(check.bytes(), check.to(), now)?;
 //! socket.send_to(&sent.data, sent.to)?;
 //! pairs.store(check); // then send what `poll_transmit` returns, and call `poll`
-//! // .. later, a datagram arrives:
-//! match checker.receive(&bytes, from, pairs.check_of(&bytes)) {
+//! // .. later, a datagram arrives. `check` is the stored check that has its transaction ID:
+//! let id = MessageHeader::from_bytes(&bytes)?.transaction_id();
+//! match checker.receive(&bytes, from, pairs.check(id)) {
 //!     Received::Check { answer, judged } => {
 //!         socket.send_to(&answer, from)?;
 //!         pairs.triggered(from, judged);
@@ -60,17 +74,25 @@
 use crate::copies::{copy, granted};
 use crate::exported::stun_base::attribute_type::AttributeType;
 use crate::exported::stun_ice::{check, checker, received};
+use crate::extra::finish_with_fingerprint;
 use crate::kit::alloc::Global;
 use crate::message::Message;
 use crate::trace::{event, record};
 use crate::transaction::TransactionId;
+use crate::types::message::BINDING;
+use crate::write::MessageWriteVec;
 use alloc::vec::Vec;
 use core::fmt;
 use core::net::SocketAddr;
 
+mod candidate;
+mod consent;
+
 pub use crate::exported::stun_ice::checker::BuildError;
 pub use crate::exported::stun_ice::received::{Judged, Refusal};
 pub use crate::exported::stun_ice::role::Role;
+pub use candidate::{Candidate, CandidateError, CandidateKind, pair_priority, priority};
+pub use consent::{Consent, ConsentStep};
 
 /// The username fragment and the password of one side (RFC 8445, section 5.3). It is also made of a
 /// pair of them, in this order.
@@ -176,6 +198,27 @@ impl Checker {
         let check = Check(granted(self.0.check(id.0, to, priority, nominate)));
         event!(%id, %to, nominates = check.nominates(), "wrote a check");
         check
+    }
+
+    /// Writes a Binding indication with FINGERPRINT, which keeps the path of a selected pair open
+    /// (RFC 8445, section 11). It is not signed, and the peer does not answer it. An agent that
+    /// asks for [`Consent`] needs none, because its checks keep the path open.
+    ///
+    /// # Examples
+    ///
+    /// ```
+    /// use seatcrane_stun::endpoint::ice::Checker;
+    /// use seatcrane_stun::types::message::{Message, TransactionId};
+    ///
+    /// let id = TransactionId::from([7; 12]); // must be random: `TransactionId::generate`
+    /// let message = Checker::keepalive(id);
+    /// assert_eq!(Message::from_bytes(&message)?.transaction_id(), id);
+    /// # Ok::<(), seatcrane_stun::types::message::StunParseError>(())
+    /// ```
+    pub fn keepalive(id: TransactionId) -> Vec<u8> {
+        let page = Message::builder_indication_with_id(BINDING, id, MessageWriteVec::new());
+        // It fits: a header and one attribute.
+        finish_with_fingerprint(page).unwrap_or_default()
     }
 
     /// Judges a datagram, and writes the answer if it is a check.

@@ -136,8 +136,8 @@ pub extern "C" fn stunp_ice_checker_check_with(
 /// check of this agent that the datagram may answer, if `has_check` is true.
 ///
 /// Fails with `BadArgument` for the size of the caller's struct, for the address, or for the
-/// address in `check`. Then come `OutOfMemory`, and `BufferTooSmall`, which writes how much room the
-/// answer needs. Every failure leaves the agent unchanged, and a result with the kind 7 and the
+/// address in `check`. Then come `OutOfMemory`, and `BufferTooSmall`, which writes how much room
+/// the answer needs. Every failure leaves the agent unchanged, and a result with the kind 7 and the
 /// length 0.
 #[unsafe(no_mangle)]
 pub extern "C" fn stunp_ice_checker_receive_with(

@@ -1,0 +1,252 @@
+//! Candidates: their priorities, and their lines in SDP.
+
+use alloc::string::{String, ToString};
+use core::fmt;
+use core::net::{IpAddr, SocketAddr};
+use core::str::FromStr;
+
+/// The largest priority (RFC 8839, section 5.1).
+const LARGEST: u32 = (1 << 31) - 1;
+
+/// How a candidate was found.
+///
+/// # Examples
+///
+/// ```
+/// use seatcrane_stun::endpoint::ice::CandidateKind;
+///
+/// assert_eq!(CandidateKind::ServerReflexive.name(), "srflx");
+/// ```
+#[derive(Clone, Copy, Debug, PartialEq, Eq, Hash)]
+#[non_exhaustive]
+pub enum CandidateKind {
+    /// The address of a socket.
+    Host,
+    /// The address that the peer saw a check come from.
+    PeerReflexive,
+    /// The address that a STUN server saw a request come from.
+    ServerReflexive,
+    /// An address that a TURN server has allocated.
+    Relayed,
+}
+
+impl CandidateKind {
+    const ALL: [CandidateKind; 4] = [
+        CandidateKind::Host,
+        CandidateKind::PeerReflexive,
+        CandidateKind::ServerReflexive,
+        CandidateKind::Relayed,
+    ];
+
+    /// Returns the type preference that RFC 8445, section 5.1.2.2, recommends: 126, 110, 100 or 0.
+    pub fn preference(self) -> u8 {
+        match self {
+            CandidateKind::Host => 126,
+            CandidateKind::PeerReflexive => 110,
+            CandidateKind::ServerReflexive => 100,
+            CandidateKind::Relayed => 0,
+        }
+    }
+
+    /// Returns the word of SDP: `host`, `prflx`, `srflx` or `relay`.
+    pub fn name(self) -> &'static str {
+        match self {
+            CandidateKind::Host => "host",
+            CandidateKind::PeerReflexive => "prflx",
+            CandidateKind::ServerReflexive => "srflx",
+            CandidateKind::Relayed => "relay",
+        }
+    }
+}
+
+/// Returns the priority of a candidate (RFC 8445, section 5.1.2.1).
+///
+/// `preference` ranks the addresses of this side: 65535 for the best, and for the only one.
+/// `component` is the number of the component, from 1 on. It is tested, and not proved.
+///
+/// # Examples
+///
+/// ```
+/// use seatcrane_stun::endpoint::ice::{CandidateKind, priority};
+///
+/// assert_eq!(priority(CandidateKind::Host, 65535, 1), 2_130_706_431);
+/// // What PRIORITY of a check has, which is sent from the same address:
+/// assert_eq!(priority(CandidateKind::PeerReflexive, 65535, 1), 1_862_270_975);
+/// ```
+pub fn priority(kind: CandidateKind, preference: u16, component: u8) -> u32 {
+    (u32::from(kind.preference()) << 24)
+        + (u32::from(preference) << 8)
+        + (256 - u32::from(component))
+}
+
+/// Returns the priority of a pair, which both agents compute alike (RFC 8445, section 6.1.2.3).
+/// `controlling` is the priority of the candidate of the controlling agent, and `controlled` that
+/// of the other. A priority above 2147483647, which no candidate may have, counts as that number.
+/// It is tested, and not proved.
+///
+/// # Examples
+///
+/// ```
+/// use seatcrane_stun::endpoint::ice::pair_priority;
+///
+/// assert_eq!(pair_priority(3, 2), (2 << 32) + 2 * 3 + 1);
+/// assert_eq!(pair_priority(2, 3), (2 << 32) + 2 * 3);
+/// ```
+pub fn pair_priority(controlling: u32, controlled: u32) -> u64 {
+    let (one, other) = (controlling.min(LARGEST), controlled.min(LARGEST));
+    (u64::from(one.min(other)) << 32) + 2 * u64::from(one.max(other)) + u64::from(one > other)
+}
+
+/// A candidate over UDP, as SDP has it (RFC 8839, section 5.1).
+///
+/// It is parsed from the value of an `a=candidate` line, which is what browsers have in
+/// `RTCIceCandidate.candidate`, with or without `a=` in front, and displayed without it. Extensions
+/// at the end of the line are skipped. Reading and writing are tested, and not proved.
+///
+/// # Examples
+///
+/// ```
+/// use seatcrane_stun::endpoint::ice::{Candidate, CandidateKind};
+///
+/// let line = "candidate:1 1 udp 1694498815 203.0.113.9 4242 typ srflx raddr 10.0.0.1 rport 5000";
+/// let candidate: Candidate = line.parse()?;
+/// assert_eq!(candidate.kind, CandidateKind::ServerReflexive);
+/// assert_eq!(candidate.address, "203.0.113.9:4242".parse()?);
+/// assert_eq!(candidate.to_string(), line);
+/// # Ok::<(), Box<dyn std::error::Error>>(())
+/// ```
+#[derive(Clone, Debug, PartialEq, Eq, Hash)]
+pub struct Candidate {
+    /// How it was found.
+    pub kind: CandidateKind,
+    /// Equal for candidates of one kind, base and server (RFC 8445, section 5.1.1.3).
+    pub foundation: String,
+    /// The number of the component, from 1 on.
+    pub component: u8,
+    /// The [`priority`].
+    pub priority: u32,
+    /// Where the peer sends checks to.
+    pub address: SocketAddr,
+    /// The base of a reflexive candidate, or the mapped address of a relayed one.
+    pub related: Option<SocketAddr>,
+}
+
+impl fmt::Display for Candidate {
+    fn fmt(&self, f: &mut fmt::Formatter<'_>) -> fmt::Result {
+        let (foundation, component) = (&self.foundation, self.component);
+        let (priority, ip, port) = (self.priority, self.address.ip(), self.address.port());
+        let kind = self.kind.name();
+        write!(
+            f,
+            "candidate:{foundation} {component} udp {priority} {ip} {port} typ {kind}"
+        )?;
+        match self.related {
+            Some(at) => write!(f, " raddr {} rport {}", at.ip(), at.port()),
+            None => Ok(()),
+        }
+    }
+}
+
+/// Why a line is no candidate of use.
+///
+/// # Examples
+///
+/// ```
+/// use seatcrane_stun::endpoint::ice::{Candidate, CandidateError};
+///
+/// let hidden = "candidate:1 1 udp 2113937151 8f2d7e1c-1234.local 5000 typ host";
+/// assert_eq!(hidden.parse::<Candidate>(), Err(CandidateError::Address));
+/// ```
+#[derive(Clone, Copy, Debug, PartialEq, Eq, Hash)]
+#[non_exhaustive]
+pub enum CandidateError {
+    /// The line does not begin with `candidate:` and its eight words, or its foundation does not
+    /// have 1 to 32 letters, digits, `+` and `/`.
+    NotCandidate,
+    /// The transport is not UDP.
+    Transport,
+    /// The component is not a number from 1 to 255.
+    Component,
+    /// The priority is not a number from 1 to 2147483647.
+    Priority,
+    /// The address is not an IP address with a port: it may be a name, as `….local` is, which
+    /// browsers write to hide addresses.
+    Address,
+    /// The word after `typ` is not one of [`CandidateKind`].
+    Kind,
+}
+
+impl fmt::Display for CandidateError {
+    fn fmt(&self, f: &mut fmt::Formatter<'_>) -> fmt::Result {
+        f.write_str(match self {
+            CandidateError::NotCandidate => "the line is not a candidate",
+            CandidateError::Transport => "the transport is not UDP",
+            CandidateError::Component => "the component is not a number from 1 to 255",
+            CandidateError::Priority => "the priority is not a number from 1 to 2147483647",
+            CandidateError::Address => "the address is not an IP address with a port",
+            CandidateError::Kind => "the type is not host, prflx, srflx or relay",
+        })
+    }
+}
+
+impl core::error::Error for CandidateError {}
+
+/// Parses a number without a sign.
+fn number<T: FromStr>(word: &str) -> Option<T> {
+    let digits = Some(word).filter(|word| word.bytes().all(|byte| byte.is_ascii_digit()));
+    digits?.parse().ok()
+}
+
+fn address(ip: &str, port: &str) -> Option<SocketAddr> {
+    let ip: IpAddr = ip.parse().ok()?;
+    Some(SocketAddr::new(ip, number(port)?))
+}
+
+/// Whether a text may be a foundation.
+fn is_foundation(text: &str) -> bool {
+    let is_of_ice = |byte: u8| byte.is_ascii_alphanumeric() || byte == b'+' || byte == b'/';
+    (1..=32).contains(&text.len()) && text.bytes().all(is_of_ice)
+}
+
+impl FromStr for Candidate {
+    type Err = CandidateError;
+
+    fn from_str(line: &str) -> Result<Candidate, CandidateError> {
+        let line = line.strip_prefix("a=").unwrap_or(line);
+        let line = line.strip_prefix("candidate:");
+        let mut words = line
+            .ok_or(CandidateError::NotCandidate)?
+            .split_ascii_whitespace();
+        let mut word = || words.next().ok_or(CandidateError::NotCandidate);
+        let (foundation, component, transport) = (word()?, word()?, word()?);
+        let (ranked, ip, port, typ, kind) = (word()?, word()?, word()?, word()?, word()?);
+        if typ != "typ" || !is_foundation(foundation) {
+            return Err(CandidateError::NotCandidate);
+        }
+        if !transport.eq_ignore_ascii_case("udp") {
+            return Err(CandidateError::Transport);
+        }
+        let component = number(component).filter(|number| *number != 0);
+        let ranked = number(ranked).filter(|number| (1..=LARGEST).contains(number));
+        let mut kinds = CandidateKind::ALL.into_iter();
+        let candidate = Candidate {
+            foundation: foundation.to_string(),
+            component: component.ok_or(CandidateError::Component)?,
+            priority: ranked.ok_or(CandidateError::Priority)?,
+            address: address(ip, port).ok_or(CandidateError::Address)?,
+            kind: kinds
+                .find(|one| one.name() == kind)
+                .ok_or(CandidateError::Kind)?,
+            related: None,
+        };
+        // The related address stands before the extensions, which are pairs of words too.
+        let related = match [words.next(), words.next(), words.next(), words.next()] {
+            [Some("raddr"), Some(ip), Some("rport"), Some(port)] => address(ip, port),
+            _ => None,
+        };
+        Ok(Candidate {
+            related,
+            ..candidate
+        })
+    }
+}

@@ -103,7 +103,8 @@
  * contain no writable data, and the exported ones a few words, which store whether the processor
  * has SHA instructions and with what the library allocates, and are read and written atomically.
  *
- * No call is written to run in constant time.
+ * Signatures and nonces are compared over all their bytes, wherever they differ. Nothing else is
+ * written to run in constant time, and that the comparison does is not promised.
  *
  *
  * Errors

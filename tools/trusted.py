@@ -38,7 +38,8 @@ PIECES = {
     "the rest of the crate by hand (`rust/src`)": ("rust/src/**/*.rs",),
     "the library under the exported sources (`rust/src/kit`)": KIT,
     "the border to C by hand (`rust/capi/src`)": ("rust/capi/src/**/*.rs",),
-    "inline calls of the headers": ("include/*_inline.h", "include/stunp_sockaddr.h"),
+    "inline calls of the headers": ("include/*_inline.h", "include/stunp_sockaddr.h",
+                                    "include/stunp_log.h"),
     "the wrappers for C++ (`stunp.hpp`)": ("include/stunp.hpp",),
     "the exporter (`tools/export`)": ("tools/export/*.py",),
 }

@@ -8,7 +8,8 @@ needs_rt = @command -v rt >/dev/null || { echo "make $@: needs the toolchain rt,
 	library for C, and make test runs the tests that need no prover." | tr -s '\t ' ' ' >&2; exit 2; }
 
 help:
-	@echo "make lib      export the calls for C, and build libstunp.a and libstunp.so to target/c"
+	@echo "make lib      export the calls for C, and build libstunp.a and libstunp.so to target/c;"
+	@echo "              UNWIND=yes with tables that debuggers and profilers read"
 	@echo "make install  install the libraries, or the proved archives if they are built, headers,"
 	@echo "              manual and programs; PREFIX=/usr/local LIBDIR=PREFIX/lib DESTDIR="
 	@echo "make uninstall  remove them again"

@@ -389,7 +389,8 @@ typedef enum stunp_credentials {
  *                       secret before when you change the secret, for two nonce lifetimes. It must
  *                       be another one than `secret`, and none of one repeated byte
  *   software            the text of SOFTWARE in each answer that the server writes, of at most 763
- *                       bytes. By default answers have none
+ *                       bytes. By default answers have none. Errors have it too, also those to a
+ *                       sender who signed nothing (see below)
  *   understood          the types of attributes that you understand beside those of STUN, as
  *                       `understood_count` numbers: STUNP_LIFETIME .. of a TURN server. A request
  *                       with another type that must be understood is answered 420
@@ -403,7 +404,14 @@ typedef enum stunp_credentials {
  *   requires_fingerprint  whether a message without FINGERPRINT is dropped (section 7.3). By default it
  *                       is accepted
  *
- * The texts end with a zero byte. */
+ * The texts end with a zero byte.
+ *
+ * An attacker can send requests under the address of somebody else, who then gets the answers. A
+ * request of 20 bytes causes a challenge of 96 bytes, or of 108 with both algorithms, if the realm
+ * has 11 bytes: with the headers of IPv4 and UDP up to 2.8 times as much. Each byte of the realm and
+ * of `software` makes it a byte longer, rounded up to four, and at their limits it has 1628 bytes
+ * (34 times). So keep the realm short. To tell your software to users alone, leave `software` null
+ * and add STUNP_SOFTWARE to the body of the replies that you write. */
 typedef struct {
     size_t size;
     stunp_credentials credentials;

@@ -19,9 +19,9 @@ given=${STUN_STATE:-../crates/stun_c_endpoint/out/libstun_c_endpoint.a}
 STUN_ENDPOINT=${STUN_ENDPOINT:-$given}
 STUN_C=${STUN_C:-../crates/stun_c/out/libstun_c.a}
 STUN_STATE=${STUN_STATE:-../crates/stun_state/out/libstun_state.a}
-kind=proved of_heap=''
+kind=proved
 if ${NM:-nm} "$STUN_STATE" 2>/dev/null | grep -q ' T stunp_is_proved$'; then
-    kind=exported of_heap=stunp_heap
+    kind=exported
 fi
 machine=$($cc -print-multiarch 2>/dev/null) || machine=''
 libdir=/usr/lib${machine:+/$machine}
@@ -86,6 +86,14 @@ else
 fi
 [ "$told" = "left out: $scratch/bin/stun_inspect is not built
 installed: $wanted" ] || fail "told $told"
+# The proved archives need a heap. The exported library has malloc, and heap.c is there to bound it.
+heap='' source="$root/usr/share/stunp/heap.c"
+if [ $kind = exported ]; then
+    heap="-DHEAP_SOURCE -I$root/usr/share/stunp $source"
+    absent=$(find "$root" -name '*stunp_heap*')
+    [ -z "$absent" ] || fail "installed $absent beside the exported library"
+    [ -x "$lib/$loaded" ] || fail "$loaded has no mode that lets tools for packages see its symbols"
+fi
 for file in bin/stun_tool share/man/man1/stun_tool.1 share/man/man3/stunp_parse.3 \
     share/stunp/heap.c include/stunp.hpp; do
     [ -s "$root/usr/$file" ] || fail "no $file"
@@ -109,15 +117,15 @@ flags() {
     elif [ $kind = proved ]; then
         echo "-I$root/usr/include -L$lib -lstunp_state -lstunp_endpoint -lstunp -lstunp_heap"
     else
-        echo "-I$root/usr/include -L$lib -lstunp -Wl,-u,rattle_alloc -lstunp_heap"
+        echo "-I$root/usr/include -L$lib -lstunp"
     fi
 }
 strict='-std=c99 -Wall -Wextra -Wpedantic -Werror'
-for memory in LIBRARYS_MEMORY OWN_MEMORY; do
-    $cc $strict -D$memory c/installed.c $(flags stunp_state $of_heap) -o "$scratch/installed"
+for memory in "$heap" -DOWN_MEMORY; do
+    $cc $strict $memory c/installed.c $(flags stunp_state) -o "$scratch/installed"
     prints "$version" "$scratch/installed"
 done
-$cc $strict -DENDPOINT c/installed.c $(flags stunp_endpoint $of_heap) -o "$scratch/endpoint"
+$cc $strict -DENDPOINT $heap c/installed.c $(flags stunp_endpoint) -o "$scratch/endpoint"
 prints "$version" "$scratch/endpoint"
 # The first archive wants no memory.
 $cc c/arguments.c $(flags stunp) -o "$scratch/arguments"
@@ -161,8 +169,16 @@ if(stunp_FOUND)
     message(FATAL_ERROR "version 99 is found")
 endif()
 find_package(stunp ${RELEASE} REQUIRED)
-add_executable(installed ${SOURCE})
-target_link_libraries(installed stunp::stunp_state stunp::stunp_heap)
+if(TARGET stunp::stunp_heap)
+    add_executable(installed ${SOURCE})
+    target_link_libraries(installed stunp::stunp_state stunp::stunp_heap)
+else()
+    add_executable(installed ${SOURCE} ${HEAP})
+    target_compile_definitions(installed PRIVATE HEAP_SOURCE)
+    get_filename_component(folder ${HEAP} DIRECTORY)
+    target_include_directories(installed PRIVATE ${folder})
+    target_link_libraries(installed stunp::stunp_state)
+endif()
 add_executable(alone ${SOURCE})
 target_compile_definitions(alone PRIVATE OWN_MEMORY)
 if(TARGET stunp::stunp_static)
@@ -172,7 +188,7 @@ else()
 endif()
 PROJECT
     quiet env CC="$cc" cmake -S "$scratch/project" -B "$scratch/built" \
-        -DCMAKE_PREFIX_PATH="$root/usr" -DRELEASE="$version" -DSOURCE="$PWD/c/installed.c"
+        -DCMAKE_PREFIX_PATH="$root/usr" -DRELEASE="$version" -DSOURCE="$PWD/c/installed.c" -DHEAP="$source"
     quiet cmake --build "$scratch/built"
     prints "$version" "$scratch/built/installed"
     prints "$version" "$scratch/built/alone"

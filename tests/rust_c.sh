@@ -26,6 +26,11 @@ cmp "$out/$named" "$out/libstunp.so"
 # linker's.
 wanted=$(nm -u "$out/libstunp.a" | sed -n 's/^.* U //p' | grep -vx _GLOBAL_OFFSET_TABLE_ | sort |
     paste -sd' ')
+# A distribution's CFLAGS can have the compiler guard the stack, which needs one function more.
+guarded=''
+case "$wanted " in
+'__stack_chk_fail '*) guarded=yes wanted=${wanted#* } ;;
+esac
 case "$wanted" in
 'abort bcmp free malloc memcmp memcpy memmove memset realloc strlen') ;;
 *) echo "rust_c: the archive wants other functions: $wanted" >&2 && [ "$(uname -m)" != x86_64 ] ;;
@@ -53,18 +58,18 @@ assert library.stunp_strerror(ctypes.c_int64(-1)) == b"bytes are missing at the 
 assert not library.stunp_is_signed(b"", ctypes.c_size_t(0), b"", ctypes.c_size_t(0))
 CALLS
 
-# size_of FILE: its bytes, without symbols.
+# size_of FILE: its bytes, without symbols and without the tables of UNWIND=yes.
 size_of() {
-    strip -o "$out/stripped" "$1"
+    strip -R .eh_frame -R .eh_frame_hdr -o "$out/stripped" "$1"
     wc -c < "$out/stripped"
 }
 ${CC:-cc} -std=c99 -Os -Wall -Wextra -Wpedantic -Werror -Iinclude tests/c/three_calls.c \
     "$out/libstunp.a" -Wl,--gc-sections -o "$out/three_calls"
 three=$(size_of "$out/three_calls") shared=$(size_of "$out/libstunp.so")
 [ "$three" -le 20000 ] || fail "a program of three calls has $three bytes"
-[ "$shared" -le 340000 ] || fail "the shared library has $shared bytes"
+[ "$shared" -le 290000 ] || fail "the shared library has $shared bytes"
 echo "rust_c: a program of three calls has $three bytes, the shared library $shared"
-case $(uname -sm) in
+case $(uname -sm)$guarded in
 'Linux x86_64' | 'Linux aarch64')
     ${CC:-cc} -std=c11 -O2 -ffreestanding -fno-builtin -nostdlib -static -fno-stack-protector \
         -Wall -Wextra -Werror -Iinclude tests/c/freestanding.c "$out/libstunp.a" -o "$out/freestanding"

@@ -6,6 +6,8 @@
 # (tests/next.sh). Otherwise target/export must be there (tools/rust.sh), and tests/rust_c.sh
 # follows. It needs cargo, a C compiler and the binutils; the variables of make (CC, CFLAGS,
 # LDFLAGS, AR, LD, NM, OBJCOPY) and of cargo (CARGO_BUILD_TARGET, CARGO_TARGET_DIR) name others.
+# UNWIND=yes keeps the tables by which debuggers and profilers unwind the stack, an eighth of the
+# shared library.
 set -eu
 cd "$(dirname "$0")/.."
 out=$PWD/target/c cc=${CC:-cc} headers=include
@@ -30,7 +32,9 @@ $cc -std=c99 ${CFLAGS--Os -fno-asynchronous-unwind-tables} -fPIC -ffunction-sect
 names=$(${NM:-nm} --defined-only "$built" "$out/inline.o" 2> /dev/null |
     sed -n 's/^.* T \(stunp_.*\)/ -u \1/p')
 ${LD:-ld} -r --force-group-allocation --gc-sections $names "$out/inline.o" "$built" -o "$out/one.o"
-${OBJCOPY:-objcopy} -w --keep-global-symbol='stunp_*' -R .llvmbc -R .llvmcmd -R .comment \
+tables='-R .eh_frame'
+[ "${UNWIND-}" != yes ] || tables=''
+${OBJCOPY:-objcopy} -w --keep-global-symbol='stunp_*' -R .llvmbc -R .llvmcmd -R .comment $tables \
     "$out/one.o"
 ${AR:-ar} rcsD "$out/libstunp.a" "$out/one.o"
 # The name for the loader has as many numbers of the version as releases that go together share.

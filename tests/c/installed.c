@@ -1,6 +1,6 @@
 /* Tests that what is installed is enough to build with: a message by the first archive, an agent
- * by the second or (ENDPOINT) a server by the third, and its memory, by libstunp_heap.a or
- * (OWN_MEMORY) by this file. tests/install.sh builds it. Prints the version of the header. */
+ * by the second or (ENDPOINT) a server by the third, and its memory, by libstunp_heap.a, by heap.c
+ * (HEAP_SOURCE) or by this file (OWN_MEMORY). tests/install.sh builds it. Prints the version of the header. */
 #include <stdio.h>
 #include <stdlib.h>
 #ifdef ENDPOINT
@@ -29,6 +29,8 @@ void rattle_dealloc(void *at) {
 }
 
 static size_t stunp_heap_blocks(void) { return blocks; }
+#elif defined HEAP_SOURCE
+#include "heap.h"
 #else
 #include <stunp_heap.h>
 #endif

@@ -56,6 +56,7 @@ rm -rf "$root/work/stunp/vendor"
 tar czf "$root/work/stunp_$version+ds.orig.tar.gz" -C "$root/work" stunp
 cd "$root/work/debian"
 echo '3.0 (quilt)' >source/format
+# (the field for the crates is that of Debian 12; later releases call it Static-Built-Using)
 cat >control <<CONTROL
 Source: stunp
 Section: libs
@@ -71,7 +72,7 @@ Architecture: any
 Multi-Arch: same
 Depends: \${misc:Depends}, \${shlibs:Depends}
 Pre-Depends: \${misc:Pre-Depends}
-Static-Built-Using: \${crates:Static-Built-Using}
+XB-X-Cargo-Built-Using: \${crates:Static-Built-Using}
 Description: STUN (RFC 8489) for programs in C, shared library
  Messages are read, checked, written and signed. An agent sends requests
  again, and servers and clients authenticate each other. The library has no
@@ -82,7 +83,7 @@ Section: libdevel
 Architecture: any
 Multi-Arch: same
 Depends: libstunp$soname (= \${binary:Version}), \${misc:Depends}
-Static-Built-Using: \${crates:Static-Built-Using}
+XB-X-Cargo-Built-Using: \${crates:Static-Built-Using}
 Description: STUN (RFC 8489) for programs in C, headers and static library
  Messages are read, checked, written and signed. An agent sends requests
  again, and servers and clients authenticate each other. The library has no

@@ -480,10 +480,13 @@ typedef enum stunp_drop {
                                        * answer a challenge. The request goes on, and the server
                                        * answers its next transmission. Over a stream there is none,
                                        * so it times out */
-    STUNP_DROP_LATE_CHALLENGE = 14    /* it is a challenge that arrived more than one plan after the
+    STUNP_DROP_LATE_CHALLENGE = 14,   /* it is a challenge that arrived more than one plan after the
                                        * request was started (39.5 s by default; see
                                        * stunp_endpoint_client_settings). The client answers it no
                                        * more */
+    STUNP_DROP_REFUSED = 15           /* it is the challenge that the request is signed for, once more.
+                                       * The request is sent again by its timer, and ends as
+                                       * STUNP_RESULT_UNAUTHORIZED if one arrives after that */
 } stunp_drop;
 
 /* Why a server with long-term credentials refuses a request: the first check that the request fails
@@ -1247,7 +1250,9 @@ enum { STUNP_BODY_MAX = 60000 };
  *   challenges          how often a request is sent again because of a challenge. By default 6
  *                       times; the next challenge ends it with STUNP_RESULT_UNAUTHORIZED. A restart
  *                       of the server, a new address of the client, an expired nonce and a forged
- *                       challenge each count as one
+ *                       challenge each count as one. A wrong password ends a request earlier: at
+ *                       the second refusal with the nonce that the request is signed for, and at
+ *                       the third 401 that has another one
  *   initial             how long to wait after the first transmission of a request, in nanoseconds.
  *                       Each further wait is twice the wait before (section 6.2.1). By default
  *                       500000000 (500 ms)
@@ -1267,7 +1272,7 @@ enum { STUNP_BODY_MAX = 60000 };
  *   accepts_unsigned    whether a request that was sent unsigned accepts an unsigned response, with
  *                       long-term credentials. By default it does not, so a client with a user
  *                       times out at a server that asks for no credentials. If it does, an attacker
- *                       who can forge challenges can forge the response too
+ *                       who can make requests time out can forge the response too
  *   has_fingerprint     whether requests end with FINGERPRINT
  *   requires_fingerprint  whether a response without FINGERPRINT is dropped (section 7.3). By
  *                       default it is accepted */
@@ -1332,8 +1337,8 @@ typedef enum stunp_result {
                                       * leads to this result too, such as the 401 to a wrong
                                       * short-term password: see `dropped.code`. With long-term
                                       * credentials a 401 or 438 is a challenge instead */
-    STUNP_RESULT_UNAUTHORIZED = 5,   /* it was challenged too often: the password is wrong, or somebody
-                                      * forges challenges */
+    STUNP_RESULT_UNAUTHORIZED = 5,   /* it was challenged or refused too often: the password is wrong,
+                                      * or somebody forges challenges */
     STUNP_RESULT_NOT_UNDERSTOOD = 6, /* the response has an attribute of the type `not_understood` that
                                       * must be understood and is not (section 6.3.3) */
     STUNP_RESULT_MALFORMED = 7,      /* the response is an error without a code */

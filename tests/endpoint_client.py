@@ -24,9 +24,11 @@ FOREVER = 2**63
 
 # A challenge: what decides how a request is signed.
 Challenge = collections.namedtuple("Challenge", "realm nonce algorithms algorithm is_hashed")
-# What comes of a response: believed and signed by; signed anew for; or dropped because.
+# What comes of a response: believed and signed by; signed anew for; a refusal, by the challenge of the
+# request (None) or by another one that asks for the same; or dropped because.
 Believed = collections.namedtuple("Believed", "algorithm")
 Anew = collections.namedtuple("Anew", "challenge")
+Refused = collections.namedtuple("Refused", "challenge")
 Dropped = collections.namedtuple("Dropped", "why")
 
 
@@ -42,6 +44,10 @@ class Request:
         self.number, self.method, self.body = number, method, body
         self.challenges, self.drops = 0, []
         self.signed_for = None
+        # Whether it was refused since it was sent last, and before, and how often it was sent again for
+        # another refusal.
+        self.is_refused = self.was_refused = False
+        self.others = 0
         # When the first plan ends, and as long again has passed.
         self.until = self.bound = 0
 
@@ -80,6 +86,12 @@ def entries_of(algorithms):
 def known_in(algorithms):
     """The numbers of a list that have no parameters."""
     return [number for number, parameters in entries_of(algorithms) if not parameters]
+
+
+def security_bits(nonce):
+    """The bits for password algorithms and for hashed names."""
+    bits = bits_of(nonce)
+    return 0 if bits is None else bits[0] & 0xC0
 
 
 def plain_address(value):
@@ -195,10 +207,16 @@ class ClientStage:
             self.next_id = before
             return None
         self.requests[identity] = request
+        self.note_sending(request)
         waits = self.waits()
         self.due[identity] = Timer(message, waits, self.stage.now + waits[0])
         self.unsent[request.number] = message
         return identity
+
+    def note_sending(self, request):
+        """A refusal counts once for each time that the request is sent."""
+        request.was_refused |= request.is_refused
+        request.is_refused = False
 
     def waits(self):
         """How long a request waits after each of its transmissions (section 6.2.1). Over a stream it
@@ -256,8 +274,9 @@ class ClientStage:
         or ends the one whose request was started first."""
         if self.unsent:
             return "sends " + told(self.unsent.pop(min(self.unsent)))
-        for timer in self.due.values():
+        for identity, timer in self.due.items():
             if len(timer.waits) > 1 and timer.at <= self.stage.now:
+                self.note_sending(self.requests[identity])
                 # The next wait begins now, even if this transmission is late.
                 timer.waits.pop(0)
                 timer.at = self.stage.now + timer.waits[0]
@@ -336,8 +355,10 @@ class ClientStage:
         if request is None or request.method != method:
             return "not ours"
         judged = self.judged(request, message)
-        if isinstance(judged, Anew):
-            judged = self.anew(identity, request, judged.challenge)
+        if isinstance(judged, Refused) and judged.challenge is None:
+            judged = self.refused(identity, request)
+        elif isinstance(judged, (Anew, Refused)):
+            judged = self.anew(identity, request, judged.challenge, isinstance(judged, Refused))
         if isinstance(judged, Dropped):
             code = code_in(message) if kind & 0x10 else None
             request.drops.append((judged.why, code))
@@ -364,12 +385,16 @@ class ClientStage:
         challenge = self.challenge_in(request, response, code)
         if challenge is None:
             return self.by_signature(request, response, "UnanswerableChallenge")
-        if challenge == request.signed_for:
-            return Anew(None)
+        before = request.signed_for
+        if challenge == before:
+            return Refused(None)
         confirmed = self.current if self.is_confirmed else self.confirmed
         if confirmed and ((confirmed.algorithm == stun.SHA256 and challenge.algorithm == stun.SHA1)
                           or (confirmed.is_hashed and not challenge.is_hashed)):
             return Dropped("WeakerChallenge")
+        if before and code == 401 and challenge.realm == before.realm:
+            if security_bits(challenge.nonce) == security_bits(before.nonce):
+                return Refused(challenge)
         return Anew(challenge)
 
     def by_signature(self, request, response, why):
@@ -405,12 +430,21 @@ class ClientStage:
         return Challenge(realm, nonce, algorithms, algorithm,
                          may_hash and self.built.hashes != "disabled")
 
-    def anew(self, identity, request, challenge):
+    def refused(self, identity, request):
+        """The challenge that a request is signed for is dropped. The second one that counts ends the
+        request, and so does the first if nothing is sent again."""
+        if self.built.is_stream or request.was_refused:
+            self.end(identity, "Unauthorized")
+            return None
+        request.is_refused = True
+        return Dropped("Refused")
+
+    def anew(self, identity, request, challenge, is_refusal):
         """Sends a request again, or ends it if that was done too often. After the first plan of the
         request the challenge is dropped."""
         if self.stage.now > request.until:
             return Dropped("LateChallenge")
-        if request.challenges >= self.built.most:
+        if request.challenges >= self.built.most or is_refusal and request.others >= 2:
             self.end(identity, "Unauthorized")
             return None
         if self.send(request, challenge) is None:
@@ -418,7 +452,8 @@ class ClientStage:
         self.take(identity)
         request.challenges += 1
         request.signed_for = challenge
-        if challenge is not None and challenge != self.current:
+        request.others += is_refusal
+        if challenge != self.current:
             if self.is_confirmed:
                 self.confirmed = self.current
             self.current, self.is_confirmed = challenge, False

@@ -268,6 +268,9 @@ pub enum DropReason {
     /// by default; see [`Retransmission`]). The client answers it no more, so that the request ends
     /// within two plans.
     LateChallenge,
+    /// It is the challenge that the request is signed for, once more. The request is sent again by its
+    /// timer, and ends as [`Unauthorized`](RequestError::Unauthorized) if one arrives after that.
+    Refused,
 }
 
 impl DropReason {
@@ -283,10 +286,11 @@ impl DropReason {
         DropReason::OutOfMemory,
         DropReason::MissingFingerprint,
         DropReason::LateChallenge,
+        DropReason::Refused,
     ];
 
     /// How many reasons there are.
-    pub const COUNT: usize = 10;
+    pub const COUNT: usize = 11;
 
     /// Returns a number below [`COUNT`](Self::COUNT), for counters of yours.
     pub fn index(self) -> usize {
@@ -306,6 +310,7 @@ impl DropReason {
             DropReason::OutOfMemory => "OutOfMemory",
             DropReason::MissingFingerprint => "MissingFingerprint",
             DropReason::LateChallenge => "LateChallenge",
+            DropReason::Refused => "Refused",
         }
     }
 }
@@ -323,6 +328,7 @@ impl fmt::Display for DropReason {
             DropReason::OutOfMemory => "an allocation failed",
             DropReason::MissingFingerprint => "the FINGERPRINT is missing",
             DropReason::LateChallenge => "its challenge arrived too late",
+            DropReason::Refused => "its challenge was answered already",
         })
     }
 }
@@ -349,6 +355,7 @@ impl From<ended::DropReason> for DropReason {
             ended::DropReason::WeakerChallenge => DropReason::WeakerChallenge,
             ended::DropReason::OutOfMemory => DropReason::OutOfMemory,
             ended::DropReason::LateChallenge => DropReason::LateChallenge,
+            ended::DropReason::Refused => DropReason::Refused,
         }
     }
 }

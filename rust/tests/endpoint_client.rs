@@ -111,12 +111,17 @@ fn a_restart_a_new_address_and_the_end_of_a_nonce_cost_one_request() {
 }
 
 #[test]
-fn a_wrong_password_ends_after_some_challenges() {
+fn a_wrong_password_costs_three_datagrams() {
     let service = Service::new(1, &BOTH);
     let mut client = client(4, "wrong", &BOTH);
-    binding(&mut client, ms(0));
+    let request = binding(&mut client, ms(0));
     let (codes, ended) = exchange(&mut client, &service, at(HERE), ms(0));
-    assert_eq!(codes, [401; 7]);
+    assert_eq!(codes, [401, 401]);
+    assert!(ended.is_empty());
+    let dropped = client.dropped(request).unwrap();
+    assert_eq!(dropped.last(), Some(DropReason::Refused));
+    let (codes, ended) = exchange(&mut client, &service, at(HERE), ms(500));
+    assert_eq!(codes, [401]);
     assert!(matches!(&ended[..], [(_, Err(RequestError::Unauthorized))]));
     assert_eq!(client.outstanding(), 0);
 }

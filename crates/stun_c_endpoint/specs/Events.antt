@@ -9,6 +9,7 @@ use Rattle.stun_client_endpoint.specs.declared.ended.DropReason.{DropReason}
 use Rattle.stun_client_endpoint.specs.declared.ended.DropReason.TheVariants.{MissingFingerprint}
 use Rattle.stun_client_endpoint.specs.declared.ended.DropReason.TheVariants.{NotVerified}
 use Rattle.stun_client_endpoint.specs.declared.ended.DropReason.TheVariants.{OutOfMemory}
+use Rattle.stun_client_endpoint.specs.declared.ended.DropReason.TheVariants as reason
 use Rattle.stun_client_endpoint.specs.declared.ended.DropReason.TheVariants.{LateChallenge}
 use Rattle.stun_client_endpoint.specs.declared.ended.DropReason.TheVariants.{UnanswerableChallenge}
 use Rattle.stun_client_endpoint.specs.declared.ended.DropReason.TheVariants.{WeakerChallenge}
@@ -34,6 +35,7 @@ drop_told UnanswerableChallenge = 10
 drop_told WeakerChallenge = 11
 drop_told OutOfMemory = 12
 drop_told LateChallenge = 14
+drop_told reason.Refused = 15
 
 -- a number, and 0 of none
 abbrev pub or_zero : Option ℕ → ℕ

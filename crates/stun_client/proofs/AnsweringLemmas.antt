@@ -13,8 +13,9 @@ use Rattle.stun_client.specs.Challenges.{Answered, IsAnswerable, by_rule, by_rul
 use Rattle.stun_client.specs.Challenges.{challenge_of, is_one}
 use Rattle.stun_client.specs.Challenges.{list_for, list_kept}
 use Rattle.stun_client.specs.Challenging.{is_challenge, nonce_in, realm_in}
-use Rattle.stun_client.specs.Judging.{anew, answered_in, by_signature, dropped, fault_in, judged}
-use Rattle.stun_client.specs.Judging.{judged_by_long_term, judged_read, long_term, unless_faulty}
+use Rattle.stun_client.specs.Judging.{answered_in, by_signature, dropped, fault_in, judged}
+use Rattle.stun_client.specs.Judging.{judged_by_long_term, judged_read, long_term, refused, sent_for}
+use Rattle.stun_client.specs.Judging.{unless_faulty}
 use Rattle.stun_client.specs.Offers.{algorithms_in}
 use Rattle.stun_client.specs.Preferences.{supports}
 use Rattle.stun_client.specs.Rule.{chosen, lacks_userhash}
@@ -85,15 +86,15 @@ pub sent_again : (required : Bool) (who : NameAndPassword) (p : Preferences) (ac
     (standing : StandingSeen) (before : Option Answered) (bytes : List ℕ) (c : Answered)
     → fault_in required bytes ≡ None → answered_in p who before bytes ≡ Some c
     → is_one (Some c) before ≡ false → is_ignored standing c ≡ false
-    → judged required (long_term who p accepts) standing before bytes ≡ anew (Some c)
+    → judged required (long_term who p accepts) standing before bytes ≡ sent_for before bytes c
 sent_again required who p accepts standing before bytes c whole read new strong =
     ap (unless_faulty (judged_by_long_term accepts p who standing before bytes)) whole
     ∙ ap (λ b. cond b (judged_read accepts standing before bytes (answered_in p who before bytes))
     (by_signature accepts before NotVerified bytes)) challenges
     ∙ ap (judged_read accepts standing before bytes) read
-    ∙ ap (λ b. cond b (anew None) (cond (is_ignored standing c) (dropped WeakerChallenge)
-    (anew (Some c)))) new
-    ∙ ap (λ b. cond b (dropped WeakerChallenge) (anew (Some c))) strong
+    ∙ ap (λ b. cond b (refused None) (cond (is_ignored standing c) (dropped WeakerChallenge)
+    (sent_for before bytes c))) new
+    ∙ ap (λ b. cond b (dropped WeakerChallenge) (sent_for before bytes c)) strong
   where
     challenges : is_challenge bytes ≡ true
     challenges = by (is_challenge bytes) refl

@@ -11,7 +11,8 @@ use Rattle.stun_types.specs.Integrity.{verified_algorithm}
 use Rattle.stun_client.specs.Challenge.{Challenge}
 use Rattle.stun_client.specs.Challenges.{Answered, challenge_of, is_one}
 use Rattle.stun_client.specs.Challenging.{is_challenge}
-use Rattle.stun_client.specs.Judging.{Identity, IsAnsweredAnew, IsBelievable, answered_in}
+use Rattle.stun_client.specs.Judging.{Identity, IsAnsweredAnew, IsBelievable, IsSentAgain}
+use Rattle.stun_client.specs.Judging.{answered_in, is_refusal, refused}
 use Rattle.stun_client.specs.Judging.{anew, believed, by_key, by_signature, by_sole_algorithm, dropped}
 use Rattle.stun_client.specs.Judging.{fault_in, judged, judged_by, judged_by_long_term}
 use Rattle.stun_client.specs.Judging.{judged_read, long_term, short_term, unless_faulty, unsigned}
@@ -67,11 +68,13 @@ signature_believed who p accepts None why bytes by is = unsigned_believed accept
 signature_believed who p accepts (Some c) why bytes by is =
     by_key_believed (verified_algorithm bytes c.challenge.key) why by is
 
-challenge_not_believed : (one weak : Bool) (c : Answered) (by : Option IntegrityAlgorithm)
-    → cond one (anew None) (cond weak (dropped WeakerChallenge) (anew (Some c))) ≡ believed by → ⊥
-challenge_not_believed true weak c by is = cc
-challenge_not_believed false true c by is = cc
-challenge_not_believed false false c by is = cc
+challenge_not_believed : (one weak again : Bool) (c : Answered) (by : Option IntegrityAlgorithm)
+    → cond one (refused None) (cond weak (dropped WeakerChallenge) (cond again (refused (Some c)) (anew c)))
+    ≡ believed by → ⊥
+challenge_not_believed true weak again c by is = cc
+challenge_not_believed false true again c by is = cc
+challenge_not_believed false false true c by is = cc
+challenge_not_believed false false false c by is = cc
 
 long_term_believed : (who : NameAndPassword) (p : Preferences) (accepts : Bool)
     (standing : StandingSeen) (before : Option Answered) (bytes : List ℕ)
@@ -88,7 +91,8 @@ long_term_believed who p accepts standing before bytes by =
     cases true None is =
         signature_believed who p accepts before UnanswerableChallenge bytes by is
     cases true (Some c) is =
-        absurd (challenge_not_believed (is_one (Some c) before) (is_ignored standing c) c by is)
+        absurd (challenge_not_believed (is_one (Some c) before) (is_ignored standing c)
+        (is_refusal before bytes c) c by is)
     cases false read is = signature_believed who p accepts before NotVerified bytes by is
 
 short_term_believed : (asked : IntegrityAlgorithm) (v by : Option IntegrityAlgorithm)
@@ -115,6 +119,23 @@ believable required identity standing before bytes by = cases (fault_in required
     cases None (long_term who p accepts) is =
         long_term_believed who p accepts standing before bytes by is
 
+-- what nobody signed is not believed
+pub not_believed : (required : Bool) (who : NameAndPassword) (p : Preferences) (accepts : Bool)
+    (standing : StandingSeen) (before : Answered) (bytes : List ℕ) (by : Option IntegrityAlgorithm)
+    → verified_algorithm bytes before.challenge.key ≡ None
+    → judged required (long_term who p accepts) standing (Some before) bytes ≡ believed by → ⊥
+not_believed required who p accepts standing before bytes by none is =
+    let signed = believable required (long_term who p accepts) standing (Some before) bytes by is in
+    let some = signed.1.1 in
+    cc
+
+pub first_not_believed : (required : Bool) (who : NameAndPassword) (p : Preferences)
+    (standing : StandingSeen) (bytes : List ℕ) (by : Option IntegrityAlgorithm)
+    → judged required (long_term who p false) standing None bytes ≡ believed by → ⊥
+first_not_believed required who p standing bytes by is =
+    let accepted = (believable required (long_term who p false) standing None bytes by is).1 in
+    cc
+
 -- what is believed has no fault
 pub faultless : (required : Bool) (identity : Identity) (standing : StandingSeen)
     (before : Option Answered) (bytes : List ℕ) (by : Option IntegrityAlgorithm)
@@ -131,21 +152,23 @@ faultless required identity standing before bytes by = cases (fault_in required 
 -- ---- sending again
 
 signature_not_anew : (accepts : Bool) (before : Option Answered) (why : Distrust) (bytes : List ℕ)
-    (c : Answered) → by_signature accepts before why bytes ≡ anew (Some c) → ⊥
-signature_not_anew true None why bytes c is = cc
-signature_not_anew false None why bytes c is = cc
+    (c : Answered) → IsSentAgain (by_signature accepts before why bytes) c → ⊥
+signature_not_anew true None why bytes c is = absurd is
+signature_not_anew false None why bytes c is = absurd is
 signature_not_anew accepts (Some d) why bytes c is = by (verified_algorithm bytes d.challenge.key) is
   where
-    by : (v : Option IntegrityAlgorithm) → by_key v why ≡ anew (Some c) → ⊥
-    by None is = cc
-    by (Some a) is = cc
+    by : (v : Option IntegrityAlgorithm) → IsSentAgain (by_key v why) c → ⊥
+    by None is = absurd is
+    by (Some a) is = absurd is
 
-challenge_anew : (one weak : Bool) (d c : Answered)
-    → cond one (anew None) (cond weak (dropped WeakerChallenge) (anew (Some d))) ≡ anew (Some c)
+challenge_anew : (one weak again : Bool) (d c : Answered)
+    → IsSentAgain (cond one (refused None) (cond weak (dropped WeakerChallenge)
+    (cond again (refused (Some d)) (anew d)))) c
     → (one ≡ false) × (weak ≡ false) × (d ≡ c)
-challenge_anew true weak d c is = cc
-challenge_anew false true d c is = cc
-challenge_anew false false d c is = (refl, refl, cc)
+challenge_anew true weak again d c is = cc
+challenge_anew false true again d c is = absurd is
+challenge_anew false false true d c is = (refl, refl, cc)
+challenge_anew false false false d c is = (refl, refl, is)
 
 -- a challenge that is read is of the preferences that it is read by
 own_preferences : (p : Preferences) (is : Option Challenge) (c : Answered)
@@ -155,19 +178,20 @@ own_preferences p (Some d) c read = cc
 
 long_term_anew : (who : NameAndPassword) (p : Preferences) (accepts : Bool)
     (standing : StandingSeen) (before : Option Answered) (bytes : List ℕ) (c : Answered)
-    → judged_by_long_term accepts p who standing before bytes ≡ anew (Some c)
+    → IsSentAgain (judged_by_long_term accepts p who standing before bytes) c
     → IsAnsweredAnew p who standing before bytes c
 long_term_anew who p accepts standing before bytes c =
     cases (is_challenge bytes) (answered_in p who before bytes) refl
   where
     cases : (b : Bool) (read : Option Answered) → answered_in p who before bytes ≡ read
-        → cond b (judged_read accepts standing before bytes read)
-        (by_signature accepts before NotVerified bytes) ≡ anew (Some c)
+        → IsSentAgain (cond b (judged_read accepts standing before bytes read)
+        (by_signature accepts before NotVerified bytes)) c
         → IsAnsweredAnew p who standing before bytes c
     cases true None read is =
         absurd (signature_not_anew accepts before UnanswerableChallenge bytes c is)
     cases true (Some d) read is =
-        let was = challenge_anew (is_one (Some d) before) (is_ignored standing d) d c is in
+        let was = challenge_anew (is_one (Some d) before) (is_ignored standing d)
+        (is_refusal before bytes d) d c is in
         record {
           challenge = read ∙ ap (λ x. Some x) was.2;
           own = own_preferences p (challenge_of p who
@@ -180,13 +204,12 @@ long_term_anew who p accepts standing before bytes c =
 
 pub answered_anew : (required : Bool) (who : NameAndPassword) (p : Preferences) (accepts : Bool)
     (standing : StandingSeen) (before : Option Answered) (bytes : List ℕ) (c : Answered)
-    → judged required (long_term who p accepts) standing before bytes ≡ anew (Some c)
+    → IsSentAgain (judged required (long_term who p accepts) standing before bytes) c
     → IsAnsweredAnew p who standing before bytes c
 answered_anew required who p accepts standing before bytes c = cases (fault_in required bytes)
   where
     cases : (fault : Option Distrust)
-        → unless_faulty (judged_by_long_term accepts p who standing before bytes) fault
-        ≡ anew (Some c)
+        → IsSentAgain (unless_faulty (judged_by_long_term accepts p who standing before bytes) fault) c
         → IsAnsweredAnew p who standing before bytes c
-    cases (Some why) is = cc
+    cases (Some why) is = absurd is
     cases None is = long_term_anew who p accepts standing before bytes c is

@@ -9,7 +9,7 @@ use Rattle.stun_base.specs.declared.keys.algorithm.IntegrityAlgorithm.TheVariant
 use Rattle.stun_types.specs.Integrity.{verified_algorithm}
 use Rattle.stun_auth.specs.ClientStep.{STALE_NONCE, is_code}
 use Rattle.stun_auth.specs.Algorithms.{has, is_sha256, same_algorithm}
-use Rattle.stun_auth.specs.Nonces.{asks_for_algorithms}
+use Rattle.stun_auth.specs.Nonces.{asks_for_algorithms, asks_for_userhash}
 use Rattle.stun_auth.specs.Signed.{plain_name}
 use Rattle.stun_client.specs.Challenge.{Challenge, new_challenge}
 use Rattle.stun_client.specs.Challenging.{code_in, is_challenge, list_in, nonce_in, realm_in}
@@ -99,6 +99,19 @@ abbrev pub is_weaker : Challenge → Challenge → Bool
 is_weaker c other =
     (is_sha256 other.algorithm && not (is_sha256 c.algorithm))
     || (is_none (plain_name other.naming) && not (is_none (plain_name c.naming)))
+
+-- whether two nonces have the same security bits, of those that a client knows
+abbrev pub is_same_bit : Bool → Bool → Bool
+is_same_bit one other = if one then other else not other
+
+abbrev pub has_same_bits : List ℕ → List ℕ → Bool
+has_same_bits nonce other =
+    is_same_bit (asks_for_algorithms nonce) (asks_for_algorithms other)
+    && is_same_bit (asks_for_userhash nonce) (asks_for_userhash other)
+
+-- whether two challenges ask for the same credentials: in realm and security bits
+abbrev pub is_alike : Challenge → Challenge → Bool
+is_alike c other = bytes_eq c.realm other.realm && has_same_bits c.nonce other.nonce
 
 -- whether two challenges are the same: in nonce, realm, list and algorithm. The nonce says whether
 -- the user is named by a hash

@@ -6,12 +6,13 @@ use Rattle.stun_base.specs.Credentials.{NameAndPassword}
 use Rattle.stun_base.specs.declared.keys.algorithm.IntegrityAlgorithm.{IntegrityAlgorithm}
 use Rattle.stun_types.specs.Integrity.{verified_algorithm}
 use Rattle.stun_auth.specs.Algorithms.{same_algorithm}
+use Rattle.stun_auth.specs.ClientStep.{UNAUTHORIZED, is_code}
 use Rattle.stun_extra.specs.Fingerprint.{fingerprint_in}
 use Rattle.stun_extra.specs.declared.fingerprint.Fingerprint.{Fingerprint}
 use Rattle.stun_extra.specs.declared.fingerprint.Fingerprint.TheVariants.{Right, Wrong}
 use Rattle.stun_extra.specs.declared.fingerprint.Fingerprint.TheVariants.{Misplaced, Absent}
-use Rattle.stun_client.specs.Challenges.{Answered, challenge_of, is_one}
-use Rattle.stun_client.specs.Challenging.{is_challenge}
+use Rattle.stun_client.specs.Challenges.{Answered, challenge_of, is_alike, is_one}
+use Rattle.stun_client.specs.Challenging.{code_in, is_challenge}
 use Rattle.stun_client.specs.Standing.{StandingSeen, is_ignored}
 use Rattle.stun_client.specs.declared.credentials.Credentials.{Credentials}
 use Rattle.stun_client.specs.declared.credentials.Credentials.TheVariants.{Unsigned, ShortTerm}
@@ -22,7 +23,7 @@ use Rattle.stun_client.specs.declared.judged.Distrust.TheVariants.{UnanswerableC
 use Rattle.stun_client.specs.declared.judged.Distrust.TheVariants.{WrongFingerprint}
 use Rattle.stun_client.specs.declared.judged.Distrust.TheVariants.{MissingFingerprint}
 use Rattle.stun_client.specs.declared.judged.Judged.{Judged}
-use Rattle.stun_client.specs.declared.judged.Judged.TheVariants.{Believed, Anew, Dropped}
+use Rattle.stun_client.specs.declared.judged.Judged.TheVariants.{Believed, Anew, Refused, Dropped}
 use Rattle.stun_client.specs.declared.preferences.Preferences.{Preferences}
 
 -- how a client proves who it is: not at all; by name and password of a session, with the algorithm of
@@ -38,17 +39,20 @@ identity_of Unsigned = unsigned
 identity_of (ShortTerm s) = short_term (string_bytes s.name) s.password s.algorithm
 identity_of (LongTerm l) = long_term l.user l.preferences l.accepts_unsigned
 
--- it ends its request and is signed so, its request is sent again for a challenge or unsigned, or it
--- is dropped
+-- it ends its request and is signed so, its request is sent again for a challenge, it refuses its
+-- request, or it is dropped. A refusal is the challenge that the request was signed for, or another one
+-- that asks for the same credentials
 pub data Verdict : Type 0 where
   believed : Option IntegrityAlgorithm → Verdict
-  anew : Option Answered → Verdict
+  anew : Answered → Verdict
+  refused : Option Answered → Verdict
   dropped : Distrust → Verdict
 
 -- what the result of `judge` says
 abbrev pub verdict_of : {A : Type 0} → Judged A → Verdict
 verdict_of (Believed by) = believed by
 verdict_of (Anew challenge) = anew challenge
+verdict_of (Refused challenge) = refused challenge
 verdict_of (Dropped why) = dropped why
 
 -- ---- FINGERPRINT (sections 7.3 and 14.7)
@@ -95,19 +99,30 @@ answered_in p who before bytes =
     option_map (λ c. record { preferences = p; challenge = c })
     (challenge_of p who (option_map (λ (b : Answered). b.challenge) before) bytes)
 
--- the challenge that the request was signed for already is not answered again: the request is sent
--- unsigned. One that is weaker than what a success has confirmed is dropped
-abbrev pub judged_challenge : StandingSeen → Option Answered → Answered → Verdict
-judged_challenge standing before c =
-    if is_one (Some c) before then anew None
+-- whether a challenge is a 401 to a request that was signed for the same realm and security bits
+abbrev pub is_refusal : Option Answered → List ℕ → Answered → Bool
+is_refusal None bytes c = false
+is_refusal (Some before) bytes c =
+    is_code UNAUTHORIZED (code_in bytes) && is_alike c.challenge before.challenge
+
+-- a challenge that the request is sent again for
+abbrev pub sent_for : Option Answered → List ℕ → Answered → Verdict
+sent_for before bytes c = if is_refusal before bytes c then refused (Some c) else anew c
+
+-- the challenge that the request was signed for is not answered again. One that is weaker than what a
+-- success has confirmed is dropped
+abbrev pub judged_challenge : StandingSeen → Option Answered → List ℕ → Answered → Verdict
+judged_challenge standing before bytes c =
+    if is_one (Some c) before then refused None
     else if is_ignored standing c then dropped WeakerChallenge
-    else anew (Some c)
+    else sent_for before bytes c
 
 -- a 401 or a 438 that is no challenge by the rule is judged by its signature, as other errors are
 abbrev pub judged_read : Bool → StandingSeen → Option Answered → List ℕ → Option Answered → Verdict
 judged_read accepts_unsigned standing before bytes None =
     by_signature accepts_unsigned before UnanswerableChallenge bytes
-judged_read accepts_unsigned standing before bytes (Some c) = judged_challenge standing before c
+judged_read accepts_unsigned standing before bytes (Some c) =
+    judged_challenge standing before bytes c
 
 abbrev pub judged_by_long_term : Bool → Preferences → NameAndPassword → StandingSeen
     → Option Answered → List ℕ → Verdict
@@ -159,6 +174,13 @@ IsBelievable (long_term who p accepts_unsigned) None bytes by =
     (by ≡ None) × (accepts_unsigned ≡ true)
 IsBelievable (long_term who p accepts_unsigned) (Some c) bytes by =
     (a : IntegrityAlgorithm) × ((by ≡ Some a) × (verified_algorithm bytes c.challenge.key ≡ Some a))
+
+-- a request is to be sent again for a challenge
+abbrev pub IsSentAgain : Verdict → Answered → Type 0
+IsSentAgain (believed by) c = ⊥
+IsSentAgain (anew challenge) c = challenge ≡ c
+IsSentAgain (refused challenge) c = challenge ≡ Some c
+IsSentAgain (dropped why) c = ⊥
 
 -- a request is sent again for a challenge: the one of the response by the rule and by the client's own
 -- preferences, which is not the one that the request was signed for, nor weaker than what a success

@@ -7,8 +7,8 @@ ghost use Rattle.stun_types.specs.Limits.{TEXT_LIMIT};
 ghost use Rattle.stun_auth.specs.Algorithms.{is_sha256, same_algorithm};
 ghost use Rattle.stun_auth.specs.Signed.{plain_name};
 ghost use Rattle.stun_client.specs.Challenge.{new_challenge};
-ghost use Rattle.stun_client.specs.Challenges.{Answered, by_rule, challenge_of, is_one, is_renewal};
-ghost use Rattle.stun_client.specs.Challenges.{is_same, is_weaker};
+ghost use Rattle.stun_client.specs.Challenges.{Answered, by_rule, challenge_of, is_alike, is_one};
+ghost use Rattle.stun_client.specs.Challenges.{is_renewal, is_same, is_weaker};
 ghost use Rattle.stun_client.specs.Challenges.{list_for, list_kept, list_or_none};
 ghost use Rattle.stun_client.specs.Challenging.{list_in};
 ghost use Rattle.stun_client.specs.code.Kept.{challenge_seen};
@@ -21,7 +21,9 @@ mod signing;
 
 use crate::challenge::kept::{KeptChallenge, UserNaming};
 use crate::challenge::reading::{code_of, is_challenge, list_of, nonce_of, realm_of};
-use crate::challenge::rule::{asks_for_algorithms, chosen, is_hashed, lacks_userhash};
+use crate::challenge::rule::{
+    asks_for_algorithms, chosen, has_same_bits, is_hashed, lacks_userhash,
+};
 use crate::limited_text::LimitedText;
 use crate::preferences::Preferences;
 use std::alloc::{AllocError, Allocator, Global};
@@ -321,6 +323,14 @@ impl<A: Allocator + Copy> Challenge<A> {
             && self.realm() == other.realm()
             && self.list() == other.list()
             && is_same_algorithm(self.algorithm(), other.algorithm())
+    }
+
+    /// Returns whether this challenge asks for the same credentials as another one: it has the same
+    /// realm and the same security bits.
+    pub fn is_alike(&self, other: &Challenge<A>) -> bool
+        ensures { result ≡ is_alike self.now.challenge other.now.challenge }
+    {
+        self.realm() == other.realm() && has_same_bits(self.nonce(), other.nonce())
     }
 
     /// Returns whether a request for this challenge is protected by less than a request for the

@@ -3,16 +3,18 @@
 ghost use Rattle.std.specs.Prelude.{◌≡◌, false, IfOk, IsOk, None, Some};
 ghost use Rattle.stun_types.specs.Integrity.{verified_algorithm};
 ghost use Rattle.stun_client.specs.Judging.{answered_in, by_key, by_signature, by_sole_algorithm};
-ghost use Rattle.stun_client.specs.Judging.{fault_in, identity_of, judged, judged_by_long_term};
-ghost use Rattle.stun_client.specs.Judging.{judged_challenge, needs_memory, verdict_of};
+ghost use Rattle.stun_client.specs.Judging.{fault_in, identity_of, is_refusal, judged};
+ghost use Rattle.stun_client.specs.Judging.{judged_by_long_term, judged_challenge, needs_memory};
+ghost use Rattle.stun_client.specs.Judging.{verdict_of};
 
 use crate::challenge::Challenge;
-use crate::challenge::reading::is_challenge;
+use crate::challenge::reading::{code_of, is_challenge};
 use crate::judged::{Distrust, Judged};
 use crate::preferences::Preferences;
 use crate::standing::Standing;
 use std::alloc::{AllocError, Allocator, Global};
 use stun_extra::fingerprint::{Fingerprint, check_fingerprint};
+use stun_types::attribute::ErrorCode;
 use stun_types::message::{IntegrityAlgorithm, LongTermCredentials, Message, PreparedKey};
 
 /// A name and a password that client and server have agreed on for one session (RFC 8489, section
@@ -72,9 +74,9 @@ impl<A: Allocator + Copy> Credentials<A> {
     /// - With short-term credentials a response is believed if it is signed with the password, by
     ///   the algorithm of the request (RFC 8489, section 9.1.4).
     /// - With long-term credentials a 401 or a 438 is a challenge, which the request is sent again
-    ///   for. The challenge that the request was signed for already sends it again unsigned, and one
-    ///   that is weaker than the challenge which a success has confirmed is dropped. A challenge that
-    ///   the rule ignores is judged as any other response.
+    ///   for. The challenge that the request was signed for is a refusal, and so is a 401 for the
+    ///   same realm and security bits. A challenge that is weaker than the one which a success has
+    ///   confirmed is dropped. One that the rule ignores is judged as any other response.
     /// - Any other response is believed if it is signed with the key that the request was signed
     ///   with (section 9.2.5). If the request was not signed, the response is dropped, unless
     ///   unsigned responses are accepted.
@@ -157,7 +159,7 @@ impl<A: Allocator + Copy> LongTerm<A> {
             return Ok(self.by_signature(signed_for, response, Distrust::NotVerified));
         }
         match self.challenge_in(alloc, signed_for, response)? {
-            Some(challenge) => Ok(judged_challenge(standing, signed_for, challenge)),
+            Some(challenge) => Ok(judged_challenge(standing, signed_for, challenge, response)),
             None => Ok(self.by_signature(signed_for, response, Distrust::UnanswerableChallenge)),
         }
     }
@@ -213,16 +215,37 @@ fn judged_challenge<A: Allocator + Copy>(
     standing: &Standing<A>,
     signed_for: &Option<Challenge<A>>,
     challenge: Challenge<A>,
+    response: &Message<'_>,
 ) -> Judged<A>
-    ensures { verdict_of result ≡ judged_challenge standing.now signed_for.now challenge }
+    ensures { verdict_of result
+        ≡ judged_challenge standing.now signed_for.now response.now challenge }
 {
-    // It is the challenge that was answered, once more. The credentials are wrong, or it is forged:
-    // the response to an unsigned request tells.
     if challenge.is_same_as(signed_for) {
-        return Judged::Anew(None);
+        return Judged::Refused(None);
     }
     if standing.ignores(&challenge) {
         return Judged::Dropped(Distrust::WeakerChallenge);
     }
-    Judged::Anew(Some(challenge))
+    if is_refusal(signed_for, response, &challenge) {
+        Judged::Refused(Some(challenge))
+    } else {
+        Judged::Anew(challenge)
+    }
+}
+
+/// Returns whether a challenge is a 401 to a request that was signed for the same realm and security
+/// bits.
+fn is_refusal<A: Allocator + Copy>(
+    signed_for: &Option<Challenge<A>>,
+    response: &Message<'_>,
+    challenge: &Challenge<A>,
+) -> bool
+    ensures { result ≡ is_refusal signed_for.now response.now challenge.now }
+{
+    match signed_for {
+        Some(before) => {
+            code_of(response) == Some(ErrorCode::UNAUTHORIZED) && challenge.is_alike(before)
+        }
+        None => false,
+    }
 }

@@ -32,9 +32,12 @@ pub enum Judged<A: Allocator = Global> {
     /// The response is believed and ends the request. It is signed with this algorithm, or not
     /// signed.
     Believed(Option<IntegrityAlgorithm>),
-    /// Send the request again under another transaction ID, signed for this challenge or not at
-    /// all.
-    Anew(Option<Challenge<A>>),
+    /// Send the request again under another transaction ID, signed for this challenge.
+    Anew(Challenge<A>),
+    /// The response refuses the request: it is the challenge that the request was signed for
+    /// (`None`), or a 401 for the same realm and security bits with another nonce or list. The
+    /// password is wrong, or somebody forges challenges.
+    Refused(Option<Challenge<A>>),
     /// The response is dropped, for this reason.
     Dropped(Distrust),
 }

@@ -5,6 +5,7 @@ ghost use Rattle.std.specs.declared.net.socket_addr.SocketAddr.{SocketAddr};
 ghost use Rattle.stun_base.specs.Credentials.{NameAndPassword};
 ghost use Rattle.stun_base.specs.declared.keys.algorithm.IntegrityAlgorithm.{IntegrityAlgorithm};
 ghost use Rattle.stun_base.specs.declared.wire.message_type.MessageClass.{MessageClass};
+ghost use Rattle.stun_types.specs.Integrity.{verified_algorithm};
 ghost use Rattle.stun_auth.specs.Nonces.{front, nonce_of, security_byte};
 ghost use Rattle.stun_auth.specs.Reading.{reading_of};
 ghost use Rattle.stun_auth.specs.Registered.{Registered};
@@ -15,8 +16,9 @@ ghost use Rattle.stun_client.specs.Challenges.{Answered, IsAnswerable, IsOfMessa
 ghost use Rattle.stun_client.specs.Challenges.{challenge_of, is_one};
 ghost use Rattle.stun_client.specs.Clients.{EndpointClient, IsAnswer, heard, responded};
 ghost use Rattle.stun_client.specs.Downgrade.{IsNowhereBidDown, IsUpToDate};
-ghost use Rattle.stun_client.specs.Judging.{IsAnsweredAnew, IsBelievable, Identity, anew, believed};
-ghost use Rattle.stun_client.specs.Judging.{answered_in, fault_in, judged, long_term};
+ghost use Rattle.stun_client.specs.Judging.{IsAnsweredAnew, IsBelievable, IsSentAgain, Identity};
+ghost use Rattle.stun_client.specs.Judging.{answered_in, believed, fault_in, judged, long_term};
+ghost use Rattle.stun_client.specs.Judging.{sent_for};
 ghost use Rattle.stun_client.specs.Rule.{IsByRule, IsChosen};
 ghost use Rattle.stun_client.specs.Standing.{AreUsualEvents, StandingEvent, StandingSeen};
 ghost use Rattle.stun_client.specs.Standing.{is_ignored, standing_after_all};
@@ -35,7 +37,8 @@ pub fn challenges_are_by_the_rule()
 
 /// A client answers each challenge that offers an algorithm which it supports, whatever other
 /// algorithms the list has beside it: the challenge is read, and a request that was signed for another
-/// one, or not at all, is sent again for it, unless it is weaker than what a success has confirmed.
+/// one, or not at all, is to be sent again for it, unless it is weaker than what a success has
+/// confirmed.
 pub fn answerable_challenges_are_answered()
     ensures read { (p : ThePreferences) (who : NameAndPassword) (before : Option Challenge)
         (bytes : List ℕ) → IsAnswerable p before bytes → IsSome (challenge_of p who before bytes) }
@@ -45,7 +48,7 @@ pub fn answerable_challenges_are_answered()
         → answered_in p who before bytes ≡ Some c → is_one (Some c) before ≡ false
         → is_ignored standing c ≡ false
         → judged required (long_term who p accepts_unsigned) standing before bytes
-        ≡ anew (Some c) }
+        ≡ sent_for before bytes c }
 {}
 
 /// No downgrade. A message that reads as one signed for a challenge by the rule is not bid down:
@@ -86,14 +89,29 @@ pub fn believed_responses_are_believable()
         → fault_in required bytes ≡ None }
 {}
 
-/// A request is sent again only for the challenge that its response is by the rule. That challenge
-/// is neither the one that the request was signed for nor one that is ignored.
+/// A request is sent again only for the challenge that its response is by the rule, also if that is a
+/// refusal. That challenge is neither the one that the request was signed for nor one that is ignored.
 pub fn requests_are_sent_again_for_new_challenges()
     ensures { (required : Bool) (who : NameAndPassword) (p : ThePreferences)
         (accepts_unsigned : Bool) (standing : StandingSeen) (before : Option Answered)
         (bytes : List ℕ) (c : Answered)
-        → judged required (long_term who p accepts_unsigned) standing before bytes ≡ anew (Some c)
+        → IsSentAgain (judged required (long_term who p accepts_unsigned) standing before bytes) c
         → IsAnsweredAnew p who standing before bytes c }
+{}
+
+/// With long-term credentials a response that nobody signed ends no request by what it says: it is not
+/// believed if the request was signed (`signed`), nor if unsigned responses are not accepted
+/// (`first`). The request is sent again for it, or it is a refusal, or it is dropped.
+pub fn unsigned_responses_are_not_believed()
+    ensures signed { (required : Bool) (who : NameAndPassword) (p : ThePreferences)
+        (accepts_unsigned : Bool) (standing : StandingSeen) (before : Answered) (bytes : List ℕ)
+        (by : Option IntegrityAlgorithm)
+        → verified_algorithm bytes before.challenge.key ≡ None
+        → judged required (long_term who p accepts_unsigned) standing (Some before) bytes
+        ≡ believed by → ⊥ }
+    ensures first { (required : Bool) (who : NameAndPassword) (p : ThePreferences)
+        (standing : StandingSeen) (bytes : List ℕ) (by : Option IntegrityAlgorithm)
+        → judged required (long_term who p false) standing None bytes ≡ believed by → ⊥ }
 {}
 
 /// From a success until a request under the confirmed challenge times out, a challenge that is

@@ -6,7 +6,7 @@ use Rattle.std.proofs.Common.{subst, sym}
 use Rattle.std.specs.BTreeMap.{is_at}
 use Rattle.std.specs.Option.{IfSome, is_none, is_some, option_and_then, option_map, option_map_or}
 use Rattle.std.specs.Ordering.{nat_cmp}
-use Rattle.std.specs.Prelude.{◌&&◌, find, nat_le}
+use Rattle.std.specs.Prelude.{◌&&◌, ◌||◌, find, nat_le}
 use Rattle.std.specs.declared.net.socket_addr.SocketAddr.{SocketAddr}
 use Rattle.std.proofs.lemmas.Bool.Decides.{leb_tells}
 use Rattle.stun_base.specs.Header.{transaction_id_field}
@@ -20,10 +20,10 @@ use Rattle.stun_agent.specs.Transactions.{IsAscending}
 use Rattle.stun_agent.proofs.OnceLemmas.{ascending_none}
 use Rattle.stun_agent.proofs.ResponseLemmas.{same_end}
 use Rattle.stun_agent.proofs.TimingLemmas.{sum_of_timeouts-zero}
-use Rattle.stun_client.specs.Challenges.{Answered}
 use Rattle.stun_client.specs.Clients.{Given, heard, indicated, not_ours, responded}
 use Rattle.stun_client.specs.Ids.{id_of}
-use Rattle.stun_client.specs.Judging.{Identity, Verdict, anew, believed, dropped}
+use Rattle.stun_client.specs.Challenging.{code_in}
+use Rattle.stun_client.specs.Judging.{Identity, Verdict, anew, believed, dropped, refused}
 use Rattle.stun_client.specs.Requests.{AskedSeen, at}
 use Rattle.stun_client_loop.specs.Loops.{after_timers, after_transmit, again_refused, timed_of}
 use Rattle.stun_client_loop.specs.declared.client_loop.Timed.{Timed}
@@ -33,7 +33,9 @@ use Rattle.stun_client_loop.proofs.TimedLemmas.{left}
 use Rattle.stun_client_endpoint.specs.Bodies.{Body}
 use Rattle.stun_client_endpoint.specs.Endpoints.{Answer, Endpoint, IsOver, Polls, Step, Told, UnlessMemory}
 use Rattle.stun_client_endpoint.specs.Endpoints.{HasTime, WaitsInTime, by_given, by_verdict, cancelled_with}
-use Rattle.stun_client_endpoint.specs.Endpoints.{challenged_with, chosen, dropping, ended_by, ends, ends_or}
+use Rattle.stun_client_endpoint.specs.Endpoints.{Renewal, challenged_with, chosen, dropping}
+use Rattle.stun_client_endpoint.specs.Endpoints.{dropping_refusal, ended_by, ends, ends_or, is_reliable}
+use Rattle.stun_client_endpoint.specs.Endpoints.{is_spent}
 use Rattle.stun_client_endpoint.specs.Endpoints.{ends_step, first_message, goes_on, message_of}
 use Rattle.stun_client_endpoint.specs.Endpoints.{new_endpoint, next_number, out_of_memory, overdue_or}
 use Rattle.stun_client_endpoint.specs.Endpoints.{overdue_step, plan_of, received, refusal_of_bytes}
@@ -48,7 +50,7 @@ use Rattle.stun_client_endpoint.specs.Pendings.{Pending, Pendings, changed_at, e
 use Rattle.stun_client_endpoint.specs.Pendings.{ended_of, ending, first_ended, first_unsent, handing_out}
 use Rattle.stun_client_endpoint.specs.Pendings.{is_late, new_pending, noting, overdue, outstanding_at}
 use Rattle.stun_client_endpoint.specs.Pendings.{request_at, sending, timed_out, with_request, without_first}
-use Rattle.stun_client_endpoint.specs.Pendings.{without_request}
+use Rattle.stun_client_endpoint.specs.Pendings.{refusing, repeating, was_refused, without_request}
 use Rattle.stun_client_endpoint.specs.code.Stored.{EndInTurn}
 use Rattle.stun_client_endpoint.specs.Runs.{Call, Calls, Event, call, changes_nothing, ends_one, no_call}
 use Rattle.stun_client_endpoint.specs.Runs.{polled, polls, receives, requests, starts}
@@ -163,7 +165,7 @@ step_keeps now e = by (first_unsent e.requests)
   where
     again : (o : Option ℕ)
         → KeepsPlans e (repeats_or now (record e { state = after_transmit now e.state }) o).1
-    again (Some m) = (refl, refl, keeps_same e.requests)
+    again (Some m) = (refl, refl, keeps_changed repeating m e.requests (λ p. refl))
     again None = ends_keeps now (record e { state = after_transmit now e.state })
 
     by : (o : Option ℕ) → KeepsPlans e (unsent_or now e o).1
@@ -371,41 +373,47 @@ ended_keeps : (number : ℕ) (end : RequestEnd) (stored bytes : List ℕ) (now :
 ended_keeps number end stored bytes now e =
     (refl, refl, keeps_changed (ending end stored) number e.requests (λ p. refl))
 
-module _ (is_heard : Bool) (number : ℕ) (challenge : Option Answered) (bytes : List ℕ) (now : ℕ)
+module _ (is_heard : Bool) (number : ℕ) (renewal : Renewal) (bytes : List ℕ) (now : ℕ)
     (e : Endpoint) where
   resent_keeps : (id_number : ℕ) (page : Page?)
-      → KeepsPlans e (resent_by is_heard number challenge bytes now e id_number page).1
+      → KeepsPlans e (resent_by is_heard number renewal bytes now e id_number page).1
   resent_keeps id_number (Err why) = dropping_keeps number _ bytes e
   resent_keeps id_number (Ok new) = by (is_some (again_refused e.state bytes new))
     where
       by : (b : Bool) → KeepsPlans e (cond b (out_of_memory bytes e)
-          (resent is_heard number challenge bytes now id_number new e)).1
+          (resent is_heard number renewal bytes now id_number new e)).1
       by true = memory_keeps bytes e
       by false =
-          (refl, refl, keeps_changed (sending (id_of e.seed id_number) new) number e.requests (λ p. refl))
+          (refl, refl, keeps_changed (sending renewal.is_refusal (id_of e.seed id_number) new) number e.requests (λ p. refl))
 
   again_keeps : (method : ℕ) (o : Option Pending)
-      → KeepsPlans e (resent_if is_heard number challenge bytes now e method o).1
+      → KeepsPlans e (resent_if is_heard number renewal bytes now e method o).1
   again_keeps method None = memory_keeps bytes e
   again_keeps method (Some p) = by (chosen e)
     where
       by : (o : Option ℕ)
-          → KeepsPlans e (resent_at is_heard number challenge bytes now e method p.body o).1
+          → KeepsPlans e (resent_at is_heard number renewal bytes now e method p.body o).1
       by None = memory_keeps bytes e
-      by (Some id_number) = resent_keeps id_number (message_of e challenge method id_number p.body)
+      by (Some id_number) = resent_keeps id_number (message_of e (Some renewal.challenge) method id_number p.body)
 
   challenged_keeps : (o : Option AskedSeen)
-      → KeepsPlans e (challenged_with is_heard number challenge bytes now e o).1
+      → KeepsPlans e (challenged_with is_heard number renewal bytes now e o).1
   challenged_keeps None = (refl, refl, keeps_same e.requests)
   challenged_keeps (Some a) =
-      by (is_late now (request_at number e.requests)) (nat_le e.challenges a.challenges)
+      by (is_late now (request_at number e.requests)) (is_spent renewal number e a)
     where
       by : (late often : Bool) → KeepsPlans e (cond late (dropping number LateChallenge bytes e)
           (cond often (unauthorized_by number bytes now e)
-          (resent_if is_heard number challenge bytes now e a.method (request_at number e.requests)))).1
+          (resent_if is_heard number renewal bytes now e a.method (request_at number e.requests)))).1
       by true often = dropping_keeps number LateChallenge bytes e
       by false true = ended_keeps number how.Unauthorized [] bytes now e
       by false false = again_keeps a.method (request_at number e.requests)
+
+refused_keeps : (number : ℕ) (bytes : List ℕ) (now : ℕ) (e : Endpoint) (b : Bool)
+    → KeepsPlans e (cond b (unauthorized_by number bytes now e) (dropping_refusal number bytes e)).1
+refused_keeps number bytes now e true = ended_keeps number how.Unauthorized [] bytes now e
+refused_keeps number bytes now e false =
+    (refl, refl, keeps_changed (refusing (code_in bytes)) number e.requests (λ p. refl))
 
 received_keeps : (is_heard : Bool) (from : SocketAddr) (bytes : List ℕ) (now : ℕ) (e : Endpoint)
     → KeepsPlans e (received is_heard from bytes now e).1
@@ -415,8 +423,14 @@ received_keeps is_heard from bytes now e = by (heard e.state.client from bytes)
     by_its : (message : List ℕ) (number : ℕ) (v : Verdict)
         → KeepsPlans e (by_verdict is_heard number message now e v).1
     by_its message number (believed by) = ended_keeps number (how.Answered _ by) message message now e
-    by_its message number (anew challenge) =
-        challenged_keeps is_heard number challenge message now e
+    by_its message number (anew c) =
+        challenged_keeps is_heard number (record { challenge = c; is_refusal = false }) message now e
+        (at (transaction_id_field message) e.state.client.requests.asked)
+    by_its message number (refused None) =
+        refused_keeps number message now e
+        (is_reliable e.state.agent.transport || was_refused (request_at number e.requests))
+    by_its message number (refused (Some c)) =
+        challenged_keeps is_heard number (record { challenge = c; is_refusal = true }) message now e
         (at (transaction_id_field message) e.state.client.requests.asked)
     by_its message number (dropped why) = dropping_keeps number _ message e
 
@@ -486,7 +500,7 @@ begun_later number body bytes now e is = record {
     next = next_number e
 
     send : Pending → Pending
-    send = sending (id_of e.seed number) bytes
+    send = sending false (id_of e.seed number) bytes
 
     fresh_one : Pending
     fresh_one = new_pending body (until_from now e)
@@ -632,9 +646,9 @@ begun_until method body now e p none here = by (chosen e) none here
         → p.until ≡ until_from now e
     page_is number (Err why) none here = cc
     page_is number (Ok bytes) none here =
-        let there = changed_same (sending (id_of e.seed number) bytes) (next_number e)
+        let there = changed_same (sending false (id_of e.seed number) bytes) (next_number e)
         (with_request (next_number e) (new_pending body (until_from now e)) e.requests)
-        ∙ ap (option_map (sending (id_of e.seed number) bytes))
+        ∙ ap (option_map (sending false (id_of e.seed number) bytes))
         (put_same (next_number e) (new_pending body (until_from now e)) e.requests) in
         ap (λ (o : Option Pending). option_map_or (λ x. x.until) o 0) (sym here ∙ there)
 

@@ -278,7 +278,7 @@ pub kept_started : (l : LoopSeen) (all : Pendings) (body : Body) (until id now :
     → transaction_id_field bytes ≡ id
     → at (transaction_id_field bytes) l.client.requests.asked ≡ None → AreKept l all
     → AreKept (after_request bytes now l)
-    (changed_at (sending id bytes) l.client.requests.next
+    (changed_at (sending false id bytes) l.client.requests.next
     (with_request l.client.requests.next (new_pending body until) all))
 kept_started l all body until id now bytes has free is = record {
   loop = loop_request bytes now l is.loop;
@@ -308,7 +308,7 @@ kept_started l all body until id now bytes has free is = record {
     next = l.client.requests.next
 
     send : Pending → Pending
-    send = sending id bytes
+    send = sending false id bytes
 
     fresh_one : Pending
     fresh_one = new_pending body until
@@ -324,36 +324,36 @@ kept_started l all body until id now bytes has free is = record {
 
     newly : (other : ℕ) (b : AskedSeen) → transaction_id_field bytes ≡ other
         → b ≡ asked_first l.client.requests (method_of (type_field bytes)) l.client.standing.current
-        → IsAwaited other b.number (changed_at (sending id bytes) l.client.requests.next
+        → IsAwaited other b.number (changed_at (sending false id bytes) l.client.requests.next
         (with_request l.client.requests.next (new_pending body until) all))
     newly other b new same =
         subst (λ (x : AskedSeen). IsAwaited other x.number
-        (changed_at (sending id bytes) l.client.requests.next
+        (changed_at (sending false id bytes) l.client.requests.next
         (with_request l.client.requests.next (new_pending body until) all))) (sym same)
         (record {
-          pending = sending id bytes (new_pending body until);
-          there = changed_same (sending id bytes) l.client.requests.next
+          pending = sending false id bytes (new_pending body until);
+          there = changed_same (sending false id bytes) l.client.requests.next
               (with_request l.client.requests.next (new_pending body until) all)
-              ∙ ap (option_map (sending id bytes)) (put_same l.client.requests.next (new_pending body until) all);
+              ∙ ap (option_map (sending false id bytes)) (put_same l.client.requests.next (new_pending body until) all);
           named = sym has ∙ new;
           goes_on = refl;
         })
 
     before : (other : ℕ) (b : AskedSeen) → at other l.client.requests.asked ≡ Some b
-        → IsAwaited other b.number (changed_at (sending id bytes) l.client.requests.next
+        → IsAwaited other b.number (changed_at (sending false id bytes) l.client.requests.next
         (with_request l.client.requests.next (new_pending body until) all))
     before other b here =
         let low : b.number < l.client.requests.next = is.loop.numbered.below other b here in
         let off = apart b.number l.client.requests.next (λ same. omega (arith, same, low)) in
         awaited_as other b.number all _
-        (changed_other (sending id bytes) b.number l.client.requests.next
+        (changed_other (sending false id bytes) b.number l.client.requests.next
         (with_request l.client.requests.next (new_pending body until) all) off
         ∙ put_other b.number l.client.requests.next (new_pending body until) all off)
         (is.awaited other b here)
 
     new_end : (n : ℕ) (p : Pending) → l.client.requests.next ≡ n → (q : Pending)
         → request_at n (with_request l.client.requests.next (new_pending body until) all) ≡ Some q
-        → p ≡ sending id bytes q → p.end ≡ None
+        → p ≡ sending false id bytes q → p.end ≡ None
     new_end n p same q here is =
         let there : request_at n (with_request l.client.requests.next (new_pending body until) all)
         ≡ Some (new_pending body until) =
@@ -362,7 +362,7 @@ kept_started l all body until id now bytes has free is = record {
         let equal : q ≡ new_pending body until = cc in
         ap (λ (x : Pending). x.end) is ∙ ap (λ (x : Pending). x.end) equal
 
-    new_timer : (n : ℕ) (p q : Pending) → l.client.requests.next ≡ n → p ≡ sending id bytes q
+    new_timer : (n : ℕ) (p q : Pending) → l.client.requests.next ≡ n → p ≡ sending false id bytes q
         → HasTimer p.id n (after_request bytes now l).client.requests
     new_timer n p q same is =
         subst (λ k. HasTimer k n (after_request bytes now l).client.requests)
@@ -386,25 +386,25 @@ kept_started l all body until id now bytes has free is = record {
 
 -- ---- a request that is sent again
 
-pub kept_resent : (is_heard : Bool) (m id now : ℕ) (response bytes : List ℕ)
+pub kept_resent : (is_heard is_refusal : Bool) (m id now : ℕ) (response bytes : List ℕ)
     (challenge : Option Answered) (l : LoopSeen) (all : Pendings) (a : AskedSeen)
     → at (transaction_id_field response) l.client.requests.asked ≡ Some a → a.number ≡ m
     → transaction_id_field bytes ≡ id
     → at (transaction_id_field bytes) l.client.requests.asked ≡ None → AreKept l all
     → AreKept (after_again is_heard response bytes challenge now l)
-    (changed_at (sending id bytes) m all)
-kept_resent is_heard m id now response bytes challenge l all a here named has free is = record {
+    (changed_at (sending is_refusal id bytes) m all)
+kept_resent is_heard is_refusal m id now response bytes challenge l all a here named has free is = record {
   loop = loop_again is_heard response bytes challenge now l is.loop;
-  ascending = changed_ascends (sending id bytes) m all is.ascending;
-  fresh = λ n low. none_changed (sending id bytes) m n all
+  ascending = changed_ascends (sending is_refusal id bytes) m all is.ascending;
+  fresh = λ n low. none_changed (sending is_refusal id bytes) m n all
       (is.fresh n (subst (λ k. k ≤ n) (again_next is_heard response bytes challenge now l) low));
   awaited = λ other b there. by other b (subst (λ (r : RequestsSeen). at other r.asked ≡ Some b) moved
       there);
-  unsent = λ n p there sent. elim (changed_from (sending id bytes) n m all p there) [
+  unsent = λ n p there sent. elim (changed_from (sending is_refusal id bytes) n m all p there) [
     | inl was ↦ resent_end n p was.0 was.1 was.2 was.3
     | inr was ↦ is.unsent n p was.1 sent
   ];
-  timed = λ n p there on. elim (changed_from (sending id bytes) n m all p there) [
+  timed = λ n p there on. elim (changed_from (sending is_refusal id bytes) n m all p there) [
     | inl was ↦ new_timer n p was.1 was.0 was.3
     | inr was ↦ old_timer p.id n was.0 (is.timed n p was.1 on)
   ];
@@ -426,33 +426,33 @@ kept_resent is_heard m id now response bytes challenge l all a here named has fr
 
     newly : (other : ℕ) (b : AskedSeen) → transaction_id_field bytes ≡ other
         → b ≡ renewed a challenge
-        → IsAwaited other b.number (changed_at (sending id bytes) m all)
+        → IsAwaited other b.number (changed_at (sending is_refusal id bytes) m all)
     newly other b new same =
-        subst (λ k. IsAwaited other k (changed_at (sending id bytes) m all))
+        subst (λ k. IsAwaited other k (changed_at (sending is_refusal id bytes) m all))
         (sym (ap (λ (x : AskedSeen). x.number) same ∙ named))
         (record {
-          pending = sending id bytes waits.pending;
-          there = changed_same (sending id bytes) m all
-              ∙ ap (option_map (sending id bytes)) stored_at;
+          pending = sending is_refusal id bytes waits.pending;
+          there = changed_same (sending is_refusal id bytes) m all
+              ∙ ap (option_map (sending is_refusal id bytes)) stored_at;
           named = sym has ∙ new;
           goes_on = waits.goes_on;
         })
 
     before : (other : ℕ) (b : AskedSeen) → is_at (nat_cmp other) (transaction_id_field response) ≡ false
         → at other l.client.requests.asked ≡ Some b
-        → IsAwaited other b.number (changed_at (sending id bytes) m all)
+        → IsAwaited other b.number (changed_at (sending is_refusal id bytes) m all)
     before other b off there =
         let differs : m ≡ b.number → ⊥ =
         λ (same : m ≡ b.number). not_same other (transaction_id_field response) off
         (is.loop.numbered.distinct (transaction_id_field response) other a b here there (named ∙ same)) in
-        awaited_as other b.number all (changed_at (sending id bytes) m all)
-        (changed_other (sending id bytes) b.number m all (apart b.number m differs))
+        awaited_as other b.number all (changed_at (sending is_refusal id bytes) m all)
+        (changed_other (sending is_refusal id bytes) b.number m all (apart b.number m differs))
         (is.awaited other b there)
 
     by : (other : ℕ) (b : AskedSeen)
         → at other (after_replacing l.client.requests (transaction_id_field response)
         (transaction_id_field bytes) (renewed a challenge)).asked ≡ Some b
-        → IsAwaited other b.number (changed_at (sending id bytes) m all)
+        → IsAwaited other b.number (changed_at (sending is_refusal id bytes) m all)
     by other b there =
         let new_id = transaction_id_field bytes in
         let was = left (transaction_id_field response)
@@ -466,7 +466,7 @@ kept_resent is_heard m id now response bytes challenge l all a here named has fr
         ]
 
     resent_end : (n : ℕ) (p : Pending) → m ≡ n → (q : Pending) → request_at n all ≡ Some q
-        → p ≡ sending id bytes q → p.end ≡ None
+        → p ≡ sending is_refusal id bytes q → p.end ≡ None
     resent_end n p same q there sent =
         let at_m : request_at m all ≡ Some q =
         subst (λ k. request_at k all ≡ Some q) (sym same) there in
@@ -474,7 +474,7 @@ kept_resent is_heard m id now response bytes challenge l all a here named has fr
         let equal : q ≡ waits.pending = cc in
         ap (λ (x : Pending). x.end) sent ∙ ap (λ (x : Pending). x.end) equal ∙ waits.goes_on
 
-    new_timer : (n : ℕ) (p q : Pending) → m ≡ n → p ≡ sending id bytes q
+    new_timer : (n : ℕ) (p q : Pending) → m ≡ n → p ≡ sending is_refusal id bytes q
         → HasTimer p.id n (after_again is_heard response bytes challenge now l).client.requests
     new_timer n p q same sent =
         let response_id = transaction_id_field response in

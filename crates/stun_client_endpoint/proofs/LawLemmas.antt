@@ -7,7 +7,7 @@ use Rattle.std.specs.Map.{remove_entry}
 use Rattle.std.specs.Option.{IsSome, is_none, is_some, option_and_then, option_map, option_map_or}
 use Rattle.std.specs.Option.{option_or}
 use Rattle.std.specs.Ordering.{nat_cmp}
-use Rattle.std.specs.Prelude.{◌==◌, nat_le, nat_lt}
+use Rattle.std.specs.Prelude.{◌==◌, ◌||◌, nat_le, nat_lt}
 use Rattle.std.specs.declared.net.socket_addr.SocketAddr.{SocketAddr}
 use Rattle.std.proofs.lemmas.Bool.{eq-eqb, ltb-false, ltb-true, ne_eqb}
 use Rattle.stun_base.specs.Header.{transaction_id_field}
@@ -24,13 +24,12 @@ use Rattle.stun_agent.specs.declared.agent.StunAgentPollRet.TheVariants.{Transac
 use Rattle.stun_agent.specs.declared.agent.StunAgentPollRet.TheVariants.{TransactionCancelled}
 use Rattle.stun_agent.specs.declared.agent.StunAgentPollRet.TheVariants.{WaitUntil as AgentWaits}
 use Rattle.stun_extra.specs.CanonicalAddress.{is_same_address}
-use Rattle.stun_client.specs.Challenges.{Answered}
 use Rattle.stun_client.specs.Challenging.{code_in}
 use Rattle.stun_client.specs.Clients.{EndpointClient, Given, by_asked, by_class, heard, indicated, not_ours}
 use Rattle.stun_client.specs.Clients.{responded}
 use Rattle.stun_client.specs.Ids.{id_of}
 use Rattle.stun_agent.proofs.OnceLemmas.{ascending_none}
-use Rattle.stun_client.specs.Judging.{Identity, Verdict, anew, believed, dropped}
+use Rattle.stun_client.specs.Judging.{Identity, Verdict, anew, believed, dropped, refused}
 use Rattle.stun_client.specs.Requests.{AskedSeen, LAST_NUMBER, answered, at, if_answered, is_answer}
 use Rattle.stun_client.specs.Requests.{renewal_refusal, renewal_refusal_of, start_refusal}
 use Rattle.stun_client.specs.declared.requests.RequestRefusal.{RequestRefusal}
@@ -47,7 +46,8 @@ use Rattle.stun_client_loop.proofs.NumberLemmas.{not_same}
 use Rattle.stun_client_endpoint.specs.Bodies.{Body}
 use Rattle.stun_client_endpoint.specs.Endpoints.{Answer, Endpoint, IsOver, Polls, Step, Told, UnlessMemory}
 use Rattle.stun_client_endpoint.specs.Endpoints.{after_start, by_given, by_verdict, cancelled}
-use Rattle.stun_client_endpoint.specs.Endpoints.{cancelled_with, challenged_with, chosen, dropping}
+use Rattle.stun_client_endpoint.specs.Endpoints.{Renewal, cancelled_with, challenged, challenged_with}
+use Rattle.stun_client_endpoint.specs.Endpoints.{chosen, dropping, dropping_refusal, is_reliable, is_spent}
 use Rattle.stun_client_endpoint.specs.Endpoints.{ended_by, ends, ends_or, ends_step, first_message}
 use Rattle.stun_client_endpoint.specs.Endpoints.{given_up, goes_on, message_of, next_number, number_at}
 use Rattle.stun_client_endpoint.specs.Endpoints.{new_endpoint, out_of_memory, overdue_or, overdue_step}
@@ -65,7 +65,7 @@ use Rattle.stun_client_endpoint.specs.Laws.{AreKept, IsAwaited, IsEndpoint, IsSt
 use Rattle.stun_client_endpoint.specs.Pendings.{Pending, Pendings, changed_at, ended_of}
 use Rattle.stun_client_endpoint.specs.Pendings.{ending, first_ended, first_unsent, handing_out}
 use Rattle.stun_client_endpoint.specs.Pendings.{if_outstanding, is_late, new_pending, noting}
-use Rattle.stun_client_endpoint.specs.Pendings.{outstanding_at, overdue}
+use Rattle.stun_client_endpoint.specs.Pendings.{outstanding_at, overdue, refusing, repeating, was_refused}
 use Rattle.stun_client_endpoint.specs.Pendings.{request_at, sending, timed_out, with_request}
 use Rattle.stun_client_endpoint.specs.Pendings.{without_request}
 use Rattle.stun_client_endpoint.specs.Runs.{Call, Calls, Event, call, cancels, changes_nothing}
@@ -340,6 +340,13 @@ repeated_waits now e m is found = by (repeated_id now e.state) found
     by None number = cc
     by (Some id) number = at_id id (at id e.state.client.requests.asked) refl number
 
+quiet_repeat : IsQuiet repeating
+quiet_repeat = record {
+  id_stays = λ p. refl;
+  end_stays = λ p. refl;
+  unsent_was = λ p sent. sent;
+}
+
 repeats_is : (now : ℕ) (e : Endpoint) → IsEndpoint e → IsGood e (repeats_step now e)
 repeats_is now e is = by (repeated now e.state) refl
   where
@@ -361,9 +368,14 @@ repeats_is now e is = by (repeated now e.state) refl
         (silent_step e sent kept refl (same_itself e.requests)) (ends_is now sent kept)
     by (Some m) found =
         let waiting = repeated_waits now e m is found in
-        sending_step e (record e { state = after_transmit now e.state }) m kept refl
-        (same_itself e.requests) (waiting.1.pending, waiting.1.there)
-        (outstanding_some m e.requests waiting.1.pending waiting.1.there waiting.1.goes_on)
+        let p = waiting.1.pending in
+        sending_step e (with_requests (changed_at repeating m e.requests)
+        (record e { state = after_transmit now e.state })) m
+        (kept_changed repeating m (after_transmit now e.state) e.requests quiet_repeat kept) refl
+        (same_changed repeating m e.requests) (p, waiting.1.there)
+        (outstanding_some m (changed_at repeating m e.requests) (repeating p)
+        (changed_same repeating m e.requests ∙ ap (option_map repeating) waiting.1.there)
+        waiting.1.goes_on)
 
 quiet_hand_out : IsQuiet handing_out
 quiet_hand_out = record {
@@ -448,6 +460,13 @@ quiet_noting why code = record {
   unsent_was = λ p sent. sent;
 }
 
+quiet_refusing : (code : Option ℕ) → IsQuiet (refusing code)
+quiet_refusing code = record {
+  id_stays = λ p. refl;
+  end_stays = λ p. refl;
+  unsent_was = λ p sent. sent;
+}
+
 unchanged : (e : Endpoint) → IsEndpoint e → IsStep e silent e
 unchanged e is = silent_step e e is refl (same_itself e.requests)
 
@@ -482,62 +501,80 @@ module _ (number now : ℕ) (bytes : List ℕ) (e : Endpoint) (a : AskedSeen) (i
       (λ p on. let no : Some end ≡ None = on in cc) is)
       refl (same_changed (ending end stored) number e.requests)
 
-  resent_is : (is_heard : Bool) (challenge : Option Answered) (method : ℕ) (body : Body)
-      → IsFine e (resent_at is_heard number challenge bytes now e method body (chosen e))
-  resent_is is_heard challenge method body = by (chosen e)
+  resent_is : (is_heard : Bool) (renewal : Renewal) (method : ℕ) (body : Body)
+      → IsFine e (resent_at is_heard number renewal bytes now e method body (chosen e))
+  resent_is is_heard renewal method body = by (chosen e)
     where
-      sent : (id_number : ℕ) (new : List ℕ) → message_of e challenge method id_number body ≡ Ok new
+      sent : (id_number : ℕ) (new : List ℕ) → message_of e (Some renewal.challenge) method id_number body ≡ Ok new
           → (b : Bool) → is_some (again_refused e.state bytes new) ≡ b
           → IsFine e (cond b (out_of_memory bytes e)
-          (resent is_heard number challenge bytes now id_number new e))
+          (resent is_heard number renewal bytes now id_number new e))
       sent id_number new written true passed = memory_is bytes e is
       sent id_number new written false passed =
-          silent_step e (resent is_heard number challenge bytes now id_number new e).1
-          (kept_resent is_heard number (id_of e.seed id_number) now bytes new challenge e.state
+          silent_step e (resent is_heard number renewal bytes now id_number new e).1
+          (kept_resent is_heard renewal.is_refusal number (id_of e.seed id_number) now bytes new
+          (Some renewal.challenge) e.state
           e.requests a here named
-          (request_id e.form e.state.client.identity challenge method id_number e.seed body new written)
+          (request_id e.form e.state.client.identity (Some renewal.challenge) method id_number e.seed body new written)
           (free_again e.state bytes new a here passed) is)
-          (again_next is_heard bytes new challenge now e.state)
-          (same_changed (sending (id_of e.seed id_number) new) number e.requests)
+          (again_next is_heard bytes new (Some renewal.challenge) now e.state)
+          (same_changed (sending renewal.is_refusal (id_of e.seed id_number) new) number e.requests)
 
       page_is : (id_number : ℕ) (page : Page?)
-          → message_of e challenge method id_number body ≡ page
-          → IsFine e (resent_by is_heard number challenge bytes now e id_number page)
+          → message_of e (Some renewal.challenge) method id_number body ≡ page
+          → IsFine e (resent_by is_heard number renewal bytes now e id_number page)
       page_is id_number (Err why) written = dropping_is number _ bytes e is
       page_is id_number (Ok new) written =
           sent id_number new written (is_some (again_refused e.state bytes new)) refl
 
       by : (o : Option ℕ)
-          → IsFine e (resent_at is_heard number challenge bytes now e method body o)
+          → IsFine e (resent_at is_heard number renewal bytes now e method body o)
       by None = memory_is bytes e is
-      by (Some id_number) = page_is id_number (message_of e challenge method id_number body) refl
+      by (Some id_number) = page_is id_number (message_of e (Some renewal.challenge) method id_number body) refl
 
-  challenged_is : (is_heard : Bool) (challenge : Option Answered)
-      → IsFine e (challenged_with is_heard number challenge bytes now e (Some a))
-  challenged_is is_heard challenge = in_time (is_late now (request_at number e.requests))
+  challenged_is : (is_heard : Bool) (renewal : Renewal)
+      → IsFine e (challenged_with is_heard number renewal bytes now e (Some a))
+  challenged_is is_heard renewal = in_time (is_late now (request_at number e.requests))
     where
       stored : (o : Option Pending)
-          → IsFine e (resent_if is_heard number challenge bytes now e a.method o)
+          → IsFine e (resent_if is_heard number renewal bytes now e a.method o)
       stored None = memory_is bytes e is
-      stored (Some p) = resent_is is_heard challenge a.method p.body
+      stored (Some p) = resent_is is_heard renewal a.method p.body
 
       by : (b : Bool) → IsFine e (cond b (unauthorized_by number bytes now e)
-          (resent_if is_heard number challenge bytes now e a.method (request_at number e.requests)))
+          (resent_if is_heard number renewal bytes now e a.method (request_at number e.requests)))
       by true = ended_is how.Unauthorized []
       by false = stored (request_at number e.requests)
 
       in_time : (b : Bool) → IsFine e (cond b (dropping number LateChallenge bytes e)
-          (cond (nat_le e.challenges a.challenges) (unauthorized_by number bytes now e)
-          (resent_if is_heard number challenge bytes now e a.method (request_at number e.requests))))
+          (cond (is_spent renewal number e a) (unauthorized_by number bytes now e)
+          (resent_if is_heard number renewal bytes now e a.method (request_at number e.requests))))
       in_time true = dropping_is number LateChallenge bytes e is
-      in_time false = by (nat_le e.challenges a.challenges)
+      in_time false = by (is_spent renewal number e a)
+
+  refused_is : (b : Bool) → IsFine e (cond b (unauthorized_by number bytes now e)
+      (dropping_refusal number bytes e))
+  refused_is true = ended_is how.Unauthorized []
+  refused_is false =
+      silent_step e (dropping_refusal number bytes e).1
+      (kept_changed (refusing (code_in bytes)) number e.state e.requests
+      (quiet_refusing (code_in bytes)) is) refl
+      (same_changed (refusing (code_in bytes)) number e.requests)
+
+  answered_is : (is_heard : Bool) (renewal : Renewal)
+      → IsFine e (challenged is_heard number renewal bytes now e)
+  answered_is is_heard renewal =
+      subst (λ (o : Option AskedSeen).
+      IsFine e (challenged_with is_heard number renewal bytes now e o)) (sym here)
+      (challenged_is is_heard renewal)
 
   verdict_is : (is_heard : Bool) (v : Verdict) → IsFine e (by_verdict is_heard number bytes now e v)
   verdict_is is_heard (believed by) = ended_is (how.Answered _ by) bytes
-  verdict_is is_heard (anew challenge) =
-      subst (λ (o : Option AskedSeen).
-      IsFine e (challenged_with is_heard number challenge bytes now e o)) (sym here)
-      (challenged_is is_heard challenge)
+  verdict_is is_heard (anew c) = answered_is is_heard (record { challenge = c; is_refusal = false })
+  verdict_is is_heard (refused None) =
+      refused_is (is_reliable e.state.agent.transport || was_refused (request_at number e.requests))
+  verdict_is is_heard (refused (Some c)) =
+      answered_is is_heard (record { challenge = c; is_refusal = true })
   verdict_is is_heard (dropped why) = dropping_is number _ bytes e is
 
 -- the request that a response is to
@@ -633,10 +670,10 @@ module _ (e : Endpoint) (is : IsEndpoint e) where
       sends = λ n said. cc;
     },
     (
-      sending (id_of e.seed number) bytes (new_pending body (until_from now e)),
-      changed_same (sending (id_of e.seed number) bytes) (next_number e)
+      sending false (id_of e.seed number) bytes (new_pending body (until_from now e)),
+      changed_same (sending false (id_of e.seed number) bytes) (next_number e)
           (with_request (next_number e) (new_pending body (until_from now e)) e.requests)
-          ∙ ap (option_map (sending (id_of e.seed number) bytes))
+          ∙ ap (option_map (sending false (id_of e.seed number) bytes))
           (put_same (next_number e) (new_pending body (until_from now e)) e.requests),
     ),
   )
@@ -645,7 +682,7 @@ module _ (e : Endpoint) (is : IsEndpoint e) where
           → request_at n (after_start number body bytes now e).requests ≡ request_at n e.requests
       beside n differs =
           let off = apart n (next_number e) differs in
-          changed_other (sending (id_of e.seed number) bytes) n (next_number e)
+          changed_other (sending false (id_of e.seed number) bytes) n (next_number e)
           (with_request (next_number e) (new_pending body (until_from now e)) e.requests) off
           ∙ put_other n (next_number e) (new_pending body (until_from now e)) e.requests off
 

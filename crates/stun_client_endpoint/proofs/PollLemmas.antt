@@ -28,7 +28,8 @@ use Rattle.stun_client_endpoint.specs.Endpoints.{Endpoint, Step, ends, ends_or, 
 use Rattle.stun_client_endpoint.specs.Endpoints.{overdue_step, repeated}
 use Rattle.stun_client_endpoint.specs.Endpoints.{repeats_or, repeats_step, step, timed, timers_step}
 use Rattle.stun_client_endpoint.specs.Endpoints.{transmit, unsent_or, with_requests}
-use Rattle.stun_client_endpoint.specs.Pendings.{Pending, end_of_first, first_unsent, overdue, timed_out}
+use Rattle.stun_client_endpoint.specs.Pendings.{Pending, Pendings, changed_at, end_of_first}
+use Rattle.stun_client_endpoint.specs.Pendings.{first_unsent, overdue, repeating, timed_out}
 use Rattle.stun_client_endpoint.specs.Pendings.{without_first}
 use Rattle.stun_client_endpoint.proofs.StoredLemmas.{overdue_first}
 
@@ -169,11 +170,15 @@ step_fewer now e next is = by (first_unsent e.requests) is
 
 -- ---- what a step says
 
-pub repeats_some : (now : ℕ) (e : Endpoint) (s : LoopSeen) (number : ℕ) → s ≡ after_transmit now e.state
-    → Some number ≡ repeated now e.state
-    → ◌≡◌ {A = Step} (Some (transmit number), record e { state = s }) (repeats_step now e)
-repeats_some now e s number after is =
-    ap (λ (l : LoopSeen). (Some (transmit number), record e { state = l })) after
+pub repeats_some : (now : ℕ) (e : Endpoint) (s : LoopSeen) (all : Pendings) (number : ℕ)
+    → s ≡ after_transmit now e.state → Some number ≡ repeated now e.state
+    → all ≡ changed_at repeating number e.requests
+    → ◌≡◌ {A = Step} (Some (transmit number), record e { state = s; requests = all })
+    (repeats_step now e)
+repeats_some now e s all number after is noted =
+    ap (λ (l : LoopSeen). (Some (transmit number), record e { state = l; requests = all })) after
+    ∙ ap (λ (x : Pendings).
+    (Some (transmit number), record e { state = after_transmit now e.state; requests = x })) noted
     ∙ ap (λ (o : Option ℕ). repeats_or now (record e { state = after_transmit now e.state }) o) is
 
 pub repeats_none : (now : ℕ) (e : Endpoint) (s : LoopSeen) (next : Step) → s ≡ after_transmit now e.state

@@ -27,7 +27,7 @@ use Rattle.stun_client_loop.specs.Loops.{LoopSeen, after_again, again_refused}
 use Rattle.stun_client_loop.specs.declared.refusal.LoopRefusal.{LoopRefusal}
 use Rattle.stun_client_endpoint.specs.Endpoints.{Answer, DropsBy, Endpoint, IsDropped}
 use Rattle.stun_client_endpoint.specs.Endpoints.{IsIndicated, IsPassedOn, UnlessMemory, answered_by}
-use Rattle.stun_client_endpoint.specs.Endpoints.{by_given, ended_by}
+use Rattle.stun_client_endpoint.specs.Endpoints.{Renewal, by_given, ended_by}
 use Rattle.stun_client_endpoint.specs.Endpoints.{out_of_memory, received, resent, resent_by}
 use Rattle.stun_client_endpoint.specs.Pendings.{Pendings, changed_at, sending}
 use Rattle.stun_client_endpoint.specs.declared.ended.RequestEnd.TheVariants as how
@@ -187,25 +187,25 @@ response_drop from bytes message number e v answer is said other_number other fr
 -- ---- requests that are sent again
 
 -- a request that the loop sends again
-sent_at : (number : ℕ) (challenge : Option Answered) (response : List ℕ) (now : ℕ) (e : Endpoint)
+sent_at : (number : ℕ) (renewal : Renewal) (response : List ℕ) (now : ℕ) (e : Endpoint)
     (id id_number : ℕ) (bytes : List ℕ) (after : LoopSeen) (requests : Pendings)
     → again_refused e.state response bytes ≡ None → id ≡ id_of e.seed id_number
-    → (after ≡ after_again true response bytes challenge now e.state)
-    ⊎ (after ≡ after_again false response bytes challenge now e.state)
-    → requests ≡ changed_at (sending id bytes) number e.requests
-    → UnlessMemory (λ is_heard. resent_by is_heard number challenge response now e id_number (Ok bytes))
+    → (after ≡ after_again true response bytes (Some renewal.challenge) now e.state)
+    ⊎ (after ≡ after_again false response bytes (Some renewal.challenge) now e.state)
+    → requests ≡ changed_at (sending renewal.is_refusal id bytes) number e.requests
+    → UnlessMemory (λ is_heard. resent_by is_heard number renewal response now e id_number (Ok bytes))
     response e
     (Consumed, record e { next_id = id_number + 1; state = after; requests = requests })
-sent_at number challenge response now e id id_number bytes after requests none named heard stored =
+sent_at number renewal response now e id id_number bytes after requests none named heard stored =
     elim heard [
       | inl is ↦ inl (so true is)
       | inr is ↦ inr (inl (so false is))
     ]
   where
-    so : (is_heard : Bool) → after ≡ after_again is_heard response bytes challenge now e.state
+    so : (is_heard : Bool) → after ≡ after_again is_heard response bytes (Some renewal.challenge) now e.state
         → ◌≡◌ {A = Answer}
         (Consumed, record e { next_id = id_number + 1; state = after; requests = requests })
-        (resent_by is_heard number challenge response now e id_number (Ok bytes))
+        (resent_by is_heard number renewal response now e id_number (Ok bytes))
     so is_heard is =
         ap (λ (l : LoopSeen).
         (Consumed, record e { next_id = id_number + 1; state = l; requests = requests })) is
@@ -213,39 +213,39 @@ sent_at number challenge response now e id id_number bytes after requests none n
           Consumed,
           record e {
             next_id = id_number + 1;
-            state = after_again is_heard response bytes challenge now e.state;
+            state = after_again is_heard response bytes (Some renewal.challenge) now e.state;
             requests = all;
           },
         ))
-        (stored ∙ ap (λ (x : ℕ). changed_at (sending x bytes) number e.requests) named)
+        (stored ∙ ap (λ (x : ℕ). changed_at (sending renewal.is_refusal x bytes) number e.requests) named)
         ∙ sym (ap (λ (o : Option LoopRefusal). cond (is_some o) (out_of_memory response e)
-        (resent is_heard number challenge response now id_number bytes e)) none)
+        (resent is_heard number renewal response now id_number bytes e)) none)
 
-pub sent_again : {T : Type 0} (number : ℕ) (challenge : Option Answered) (response : List ℕ) (now : ℕ)
+pub sent_again : {T : Type 0} (number : ℕ) (renewal : Renewal) (response : List ℕ) (now : ℕ)
     (e shown : Endpoint) (id id_number : ℕ) (sent bytes : List ℕ) (after : LoopSeen)
     (requests : Pendings) (x : T) → e ≡ shown → sent ≡ bytes
     → MatchOption (again_refused e.state response sent) ⊤
     (λ r. ◌≡◌ {A = Result T LoopRefusal} (Ok x) (Err r))
     → id ≡ id_of shown.seed id_number
-    → (after ≡ after_again true response sent challenge now e.state)
-    ⊎ (after ≡ after_again false response sent challenge now e.state)
-    → requests ≡ changed_at (sending id bytes) number e.requests
+    → (after ≡ after_again true response sent (Some renewal.challenge) now e.state)
+    ⊎ (after ≡ after_again false response sent (Some renewal.challenge) now e.state)
+    → requests ≡ changed_at (sending renewal.is_refusal id bytes) number e.requests
     → UnlessMemory
-    (λ is_heard. resent_by is_heard number challenge response now shown id_number (Ok bytes))
+    (λ is_heard. resent_by is_heard number renewal response now shown id_number (Ok bytes))
     response shown
     (Consumed, record e { next_id = id_number + 1; state = after; requests = requests })
-sent_again {T} number challenge response now e shown id id_number sent bytes after requests x view same
+sent_again {T} number renewal response now e shown id id_number sent bytes after requests x view same
     refused named heard stored =
     subst (λ (y : Endpoint). UnlessMemory
-    (λ is_heard. resent_by is_heard number challenge response now y id_number (Ok bytes)) response y
+    (λ is_heard. resent_by is_heard number renewal response now y id_number (Ok bytes)) response y
     (Consumed, record e { next_id = id_number + 1; state = after; requests = requests })) view
-    (sent_at number challenge response now e id id_number bytes after requests
+    (sent_at number renewal response now e id id_number bytes after requests
     (not_refused (again_refused e.state response bytes) x
     (subst (λ (y : List ℕ). MatchOption (again_refused e.state response y) ⊤
     (λ r. ◌≡◌ {A = Result T LoopRefusal} (Ok x) (Err r))) same refused))
     (named ∙ ap (λ (y : Endpoint). id_of y.seed id_number) (sym view))
-    (subst (λ (y : List ℕ). (after ≡ after_again true response y challenge now e.state)
-    ⊎ (after ≡ after_again false response y challenge now e.state)) same heard)
+    (subst (λ (y : List ℕ). (after ≡ after_again true response y (Some renewal.challenge) now e.state)
+    ⊎ (after ≡ after_again false response y (Some renewal.challenge) now e.state)) same heard)
     stored)
 
 -- the number of the next request stays

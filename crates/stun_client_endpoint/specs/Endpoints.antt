@@ -1,6 +1,6 @@
 -- A client of one server, and what each call makes of it (RFC 8489, sections 6.2, 6.3 and 9.2.5).
 use Rattle.std.specs.Prelude.{◌≡◌, ◌⊎◌, ◌<◌, ◌≤◌, ◌+◌, ℕ, Bool, true, false, nat_le, List, []}
-use Rattle.std.specs.Prelude.{if◌then◌else◌, Option, Some, None, Ok, Err, max, min}
+use Rattle.std.specs.Prelude.{if◌then◌else◌, ◌&&◌, ◌||◌, Option, Some, None, Ok, Err, max, min}
 use Rattle.std.specs.Bool.{⊤}
 use Rattle.std.specs.Option.{IfSome, is_none, is_some, option_and_then, option_map}
 use Rattle.std.specs.declared.net.socket_addr.SocketAddr.{SocketAddr}
@@ -8,7 +8,8 @@ use Rattle.stun_base.specs.Header.{header_refusal, transaction_id_field}
 use Rattle.stun_base.specs.declared.keys.algorithm.IntegrityAlgorithm.{IntegrityAlgorithm}
 use Rattle.stun_base.specs.declared.wire.attribute_type.AttributeType.{AttributeType}
 use Rattle.stun_base.specs.Moments.{moment_after}
-use Rattle.stun_base.specs.declared.wire.transport.TransportType.TheVariants.{Tcp}
+use Rattle.stun_base.specs.declared.wire.transport.TransportType.{TransportType}
+use Rattle.stun_base.specs.declared.wire.transport.TransportType.TheVariants.{Tcp, Udp}
 use Rattle.stun_agent.specs.Agent.{Agent, poll_answer, sent_by_poll, with_validated}
 use Rattle.stun_agent.specs.Timing.{Settings, final_wait}
 use Rattle.stun_client.specs.Challenges.{Answered}
@@ -16,7 +17,7 @@ use Rattle.stun_client.specs.Challenging.{code_in}
 use Rattle.stun_client.specs.Clients.{Given, heard, indicated, needs_memory_for, not_ours}
 use Rattle.stun_client.specs.Clients.{responded}
 use Rattle.stun_client.specs.Ids.{id_of}
-use Rattle.stun_client.specs.Judging.{Identity, Verdict, anew, believed, dropped}
+use Rattle.stun_client.specs.Judging.{Identity, Verdict, anew, believed, dropped, refused}
 use Rattle.stun_client.specs.Outcomes.{outcome_of}
 use Rattle.stun_client.specs.Requests.{AskedSeen, answered, at, new_requests}
 use Rattle.stun_client.specs.Standing.{new_standing}
@@ -32,13 +33,14 @@ use Rattle.stun_client_endpoint.specs.Ends.{Ended, reason_of}
 use Rattle.stun_client_endpoint.specs.Numbers.{free_number}
 use Rattle.stun_client_endpoint.specs.Pendings.{Pending, Pendings, changed_at, end_of_first, ending}
 use Rattle.stun_client_endpoint.specs.Pendings.{first_bound, first_unsent, handing_out, is_late}
+use Rattle.stun_client_endpoint.specs.Pendings.{is_refused_out, refusing, repeating, was_refused}
 use Rattle.stun_client_endpoint.specs.Pendings.{new_pending}
 use Rattle.stun_client_endpoint.specs.Pendings.{noting, outstanding_at, overdue, request_at, sending}
 use Rattle.stun_client_endpoint.specs.Pendings.{timed_out, with_request, without_first, without_request}
 use Rattle.stun_client_endpoint.specs.Written.{Form, Page?, is_text_too_long, request_bytes}
 use Rattle.stun_client_endpoint.specs.declared.ended.DropReason.{DropReason}
 use Rattle.stun_client_endpoint.specs.declared.ended.DropReason.TheVariants.{LateChallenge, OutOfMemory}
-use Rattle.stun_client_endpoint.specs.declared.ended.DropReason.TheVariants.{UnanswerableChallenge}
+use Rattle.stun_client_endpoint.specs.declared.ended.DropReason.TheVariants.{Refused, UnanswerableChallenge}
 use Rattle.stun_client_endpoint.specs.declared.ended.RequestEnd.{RequestEnd}
 use Rattle.stun_client_endpoint.specs.declared.ended.RequestEnd.TheVariants as how
 use Rattle.stun_client_endpoint.specs.declared.told.Polled.{Polled}
@@ -151,7 +153,7 @@ after_start number body bytes now e = record e {
   latest = until_from now e;
   next_id = number + 1;
   state = after_request bytes now e.state;
-  requests = changed_at (sending (id_of e.seed number) bytes) (next_number e)
+  requests = changed_at (sending false (id_of e.seed number) bytes) (next_number e)
       (with_request (next_number e) (new_pending body (until_from now e)) e.requests);
 }
 
@@ -183,6 +185,11 @@ cancelled number e = cancelled_with number e (outstanding_at number e.requests)
 
 -- ---- responses
 
+-- whether nothing is sent again over a transport
+abbrev pub is_reliable : TransportType → Bool
+is_reliable Udp = false
+is_reliable Tcp = true
+
 -- what a datagram comes to, and the client then
 abbrev pub Answer : Type 0
 Answer = Received × Endpoint
@@ -211,7 +218,7 @@ abbrev pub answered_by : ℕ → Option IntegrityAlgorithm → List ℕ → ℕ 
 answered_by number by bytes now e =
     ended_by number (how.Answered (outcome_of e.understood bytes) by) bytes bytes now e
 
--- a request that was challenged as often as it may be ends
+-- a request that was challenged or refused as often as it may be ends
 abbrev pub unauthorized_by : ℕ → List ℕ → ℕ → Endpoint → Answer
 unauthorized_by number bytes now e = ended_by number how.Unauthorized [] bytes now e
 
@@ -229,59 +236,89 @@ abbrev pub UnlessMemory : (Bool → Answer) → List ℕ → Endpoint → Answer
 UnlessMemory expected bytes e answer =
     (answer ≡ expected true) ⊎ ((answer ≡ expected false) ⊎ (answer ≡ out_of_memory bytes e))
 
+-- a challenge that a request is sent again for, and whether it is a refusal
+pub record Renewal : Type 0 where
+  pub challenge : Answered
+  pub is_refusal : Bool
+
 -- the request is sent again by these bytes, with the ID of this number. The agent hears of the
 -- response, or has no memory for that
-abbrev pub resent : Bool → ℕ → Option Answered → List ℕ → ℕ → ℕ → List ℕ → Endpoint → Answer
-resent is_heard number challenge response now id_number bytes e = (
+abbrev pub resent : Bool → ℕ → Renewal → List ℕ → ℕ → ℕ → List ℕ → Endpoint → Answer
+resent is_heard number renewal response now id_number bytes e = (
   Consumed,
   record e {
     next_id = id_number + 1;
-    state = after_again is_heard response bytes challenge now e.state;
-    requests = changed_at (sending (id_of e.seed id_number) bytes) number e.requests;
+    state = after_again is_heard response bytes (Some renewal.challenge) now e.state;
+    requests = changed_at (sending renewal.is_refusal (id_of e.seed id_number) bytes) number e.requests;
   },
 )
 
 -- a request that would be too long stays as it was
-abbrev pub resent_by : Bool → ℕ → Option Answered → List ℕ → ℕ → Endpoint → ℕ → Page? → Answer
-resent_by is_heard number challenge response now e id_number (Err why) =
+abbrev pub resent_by : Bool → ℕ → Renewal → List ℕ → ℕ → Endpoint → ℕ → Page? → Answer
+resent_by is_heard number renewal response now e id_number (Err why) =
     dropping number UnanswerableChallenge response e
-resent_by is_heard number challenge response now e id_number (Ok bytes) =
+resent_by is_heard number renewal response now e id_number (Ok bytes) =
     if is_some (again_refused e.state response bytes) then out_of_memory response e
-    else resent is_heard number challenge response now id_number bytes e
+    else resent is_heard number renewal response now id_number bytes e
 
-abbrev pub resent_at : Bool → ℕ → Option Answered → List ℕ → ℕ → Endpoint → ℕ → Body → Option ℕ
+abbrev pub resent_at : Bool → ℕ → Renewal → List ℕ → ℕ → Endpoint → ℕ → Body → Option ℕ
     → Answer
-resent_at is_heard number challenge response now e method body None = out_of_memory response e
-resent_at is_heard number challenge response now e method body (Some id_number) =
-    resent_by is_heard number challenge response now e id_number
-    (message_of e challenge method id_number body)
+resent_at is_heard number renewal response now e method body None = out_of_memory response e
+resent_at is_heard number renewal response now e method body (Some id_number) =
+    resent_by is_heard number renewal response now e id_number
+    (message_of e (Some renewal.challenge) method id_number body)
 
-abbrev pub resent_if : Bool → ℕ → Option Answered → List ℕ → ℕ → Endpoint → ℕ → Option Pending
+abbrev pub resent_if : Bool → ℕ → Renewal → List ℕ → ℕ → Endpoint → ℕ → Option Pending
     → Answer
-resent_if is_heard number challenge response now e method None = out_of_memory response e
-resent_if is_heard number challenge response now e method (Some p) =
-    resent_at is_heard number challenge response now e method p.body (chosen e)
+resent_if is_heard number renewal response now e method None = out_of_memory response e
+resent_if is_heard number renewal response now e method (Some p) =
+    resent_at is_heard number renewal response now e method p.body (chosen e)
 
--- what a challenge comes to that asks for another signature, or for none. After the first plan of the
--- request it is dropped, because each message that is sent for a challenge has a plan of its own
-abbrev pub challenged_with : Bool → ℕ → Option Answered → List ℕ → ℕ → Endpoint → Option AskedSeen
+-- whether a request was sent again for as many challenges as it may be, or for as many refusals
+abbrev pub is_spent : Renewal → ℕ → Endpoint → AskedSeen → Bool
+is_spent renewal number e a =
+    nat_le e.challenges a.challenges
+    || (renewal.is_refusal && is_refused_out (request_at number e.requests))
+
+-- what a challenge comes to that asks for another signature. After the first plan of the request it is
+-- dropped, because each message that is sent for a challenge has a plan of its own
+abbrev pub challenged_with : Bool → ℕ → Renewal → List ℕ → ℕ → Endpoint → Option AskedSeen
     → Answer
-challenged_with is_heard number challenge response now e None = (NotOurs, e)
-challenged_with is_heard number challenge response now e (Some a) =
+challenged_with is_heard number renewal response now e None = (NotOurs, e)
+challenged_with is_heard number renewal response now e (Some a) =
     if is_late now (request_at number e.requests) then dropping number LateChallenge response e
-    else if nat_le e.challenges a.challenges then unauthorized_by number response now e
-    else resent_if is_heard number challenge response now e a.method
+    else if is_spent renewal number e a then unauthorized_by number response now e
+    else resent_if is_heard number renewal response now e a.method
     (request_at number e.requests)
 
-abbrev pub challenged : Bool → ℕ → Option Answered → List ℕ → ℕ → Endpoint → Answer
-challenged is_heard number challenge response now e =
-    challenged_with is_heard number challenge response now e
+abbrev pub challenged : Bool → ℕ → Renewal → List ℕ → ℕ → Endpoint → Answer
+challenged is_heard number renewal response now e =
+    challenged_with is_heard number renewal response now e
     (at (transaction_id_field response) e.state.client.requests.asked)
+
+-- the challenge that the request was signed for is dropped
+abbrev pub dropping_refusal : ℕ → List ℕ → Endpoint → Answer
+dropping_refusal number bytes e = (
+  Dropped Refused,
+  record e { requests = changed_at (refusing (code_in bytes)) number e.requests },
+)
+
+-- a refusal by the challenge that the request was signed for. It is dropped, and the request goes on by
+-- its timer. The second one that counts ends the request, because the password is wrong then, or
+-- somebody forges challenges. So does the first over a reliable transport, where nothing is sent again
+abbrev pub refused_by : ℕ → List ℕ → ℕ → Endpoint → Answer
+refused_by number bytes now e =
+    if is_reliable e.state.agent.transport || was_refused (request_at number e.requests)
+    then unauthorized_by number bytes now e
+    else dropping_refusal number bytes e
 
 abbrev pub by_verdict : Bool → ℕ → List ℕ → ℕ → Endpoint → Verdict → Answer
 by_verdict is_heard number bytes now e (believed by) = answered_by number by bytes now e
-by_verdict is_heard number bytes now e (anew challenge) =
-    challenged is_heard number challenge bytes now e
+by_verdict is_heard number bytes now e (anew c) =
+    challenged is_heard number (record { challenge = c; is_refusal = false }) bytes now e
+by_verdict is_heard number bytes now e (refused None) = refused_by number bytes now e
+by_verdict is_heard number bytes now e (refused (Some c)) =
+    challenged is_heard number (record { challenge = c; is_refusal = true }) bytes now e
 by_verdict is_heard number bytes now e (dropped why) = dropping number (reason_of why) bytes e
 
 abbrev pub by_given : Bool → ℕ → Endpoint → Given → Answer
@@ -307,6 +344,7 @@ IsIndicated from bytes e answer = (message : List ℕ)
 abbrev pub DropsBy : ℕ → List ℕ → Endpoint → Answer → Verdict → Type 0
 DropsBy number bytes e answer (believed by) = ⊤
 DropsBy number bytes e answer (anew challenge) = ⊤
+DropsBy number bytes e answer (refused challenge) = ⊤
 DropsBy number bytes e answer (dropped why) = answer ≡ dropping number (reason_of why) bytes e
 
 -- a response is dropped for the reason that its verdict gives, if judging it needs no memory
@@ -396,7 +434,8 @@ abbrev pub repeated : ℕ → LoopSeen → Option ℕ
 repeated now l = option_and_then (number_at l) (repeated_id now l)
 
 abbrev pub repeats_or : ℕ → Endpoint → Option ℕ → Step
-repeats_or now e (Some number) = (Some (transmit number), e)
+repeats_or now e (Some number) =
+    (Some (transmit number), with_requests (changed_at repeating number e.requests) e)
 repeats_or now e None = ends_step now e
 
 abbrev pub repeats_step : ℕ → Endpoint → Step

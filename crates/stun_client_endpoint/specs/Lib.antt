@@ -8,6 +8,8 @@ pub mod Written
 pub mod Numbers
 -- how requests end, and what is dropped for them
 pub mod Ends
+-- what of the refusals of a request counts
+pub mod Refusals
 -- what is stored of requests until their ends are handed out
 pub mod Pendings
 -- a client, and what each call makes of it

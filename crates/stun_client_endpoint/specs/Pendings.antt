@@ -9,14 +9,17 @@ use Rattle.std.specs.Ordering.{nat_cmp}
 use Rattle.stun_base.specs.Moments.{moment_after}
 use Rattle.stun_client_endpoint.specs.Bodies.{Body}
 use Rattle.stun_client_endpoint.specs.Ends.{Ended, after_drop, no_drops}
+use Rattle.stun_client_endpoint.specs.Refusals.{OTHERS, after_refusal, after_sending, no_refusals}
 use Rattle.stun_client_endpoint.specs.declared.ended.DropReason.{DropReason}
+use Rattle.stun_client_endpoint.specs.declared.ended.DropReason.TheVariants.{Refused}
 use Rattle.stun_client_endpoint.specs.declared.ended.Drops.{Drops}
 use Rattle.stun_client_endpoint.specs.declared.ended.RequestEnd.{RequestEnd}
 use Rattle.stun_client_endpoint.specs.declared.ended.RequestEnd.TheVariants as how
+use Rattle.stun_client_endpoint.specs.declared.refusals.Refusals.{Refusals}
 
 -- a request: when its first plan ends, the transaction ID and the bytes that it has now, whether these
--- were not handed out yet, what was dropped for it, and how it ended, if it has, with the response that
--- ended it
+-- were not handed out yet, what was dropped for it, what of its refusals counts, and how it ended, if
+-- it has, with the response that ended it
 pub record Pending : Type 0 where
   pub id : ℕ
   pub body : Body
@@ -24,6 +27,7 @@ pub record Pending : Type 0 where
   pub bytes : List ℕ
   pub is_unsent : Bool
   pub drops : Drops
+  pub refusals : Refusals
   pub end : Option RequestEnd
   pub response : List ℕ
 
@@ -54,15 +58,26 @@ new_pending body until = record {
   bytes = [];
   is_unsent = false;
   drops = no_drops;
+  refusals = no_refusals;
   end = None;
   response = [];
 }
 
 -- ---- changes
 
--- it is sent under this transaction ID, by these bytes
-abbrev pub sending : ℕ → List ℕ → Pending → Pending
-sending id bytes p = record p { id = id; bytes = bytes; is_unsent = true }
+-- it is sent under this transaction ID, by these bytes, for the first time or for a challenge, which is
+-- a refusal or is not
+abbrev pub sending : Bool → ℕ → List ℕ → Pending → Pending
+sending is_refusal id bytes p = record p {
+  id = id;
+  bytes = bytes;
+  is_unsent = true;
+  refusals = after_sending is_refusal p.refusals;
+}
+
+-- its bytes are sent again by its timer
+abbrev pub repeating : Pending → Pending
+repeating p = record p { refusals = after_sending false p.refusals }
 
 -- its bytes are handed out
 abbrev pub handing_out : Pending → Pending
@@ -71,6 +86,11 @@ handing_out p = record p { is_unsent = false }
 -- a response to it is dropped
 abbrev pub noting : DropReason → Option ℕ → Pending → Pending
 noting why code p = record p { drops = after_drop why code p.drops }
+
+-- it is refused by the challenge that it was signed for. That response is dropped
+abbrev pub refusing : Option ℕ → Pending → Pending
+refusing code p =
+    record p { drops = after_drop Refused code p.drops; refusals = after_refusal p.refusals }
 
 -- it ends. Nothing of it is sent any more
 abbrev pub ending : RequestEnd → List ℕ → Pending → Pending
@@ -112,6 +132,18 @@ if_outstanding (Some p) = if is_none p.end then Some p else None
 
 abbrev pub outstanding_at : ℕ → Pendings → Option Pending
 outstanding_at number all = if_outstanding (request_at number all)
+
+-- ---- refusals
+
+-- the request was refused before it was sent last
+abbrev pub was_refused : Option Pending → Bool
+was_refused None = false
+was_refused (Some p) = p.refusals.is_earlier
+
+-- the request was sent again for as many refusals as it may be
+abbrev pub is_refused_out : Option Pending → Bool
+is_refused_out None = false
+is_refused_out (Some p) = nat_le OTHERS p.refusals.others
 
 -- ---- plans
 

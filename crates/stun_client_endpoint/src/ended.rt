@@ -23,6 +23,9 @@ pub enum DropReason {
     UnanswerableChallenge,
     /// The response is a challenge that is weaker than the one which a success has confirmed.
     WeakerChallenge,
+    /// The response is the challenge that the request is signed for, once more. The request is sent
+    /// again by its timer, and ends as `Unauthorized` if one arrives after that.
+    Refused,
     /// The response is a challenge that arrived after the first plan of the request, so the request is
     /// not sent again for it.
     LateChallenge,
@@ -88,7 +91,8 @@ pub enum RequestEnd {
     Answered(Outcome, Option<IntegrityAlgorithm>),
     /// No acceptable response arrived in time.
     TimedOut(Drops),
-    /// The request was challenged too often: the password is wrong, or somebody forges challenges.
+    /// The request was challenged or refused too often: the password is wrong, or somebody forges
+    /// challenges.
     Unauthorized,
     /// It was canceled.
     Cancelled,

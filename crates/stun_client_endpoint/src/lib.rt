@@ -13,4 +13,5 @@ pub mod numbers;
 mod pending;
 mod piece;
 mod reading;
+mod refusals;
 pub mod told;

@@ -6,8 +6,9 @@ ghost use Rattle.std.specs.Duration.{as_nanos};
 ghost use Rattle.stun_client_endpoint.specs.Pendings.{changed_at, ended_of, ending, first_bound};
 ghost use Rattle.stun_client_endpoint.specs.Pendings.{first_ended};
 ghost use Rattle.stun_client_endpoint.specs.Pendings.{first_unsent, handing_out, if_outstanding};
-ghost use Rattle.stun_client_endpoint.specs.Pendings.{is_late, is_overdue, new_pending, noting, overdue};
-ghost use Rattle.stun_client_endpoint.specs.Pendings.{request_at, sending};
+ghost use Rattle.stun_client_endpoint.specs.Pendings.{is_late, is_overdue, is_refused_out, new_pending};
+ghost use Rattle.stun_client_endpoint.specs.Pendings.{noting, overdue, refusing, repeating, request_at};
+ghost use Rattle.stun_client_endpoint.specs.Pendings.{sending, was_refused};
 ghost use Rattle.stun_client_endpoint.specs.Pendings.{end_of_first, timed_out, with_request};
 ghost use Rattle.stun_client_endpoint.specs.Pendings.{without_first, without_request};
 ghost use Rattle.stun_client_endpoint.specs.code.Tallies.{after, first_of, first_without, is_of};
@@ -15,6 +16,7 @@ ghost use Rattle.stun_client_endpoint.specs.code.Tallies.{one_less, one_more, re
 
 use crate::body::Body;
 use crate::ended::{DropReason, Drops, Ended, RequestEnd};
+use crate::refusals::Refusals;
 use std::alloc::{AllocError, Allocator};
 use std::collections::BTreeMap;
 use std::marker::Model;
@@ -34,6 +36,7 @@ pub(crate) struct Pending<A: Allocator> {
     bytes: Vec<u8, A>,
     is_unsent: bool,
     drops: Drops,
+    refusals: Refusals,
     end: Option<RequestEnd>,
     response: Vec<u8, A>,
 }
@@ -50,6 +53,7 @@ impl<A: Allocator> Model for Pending<A> {
       bytes = p.bytes.items;
       is_unsent = p.is_unsent;
       drops = p.drops;
+      refusals = p.refusals;
       end = p.end;
       response = p.response.items;
     } };
@@ -108,6 +112,7 @@ impl<A: Allocator + Copy> Pending<A> {
             bytes: Vec::new(alloc),
             is_unsent: false,
             drops: Drops::none(),
+            refusals: Refusals::none(),
             end: None,
             response: Vec::new(alloc),
         }
@@ -190,12 +195,28 @@ impl<A: Allocator + Copy> Pending<A> {
     }
 
     /// Sends the request under this transaction ID, by these bytes.
-    fn send(&mut self, id: TransactionId, bytes: Vec<u8, A>)
-        ensures { self.new ≡ sending id bytes.items self.old }
+    fn send(&mut self, id: TransactionId, bytes: Vec<u8, A>, is_refusal: bool)
+        ensures { self.new ≡ sending is_refusal id bytes.items self.old }
     {
         self.id = id;
         self.bytes = bytes;
         self.is_unsent = true;
+        self.refusals = self.refusals.sent(is_refusal);
+    }
+
+    /// Notes that the bytes are sent again.
+    fn repeat(&mut self)
+        ensures { self.new ≡ repeating self.old }
+    {
+        self.refusals = self.refusals.sent(false);
+    }
+
+    /// Notes that a response refuses the request, and is dropped.
+    fn refuse(&mut self, code: Option<u16>)
+        ensures { self.new ≡ refusing code self.old }
+    {
+        self.drops = self.drops.noted(DropReason::Refused, code);
+        self.refusals = self.refusals.noted();
     }
 
     /// Hands out the bytes.
@@ -428,6 +449,26 @@ pub(crate) fn is_late<A: Allocator + Copy>(all: &Pendings<A>, number: u64, now: 
     }
 }
 
+/// Returns whether the request with a number was refused before it was sent last.
+pub(crate) fn was_refused<A: Allocator + Copy>(all: &Pendings<A>, number: u64) -> bool
+    ensures { result ≡ was_refused (request_at number all.now.entries) }
+{
+    match get(all, number) {
+        Some(pending) => pending.refusals.is_earlier(),
+        None => false,
+    }
+}
+
+/// Returns whether the request with a number was sent again for as many refusals as it may be.
+pub(crate) fn is_refused_out<A: Allocator + Copy>(all: &Pendings<A>, number: u64) -> bool
+    ensures { result ≡ is_refused_out (request_at number all.now.entries) }
+{
+    match get(all, number) {
+        Some(pending) => pending.refusals.is_last(),
+        None => false,
+    }
+}
+
 /// Returns the number and the transaction ID of the first request, if it is overdue.
 pub(crate) fn overdue<A: Allocator + Copy>(
     all: &Pendings<A>,
@@ -453,18 +494,21 @@ pub(crate) fn first_bound<A: Allocator + Copy>(all: &Pendings<A>, plan: Duration
     Some(pending.until + plan)
 }
 
-/// Sends the request with a number under this transaction ID, by these bytes.
+/// Sends the request with a number under this transaction ID, by these bytes, for the first time or for
+/// a challenge, which is a refusal or is not.
 pub(crate) fn send<A: Allocator + Copy>(
     all: &mut Pendings<A>,
     number: u64,
     id: TransactionId,
     bytes: Vec<u8, A>,
+    is_refusal: bool,
 )
-    ensures { all.new.entries ≡ changed_at (sending id bytes.items) number all.old.entries }
+    ensures { all.new.entries
+        ≡ changed_at (sending is_refusal id bytes.items) number all.old.entries }
 {
     if let Some(pending) = all.map.get_mut(&number) {
         let was_unsent = pending.is_of(Kind::Unsent);
-        pending.send(id, bytes);
+        pending.send(id, bytes, is_refusal);
         all.unsent
             .recount(Kind::Unsent, &all.map, number, was_unsent, true);
     }
@@ -495,6 +539,26 @@ pub(crate) fn note<A: Allocator + Copy>(
         return;
     };
     pending.note(why, code);
+}
+
+/// Notes that the bytes of the request with a number are sent again.
+pub(crate) fn repeat<A: Allocator + Copy>(all: &mut Pendings<A>, number: u64)
+    ensures { all.new.entries ≡ changed_at repeating number all.old.entries }
+{
+    let Some(pending) = all.map.get_mut(&number) else {
+        return;
+    };
+    pending.repeat();
+}
+
+/// Notes that a response refuses the request with a number, and is dropped.
+pub(crate) fn refuse<A: Allocator + Copy>(all: &mut Pendings<A>, number: u64, code: Option<u16>)
+    ensures { all.new.entries ≡ changed_at (refusing code) number all.old.entries }
+{
+    let Some(pending) = all.map.get_mut(&number) else {
+        return;
+    };
+    pending.refuse(code);
 }
 
 /// Ends the request with a number.

@@ -464,9 +464,10 @@ module _ (laws : WritingLaws) (s : Settings) (fine : IsServer s) (kind : Refusal
           ∙ same_number (method request);
     }
 
-    pub is_meant : IsReadAsMeant s nonce bytes
+    pub is_meant : IsReadAsMeant s kind nonce bytes
     is_meant = record {
       asks = asks_is;
+      code = code_is;
       read = λ p who before.
           ap (λ b. cond b (by_rule_if p who (realm_in bytes) (nonce_in bytes)
           (list_for before bytes)) None) asks_is
@@ -478,9 +479,9 @@ module _ (laws : WritingLaws) (s : Settings) (fine : IsServer s) (kind : Refusal
   read_as_meant : (required : Bool) (response : List ℕ) (has_fingerprint : Bool)
       → (required ≡ true → has_fingerprint ≡ true)
       → response ≡ with_last has_fingerprint (with_software s.software asked)
-      → IsResponseTo required request response × IsReadAsMeant s nonce response
+      → IsResponseTo required request response × IsReadAsMeant s kind nonce response
   read_as_meant required response has_fingerprint sends is =
-      subst (λ (b : List ℕ). IsResponseTo required request b × IsReadAsMeant s nonce b) (sym is)
+      subst (λ (b : List ℕ). IsResponseTo required request b × IsReadAsMeant s kind nonce b) (sym is)
       (responds has_fingerprint required sends, is_meant has_fingerprint)
 
   -- the response is put together of these parts
@@ -493,7 +494,7 @@ module _ (laws : WritingLaws) (s : Settings) (fine : IsServer s) (kind : Refusal
 
   pub challenge_read : (required : Bool) → SendsRequired required request
       → let bytes = (challenge_answer s kind nonce to request).bytes in
-      IsResponseTo required request bytes × IsReadAsMeant s nonce bytes
+      IsResponseTo required request bytes × IsReadAsMeant s kind nonce bytes
   challenge_read required sends =
       read_as_meant required (challenge_answer s kind nonce to request).bytes
       (is_fingerprinted request) sends written

@@ -22,9 +22,9 @@ use Rattle.stun_extra.specs.CanonicalAddress.{is_same_address}
 use Rattle.stun_exchanges.specs.Agreement.{AgreeOn, IsSignedAnswer, meant_by, offered_by}
 use Rattle.stun_client.specs.Challenge.{Challenge, added_under}
 use Rattle.stun_client.specs.Challenges.{Answered, by_rule, challenge_of, is_one}
-use Rattle.stun_client.specs.Challenging.{is_challenge}
+use Rattle.stun_client.specs.Challenging.{code_in, is_challenge}
 use Rattle.stun_client.specs.Clients.{EndpointClient, heard, responded}
-use Rattle.stun_client.specs.Judging.{anew, believed, fault_in, long_term}
+use Rattle.stun_client.specs.Judging.{Verdict, anew, believed, fault_in, long_term, sent_for}
 use Rattle.stun_client.specs.Requests.{AskedSeen, at, is_answer}
 use Rattle.stun_client.specs.Standing.{is_ignored}
 use Rattle.stun_client.specs.declared.preferences.Preferences.{Preferences}
@@ -34,6 +34,7 @@ use Rattle.stun_endpoint.specs.Lookups.{users_with}
 use Rattle.stun_endpoint.specs.Nonces.{current_nonce, epoch_of, nonce_in}
 use Rattle.stun_endpoint.specs.Received.{challenge_answer, outcome_of_accepted, received_by}
 use Rattle.stun_endpoint.specs.Received.{responding_of}
+use Rattle.stun_endpoint.specs.Refusals.{code_of}
 use Rattle.stun_endpoint.specs.Responding.{binding_by, drop_reason}
 use Rattle.stun_endpoint.specs.Settings.{Settings}
 use Rattle.stun_endpoint.specs.declared.received.Refusal.{Refusal}
@@ -105,8 +106,9 @@ is_asking StaleNonce = true
 
 -- a client reads of a response the challenge that a server means with this nonce, whatever
 -- challenge came before
-pub record IsReadAsMeant (s : Settings) (nonce response : List ℕ) : Type 0 where
+pub record IsReadAsMeant (s : Settings) (kind : Refusal) (nonce response : List ℕ) : Type 0 where
   pub asks : is_challenge response ≡ true
+  pub code : code_in response ≡ Some (code_of kind)
   pub read : (p : Preferences) (who : NameAndPassword) (before : Option Challenge)
       → challenge_of p who before response ≡ by_rule p who s.realm nonce (offered_by s.algorithms)
 
@@ -119,7 +121,14 @@ ChallengesAreRead =
     → transaction_id_field request < 2 ^ 96 → SendsRequired required request
     → let nonce = nonce_in s secret from epoch in
     let response = (challenge_answer s kind nonce to request).bytes in
-    IsResponseTo required request response × IsReadAsMeant s nonce response
+    IsResponseTo required request response × IsReadAsMeant s kind nonce response
+
+-- what a challenge comes to that the request is sent again for: a 438 is no refusal
+abbrev pub answered_to : Refusal → Option Answered → List ℕ → Answered → Verdict
+answered_to BadRequest before response c = sent_for before response c
+answered_to Unauthenticated before response c = sent_for before response c
+answered_to UnknownAttribute before response c = sent_for before response c
+answered_to StaleNonce before response c = anew c
 
 -- each of them has the outstanding request sent again, signed for it, if client and server agree on
 -- an algorithm. It is not the challenge that the request was signed for, and not weaker than what a
@@ -138,7 +147,8 @@ ChallengesAreAnswered =
     → at (transaction_id_field request) c.requests.asked ≡ Some asked
     → asked.method ≡ method_of (type_field request)
     → is_one (Some meant) asked.signed_for ≡ false → is_ignored c.standing meant ≡ false
-    → heard c server response ≡ responded response asked.number (anew (Some meant))
+    → heard c server response
+    ≡ responded response asked.number (answered_to kind asked.signed_for response meant)
 
 -- ---- a signed request at the server
 

@@ -26,7 +26,9 @@ pub fn challenges_are_read_as_meant()
 
 /// A client with long-term credentials answers each challenge of a server with which it has an
 /// algorithm in common: when a 401 or a 438 arrives from the server's address as the response to an
-/// outstanding request, the request is sent again, signed for the challenge that the server means.
+/// outstanding request, the request is to be sent again, signed for the challenge that the server
+/// means. A 401 to a request that was signed for the same realm and security bits is a refusal too,
+/// and a 438 is none (`answered_to`).
 ///
 /// Premises, beside those of `challenges_are_read_as_meant`: client and server agree on an
 /// algorithm (`AgreeOn`, which `common_algorithms_are_answered` gives for any algorithm that both

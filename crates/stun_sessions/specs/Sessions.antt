@@ -149,7 +149,7 @@ OneStaleAnswer =
     (received_by s (realm_knowing s users) from now bytes ≡ answered answer)
     × (heard c server answer.bytes
     ≡ responded answer.bytes asked.number
-    (anew (Some (meant_for s p who (current_nonce s from now) a))))
+    (anew (meant_for s p who (current_nonce s from now) a)))
 
 -- ---- which challenge new requests are signed for
 

@@ -281,7 +281,8 @@ pub enum RequestError {
     Redirected(Redirect),
     /// No acceptable response arrived in time.
     TimedOut(Drops),
-    /// The request was challenged too often: the password is wrong, or somebody forges challenges.
+    /// The request was challenged or refused too often: the password is wrong, or somebody forges
+    /// challenges.
     Unauthorized,
     /// The response has an attribute that must be understood and is not.
     NotUnderstood(AttributeType),

@@ -301,6 +301,9 @@ impl ClientBuilder {
     /// Sets for how many challenges a request is sent again: 6, unless you call this. The next one
     /// ends it with [`RequestError::Unauthorized`](super::RequestError::Unauthorized). A restart of
     /// the server, a new address and the end of a nonce take one each, and so do forged ones.
+    ///
+    /// A wrong password ends a request earlier: at the second refusal with the nonce that the request
+    /// is signed for, and at the third 401 that has another one.
     pub fn challenges(mut self, most: u32) -> ClientBuilder {
         self.challenges = most;
         self
@@ -310,9 +313,9 @@ impl ClientBuilder {
     /// are not, unless you call this. Only long-term credentials use this: without credentials unsigned responses are always accepted, and with
     /// short-term ones never.
     ///
-    /// A request is unsigned until it is challenged, and again after its challenge was repeated or a
-    /// challenged request timed out. So an attacker who can forge challenges can then also forge the
-    /// response.
+    /// A request is unsigned until it is challenged, and new requests are unsigned again after a
+    /// challenged request timed out. So an attacker who can make requests time out can then also forge
+    /// the response.
     pub fn accept_unsigned(mut self, accepts: bool) -> ClientBuilder {
         self.accepts_unsigned = accepts;
         self

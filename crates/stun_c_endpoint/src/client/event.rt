@@ -64,6 +64,7 @@ pub fn drop_number(why: DropReason) -> u32
         DropReason::WeakerChallenge => 11,
         DropReason::OutOfMemory => 12,
         DropReason::LateChallenge => 14,
+        DropReason::Refused => 15,
         // There is no other one in this release.
         _ => 0,
     }

@@ -3,6 +3,7 @@ ghost use Rattle.std.specs.Prelude.{◌≡◌};
 ghost use Rattle.stun_auth.specs.ClientStep.{is_required};
 ghost use Rattle.stun_auth.specs.Feature.{is_possible};
 ghost use Rattle.stun_auth.specs.Nonces.{asks_for_algorithms, asks_for_userhash};
+ghost use Rattle.stun_client.specs.Challenges.{has_same_bits, is_same_bit};
 ghost use Rattle.stun_client.specs.Rule.{chosen, is_hashed, lacks_userhash};
 
 use crate::challenge::offer::first_supported;
@@ -28,6 +29,21 @@ fn asks_for_userhash(nonce: &str) -> bool
         Some(bits) => bits.username_anonymity(),
         None => false,
     }
+}
+
+/// Returns whether two nonces have the same security bits.
+pub(crate) fn has_same_bits(nonce: &str, other: &str) -> bool
+    ensures { result ≡ has_same_bits nonce.now other.now }
+{
+    is_same_bit(asks_for_algorithms(nonce), asks_for_algorithms(other))
+        && is_same_bit(asks_for_userhash(nonce), asks_for_userhash(other))
+}
+
+/// Returns whether two bits are the same.
+fn is_same_bit(one: bool, other: bool) -> bool
+    ensures { result ≡ is_same_bit one other }
+{
+    if one { other } else { !other }
 }
 
 /// Returns whether hashed user names are sent at all.

@@ -8,7 +8,7 @@ ghost use Rattle.stun_client_endpoint.specs.Endpoints.{repeated, repeated_id, re
 ghost use Rattle.stun_client_endpoint.specs.Endpoints.{step, timers_step, told_of, until_of};
 
 use crate::endpoint::ClientEndpoint;
-use crate::pending::{first_bound, first_unsent, hand_out, overdue, take, take_ended};
+use crate::pending::{first_bound, first_unsent, hand_out, overdue, repeat, take, take_ended};
 use crate::told::Polled;
 use std::alloc::Allocator;
 use stun_base::header::MessageHeader;
@@ -56,7 +56,10 @@ impl<A: Allocator + Copy> ClientEndpoint<A> {
         ensures { (option_map told_of result, self.new) ≡ repeats_step now self.old }
     {
         match repeated(&mut self.state, now) {
-            Some(number) => Some(Polled::Transmit(number)),
+            Some(number) => {
+                repeat(&mut self.requests, number);
+                Some(Polled::Transmit(number))
+            }
             None => self.ends_step(now),
         }
     }

@@ -1,7 +1,7 @@
 //! Starting requests.
 ghost use Rattle.std.specs.Option.{IfSome, IsSome, option_copied, option_map};
 ghost use Rattle.std.specs.Prelude.{◌≡◌, ◌<◌, ◌≤◌, ◌⊎◌, ℕ, Err, IfErr, IfOk, IsErr, IsOkUnless};
-ghost use Rattle.std.specs.Prelude.{MatchOption, None, Ok, OnErr, OnOk, max, true};
+ghost use Rattle.std.specs.Prelude.{MatchOption, None, Ok, OnErr, OnOk, false, max, true};
 ghost use Rattle.std.specs.Duration.{as_nanos};
 ghost use Rattle.stun_base.specs.Moments.{moment_after};
 ghost use Rattle.stun_client.specs.Ids.{id_of};
@@ -166,7 +166,7 @@ fn register<A: Allocator + Copy>(
     ensures refused { IfErr result (λ why. (why ≡ RequestError.OutOfMemory)
         ⊎ ((why ≡ RequestError.NoId) × IsSome (request_refused state.old bytes.items))) }
     ensures ok { OnOk result (request_refused state.old bytes.items ≡ None) }
-    ensures stored { OnOk result (all.new.entries ≡ changed_at (sending id bytes.items) number
+    ensures stored { OnOk result (all.new.entries ≡ changed_at (sending false id bytes.items) number
         (with_request number pending all.old.entries)) }
     ensures sent { OnOk result (state.new ≡ after_request bytes.items now state.old) }
     ensures low { OnOk result (number < LAST_NUMBER) }
@@ -178,7 +178,7 @@ fn register<A: Allocator + Copy>(
     };
     match state.request(bytes.as_slice(), now) {
         Ok(_number) => {
-            send(all, number, id, bytes);
+            send(all, number, id, bytes, false);
             Ok(())
         }
         Err(refusal) => {

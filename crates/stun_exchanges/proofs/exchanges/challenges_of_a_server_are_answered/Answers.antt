@@ -8,7 +8,7 @@ use Rattle.stun_endpoint.specs.Nonces.{nonce_in, words_of}
 use Rattle.stun_endpoint.specs.Received.{challenge_answer}
 use Rattle.stun_endpoint.specs.Settings.{registered_of}
 use Rattle.stun_exchanges.specs.Exchange.{meant_for}
-use Rattle.stun_exchanges.proofs.HeardLemmas.{answered_is, heard_is}
+use Rattle.stun_exchanges.proofs.HeardLemmas.{answered_is, heard_is, sent_so}
 use Rattle.stun_exchanges.proofs.exchanges.challenges_of_a_server_are_answered.Goals as goal
 
 pub returns : goal.returns
@@ -35,4 +35,5 @@ returns c = λ s kind secret from to server epoch request client asked who p acc
     client.standing asked.signed_for response (meant_for s p who nonce a) both.0.whole
     (answered_is p who asked.signed_for response s.realm nonce (offered_by s.algorithms)
     (meant_by p who s.realm s.algorithms nonce a) (both.1.read p who _) rule)
-    new strong)
+    new strong
+    ∙ sent_so kind asked.signed_for response (meant_for s p who nonce a) both.1.code)

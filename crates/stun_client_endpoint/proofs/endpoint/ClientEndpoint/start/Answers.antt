@@ -1,5 +1,5 @@
 -- A request that is started has the next number, and its first plan ends last.
-use Rattle.std.proofs.Common.{◌+◌, ◌≤◌, ℕ, ap, refl, subst, sym}
+use Rattle.std.proofs.Common.{◌+◌, ◌≤◌, ℕ, ap, false, refl, subst, sym}
 use Rattle.stun_client_loop.specs.Loops.{LoopSeen, request_refused}
 use Rattle.stun_client_endpoint.specs.Endpoints.{Endpoint}
 use Rattle.stun_client_endpoint.specs.Pendings.{Pending, sending}
@@ -13,7 +13,7 @@ invariant_of-self-2 g c =
     subst (λ (k : ℕ). IsStored (c.self.inside.next + 1) k c.register.new.state c.register.new.all.entries)
     (ap (λ (p : Pending). p.until) c.new-pending.ensures)
     (stored_put c.self.inside.next c.self.inside.latest c.self.inside.state c.register.new.state
-    (sending c.args.id c.args.bytes.items) c.new-pending.result c.self.inside.requests.entries
+    (sending false c.args.id c.args.bytes.items) c.new-pending.result c.self.inside.requests.entries
     c.register.new.all.entries (λ p. refl)
     (subst (λ (p : Pending). c.self.inside.latest ≤ p.until) (sym c.new-pending.ensures)
     c.until_from-until.ensures.low)

@@ -408,7 +408,8 @@ typedef enum stunp_refusal {
                                       * due at the same time */
     STUNP_TOO_MANY_ADDRESSES = -27,  /* server: the limit on the number of addresses is reached */
     STUNP_CANNOT_SIGN = -28,         /* server: it has no key to sign with. The user was removed, or
-                                      * has no key for the client's algorithm */
+                                      * has no key for the client's algorithm. ICE: the credentials
+                                      * of the peer are not known yet */
     STUNP_WRONG_HANDLE = -29         /* the handle has a value of another kind, or a user who was
                                       * made for another realm or for other algorithms */
 } stunp_refusal;

@@ -715,6 +715,10 @@ struct checker : handle<stunp_ice_checker, stunp_ice_checker_clear> {
         int64_t answer = stunp_ice_checker_new(made.get(), &of);
         return result<checker>(answer, std::move(made));
     }
+    // The credentials of the peer, if the settings did not have them.
+    result<> set_peer(view name, view password) {
+        return ask(stunp_ice_checker_set_peer_with, get(), name, password);
+    }
     result<bool> is_controlling() { return ask<bool>(stunp_ice_checker_is_controlling, get()); }
     result<> set_tie_breaker(uint64_t random) {
         return ask(stunp_ice_checker_set_tie_breaker, get(), random);

@@ -8,7 +8,7 @@
  *   stunp_endpoint_server  the settings of a server: with long-term, short-term or no credentials
  *   stunp_endpoint_users   its users, by password or by stored keys
  *   stunp_reply            answers an accepted request, now or later, on any thread
- *   stunp_ice_checker      an agent of ICE: the credentials of both sides, and its role
+ *   stunp_ice_checker      an agent of ICE: its credentials, those of its peer, and its role
  *   stunp_ice_check        a check that the agent sent, as it is stored with its pair
  *   stunp_endpoint_client  a client of one server, with any number of requests
  *   stunp_body             the attributes of a request of a client
@@ -177,6 +177,11 @@
  *
  * examples/c/ice_check.c has candidates, pairs and pacing around it.
  *
+ * The side that makes an offer often gets checks before the answer to the offer, and has to answer
+ * them at once (section 7.3). Leave `peer_name` and `peer_password` of its settings null, and call
+ * stunp_ice_checker_set_peer when the answer has arrived: only then the agent writes checks, but it
+ * answers those of the peer from the start.
+ *
  *
  * A client
  *
@@ -253,7 +258,8 @@
  *   look-ups: stunp_endpoint_server_identify_own, stunp_endpoint_server_identify,
  *    stunp_endpoint_server_resume, stunp_endpoint_server_cause_for
  *   replies: stunp_reply_success, stunp_reply_error, stunp_reply_finish, stunp_reply_wipe
- *   ICE: stunp_ice_checker_new_with, stunp_ice_checker_new, stunp_ice_checker_is_controlling,
+ *   ICE: stunp_ice_checker_new_with, stunp_ice_checker_offer_with, stunp_ice_checker_new,
+ *    stunp_ice_checker_set_peer_with, stunp_ice_checker_set_peer, stunp_ice_checker_is_controlling,
  *    stunp_ice_checker_controls, stunp_ice_checker_set_tie_breaker, stunp_ice_checker_check_with,
  *    stunp_ice_checker_check, stunp_ice_checker_receive_with, stunp_ice_checker_receive,
  *    stunp_ice_checker_clear, stunp_ice_checker_free
@@ -625,13 +631,15 @@ typedef struct {
     const uint8_t *sha256_key;
 } stunp_found_user;
 
-/* The settings of an agent of ICE. None has a default but the last two, which may be 0.
+/* The settings of an agent of ICE. None has a default but the last two, which may be 0, and the
+ * credentials of the peer, which may both be null.
  *
  *   size            sizeof (stunp_ice_settings), set by STUNP_INIT
  *   name            your username fragment, of 4 to 256 bytes without a colon (RFC 8445, section 5.3)
  *   password        your password, of 22 to 256 bytes
  *   peer_name       the username fragment and the password of the peer, as it sent them over
- *   peer_password   signalling
+ *   peer_password   signalling. Null if they have not arrived: then call stunp_ice_checker_set_peer
+ *                   when they have
  *   tie_breaker     a random number (section 7.1.3). If both sides begin in one role, the one with
  *                   the larger number controls
  *   is_controlling  whether the agent begins as the one that nominates pairs
@@ -1096,13 +1104,51 @@ int64_t stunp_ice_checker_new_with(stunp_ice_checker *checker, const char *name,
                                    size_t peer_password_length, uint64_t tie_breaker,
                                    bool is_controlling);
 
+/* Creates an agent that does not know the credentials of its peer yet, like stunp_ice_checker_new
+ * without `peer_name` and `peer_password`, from settings that are passed one by one.
+ *
+ * Returns 0. Errors:
+ *   STUNP_FULL_HANDLE    the handle is not empty
+ *   STUNP_NOT_TEXT       the username fragment or the password is not UTF-8
+ *   STUNP_BAD_ARGUMENT   the username fragment has fewer than 4 bytes, more than 256 or a colon, or
+ *                        the password has fewer than 22 bytes or more than 256
+ *   STUNP_OUT_OF_MEMORY  an allocation failed */
+STUNP_READS(2, 3) STUNP_READS(4, 5) STUNP_NOT_NULL(1)
+int64_t stunp_ice_checker_offer_with(stunp_ice_checker *checker, const char *name,
+                                     size_t name_length, const char *password,
+                                     size_t password_length, uint64_t tie_breaker,
+                                     bool is_controlling);
+
 /* Creates an agent with these settings. They are copied.
  *
  * Returns 0. Errors:
- *   STUNP_BAD_ARGUMENT  `size` is wrong, or a text is null
+ *   STUNP_BAD_ARGUMENT  `size` is wrong, or a text is null, other than both of the peer
  * and then those of stunp_ice_checker_new_with. */
 STUNP_INLINED int64_t stunp_ice_checker_new(stunp_ice_checker *checker,
                                             const stunp_ice_settings *settings);
+
+/* Sets the credentials of the peer, like stunp_ice_checker_set_peer, from texts with their lengths.
+ *
+ * Returns and fails as stunp_ice_checker_set_peer does. */
+STUNP_READS(2, 3) STUNP_READS(4, 5) STUNP_NOT_NULL(1)
+int64_t stunp_ice_checker_set_peer_with(stunp_ice_checker *checker, const char *peer_name,
+                                        size_t peer_name_length, const char *peer_password,
+                                        size_t peer_password_length);
+
+/* Sets the credentials of the peer, in place of those that were set before. The texts are copied, and
+ * end with a zero byte. Answers to checks that were written with the credentials of before are then
+ * dropped. After an error the agent is as it was.
+ *
+ * Returns 0. Errors:
+ *   STUNP_EMPTY_HANDLE   the handle is empty
+ *   STUNP_WRONG_HANDLE   it has no agent
+ *   STUNP_NOT_TEXT       the username fragment or the password is not UTF-8
+ *   STUNP_BAD_ARGUMENT   the username fragment has fewer than 4 bytes, more than 256 or a colon, or
+ *                        the password has fewer than 22 bytes or more than 256
+ *   STUNP_OUT_OF_MEMORY  an allocation failed */
+STUNP_NOT_NULL(1, 2, 3)
+STUNP_INLINED int64_t stunp_ice_checker_set_peer(stunp_ice_checker *checker, const char *peer_name,
+                                                 const char *peer_password);
 
 /* Frees an agent and makes its handle empty. The pointer must not be null. This call is for callers
  * that have the symbols of the archive and not this header; in C and C++ use
@@ -1154,6 +1200,7 @@ int64_t stunp_ice_checker_check_with(stunp_ice_checker *checker, const uint8_t i
  *   STUNP_EMPTY_HANDLE      the handle is empty
  *   STUNP_WRONG_HANDLE      it has no agent
  *   STUNP_BAD_ARGUMENT      `to` is not an IPv4 or IPv6 address
+ *   STUNP_CANNOT_SIGN       the credentials of the peer are not known yet
  *   STUNP_OUT_OF_MEMORY     an allocation failed
  *   STUNP_BUFFER_TOO_SMALL  the check does not fit into `room` bytes */
 STUNP_USE_RESULT
@@ -1180,10 +1227,10 @@ int64_t stunp_ice_checker_receive_with(stunp_ice_checker *checker,
  *
  *   - A datagram is dropped if it is not a STUN message, has no right FINGERPRINT, or has another
  *     method than Binding.
- *   - A check is accepted if its USERNAME has your name and that of the peer in this order, and it is
- *     signed with your password. It is answered 400 if it is not signed, or has no USERNAME or no
- *     PRIORITY; 401 if the name or the signature is wrong; and 420 if it has an attribute that must
- *     be understood and is not. If it says that the peer has the role of this agent, the one with the
+ *   - A check is accepted if its USERNAME begins with your name and a colon, and it is signed with
+ *     your password: the credentials of the peer do not count. It is answered 400 if it is not
+ *     signed, or has no USERNAME or no PRIORITY; 401 if the name or the signature is wrong; and 420
+ *     if it has an attribute that must be understood and is not. If it says that the peer has the role of this agent, the one with the
  *     larger tie-breaker is to control, and this agent's counts as the larger if they are equal
  *     (section 7.3.1.1): either this agent switches its role, or the check is answered 487.
  *   - A response is dropped if it does not answer `check`, or is not signed by the peer. Otherwise it

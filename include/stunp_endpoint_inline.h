@@ -261,14 +261,24 @@ STUNP_INLINED int64_t stunp_ice_checker_new(stunp_ice_checker *checker,
         return STUNP_BAD_ARGUMENT;
     memcpy(&all, settings, settings->size);
     settings = &all;
-    if (settings->name == NULL || settings->password == NULL || settings->peer_name == NULL
-        || settings->peer_password == NULL)
+    if (settings->name == NULL || settings->password == NULL
+        || (settings->peer_name == NULL) != (settings->peer_password == NULL))
         return STUNP_BAD_ARGUMENT;
+    if (settings->peer_name == NULL)
+        return stunp_ice_checker_offer_with(checker, settings->name, strlen(settings->name),
+                                            settings->password, strlen(settings->password),
+                                            settings->tie_breaker, settings->is_controlling);
     return stunp_ice_checker_new_with(
         checker, settings->name, strlen(settings->name), settings->password,
         strlen(settings->password), settings->peer_name, strlen(settings->peer_name),
         settings->peer_password, strlen(settings->peer_password), settings->tie_breaker,
         settings->is_controlling);
+}
+
+STUNP_INLINED int64_t stunp_ice_checker_set_peer(stunp_ice_checker *checker, const char *peer_name,
+                                                 const char *peer_password) {
+    return stunp_ice_checker_set_peer_with(checker, peer_name, strlen(peer_name), peer_password,
+                                           strlen(peer_password));
 }
 
 STUNP_INLINED void stunp_ice_checker_free(stunp_ice_checker *checker) {

@@ -28,10 +28,14 @@ class IceStage:
     def call(self, name, words):
         if name == "new":
             return self.new(*words)
+        if name == "offer":
+            return self.offer(*words)
         if self.role is None:
             raise Words("no agent")
         if name == "role":
             return self.role
+        if name == "peer":
+            return self.set_peer(*words)
         if name == "tie-breaker":
             self.tie_breaker = spelling.number(words[0])
             return None
@@ -55,13 +59,44 @@ class IceStage:
             return "ColonInName"
         if not all(22 <= len(one) <= 256 for one in (password, peer_password)):
             return "PasswordLength"
-        self.incoming, self.outgoing = name + b":" + peer_name, peer_name + b":" + name
-        self.password, self.peer_password = password, peer_password
-        self.tie_breaker, self.role, self.checks = spelling.number(tie_breaker), role, {}
+        self.begin(name, password, tie_breaker, role)
+        self.know(peer_name, peer_password)
         return None
+
+    def begin(self, name, password, tie_breaker, role):
+        self.name, self.password, self.peer_password = name, password, None
+        self.tie_breaker, self.role, self.checks = spelling.number(tie_breaker), role, {}
+
+    def know(self, peer_name, peer_password):
+        self.outgoing, self.peer_password = peer_name + b":" + self.name, peer_password
+
+    @staticmethod
+    def side_refusal(name, password):
+        if not 4 <= len(name) <= 256:
+            return "NameLength"
+        if b":" in name:
+            return "ColonInName"
+        return None if 22 <= len(password) <= 256 else "PasswordLength"
+
+    def offer(self, name, password, tie_breaker, role):
+        """An agent that does not know its peer yet."""
+        name, password = spelling.text(name), spelling.text(password)
+        why = self.side_refusal(name, password)
+        if why is None:
+            self.begin(name, password, tie_breaker, role)
+        return why
+
+    def set_peer(self, name, password):
+        name, password = spelling.text(name), spelling.text(password)
+        why = self.side_refusal(name, password)
+        if why is None:
+            self.know(name, password)
+        return why
 
     def check(self, identity, to, priority, nominate="no"):
         """A check of this agent (section 7.2.4), and what is stored of it."""
+        if self.peer_password is None:
+            return "NoRemote"
         nominates = nominate == "nominates" and self.role == "controlling"
         identity = spelling.id_of(identity)
         attributes = [(stun.USERNAME, self.outgoing),
@@ -98,7 +133,9 @@ class IceStage:
         algorithm, name = integrity_of(check), first_of(check, stun.USERNAME)
         if algorithm is None or name is None:
             return self.refused(check, 400, "Bad Request")
-        if name != self.incoming or verified(check, self.password) is None:
+        # Section 7.3: only the first half counts, so that checks are answered before the peer's
+        # credentials arrive.
+        if not name.startswith(self.name + b":") or verified(check, self.password) is None:
             return self.refused(check, 401, "Unauthenticated")
         unknown = self.unknown(check)
         if unknown:

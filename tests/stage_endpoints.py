@@ -111,6 +111,22 @@ class Endpoints:
         self.has_agent, self.checks = True, {}
         return ""
 
+    def ice_offer(self, *words):
+        names, tie_breaker, role = words[:2], number(words[2]), ROLES.index(words[3])
+        answer, _ = self.ask("ice-offer", *(text(word) for word in names), tie_breaker, role)
+        if answer == -7:
+            return self.written or "BadArgument"
+        if answer < 0:
+            return REFUSALS[answer]
+        self.has_agent, self.checks = True, {}
+        return ""
+
+    def ice_peer(self, *words):
+        answer, _ = self.ask("ice-set-peer", *(text(word) for word in words))
+        if answer == -7:
+            return self.written or "BadArgument"
+        return REFUSALS[answer] if answer < 0 else ""
+
     def ice_role(self):
         return ROLES[self.ask("ice-is-controlling")[0]]
 
@@ -120,6 +136,8 @@ class Endpoints:
     def ice_check(self, identity, to, priority, *words):
         answer, outputs = self.ask("ice-check", id_of(identity), wide(address(to)),
                                    number(priority), int(words == ("nominates",)), 596)
+        if answer == -28:
+            return "NoRemote"
         if answer < 0:
             return REFUSALS[answer]
         message, stored = outputs

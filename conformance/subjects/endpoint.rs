@@ -366,7 +366,9 @@ impl Agent {
         self.count += 1;
         let id = TransactionId::from_u128(u128::from(self.count) << 40).ok_or("no such ID")?;
         let (to, priority) = (words[0].parse()?, words[1].parse()?);
-        let check = self.checker.check(id, to, priority, words[2] == "yes");
+        let check = self
+            .checker
+            .check(id, to, priority, words[2] == "yes")?;
         Ok(hexadecimal(self.check.insert(check).bytes()))
     }
 
@@ -375,7 +377,7 @@ impl Agent {
         let received = self
             .checker
             .receive(&bytes, words[0].parse()?, self.check.as_ref());
-        let Checked::Check { answer, judged } = received else {
+        let Checked::Check { answer, judged, .. } = received else {
             return Ok("none".into());
         };
         self.is_nominated = matches!(

@@ -66,7 +66,7 @@ fn main() {
     );
     let from: SocketAddr = ([192, 0, 2, 1], 32853).into();
     let id = TransactionId::from([7; 12]);
-    let check = here.check(id, from, 0x6e00_01ff, true);
+    let check = here.check(id, from, 0x6e00_01ff, true).unwrap();
     for _ in 0..count {
         let bytes = black_box(check.bytes());
         let answer = match kind.as_str() {
@@ -75,6 +75,7 @@ fn main() {
                 Received::Check {
                     answer,
                     judged: Judged::Accepted { .. },
+                    ..
                 } => answer,
                 other => panic!("{other:?}"),
             },

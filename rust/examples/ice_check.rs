@@ -27,7 +27,7 @@ impl Agent {
     /// Sends a check. The bytes go to the address of the peer.
     fn send(&mut self, nominate: bool, now: Instant) -> Result<Vec<u8>, Box<dyn Error>> {
         let id = TransactionId::generate();
-        let check = self.checker.check(id, self.peer, PRIORITY, nominate);
+        let check = self.checker.check(id, self.peer, PRIORITY, nominate)?;
         let sent = self.requests.send_request(check.bytes(), check.to(), now)?;
         let bytes = sent.data.to_vec();
         self.check = Some(check);
@@ -37,7 +37,7 @@ impl Agent {
     /// Reads a datagram from the peer, and returns what to send back.
     fn receive(&mut self, bytes: &[u8]) -> Option<Vec<u8>> {
         match self.checker.receive(bytes, self.peer, self.check.as_ref()) {
-            Received::Check { answer, judged } => {
+            Received::Check { answer, judged, .. } => {
                 println!("{}: the check of the peer: {judged:?}", self.name);
                 return Some(answer);
             }

@@ -39,7 +39,7 @@ fn pair(roles: (Role, Role), ties: (u64, u64)) -> (Checker, Checker) {
 /// What a check comes to, and its answer.
 fn checked(received: Received<'_>) -> (Vec<u8>, Judged) {
     match received {
-        Received::Check { answer, judged } => (answer, judged),
+        Received::Check { answer, judged, .. } => (answer, judged),
         other => panic!("{other:?}"),
     }
 }
@@ -60,7 +60,7 @@ fn dropped(received: Received<'_>) -> DropReason {
 
 /// A check of `a` at `b`, and its answer back at `a`.
 fn exchange(a: &mut Checker, b: &mut Checker, nominate: bool) -> (Judged, Outcome) {
-    let check = a.check(id(1), at(THERE), 77, nominate);
+    let check = a.check(id(1), at(THERE), 77, nominate).unwrap();
     let (answer, judged) = checked(b.receive(check.bytes(), at(HERE), None));
     let outcome = ended(a.receive(&answer, at(THERE), Some(&check)));
     (judged, outcome)
@@ -102,7 +102,7 @@ fn roles_are_opposite_after_one_check_each_way() {
                 let valid = Outcome::Valid { mapped: at(HERE) };
                 assert_eq!(exchange(controls, follows, true), (accepted, valid));
                 // Only the agent that controls nominates.
-                assert!(!follows.check(id(2), at(HERE), 1, true).nominates());
+                assert!(!follows.check(id(2), at(HERE), 1, true).unwrap().nominates());
             }
         }
     }
@@ -149,8 +149,8 @@ fn roles_are_opposite_in_every_order() {
                 for lost in 0..16u32 {
                     let (mut a, mut b) = pair(roles, ties);
                     let checks = [
-                        a.check(id(1), at(THERE), 1, false),
-                        b.check(id(2), at(HERE), 1, false),
+                        a.check(id(1), at(THERE), 1, false).unwrap(),
+                        b.check(id(2), at(HERE), 1, false).unwrap(),
                     ];
                     let (mut answers, mut heard) = ([None, None], false);
                     for event in order {
@@ -188,7 +188,7 @@ fn roles_are_opposite_in_every_order() {
 #[test]
 fn a_repeated_conflict_switches_once() {
     let (mut a, mut b) = pair((Controlling, Controlling), (1, 2));
-    let checks = [1, 2].map(|n| a.check(id(n), at(THERE), 1, false));
+    let checks = [1, 2].map(|n| a.check(id(n), at(THERE), 1, false).unwrap());
     let answers = checks
         .clone()
         .map(|check| checked(b.receive(check.bytes(), at(HERE), None)).0);
@@ -268,7 +268,10 @@ fn checks_are_judged_by_their_parts() {
         (Parts { key: None, name: None, ..RIGHT_CHECK }, refused(Refusal::BadRequest), Some(400), None),
         (Parts { name: Some("left:right"), ..RIGHT_CHECK }, refused(wrong), Some(401), None),
         (Parts { name: Some("right"), ..RIGHT_CHECK }, refused(wrong), Some(401), None),
-        (Parts { name: Some("right:left2"), ..RIGHT_CHECK }, refused(wrong), Some(401), None),
+        (Parts { name: Some("right:left2"), ..RIGHT_CHECK }, accepted, None, Some(Sha1)),
+        (Parts { name: Some("right:"), ..RIGHT_CHECK }, accepted, None, Some(Sha1)),
+        (Parts { name: Some("rightleft"), ..RIGHT_CHECK }, refused(wrong), Some(401), None),
+        (Parts { name: Some("righ:left"), ..RIGHT_CHECK }, refused(wrong), Some(401), None),
         (Parts { name: Some(""), ..RIGHT_CHECK }, refused(wrong), Some(401), None),
         (Parts { key: Some(LEFT.1), ..RIGHT_CHECK }, refused(wrong), Some(401), None),
         (Parts { key: Some(LEFT.1), unknown: true, ..RIGHT_CHECK }, refused(wrong), Some(401), None),
@@ -299,7 +302,7 @@ fn checks_are_judged_by_their_parts() {
 #[test]
 fn datagrams_are_dropped() {
     let (a, mut b) = pair((Controlling, Controlled), (1, 2));
-    let right = a.check(id(1), at(THERE), 1, true);
+    let right = a.check(id(1), at(THERE), 1, true).unwrap();
     for place in 0..right.bytes().len() {
         let mut damaged = right.bytes().to_vec();
         damaged[place] ^= 1;
@@ -383,8 +386,8 @@ fn responses_are_judged_with_their_check() {
         page.add_attribute(&unknown).unwrap();
     };
     let (mut a, _) = pair((Controlling, Controlled), (1, 2));
-    let check = a.check(id(1), at(THERE), 1, true);
-    let other = a.check(id(2), at(THERE), 1, true);
+    let check = a.check(id(1), at(THERE), 1, true).unwrap();
+    let other = a.check(id(2), at(THERE), 1, true).unwrap();
     let bytes = check.bytes();
     let success = response(bytes, Success, signed, mapped);
     let failed = Outcome::Failed;
@@ -444,7 +447,7 @@ fn addresses_are_canonical() {
     let (mut a, mut b) = pair((Controlling, Controlled), (1, 2));
     let (plain, mapped) = (at("10.0.0.2:2"), at("[::ffff:10.0.0.2]:2"));
     for (to, from) in [(plain, mapped), (mapped, plain)] {
-        let check = a.check(id(1), to, 1, false);
+        let check = a.check(id(1), to, 1, false).unwrap();
         assert_eq!(check.to(), to);
         let (answer, _) = checked(b.receive(check.bytes(), at("[::ffff:10.0.0.1]:1"), None));
         let outcome = ended(a.receive(&answer, from, Some(&check)));
@@ -457,7 +460,7 @@ fn addresses_are_canonical() {
         0,
         4,
     ));
-    let check = a.check(id(1), to, 1, false);
+    let check = a.check(id(1), to, 1, false).unwrap();
     let (answer, _) = checked(b.receive(check.bytes(), at("[2001:db8::1]:1"), None));
     let outcome = ended(a.receive(&answer, from, Some(&check)));
     assert_eq!(
@@ -535,7 +538,7 @@ fn reads_the_samples() {
 
     let mut sender = Checker::new(right, left, 0x932f_f9b1_5126_3b36, Controlled).unwrap();
     let sample = Message::from_bytes(&request).unwrap().transaction_id();
-    let check = sender.check(sample, at(THERE), 0x6e00_01ff, false);
+    let check = sender.check(sample, at(THERE), 0x6e00_01ff, false).unwrap();
     for (answer, mapped) in [
         (answer, "192.0.2.1:32853"),
         (samples::bytes(samples::IPV4_RESPONSE), "192.0.2.1:32853"),
@@ -574,7 +577,7 @@ fn values_can_be_shared() {
     }
     let (a, _) = pair((Controlling, Controlled), (1, 2));
     assert_eq!(format!("{a:?}"), "Checker { role: Controlling, .. }");
-    let check = a.check(id(1), at(THERE), 1, true);
+    let check = a.check(id(1), at(THERE), 1, true).unwrap();
     assert_eq!(check.clone().bytes(), check.bytes());
     assert!(!format!("{check:?}").contains("bytes"));
 }
@@ -627,7 +630,10 @@ impl Agent {
     fn send(&mut self, random: &mut Random) -> Vec<u8> {
         if self.checks.is_empty() || random.below(3) == 0 {
             let nominate = self.is_valid && random.below(2) == 0;
-            let check = self.checker.check(random.id(), self.peer, 5, nominate);
+            let check = self
+                .checker
+                .check(random.id(), self.peer, 5, nominate)
+                .unwrap();
             self.checks.push(check);
         }
         let newest = self.checks.len() as u64;
@@ -640,7 +646,7 @@ impl Agent {
         let id = Message::from_bytes(bytes).unwrap().transaction_id();
         let check = self.checks.iter().find(|check| check.id() == id);
         match self.checker.receive(bytes, self.peer, check) {
-            Received::Check { answer, judged } => {
+            Received::Check { answer, judged, .. } => {
                 if let Judged::Accepted { nominated, .. } = judged {
                     self.is_nominated |= nominated;
                 }
@@ -718,6 +724,52 @@ fn agents_meet_over_a_bad_network() {
             }
         }
     }
+}
+
+/// An agent that does not know its peer yet answers checks as one that does (RFC 8445, section 7.3).
+#[test]
+fn checks_are_answered_before_the_answer() {
+    let (mut knows, mut there) = pair((Controlling, Controlled), (1, 2));
+    let mut here = Checker::offer(LEFT, 1, Controlling).unwrap();
+    assert!(!here.has_remote() && knows.has_remote());
+    let check = there.check(id(1), at(HERE), 77, true).unwrap();
+    let (answer, judged) = checked(here.receive(check.bytes(), at(THERE), None));
+    assert_eq!(
+        (answer.clone(), judged),
+        checked(knows.receive(check.bytes(), at(THERE), None))
+    );
+    let outcome = ended(there.receive(&answer, at(HERE), Some(&check)));
+    assert_eq!(outcome, Outcome::Valid { mapped: at(THERE) });
+    let Received::Check {
+        message, fragment, ..
+    } = here.receive(check.bytes(), at(THERE), None)
+    else {
+        panic!("no check")
+    };
+    assert_eq!(fragment, Some(RIGHT.0.as_bytes()));
+    assert_eq!(message.transaction_id(), id(1));
+
+    // It writes none itself, and no response is its own.
+    let none = here.check(id(2), at(THERE), 1, true).unwrap_err();
+    assert_eq!(none, CheckError::NoRemote);
+    assert_eq!(
+        none.to_string(),
+        "the credentials of the peer are not known yet"
+    );
+    let early = knows.check(id(2), at(THERE), 1, true).unwrap();
+    let (answer, _) = checked(there.receive(early.bytes(), at(HERE), None));
+    let why = dropped(here.receive(&answer, at(THERE), Some(&early)));
+    assert_eq!(why, DropReason::WrongSignature);
+
+    // The answer to the offer arrives.
+    let refused = here.set_remote((RIGHT.0, "short"));
+    assert_eq!(refused, Err(BuildError::PasswordLength));
+    assert!(!here.has_remote());
+    here.set_remote(RIGHT).unwrap();
+    let outcome = ended(here.receive(&answer, at(THERE), Some(&early)));
+    assert_eq!(outcome, Outcome::Valid { mapped: at(HERE) });
+    here.set_role(Controlled);
+    assert_eq!(here.role(), Controlled);
 }
 
 #[test]

@@ -326,7 +326,12 @@ fn clients_record_each_end(trace: &Trace) {
     _ = trace.judges("verdict=\"accepted\" code=400", &refusal, THERE, || {
         anybody.receive(&refusal, there(), Instant::ZERO)
     });
-    trace.ends(&mut anybody, Instant::ZERO, 0, "result=refused 400 Bad Request");
+    trace.ends(
+        &mut anybody,
+        Instant::ZERO,
+        0,
+        "result=refused 400 Bad Request",
+    );
     anybody
         .request(BINDING, Body::new(), Instant::ZERO)
         .unwrap();
@@ -354,7 +359,7 @@ fn agents_of_ice_record_each_datagram(trace: &Trace) {
     let mut b = Checker::new(right, left, 6, Role::Controlled).unwrap();
     let written = |checker: &Checker, number: u8| -> Check {
         let id = TransactionId::from([number; 12]);
-        let (check, events) = trace.events(|| checker.check(id, there(), 1, true));
+        let (check, events) = trace.events(|| checker.check(id, there(), 1, true).unwrap());
         let nominates = checker.role() == Role::Controlling;
         let wanted = format!("message=wrote a check id={id} to={THERE} nominates={nominates}");
         assert_eq!(events, [wanted]);

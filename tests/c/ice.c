@@ -317,7 +317,12 @@ static void checks_of_the_peer(void) {
     judged(&agent, bytes, length, 400, STUNP_NO_INTEGRITY);
     length = check_with(bytes, NULL, true, 0, password, STUNP_SHA1);
     judged(&agent, bytes, length, 400, STUNP_NO_INTEGRITY);
+    /* Only the first half of the name counts. */
+    length = check_with(bytes, "evtj:other", true, 0, password, STUNP_SHA1);
+    judged(&agent, bytes, length, 0, STUNP_SHA1);
     length = check_with(bytes, "h6vY:evtj", true, 0, password, STUNP_SHA1);
+    judged(&agent, bytes, length, 401, STUNP_NO_INTEGRITY);
+    length = check_with(bytes, "evtjh6vY", true, 0, password, STUNP_SHA1);
     judged(&agent, bytes, length, 401, STUNP_NO_INTEGRITY);
     length = check_with(bytes, "evtj:h6vY", true, 0, other_password, STUNP_SHA1);
     judged(&agent, bytes, length, 401, STUNP_NO_INTEGRITY);
@@ -326,6 +331,58 @@ static void checks_of_the_peer(void) {
     length = check_with(bytes, "evtj:h6vY", false, 0, password, STUNP_SHA1);
     judged(&agent, bytes, length, 400, STUNP_SHA1);
     stunp_ice_checker_free(&agent);
+}
+
+/* An agent that makes an offer, and is checked before the answer to it arrives. */
+static void before_the_answer(void) {
+    uint8_t bytes[512], answer[512];
+    stunp_ice_settings settings = settings_of("evtj", "h6vY", 1, true);
+    stunp_ice_checker knowing = agent_of(&settings), agent, empty = {0};
+    stunp_ice_check stored;
+    settings.peer_name = settings.peer_password = NULL;
+    agent = agent_of(&settings);
+    want("full", stunp_ice_checker_new(&agent, &settings), STUNP_FULL_HANDLE);
+    settings.name = "abc";
+    want("short", stunp_ice_checker_new(&empty, &settings), STUNP_BAD_ARGUMENT);
+    settings.name = "\xff";
+    want("not UTF-8", stunp_ice_checker_new(&empty, &settings), STUNP_NOT_TEXT);
+    settings.name = "evtj";
+    stunp_heap_bound(0);
+    want("memory", stunp_ice_checker_new(&empty, &settings), STUNP_OUT_OF_MEMORY);
+    stunp_heap_bound(SIZE_MAX);
+    want("empty", empty.is_full, false);
+    const char *names[] = {"evtj:h6vY", "h6vY:evtj"};
+    for (size_t i = 0; i < COUNT(names); i++) {
+        stunp_ice_received got = STUNP_INIT(stunp_ice_received), same = got;
+        size_t length = check_with(bytes, names[i], true, 0, password, STUNP_SHA1);
+        want("answer", stunp_ice_checker_receive(&knowing, bytes, length, &from, NULL, answer,
+             sizeof answer, &got), STUNP_ANSWER);
+        want("the same", stunp_ice_checker_receive(&agent, bytes, length, &from, NULL, out,
+             sizeof out, &same), STUNP_ANSWER);
+        want_same("answer", out, answer, got.length);
+        want_same("told", &got, &same, sizeof got);
+    }
+    want("no peer", stunp_ice_checker_check(&agent, id, &from, 1, true, out, 0, &stored),
+         STUNP_CANNOT_SIGN);
+    want("nowhere first", stunp_ice_checker_check(&agent, id, &nowhere, 1, true, out, 0, &stored),
+         STUNP_BAD_ARGUMENT);
+    want("no agent", stunp_ice_checker_set_peer(&empty, "h6vY", other_password), STUNP_EMPTY_HANDLE);
+    want("not UTF-8", stunp_ice_checker_set_peer(&agent, "\xff", "short"), STUNP_NOT_TEXT);
+    want("short", stunp_ice_checker_set_peer(&agent, "h6v", other_password), STUNP_BAD_ARGUMENT);
+    want("colon", stunp_ice_checker_set_peer(&agent, "h6:Y", other_password), STUNP_BAD_ARGUMENT);
+    want("password", stunp_ice_checker_set_peer(&agent, "h6vY", "short"), STUNP_BAD_ARGUMENT);
+    stunp_heap_bound(0);
+    want("memory", stunp_ice_checker_set_peer(&agent, "h6vY", other_password), STUNP_OUT_OF_MEMORY);
+    stunp_heap_bound(SIZE_MAX);
+    want("still none", stunp_ice_checker_check(&agent, id, &from, 1, true, out, 0, &stored),
+         STUNP_CANNOT_SIGN);
+    want("peer", stunp_ice_checker_set_peer(&agent, "h6vY", other_password), 0);
+    want("check", stunp_ice_checker_check(&agent, id, &from, 1, true, out, sizeof out, &stored), 92);
+    want("of the other", stunp_ice_checker_check(&knowing, id, &from, 1, true, answer, sizeof answer,
+         NULL), 92);
+    want_same("check", out, answer, 92);
+    stunp_ice_checker_free(&agent);
+    stunp_ice_checker_free(&knowing);
 }
 
 /* What is neither a check nor its answer. */
@@ -504,6 +561,7 @@ int main(void) {
     sample_responses();
     refusals_in_order();
     checks_of_the_peer();
+    before_the_answer();
     drops();
     ends_of_a_check();
     longest();

@@ -483,6 +483,19 @@ static int64_t ice_new(void) {
                                                   LETTERS(peer_password), tie_breaker, number() != 0));
 }
 
+static int64_t ice_offer(void) {
+    block *name = bytes(), *password = bytes();
+    uint64_t tie_breaker = number();
+    bool is_controlling = number();
+    MAKES(ice_checker, stunp_ice_checker_offer_with(&fresh, LETTERS(name), LETTERS(password),
+                                                    tie_breaker, is_controlling));
+}
+
+static int64_t ice_set_peer(void) {
+    block *name = bytes(), *password = bytes();
+    return stunp_ice_checker_set_peer_with(&ice_checker, LETTERS(name), LETTERS(password));
+}
+
 CALL(ice_is_controlling, (void)0, stunp_ice_checker_is_controlling(&ice_checker))
 CALL(ice_set_tie_breaker, (void)0, stunp_ice_checker_set_tie_breaker(&ice_checker, number()))
 
@@ -623,6 +636,7 @@ static const struct { const char *name; int64_t (*call)(void); } calls[] = {
     {"endpoint-server-receive", endpoint_server_receive}, {"reply-begin", reply_begin},
     {"reply-finish", reply_finish}, {"endpoint-server-identify", endpoint_server_identify},
     {"endpoint-server-resume", endpoint_server_resume}, {"ice-new", ice_new},
+    {"ice-offer", ice_offer}, {"ice-set-peer", ice_set_peer},
     {"ice-is-controlling", ice_is_controlling}, {"ice-set-tie-breaker", ice_set_tie_breaker},
     {"ice-check", ice_check}, {"ice-receive", ice_receive},
     {"endpoint-client-new", endpoint_client_new},

@@ -4,8 +4,7 @@ use Rattle.std.specs.Prelude.{◌≡◌, ℕ, ℤ, pos, List, Bool, true, false,
 use Rattle.std.specs.Prelude.{if◌then◌else◌, Option, Some, None, Result, Ok, Err}
 use Rattle.std.specs.Option.{option_map}
 use Rattle.std.specs.Str.{is_utf8}
-use Rattle.stun_base.specs.Keys.{with_colon}
-use Rattle.stun_ice.specs.Agent.{Agent, build_refusal}
+use Rattle.stun_ice.specs.Agent.{Agent, build_refusal, remote_peer, side_refusal}
 use Rattle.stun_ice.specs.declared.checker.BuildError.{BuildError}
 use Rattle.stun_ice.specs.declared.checker.BuildError.TheVariants.{ColonInName, NameLength}
 use Rattle.stun_ice.specs.declared.checker.BuildError.TheVariants.{PasswordLength}
@@ -33,6 +32,11 @@ is_controlling Controlling = true
 is_controlling Controlled = false
 
 -- ---- making an agent
+
+-- what a caller gives of one side: the username fragment and the password as bytes
+pub record SideGiven : Type 0 where
+  pub name : List ℕ
+  pub password : List ℕ
 
 -- what a caller gives: the username fragments and the passwords of both sides as bytes, the
 -- tie-breaker, and whether the agent controls
@@ -62,10 +66,9 @@ agent_refusal g =
 -- the agent of what is given
 abbrev pub agent_given : AgentGiven → Agent
 agent_given g = record {
-  incoming = with_colon g.name g.peer_name;
-  outgoing = with_colon g.peer_name g.name;
+  name = g.name;
   password = g.password;
-  peer_password = g.peer_password;
+  peer = Some (remote_peer g.name g.peer_name g.peer_password);
   tie_breaker = g.tie_breaker;
   role = role_if g.controls;
 }
@@ -77,6 +80,46 @@ MakesAgent g result now =
     MatchOption (agent_refusal g)
     (OrOutOfMemory result None now (pos 0) (Some (Checker (agent_given g))))
     (λ refusal. (result ≡ refusal_number refusal) × (now ≡ None))
+
+-- ---- an agent that does not know its peer yet
+
+-- the refusal of the credentials of one side
+unfoldable pub side_given_refusal : SideGiven → Option Refusal
+side_given_refusal s =
+    if is_utf8 s.name && is_utf8 s.password
+    then option_map refusal_of_building (side_refusal s.name s.password)
+    else Some NotText
+
+-- the agent of its own credentials, a tie-breaker, and whether it controls
+abbrev pub offering_agent : SideGiven → ℕ → Bool → Agent
+offering_agent s tie controls = record {
+  name = s.name;
+  password = s.password;
+  peer = None;
+  tie_breaker = tie;
+  role = role_if controls;
+}
+
+-- a call makes this agent in an empty handle and returns 0, or returns the first refusal; or an
+-- allocation failed
+abbrev pub MakesOffering : SideGiven → ℕ → Bool → ℤ → Option Kept → Type 0
+MakesOffering s tie controls result now =
+    MatchOption (side_given_refusal s)
+    (OrOutOfMemory result None now (pos 0) (Some (Checker (offering_agent s tie controls))))
+    (λ refusal. (result ≡ refusal_number refusal) × (now ≡ None))
+
+-- the agent that knows this peer
+abbrev pub knowing_agent : Agent → SideGiven → Agent
+knowing_agent a s = record a { peer = Some (remote_peer a.name s.name s.password) }
+
+-- a call gives an agent the credentials of its peer and returns 0, or returns the first refusal and
+-- leaves the agent as it is: there is none, or the credentials are refused; or an allocation failed
+abbrev pub SetsPeer : Result Agent Refusal → SideGiven → ℤ → Option Kept → Option Kept → Type 0
+SetsPeer (Err refusal) s result before now = (result ≡ refusal_number refusal) × (now ≡ before)
+SetsPeer (Ok a) s result before now =
+    MatchOption (side_given_refusal s)
+    (OrOutOfMemory result before now (pos 0) (Some (Checker (knowing_agent a s))))
+    (λ refusal. (result ≡ refusal_number refusal) × (now ≡ before))
 
 -- ---- simple calls
 

@@ -6,38 +6,33 @@ use Rattle.std.specs.Prelude.{Result, Ok, Err}
 use Rattle.std.specs.Option.{option_map}
 use Rattle.std.specs.declared.net.socket_addr.SocketAddr.{SocketAddr}
 use Rattle.byteorder.specs.Endian.{big_bytes, big_number}
-use Rattle.stun_ice.specs.Agent.{Agent, SentCheck, can_nominate, check_bytes}
+use Rattle.stun_ice.specs.Agent.{Agent, Peer, SentCheck, sent_check}
 use Rattle.stun_handles.specs.Addresses.{caller_address, socket_address}
 use Rattle.stun_handles.specs.Answers.{at_address}
 use Rattle.stun_handles.specs.Numbers.{length_answer}
 use Rattle.stun_handles.specs.declared.address.Address.{Address}
 use Rattle.stun_numbers.specs.Refusals.{refusal_number}
 use Rattle.stun_numbers.specs.declared.refusal.Refusal.{Refusal}
-use Rattle.stun_numbers.specs.declared.refusal.Refusal.TheVariants.{BufferTooSmall}
+use Rattle.stun_numbers.specs.declared.refusal.Refusal.TheVariants.{BufferTooSmall, CannotSign}
 use Rattle.stun_numbers.specs.declared.refusal.Refusal.TheVariants.{OutOfMemory}
 use Rattle.stun_c_endpoint.specs.Agents.{is_controlling, role_if}
 use Rattle.stun_c_endpoint.specs.declared.ice.told.IceCheck.{IceCheck}
 
 -- ---- writing a check
 
--- the check that an agent writes
-abbrev pub sent_check : Agent → ℕ → SocketAddr → ℕ → Bool → SentCheck
-sent_check a id to priority nominate = record {
-  id = id;
-  to = to;
-  role = a.role;
-  nominates = can_nominate a.role nominate;
-  bytes = check_bytes a id priority (can_nominate a.role nominate);
-}
+-- the check that an agent writes to its peer, which it has to know
+abbrev pub check_to : Agent → ℕ → SocketAddr → ℕ → Bool → Option Peer → Result SentCheck Refusal
+check_to a id to priority nominate None = Err CannotSign
+check_to a id to priority nominate (Some peer) = Ok (sent_check a peer id to priority nominate)
 
--- the check that a caller asks for. An empty handle is refused first, and then an address that is
--- none
+-- the check that a caller asks for. An empty handle is refused first, then an address that is none,
+-- and then an agent that does not know its peer yet
 abbrev pub check_asked : Result Agent Refusal → List ℕ → Address → ℕ → Bool
     → Result SentCheck Refusal
 check_asked (Err refusal) id to priority nominate = Err refusal
 check_asked (Ok a) id to priority nominate =
     at_address (socket_address to)
-    (λ to. Ok (sent_check a (big_number 12 id) to priority nominate))
+    (λ to. check_to a (big_number 12 id) to priority nominate a.peer)
 
 -- a check as a caller gets it: plain data, without its bytes
 abbrev pub check_told : SentCheck → IceCheck

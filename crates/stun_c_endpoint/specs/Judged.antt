@@ -131,7 +131,7 @@ outcome_told (Failed failure) told r = failure_told failure r
 
 -- what a caller gets of what a datagram comes to, with the address in it
 abbrev pub given_told : Given → Address → IceReceived → IceReceived
-given_told (checked answer judged) told r =
+given_told (checked bytes answer judged) told r =
     record (judged_told judged (ice_blank 1 r)) { length = length answer }
 given_told (responded outcome) told r = outcome_told outcome told (ice_blank 4 r)
 given_told (indicated bytes) told r = ice_blank 3 r
@@ -145,7 +145,7 @@ IsMapped mapped told =
 
 -- the address that is told of a valid pair. Of nothing else one is told
 abbrev pub TellsMapped : Given → Address → Type 0
-TellsMapped (checked answer judged) told = Unit {0}
+TellsMapped (checked bytes answer judged) told = Unit {0}
 TellsMapped (responded (Valid mapped)) told = IsMapped mapped told
 TellsMapped (responded (RoleConflict switched)) told = Unit {0}
 TellsMapped (responded (Failed failure)) told = Unit {0}
@@ -156,21 +156,21 @@ TellsMapped (dropped why) told = Unit {0}
 
 -- the number of what a datagram comes to
 abbrev pub given_number : Given → ℕ
-given_number (checked answer judged) = 1
+given_number (checked bytes answer judged) = 1
 given_number (responded outcome) = 4
 given_number (indicated bytes) = 3
 given_number (dropped why) = 0
 
 -- the answer of what a datagram comes to, in a buffer
 abbrev pub answer_in : Given → List ℕ → List ℕ
-answer_in (checked answer judged) buffer = answer ++ drop (length answer) buffer
+answer_in (checked bytes answer judged) buffer = answer ++ drop (length answer) buffer
 answer_in (responded outcome) buffer = buffer
 answer_in (indicated bytes) buffer = buffer
 answer_in (dropped why) buffer = buffer
 
 -- the length of an answer that has no room
 abbrev pub missing_room : ℕ → Given → Option ℕ
-missing_room room (checked answer judged) =
+missing_room room (checked bytes answer judged) =
     if nat_lt room (length answer) then Some (length answer) else None
 missing_room room (responded outcome) = None
 missing_room room (indicated bytes) = None

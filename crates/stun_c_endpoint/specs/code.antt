@@ -5,3 +5,5 @@
 pub mod Handle
 -- what is built of the settings that a caller gives
 pub mod Building
+-- the refusal of a check that is not written
+pub mod Unwritten

@@ -3,12 +3,11 @@
 use Rattle.std.proofs.Common.{◌≡◌, ◌↔◌, ℕ, List, [], ◌∷◌, Bool, true, false, refl, ◌∙◌, sym, ap}
 use Rattle.std.proofs.Common.{Option, Some, None, eq-eqb, subst}
 use Rattle.std.proofs.lemmas.Bool.{eqb-true}
-use Rattle.std.proofs.lemmas.Slice.Eq.{bytes_eq-Decides}
 use Rattle.std.specs.Prelude.{if◌then◌else◌, ◌==◌, IfOk, Result, Ok, Err}
 use Rattle.std.specs.Option.{is_some, is_none, option_and_then}
-use Rattle.std.specs.Str.{bytes_eq}
 use Rattle.std.specs.declared.net.socket_addr.SocketAddr.{SocketAddr}
 use Rattle.stun_base.specs.Header.{transaction_id_field, type_field}
+use Rattle.stun_base.specs.Keys.{with_colon}
 use Rattle.stun_base.specs.MessageType.{class_in, method_of}
 use Rattle.stun_base.specs.declared.keys.algorithm.IntegrityAlgorithm.{IntegrityAlgorithm}
 use Rattle.stun_base.specs.declared.keys.algorithm.IntegrityAlgorithm.TheVariants.{Sha1, Sha256}
@@ -30,7 +29,7 @@ use Rattle.stun_extra.specs.Unknown.{is_empty, unknown_types}
 use Rattle.stun_extra.specs.declared.fingerprint.Fingerprint.{Fingerprint}
 use Rattle.stun_extra.specs.declared.fingerprint.Fingerprint.TheVariants.{Right, Wrong}
 use Rattle.stun_extra.specs.declared.fingerprint.Fingerprint.TheVariants.{Misplaced, Absent}
-use Rattle.stun_ice.specs.Agent.{Agent, SentCheck}
+use Rattle.stun_ice.specs.Agent.{Agent, SentCheck, peer_name_in}
 use Rattle.stun_ice.specs.Checks.{Accepts, by_name, by_priority, by_role, by_signature}
 use Rattle.stun_ice.specs.Checks.{is_nominated, verdict_of}
 use Rattle.stun_ice.specs.Parts.{UNDERSTOOD, error_in, mapped_address_in}
@@ -38,7 +37,8 @@ use Rattle.stun_ice.specs.Parts.{priority_in, rival, username_in}
 use Rattle.stun_ice.specs.Received.{by_class, by_fingerprint, by_response, judgement_of}
 use Rattle.stun_ice.specs.Received.{Given, given, given_of, no_message, of_indication}
 use Rattle.stun_ice.specs.Responses.{IsValid, is_answered, is_by_sha1, is_signed, of_address}
-use Rattle.stun_ice.specs.Responses.{of_error, of_path, of_response, of_unknown}
+use Rattle.stun_ice.specs.Responses.{of_error, of_path, of_response, of_unknown, peer_algorithm}
+use Rattle.stun_ice.proofs.NameLemmas.{is_named-means, is_named-with_colon}
 use Rattle.stun_ice.specs.Roles.{is_same_role, role_after_check}
 use Rattle.stun_ice.specs.Told.{IsAcceptedCheck, IsValidAnswer, TellsAccepted, TellsValid}
 use Rattle.stun_ice.specs.declared.checker.judging.Acceptance.{Acceptance}
@@ -82,12 +82,6 @@ none-of (Some x) h = cc
 empty-of : (kinds : List AttributeType) → is_empty kinds ≡ true → kinds ≡ []
 empty-of [] h = refl
 empty-of (kind ∷ kinds) h = cc
-
-same-text : (xs ys : List ℕ) → bytes_eq xs ys ≡ true → xs ≡ ys
-same-text xs ys h = (bytes_eq-Decides xs ys).0 h
-
-text-same : (xs : List ℕ) → bytes_eq xs xs ≡ true
-text-same xs = (bytes_eq-Decides xs xs).1 refl
 
 -- ---- a check
 
@@ -209,15 +203,16 @@ module _ (a : Agent) (c : Option SentCheck) (from : SocketAddr) (bytes : List �
 
   name-accepted : (o : Option (List ℕ)) (check : Acceptance)
       → by_name a bytes o ≡ Accepted check
-      → (o ≡ Some a.incoming)
+      → ((peer : List ℕ) × (o ≡ Some (with_colon a.name peer)))
       × (by_signature a bytes (verified_algorithm bytes a.password) ≡ Accepted check)
   name-accepted None check h = cc
   name-accepted (Some name) check h =
       let both =
-      then_of (bytes_eq name a.incoming)
+      then_of (is_some (peer_name_in a.name name))
       (by_signature a bytes (verified_algorithm bytes a.password)) (Refused Unauthenticated None)
       (Accepted check) (λ e. cc) h in
-      (ap Some (same-text name a.incoming both.0), both.1)
+      let peer = is_named-means a.name name both.0 in
+      ((peer.0, ap Some peer.1), both.1)
 
   pub accepted-means : (b : List ℕ) (check : Acceptance)
       → judgement_of a c from bytes ≡ Check b (Accepted check) → Accepts a bytes check
@@ -265,9 +260,9 @@ module _ (a : Agent) (c : Option SentCheck) (from : SocketAddr) (bytes : List �
   accepts-verdict check h =
       ap (λ (b : Bool). if b then Refused BadRequest None else by_name a bytes (username_in bytes))
       (decided (deciding bytes) check.algorithm h.digest)
-      ∙ ap (by_name a bytes) h.name
+      ∙ ap (by_name a bytes) h.name.1
       ∙ ap (λ (b : Bool). if b then by_signature a bytes (verified_algorithm bytes a.password)
-      else Refused Unauthenticated None) (text-same a.incoming)
+      else Refused Unauthenticated None) (is_named-with_colon a.name h.name.0)
       ∙ ap (by_signature a bytes) h.digest
       ∙ ap (λ (kinds : List AttributeType). if is_empty kinds
       then by_priority a bytes check.algorithm (priority_in bytes)
@@ -393,7 +388,7 @@ module _ (a : Agent) (check : SentCheck) (from : SocketAddr) (bytes : List ℕ) 
         class = class.0;
         method = eqb-true (method_of (type_field bytes)) 1 second.1;
         id = sym (eqb-true check.id (transaction_id_field bytes) third.0);
-        digest = sha1-of (verified_algorithm bytes a.peer_password) third.1;
+        digest = sha1-of (peer_algorithm a.peer bytes) third.1;
         path = path.0;
         understood = known.0;
         address = address.0;

@@ -1,4 +1,6 @@
 -- Lemmas of the crate.
 pub mod ConflictLemmas
+pub mod NameLemmas
 pub mod AcceptingLemmas
+pub mod EarlyLemmas
 pub mod RoleLemmas

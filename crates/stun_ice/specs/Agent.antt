@@ -1,10 +1,14 @@
--- An agent, and the checks that it sends (RFC 8445, sections 5.3 and 7.2).
+-- An agent, and the checks that it sends (RFC 8445, sections 5.3, 7.2 and 7.3).
 use Rattle.std.specs.Prelude.{ℕ, List, [], Bool, true, false, ◌||◌, ◌&&◌, ◌==◌, not}
-use Rattle.std.specs.Prelude.{length, nat_le, if◌then◌else◌, Option, Some, None}
+use Rattle.std.specs.Prelude.{codes, drop, length, nat_le, take}
+use Rattle.std.specs.Prelude.{if◌then◌else◌, Option, Some, None}
 use Rattle.std.specs.List.{list_any}
+use Rattle.std.specs.Option.{option_and_then}
+use Rattle.std.specs.Str.{bytes_eq}
 use Rattle.std.specs.declared.net.socket_addr.SocketAddr.{SocketAddr}
 use Rattle.byteorder.specs.Endian.{big_bytes}
 use Rattle.stun_base.specs.Attributes.{USERNAME}
+use Rattle.stun_base.specs.Keys.{with_colon}
 use Rattle.stun_base.specs.declared.keys.algorithm.IntegrityAlgorithm.TheVariants.{Sha1}
 use Rattle.stun_base.specs.declared.wire.message_type.MessageClass.TheVariants.{Request}
 use Rattle.stun_types.specs.Attribute.{TypedValue}
@@ -18,18 +22,28 @@ use Rattle.stun_ice.specs.declared.checker.BuildError.TheVariants.{PasswordLengt
 use Rattle.stun_ice.specs.declared.role.Role.{Role}
 use Rattle.stun_ice.specs.declared.role.Role.TheVariants.{Controlling, Controlled}
 
+-- what an agent knows of its peer
+pub record Peer : Type 0 where
+  -- USERNAME of the checks that the agent sends: the name of the peer, a colon, and its own name
+  pub outgoing : List ℕ
+  -- the password of the peer, which signs these checks and the answers to them
+  pub password : List ℕ
+
 -- an agent in a session with one peer
 pub record Agent : Type 0 where
-  -- USERNAME of the checks that it receives: its own name, a colon, and the name of the peer
-  pub incoming : List ℕ
-  -- USERNAME of the checks that it sends: the name of the peer, a colon, and its own name
-  pub outgoing : List ℕ
+  -- its own name, with which USERNAME of the checks begins that it receives
+  pub name : List ℕ
   -- its own password, which signs the checks that it receives and its answers to them
   pub password : List ℕ
-  -- the password of the peer, which signs the checks that it sends and the answers to them
-  pub peer_password : List ℕ
+  -- the credentials of the peer, once they are known
+  pub peer : Option Peer
   pub tie_breaker : ℕ
   pub role : Role
+
+-- the credentials of a peer, as an agent with this name uses them
+abbrev pub remote_peer : List ℕ → List ℕ → List ℕ → Peer
+remote_peer name peer_name peer_password =
+    record { outgoing = with_colon peer_name name; password = peer_password }
 
 -- ---- settings that make no agent
 
@@ -55,6 +69,27 @@ build_refusal name peer_name password peer_password =
     else if has_colon name || has_colon peer_name then Some ColonInName
     else if not (are_passwords password peer_password) then Some PasswordLength
     else None
+
+-- why one name and one password are none, the first reason that holds
+abbrev pub side_refusal : List ℕ → List ℕ → Option BuildError
+side_refusal name password =
+    if not (is_within 4 256 name) then Some NameLength
+    else if has_colon name then Some ColonInName
+    else if not (is_within 22 256 password) then Some PasswordLength
+    else None
+
+-- ---- the name of the peer
+
+-- what follows a front of bytes, if they begin with it
+abbrev pub after_front : List ℕ → List ℕ → Option (List ℕ)
+after_front front bytes =
+    if bytes_eq (take (length front) bytes) front then Some (drop (length front) bytes) else None
+
+-- the name of the peer in a USERNAME that an agent with this name receives: what follows its own
+-- name and a colon (section 7.3)
+abbrev pub peer_name_in : List ℕ → List ℕ → Option (List ℕ)
+peer_name_in name username =
+    option_and_then (λ rest. after_front (codes ":") rest) (after_front name username)
 
 -- ---- a check
 
@@ -90,15 +125,25 @@ with_nomination true page = with_attribute page (record { kind = USE_CANDIDATE; 
 with_nomination false page = page
 
 -- the attributes of a check before it is signed (section 7.2.4)
-abbrev pub check_page : Agent → ℕ → ℕ → Bool → List ℕ
-check_page a id priority nominates =
+abbrev pub check_page : Agent → Peer → ℕ → ℕ → Bool → List ℕ
+check_page a peer id priority nominates =
     with_nomination nominates
     (with_attribute (with_attribute (with_attribute (empty_message Request 1 id)
-    (username_attribute a.outgoing)) (priority_attribute priority))
+    (username_attribute peer.outgoing)) (priority_attribute priority))
     (role_attribute a.role a.tie_breaker))
 
 -- a check: it is signed under the password of the peer, and ends with FINGERPRINT (sections 7.2.2
 -- and 7.2.4)
-unfoldable pub check_bytes : Agent → ℕ → ℕ → Bool → List ℕ
-check_bytes a id priority nominates =
-    with_fingerprint (with_integrity (check_page a id priority nominates) Sha1 a.peer_password)
+unfoldable pub check_bytes : Agent → Peer → ℕ → ℕ → Bool → List ℕ
+check_bytes a peer id priority nominates =
+    with_fingerprint (with_integrity (check_page a peer id priority nominates) Sha1 peer.password)
+
+-- the check that an agent writes to a peer
+abbrev pub sent_check : Agent → Peer → ℕ → SocketAddr → ℕ → Bool → SentCheck
+sent_check a peer id to priority nominate = record {
+  id = id;
+  to = to;
+  role = a.role;
+  nominates = can_nominate a.role nominate;
+  bytes = check_bytes a peer id priority (can_nominate a.role nominate);
+}

@@ -1,9 +1,9 @@
 -- What a check of the peer comes to (RFC 8489, sections 6.3.1 and 9.1.3; RFC 8445, section 7.3).
 use Rattle.std.specs.Prelude.{◌≡◌, ℕ, List, [], Bool, false, not}
 use Rattle.std.specs.Prelude.{if◌then◌else◌, Option, Some, None}
-use Rattle.std.specs.Option.{is_none}
-use Rattle.std.specs.Str.{bytes_eq}
+use Rattle.std.specs.Option.{is_none, is_some, option_and_then}
 use Rattle.stun_base.specs.Header.{type_field}
+use Rattle.stun_base.specs.Keys.{with_colon}
 use Rattle.stun_base.specs.MessageType.{class_in, method_of}
 use Rattle.stun_base.specs.declared.keys.algorithm.IntegrityAlgorithm.{IntegrityAlgorithm}
 use Rattle.stun_base.specs.declared.wire.message_type.MessageClass.TheVariants.{Request}
@@ -12,7 +12,7 @@ use Rattle.stun_types.specs.Message.{refusal}
 use Rattle.stun_extra.specs.Fingerprint.{fingerprint_in}
 use Rattle.stun_extra.specs.Unknown.{is_empty, unknown_types}
 use Rattle.stun_extra.specs.declared.fingerprint.Fingerprint.TheVariants.{Right}
-use Rattle.stun_ice.specs.Agent.{Agent}
+use Rattle.stun_ice.specs.Agent.{Agent, peer_name_in}
 use Rattle.stun_ice.specs.Parts.{UNDERSTOOD, has_use_candidate, priority_in, rival}
 use Rattle.stun_ice.specs.Parts.{username_in}
 use Rattle.stun_ice.specs.Roles.{is_same_role, role_after_check}
@@ -34,20 +34,24 @@ is_nominated Controlling bytes = false
 is_nominated Controlled bytes = has_use_candidate bytes
 
 -- an agent accepts a datagram as a check: it is a Binding request with a right FINGERPRINT, the name
--- of this agent and its peer, a digest under the password of this agent, no attribute that must be
--- understood and is not, and a priority. If it says that its sender has the role of this agent, this
--- agent is the one to switch
+-- of this agent before a colon and any name after it, a digest under the password of this agent, no
+-- attribute that must be understood and is not, and a priority. If it says that its sender has the
+-- role of this agent, this agent is the one to switch
 pub record Accepts (a : Agent) (bytes : List ℕ) (check : Acceptance) : Type 0 where
   pub message : refusal bytes ≡ None
   pub fingerprint : fingerprint_in bytes ≡ Right
   pub class : class_in bytes ≡ Request
   pub method : method_of (type_field bytes) ≡ 1
-  pub name : username_in bytes ≡ Some a.incoming
+  pub name : (peer : List ℕ) × (username_in bytes ≡ Some (with_colon a.name peer))
   pub digest : verified_algorithm bytes a.password ≡ Some check.algorithm
   pub understood : unknown_types UNDERSTOOD bytes ≡ []
   pub priority : priority_in bytes ≡ Some check.priority
   pub role : role_after_check a.role a.tie_breaker (rival a.role bytes) ≡ Some check.role
   pub nominated : check.nominated ≡ is_nominated check.role bytes
+
+-- the name of the sender of a check, if USERNAME begins with the name of the agent and a colon
+abbrev pub sender_in : Agent → List ℕ → Option (List ℕ)
+sender_in a bytes = option_and_then (λ name. peer_name_in a.name name) (username_in bytes)
 
 -- ---- in which order a check is judged
 
@@ -76,11 +80,12 @@ by_signature a bytes (Some algorithm) =
     then by_priority a bytes algorithm (priority_in bytes)
     else Refused UnknownAttribute (Some algorithm)
 
--- before it, the name must be right
+-- before it, the name of the agent must be the first half of the name
 abbrev pub by_name : Agent → List ℕ → Option (List ℕ) → Verdict
 by_name a bytes None = Refused BadRequest None
 by_name a bytes (Some name) =
-    if bytes_eq name a.incoming then by_signature a bytes (verified_algorithm bytes a.password)
+    if is_some (peer_name_in a.name name)
+    then by_signature a bytes (verified_algorithm bytes a.password)
     else Refused Unauthenticated None
 
 -- first of all there must be a digest and a name

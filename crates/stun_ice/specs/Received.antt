@@ -90,24 +90,24 @@ is_check (Dropped reason) = false
 
 -- ---- what the caller is given
 
--- what the caller is given of a datagram: a check with its answer, the end of its own check, an
--- indication, or why the datagram is dropped
+-- what the caller is given of a datagram: a check with its answer and what it comes to, the end of
+-- its own check, an indication, or why the datagram is dropped
 pub data Given : Type 0 where
-  checked : List ℕ → Judged → Given
+  checked : List ℕ → List ℕ → Judged → Given
   responded : Outcome → Given
   indicated : List ℕ → Given
   dropped : DropReason → Given
 
 abbrev pub given : Agent → SocketAddr → Judgement → Given
 given a from (Check bytes verdict) =
-    checked (answer_of a from bytes verdict) (judged_of a.role verdict)
+    checked bytes (answer_of a from bytes verdict) (judged_of a.role verdict)
 given a from (Response outcome) = responded outcome
 given a from (Keepalive bytes) = indicated bytes
 given a from (Dropped reason) = dropped reason
 
 -- what the result of `receive` says
 abbrev pub given_of : {A : Type 0} → Received A → Given
-given_of (code.Check answer judged) = checked answer.items judged
+given_of (code.Check message answer judged) = checked message answer.items judged
 given_of (code.Response outcome) = responded outcome
 given_of (code.Indication message) = indicated message
 given_of (code.Dropped reason) = dropped reason

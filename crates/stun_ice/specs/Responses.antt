@@ -19,7 +19,7 @@ use Rattle.stun_extra.specs.CanonicalAddress.{is_same_address}
 use Rattle.stun_extra.specs.Fingerprint.{fingerprint_in}
 use Rattle.stun_extra.specs.Unknown.{unknown_types}
 use Rattle.stun_extra.specs.declared.fingerprint.Fingerprint.TheVariants.{Right}
-use Rattle.stun_ice.specs.Agent.{Agent, SentCheck}
+use Rattle.stun_ice.specs.Agent.{Agent, Peer, SentCheck}
 use Rattle.stun_ice.specs.Parts.{UNDERSTOOD, error_in, mapped_address_in}
 use Rattle.stun_ice.specs.Roles.{is_same_role}
 use Rattle.stun_ice.specs.declared.received.Failure.TheVariants.{Error as ErrorFailure}
@@ -40,9 +40,14 @@ is_by_sha1 (Some Sha1) = true
 is_by_sha1 (Some Sha256) = false
 is_by_sha1 None = false
 
+-- the algorithm of a digest that verifies under the password of the peer, if that is known
+abbrev pub peer_algorithm : Option Peer → List ℕ → Option IntegrityAlgorithm
+peer_algorithm None bytes = None
+peer_algorithm (Some peer) bytes = verified_algorithm bytes peer.password
+
 -- whether a response is signed by the peer (section 7.2.2)
 abbrev pub is_signed : Agent → List ℕ → Bool
-is_signed a bytes = is_by_sha1 (verified_algorithm bytes a.peer_password)
+is_signed a bytes = is_by_sha1 (peer_algorithm a.peer bytes)
 
 -- ---- when a pair is valid
 
@@ -57,7 +62,7 @@ pub record IsValid (a : Agent) (check : SentCheck) (from : SocketAddr) (bytes : 
   pub class : class_in bytes ≡ Success
   pub method : method_of (type_field bytes) ≡ 1
   pub id : transaction_id_field bytes ≡ check.id
-  pub digest : verified_algorithm bytes a.peer_password ≡ Some Sha1
+  pub digest : peer_algorithm a.peer bytes ≡ Some Sha1
   pub path : is_same_address from check.to ≡ true
   pub understood : unknown_types UNDERSTOOD bytes ≡ []
   pub address : mapped_address_in bytes ≡ Some mapped.attribute

@@ -13,16 +13,16 @@ use Rattle.stun_ice.specs.declared.received.Outcome.TheVariants.{Failed, RoleCon
 
 -- the caller is told that a check is accepted
 abbrev pub TellsAccepted : Given → Type 0
-TellsAccepted (checked answer (Accepted priority nominated switched)) = Unit {0}
-TellsAccepted (checked answer PeerSwitches) = ⊥
-TellsAccepted (checked answer (Refused reason)) = ⊥
+TellsAccepted (checked bytes answer (Accepted priority nominated switched)) = Unit {0}
+TellsAccepted (checked bytes answer PeerSwitches) = ⊥
+TellsAccepted (checked bytes answer (Refused reason)) = ⊥
 TellsAccepted (responded outcome) = ⊥
 TellsAccepted (indicated bytes) = ⊥
 TellsAccepted (dropped reason) = ⊥
 
 -- the caller is told that a pair is valid
 abbrev pub TellsValid : Given → Type 0
-TellsValid (checked answer judged) = ⊥
+TellsValid (checked bytes answer judged) = ⊥
 TellsValid (responded (Valid mapped)) = Unit {0}
 TellsValid (responded (RoleConflict switched)) = ⊥
 TellsValid (responded (Failed failure)) = ⊥

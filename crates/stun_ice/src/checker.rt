@@ -2,15 +2,18 @@
 
 ghost use Rattle.std.specs.Fmt.{WritesOnOk, WritesStyledOnOk};
 ghost use Rattle.std.specs.List.{list_any};
-ghost use Rattle.std.specs.Prelude.{◌≡◌, ◌≤◌, ◌==◌, ◌&&◌, Err, IfOk, IsOkUnless, MatchOption, OnOk};
-ghost use Rattle.std.specs.Prelude.{Some, codes, length};
+ghost use Rattle.std.specs.Prelude.{◌≡◌, ◌≤◌, ◌==◌, ◌&&◌, Err, IfOk, IfSome, IsOkUnless};
+ghost use Rattle.std.specs.Prelude.{MatchOption, None, OnErr, OnOk, Some, codes, length};
+ghost use Rattle.std.specs.Prelude.{option_copied};
 ghost use Rattle.std.specs.String.{string_bytes};
 ghost use Rattle.stun_base.specs.Keys.{with_colon};
 ghost use Rattle.stun_types.specs.Writing.{IsOpen, empty_message, with_attribute};
+ghost use Rattle.std.specs.Option.{is_some};
 ghost use Rattle.stun_ice.specs.Agent.{are_names, are_passwords, build_refusal, can_nominate};
-ghost use Rattle.stun_ice.specs.Agent.{check_bytes, check_page, has_colon, is_within};
-ghost use Rattle.stun_ice.specs.Agent.{priority_attribute, role_attribute, username_attribute};
-ghost use Rattle.stun_ice.specs.Agent.{with_nomination};
+ghost use Rattle.stun_ice.specs.Agent.{check_bytes, check_page, has_colon, is_within, remote_peer};
+ghost use Rattle.stun_ice.specs.Agent.{priority_attribute, role_attribute, sent_check};
+ghost use Rattle.stun_ice.specs.Agent.{side_refusal, username_attribute, with_nomination};
+ghost use Rattle.stun_ice.specs.Checks.{sender_in};
 
 mod answering;
 pub(crate) mod judging;
@@ -18,6 +21,7 @@ pub(crate) mod receiving;
 mod responses;
 
 use crate::check::Check;
+use crate::parts::{peer_name, username};
 use crate::role::Role;
 use std::alloc::{AllocError, Allocator, Global};
 use std::fmt;
@@ -62,9 +66,40 @@ pub enum BuildError {
     OutOfMemory,
 }
 
-/// One agent in a session with one peer: the credentials of both sides, the tie-breaker, and the
-/// role that the agent has now. It writes checks, judges those of the peer and writes their answers,
-/// and judges the answers to its own.
+/// Why a check is not written.
+#[derive(Clone, Copy, Debug, PartialEq, Eq, Error)]
+#[non_exhaustive]
+pub enum CheckError {
+    /// The credentials of the peer are not known yet.
+    #[error("the credentials of the peer are not known yet")]
+    NoRemote,
+    /// An allocation failed.
+    #[error("out of memory")]
+    OutOfMemory,
+}
+
+/// What the checks to the peer are written with.
+#[derive(Drop)]
+struct Remote<A: Allocator> {
+    username: String<A>,
+    password: PreparedKey<A>,
+}
+
+impl<A: Allocator> Model for Remote<A> {
+    ghost use Rattle.std.specs.String.{string_bytes};
+    ghost use Rattle.stun_ice.specs.Agent.{Peer};
+
+    ghost Value = { Peer };
+
+    ghost view = { λ remote. record {
+      outgoing = string_bytes remote.username;
+      password = remote.password;
+    } };
+}
+
+/// One agent in a session with one peer: its own credentials, those of the peer once they are
+/// known, the tie-breaker, and the role that the agent has now. It writes checks, judges those of
+/// the peer and writes their answers, and judges the answers to its own.
 ///
 /// Candidates, pairs, their order and pacing, and retransmissions are yours. A response is judged
 /// with the check that it answers, so store the check with its pair.
@@ -73,10 +108,9 @@ pub enum BuildError {
 #[derive(Drop)]
 pub struct Checker<A: Allocator = Global> {
     alloc: A,
-    incoming: String<A>,
-    outgoing: String<A>,
+    name: String<A>,
     password: PreparedKey<A>,
-    peer_password: PreparedKey<A>,
+    remote: Option<Remote<A>>,
     tie_breaker: u64,
     role: Role,
 }
@@ -88,10 +122,9 @@ impl<A: Allocator> Model for Checker<A> {
     ghost Value = { Agent };
 
     ghost view = { λ checker. record {
-      incoming = string_bytes checker.incoming;
-      outgoing = string_bytes checker.outgoing;
+      name = string_bytes checker.name;
       password = checker.password;
-      peer_password = checker.peer_password;
+      peer = checker.remote;
       tie_breaker = checker.tie_breaker;
       role = checker.role;
     } };
@@ -143,6 +176,22 @@ fn refusal(local: &Credentials<'_>, remote: &Credentials<'_>) -> Option<BuildErr
     None
 }
 
+/// Why the credentials of one side are not accepted, if they are not.
+fn side_refusal(side: &Credentials<'_>) -> Option<BuildError>
+    ensures { result ≡ side_refusal side.now.name.now side.now.password.now }
+{
+    if side.name.len() < 4 || 256 < side.name.len() {
+        return Some(BuildError::NameLength);
+    }
+    if has_colon(side.name) {
+        return Some(BuildError::ColonInName);
+    }
+    if side.password.len() < 22 || 256 < side.password.len() {
+        return Some(BuildError::PasswordLength);
+    }
+    None
+}
+
 /// Two names with a colon between them.
 fn joined<A: Allocator + Copy>(alloc: A, front: &str, back: &str) -> Result<String<A>, AllocError>
     ensures { IfOk result (λ text. string_bytes text ≡ with_colon front.now back.now) }
@@ -161,9 +210,25 @@ fn prepared<A: Allocator>(alloc: A, password: &str) -> Result<PreparedKey<A>, Al
     Ok(PreparedKey::new(key, IntegrityAlgorithm::Sha1))
 }
 
+impl<A: Allocator> Remote<A> {
+    /// The credentials of a peer, for an agent with this name.
+    fn new(alloc: A, name: &str, remote: &Credentials<'_>) -> Result<Remote<A>, AllocError>
+    where
+        A: Copy,
+        ensures { IfOk result (λ made. made ≡ remote_peer name.now remote.now.name.now
+            remote.now.password.now) }
+    {
+        Ok(Remote {
+            username: joined(alloc, remote.name, name)?,
+            password: prepared(alloc, remote.password)?,
+        })
+    }
+}
+
 impl<A: Allocator + Copy> Checker<A> {
     /// Creates an agent from the credentials of both sides, its tie-breaker and the role that it
-    /// begins with. The tie-breaker is a random number of 64 bits (RFC 8445, section 7.1.3).
+    /// begins with. The tie-breaker is a random number of 64 bits (RFC 8445, section 7.1.3). An
+    /// agent that does not know the credentials of its peer yet is created by `offer`.
     ///
     /// # Errors
     ///
@@ -184,10 +249,10 @@ impl<A: Allocator + Copy> Checker<A> {
             local.entry.password.now remote.entry.password.now)
             (IsOkUnless result BuildError.OutOfMemory) (λ refusal. result ≡ Err refusal) }
         ensures built { IfOk result (λ checker. checker ≡ record {
-          incoming = with_colon local.entry.name.now remote.entry.name.now;
-          outgoing = with_colon remote.entry.name.now local.entry.name.now;
+          name = local.entry.name.now;
           password = local.entry.password.now;
-          peer_password = remote.entry.password.now;
+          peer = Some (remote_peer local.entry.name.now remote.entry.name.now
+              remote.entry.password.now);
           tie_breaker = tie_breaker;
           role = role;
         }) }
@@ -195,7 +260,48 @@ impl<A: Allocator + Copy> Checker<A> {
         if let Some(refusal) = refusal(&local, &remote) {
             return Err(refusal);
         }
-        match Checker::built_of(alloc, &local, &remote, tie_breaker, role) {
+        let Ok(remote) = Remote::new(alloc, local.name, &remote) else {
+            return Err(BuildError::OutOfMemory);
+        };
+        match Checker::built_of(alloc, &local, Some(remote), tie_breaker, role) {
+            Ok(checker) => Ok(checker),
+            Err(_) => Err(BuildError::OutOfMemory),
+        }
+    }
+
+    /// Creates an agent from its own credentials alone, its tie-breaker and the role that it begins
+    /// with. For the side that makes the offer: checks of the peer may arrive before its answer to
+    /// the offer does, and have to be answered at once (RFC 8445, section 7.3). This agent answers
+    /// them. It writes checks once `set_remote` has given it the credentials of the peer.
+    ///
+    /// # Errors
+    ///
+    /// The first of these that applies:
+    ///
+    /// - `NameLength`: the name has fewer than 4 or more than 256 bytes.
+    /// - `ColonInName`: the name has a colon.
+    /// - `PasswordLength`: the password has fewer than 22 or more than 256 bytes.
+    /// - `OutOfMemory`: an allocation failed.
+    pub fn offer(
+        alloc: A,
+        local: Credentials<'_>,
+        tie_breaker: u64,
+        role: Role,
+    ) -> Result<Checker<A>, BuildError>
+        ensures refused { MatchOption (side_refusal local.entry.name.now local.entry.password.now)
+            (IsOkUnless result BuildError.OutOfMemory) (λ refusal. result ≡ Err refusal) }
+        ensures built { IfOk result (λ checker. checker ≡ record {
+          name = local.entry.name.now;
+          password = local.entry.password.now;
+          peer = None;
+          tie_breaker = tie_breaker;
+          role = role;
+        }) }
+    {
+        if let Some(refusal) = side_refusal(&local) {
+            return Err(refusal);
+        }
+        match Checker::built_of(alloc, &local, None, tie_breaker, role) {
             Ok(checker) => Ok(checker),
             Err(_) => Err(BuildError::OutOfMemory),
         }
@@ -205,28 +311,57 @@ impl<A: Allocator + Copy> Checker<A> {
     fn built_of(
         alloc: A,
         local: &Credentials<'_>,
-        remote: &Credentials<'_>,
+        remote: Option<Remote<A>>,
         tie_breaker: u64,
         role: Role,
     ) -> Result<Checker<A>, AllocError>
         ensures { IfOk result (λ checker. checker ≡ record {
-          incoming = with_colon local.now.name.now remote.now.name.now;
-          outgoing = with_colon remote.now.name.now local.now.name.now;
+          name = local.now.name.now;
           password = local.now.password.now;
-          peer_password = remote.now.password.now;
+          peer = remote;
           tie_breaker = tie_breaker;
           role = role;
         }) }
     {
         Ok(Checker {
             alloc,
-            incoming: joined(alloc, local.name, remote.name)?,
-            outgoing: joined(alloc, remote.name, local.name)?,
+            name: String::from_str(alloc, local.name)?,
             password: prepared(alloc, local.password)?,
-            peer_password: prepared(alloc, remote.password)?,
+            remote,
             tie_breaker,
             role,
         })
+    }
+
+    /// Sets the credentials of the peer, when they arrive over signalling. Those that were set
+    /// before are forgotten. Answers to checks that were signed with those are then not accepted.
+    ///
+    /// # Errors
+    ///
+    /// The first of these that applies. The agent is then unchanged.
+    ///
+    /// - `NameLength`: the name has fewer than 4 or more than 256 bytes.
+    /// - `ColonInName`: the name has a colon.
+    /// - `PasswordLength`: the password has fewer than 22 or more than 256 bytes.
+    /// - `OutOfMemory`: an allocation failed.
+    pub fn set_remote(&mut self, remote: Credentials<'_>) -> Result<(), BuildError>
+        ensures refused { MatchOption (side_refusal remote.entry.name.now remote.entry.password.now)
+            (IsOkUnless result BuildError.OutOfMemory) (λ refusal. result ≡ Err refusal) }
+        ensures set { OnOk result (self.new ≡ record self.old {
+          peer = Some (remote_peer self.old.name remote.entry.name.now remote.entry.password.now);
+        }) }
+        ensures err { OnErr result (self.new ≡ self.old) }
+    {
+        if let Some(refusal) = side_refusal(&remote) {
+            return Err(refusal);
+        }
+        match Remote::new(self.alloc, &self.name, &remote) {
+            Ok(remote) => {
+                self.remote = Some(remote);
+                Ok(())
+            }
+            Err(_) => Err(BuildError::OutOfMemory),
+        }
     }
 
     /// Writes a check to an address, which you send and send again until its answer arrives (RFC
@@ -236,27 +371,30 @@ impl<A: Allocator + Copy> Checker<A> {
     /// the check (section 7.1.1). The check nominates its pair if `nominate` is true and this agent
     /// controls.
     ///
-    /// Fails if an allocation fails.
+    /// # Errors
+    ///
+    /// - `NoRemote`: the credentials of the peer are not known yet, with which a check is signed.
+    /// - `OutOfMemory`: an allocation failed.
     pub fn check(
         &self,
         id: TransactionId,
         to: SocketAddr,
         priority: u32,
         nominate: bool,
-    ) -> Result<Check<A>, AllocError>
-        ensures { IfOk result (λ check. check ≡ record {
-          id = id;
-          to = to;
-          role = self.now.role;
-          nominates = can_nominate self.now.role nominate;
-          bytes = check_bytes self.now id priority (can_nominate self.now.role nominate);
-        }) }
+    ) -> Result<Check<A>, CheckError>
+        ensures refused { MatchOption self.now.peer (result ≡ Err CheckError.NoRemote)
+            (λ peer. IsOkUnless result CheckError.OutOfMemory) }
+        ensures check { IfSome self.now.peer (λ peer. IfOk result
+            (λ check. check ≡ sent_check self.now peer id to priority nominate)) }
     {
+        let Some(remote) = &self.remote else {
+            return Err(CheckError::NoRemote);
+        };
         let nominates = self.can_nominate(nominate);
-        match self.write_check(id, priority, nominates) {
+        match self.write_check(remote, id, priority, nominates) {
             Ok(bytes) => Ok(Check::new(id, to, self.role, nominates, bytes)),
             // There is room for each attribute, so that an allocation failed.
-            Err(_) => Err(AllocError),
+            Err(_) => Err(CheckError::OutOfMemory),
         }
     }
 
@@ -274,17 +412,16 @@ impl<A: Allocator + Copy> Checker<A> {
     #[tactic(auto, unfolding(crate::specs::Agent::check_bytes))]
     fn write_check(
         &self,
+        remote: &Remote<A>,
         id: TransactionId,
         priority: u32,
         nominates: bool,
     ) -> Result<Vec<u8, A>, StunWriteError>
-        ensures { IfOk result (λ bytes. bytes.items ≡ check_bytes self.now id priority nominates) }
+        ensures { IfOk result (λ bytes. bytes.items
+            ≡ check_bytes self.now remote.now id priority nominates) }
     {
-        let mut page = self.check_page(id, priority, nominates)?;
-        page.add_message_integrity_with_prepared_key(
-            &self.peer_password,
-            IntegrityAlgorithm::Sha1,
-        )?;
+        let mut page = self.check_page(remote, id, priority, nominates)?;
+        page.add_message_integrity_with_prepared_key(&remote.password, IntegrityAlgorithm::Sha1)?;
         let bytes = finish_with_fingerprint(page)?;
         Ok(bytes)
     }
@@ -292,16 +429,18 @@ impl<A: Allocator + Copy> Checker<A> {
     /// Writes a check as far as its signature.
     fn check_page(
         &self,
+        remote: &Remote<A>,
         id: TransactionId,
         priority: u32,
         nominates: bool,
     ) -> Result<MessageWriteVec<A>, StunWriteError>
-        ensures bytes { IfOk result (λ page. page.bytes ≡ check_page self.now id priority nominates) }
+        ensures bytes { IfOk result (λ page. page.bytes
+            ≡ check_page self.now remote.now id priority nominates) }
         ensures header { IfOk result (λ page. 20 ≤ length page.bytes) }
     {
         let writer = MessageWriteVec::new(self.alloc);
         let mut page = Message::builder_request(BINDING, id, writer)?;
-        page.add_attribute(&Username::new(&self.outgoing)?)?;
+        page.add_attribute(&Username::new(&remote.username)?)?;
         page.add_attribute(&Priority::new(priority))?;
         add_role(&mut page, self.role, self.tie_breaker)?;
         add_nomination(&mut page, nominates)?;
@@ -348,6 +487,28 @@ impl<A: Allocator> Checker<A> {
         ensures { result ≡ self.now.role }
     {
         self.role
+    }
+
+    /// Returns `true` if the credentials of the peer are known, so that checks can be written.
+    pub fn has_remote(&self) -> bool
+        ensures { result ≡ is_some self.now.peer }
+    {
+        self.remote.is_some()
+    }
+
+    /// Returns the username fragment of the peer in a check: what follows the name of this agent
+    /// and a colon in USERNAME. `None` if USERNAME is missing or begins with another name, in which
+    /// case the check is not accepted.
+    ///
+    /// Of checks that arrive before the answer, it tells those of two peers apart that answer one
+    /// offer. In a check that `receive` does not accept, it is what anybody may have written.
+    pub fn sender<'a>(&self, check: &Message<'a>) -> Option<&'a [u8]>
+        ensures { option_copied result ≡ sender_in self.now check.now }
+    {
+        match username(check) {
+            Some(username) => peer_name(&self.name, username),
+            None => None,
+        }
     }
 
     /// Returns the tie-breaker.

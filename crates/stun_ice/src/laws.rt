@@ -2,16 +2,19 @@
 
 ghost use Rattle.std.specs.Prelude.{◌≡◌, ◌⊎◌, ◌↔◌, ◌∷◌, [], ℕ, List, Option, Some, true, false};
 ghost use Rattle.std.specs.declared.net.socket_addr.SocketAddr.{SocketAddr};
-ghost use Rattle.stun_ice.specs.Agent.{Agent, SentCheck};
-ghost use Rattle.stun_ice.specs.Checks.{Accepts};
+ghost use Rattle.stun_base.specs.Keys.{with_colon};
+ghost use Rattle.stun_ice.specs.Agent.{Agent, Peer, SentCheck};
+ghost use Rattle.stun_ice.specs.Checks.{Accepts, sender_in};
 ghost use Rattle.stun_ice.specs.Conflicts.{AreSettled, Happening, after_all, arrives, beginning};
 ghost use Rattle.stun_ice.specs.Conflicts.{hears, of_left, sends};
-ghost use Rattle.stun_ice.specs.Received.{judgement_of};
+ghost use Rattle.stun_ice.specs.Parts.{username_in};
+ghost use Rattle.stun_ice.specs.Received.{checked, given, judgement_of, role_left};
 ghost use Rattle.stun_ice.specs.Responses.{IsValid};
 ghost use Rattle.stun_ice.specs.Roles.{opposite};
 ghost use Rattle.stun_ice.specs.declared.checker.judging.Acceptance.{Acceptance};
 ghost use Rattle.stun_ice.specs.declared.checker.judging.Verdict.TheVariants as Verdict;
 ghost use Rattle.stun_ice.specs.declared.checker.receiving.Judgement.TheVariants as Judgement;
+ghost use Rattle.stun_ice.specs.declared.received.Judged.{Judged};
 ghost use Rattle.stun_ice.specs.declared.received.Mapped.{Mapped};
 ghost use Rattle.stun_ice.specs.declared.received.Outcome.TheVariants as Outcome;
 ghost use Rattle.stun_ice.specs.declared.role.Role.{Role};
@@ -53,6 +56,29 @@ pub fn checks_are_accepted_exactly()
         (check : Acceptance)
         → (judgement_of a c from bytes ≡ Judgement.Check bytes (Verdict.Accepted check))
         ↔ Accepts a bytes check }
+{}
+
+/// What an agent makes of a check does not depend on what it knows of its peer: that it is accepted
+/// or refused, each byte of the answer, and the role that the agent has then. So an agent answers
+/// checks that arrive before the credentials of the peer as it does afterwards. Nor does it depend
+/// on the check of its own that the caller passes.
+pub fn answers_do_not_depend_on_the_peer()
+    ensures { (a : Agent) (peer : Option Peer) (c d : Option SentCheck) (from : SocketAddr)
+        (bytes message answer : List ℕ) (judged : Judged)
+        → given a from (judgement_of a c from bytes) ≡ checked message answer judged
+        → let b = record a { peer = peer } in
+        (given b from (judgement_of b d from bytes) ≡ checked message answer judged)
+        × (role_left b.role (judgement_of b d from bytes)
+        ≡ role_left a.role (judgement_of a c from bytes)) }
+{}
+
+/// What `Checker::sender` returns is the peer's half of USERNAME: what follows the agent's own name
+/// and a colon. There is one if and only if USERNAME has this form, as it has in each check that
+/// `Accepts` holds of.
+pub fn checks_name_their_sender()
+    ensures { (a : Agent) (bytes peer : List ℕ)
+        → (sender_in a bytes ≡ Some peer)
+        ↔ (username_in bytes ≡ Some (with_colon a.name peer)) }
 {}
 
 /// The answer to a check makes its pair valid if and only if `IsValid` holds of the datagram.

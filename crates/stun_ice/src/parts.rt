@@ -9,6 +9,7 @@ ghost use Rattle.stun_extra.specs.Binding.{is_binding};
 ghost use Rattle.stun_extra.specs.Unknown.{is_empty, unknown_types};
 ghost use Rattle.stun_types.specs.Integrity.{first_of};
 ghost use Rattle.stun_types.specs.Visible.{visible};
+ghost use Rattle.stun_ice.specs.Agent.{after_front, peer_name_in};
 ghost use Rattle.stun_ice.specs.Parts.{has_use_candidate, mapped_address_in};
 ghost use Rattle.stun_ice.specs.Parts.{UNDERSTOOD as UNDERSTOOD_TYPES, priority_in, rival};
 ghost use Rattle.stun_ice.specs.Parts.{username_in};
@@ -71,6 +72,23 @@ pub(crate) fn username<'a>(message: &Message<'a>) -> Option<&'a [u8]>
 {
     match first_username(message) {
         Some((_, attribute)) => Some(attribute.value()),
+        None => None,
+    }
+}
+
+/// What follows a front of bytes, if they begin with it.
+fn after_front<'a>(front: &[u8], bytes: &'a [u8]) -> Option<&'a [u8]>
+    ensures { option_copied result ≡ after_front front.now bytes.now }
+{
+    bytes.strip_prefix(front)
+}
+
+/// The name of the peer in a USERNAME that an agent with this name receives.
+pub(crate) fn peer_name<'a>(name: &str, username: &'a [u8]) -> Option<&'a [u8]>
+    ensures { option_copied result ≡ peer_name_in name.now username.now }
+{
+    match after_front(name.as_bytes(), username) {
+        Some(rest) => after_front(b":", rest),
         None => None,
     }
 }

@@ -18,6 +18,8 @@ use stun_types::message::Message;
 pub enum Received<'a, A: Allocator = Global> {
     /// A check of the peer. Send the answer to the address that the check came from.
     Check {
+        /// The check. `Checker::sender` returns the username fragment of the peer in it.
+        message: Message<'a>,
         /// The bytes to send.
         answer: Vec<u8, A>,
         /// What the check comes to.
@@ -60,7 +62,8 @@ pub enum Judged {
 pub enum Refusal {
     /// 400: the check is not signed, or has no USERNAME, or is signed and has no PRIORITY.
     BadRequest,
-    /// 401: USERNAME is not the one of this agent and its peer, or the signature is invalid.
+    /// 401: USERNAME does not begin with the name of this agent and a colon, or the signature is
+    /// invalid.
     Unauthenticated,
     /// 420: the check has an attribute that must be understood and is not.
     UnknownAttribute,
@@ -128,8 +131,9 @@ pub enum DropReason {
     UnknownAttribute,
     /// It is a response to another check than the one that was passed, or to none.
     NotAsked,
-    /// It is a response whose signature is missing or invalid. A refusal by 400 or 401 is not
-    /// signed, so such a check ends by its timeout.
+    /// It is a response whose signature is missing or invalid, or arrives before the credentials of
+    /// the peer are known. A refusal by 400 or 401 is not signed, so such a check ends by its
+    /// timeout.
     WrongSignature,
 }
 

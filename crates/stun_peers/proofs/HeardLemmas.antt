@@ -16,7 +16,7 @@ use Rattle.stun_base.specs.declared.wire.message_type.MessageClass.TheVariants.{
 use Rattle.stun_types.specs.Attribute.{TypedValue, attribute_length}
 use Rattle.stun_types.specs.ErrorCode.{CodeAndReason, IsError, error_of}
 use Rattle.stun_types.specs.ErrorCodeLaws.{error_of-written}
-use Rattle.stun_types.specs.Integrity.{first_of}
+use Rattle.stun_types.specs.Integrity.{first_of, verified_algorithm}
 use Rattle.stun_types.specs.Walk.{Member}
 use Rattle.stun_types.specs.Writing.{empty_message, is_set_apart, with_attribute, with_integrity}
 use Rattle.stun_types.specs.XorMappedAddress.{IsXored, XoredAddress, xored_of, xored_value}
@@ -25,14 +25,14 @@ use Rattle.stun_extra.specs.CanonicalAddress.{is_same_address, xored_canonical}
 use Rattle.stun_extra.specs.Errors.{error_code_attribute}
 use Rattle.stun_extra.specs.Fingerprint.{with_fingerprint}
 use Rattle.stun_extra.specs.Unknown.{is_unknown, kinds_of, types_of, unknown_types, without_repeats}
-use Rattle.stun_ice.specs.Agent.{Agent, SentCheck}
+use Rattle.stun_ice.specs.Agent.{Agent, Peer, SentCheck}
 use Rattle.stun_ice.specs.Answers.{conflict_answer, success_answer}
 use Rattle.stun_ice.specs.Parts.{UNDERSTOOD, error_in}
-use Rattle.stun_peers.specs.Peers.{ArePeers, mapped_of}
+use Rattle.stun_peers.specs.Peers.{Knows, mapped_of}
 use Rattle.stun_ice.specs.Received.{by_class, given, judgement_of, responded, role_after_outcome}
 use Rattle.stun_ice.specs.Received.{role_left}
 use Rattle.stun_ice.specs.Responses.{is_answered, IsValid, is_by_sha1, is_signed, of_error, of_path}
-use Rattle.stun_ice.specs.Responses.{of_response, of_unknown}
+use Rattle.stun_ice.specs.Responses.{of_response, of_unknown, peer_algorithm}
 use Rattle.stun_ice.specs.Roles.{is_same_role}
 use Rattle.stun_ice.specs.declared.received.Failure.TheVariants.{OtherPath}
 use Rattle.stun_ice.specs.declared.received.Outcome.TheVariants.{Failed, RoleConflict}
@@ -99,34 +99,41 @@ success_sealed b from request id asks small is =
     (whole Success id (mapped_value (x id)) b.password (omega arith) small (omega arith) refl
     (omega (arith, octets)))
 
-valid : (a : Agent) (check : SentCheck) (at : SocketAddr) (x : XoredAddress) (place : ℕ)
-    (bytes : List ℕ) → IsXored x → is_same_address at check.to ≡ true
-    → IsSealed (type_number Success 1) check.id ((place, mapped_value x) ∷ []) a.peer_password bytes
+-- a digest under the password of a peer that is known
+of_peer : (a : Agent) (peer : Peer) (bytes : List ℕ) → a.peer ≡ Some peer
+    → verified_algorithm bytes peer.password ≡ Some Sha1 → peer_algorithm a.peer bytes ≡ Some Sha1
+of_peer a peer bytes known digest =
+    ap (λ (p : Option Peer). peer_algorithm p bytes) known ∙ digest
+
+valid : (a : Agent) (peer : Peer) (check : SentCheck) (at : SocketAddr) (x : XoredAddress)
+    (place : ℕ) (bytes : List ℕ) → a.peer ≡ Some peer → IsXored x
+    → is_same_address at check.to ≡ true
+    → IsSealed (type_number Success 1) check.id ((place, mapped_value x) ∷ []) peer.password bytes
     → IsValid a check at bytes (record { attribute = x; id = check.id })
-valid a check at x place bytes is path done = record {
+valid a peer check at x place bytes known is path done = record {
   message = done.message;
   fingerprint = done.fingerprint;
   class = ap class_of done.type_is;
   method = ap method_of done.type_is;
   id = done.id_is;
-  digest = done.digest;
+  digest = of_peer a peer bytes known done.digest;
   path = path;
   understood = ap unknown_among done.visible_is;
   address = ap mapped_among done.visible_is ∙ xored_of-written x is;
   of_id = sym done.id_is;
 }
 
-pub success_heard : (a b : Agent) (check : SentCheck) (from at : SocketAddr) (request : List ℕ)
-    → ArePeers a b → Asks request check.id → check.id < 2 ^ 96 → IsSocketAddr from
+pub success_heard : (a b : Agent) (peer : Peer) (check : SentCheck) (from at : SocketAddr)
+    (request : List ℕ) → Knows a b peer → Asks request check.id → check.id < 2 ^ 96 → IsSocketAddr from
     → is_same_address at check.to ≡ true
     → IsValid a check at (success_answer b from request Sha1) (mapped_of from check.id)
-success_heard a b check from at request peers asks small is path =
+success_heard a b peer check from at request knows asks small is path =
     let x = xored_canonical (socket_ip from) (socket_port from) check.id in
     let answer = success_answer b from request Sha1 in
     let place = length (empty_message Success 1 check.id) in
-    valid a check at x place answer (xored from check.id is) path
+    valid a peer check at x place answer knows.known (xored from check.id is) path
     (subst (λ (key : List ℕ). IsSealed (type_number Success 1) check.id
-    ((place, mapped_value x) ∷ []) key answer) peers.password_there
+    ((place, mapped_value x) ∷ []) key answer) (sym knows.password)
     (success_sealed b from request check.id asks small is))
 
 -- ---- a 487
@@ -157,11 +164,11 @@ conflict_sealed b request id asks small =
     conflict_value)
     (whole Error id conflict_value b.password (omega arith) small (omega arith) refl (omega arith))
 
-ended : (a : Agent) (check : SentCheck) (at : SocketAddr) (place : ℕ) (bytes : List ℕ)
+ended : (a : Agent) (check : SentCheck) (at : SocketAddr) (place : ℕ) (key bytes : List ℕ)
     → is_same_address at check.to ≡ true
-    → IsSealed (type_number Error 1) check.id ((place, conflict_value) ∷ []) a.peer_password bytes
+    → IsSealed (type_number Error 1) check.id ((place, conflict_value) ∷ []) key bytes
     → of_path a.role check at bytes ≡ RoleConflict (is_same_role a.role check.role)
-ended a check at place bytes path done =
+ended a check at place key bytes path done =
     let class : class_in bytes ≡ Error = ap class_of done.type_is in
     let understood : unknown_types UNDERSTOOD bytes ≡ [] = ap unknown_among done.visible_is in
     let error : error_in bytes ≡ Some conflict_error =
@@ -172,22 +179,22 @@ ended a check at place bytes path done =
     ∙ ap (of_response a.role check bytes) class
     ∙ ap (of_error a.role check.role) error
 
-conflicts : (a : Agent) (check : SentCheck) (at : SocketAddr) (place : ℕ) (bytes : List ℕ)
-    → is_same_address at check.to ≡ true
-    → IsSealed (type_number Error 1) check.id ((place, conflict_value) ∷ []) a.peer_password bytes
+conflicts : (a : Agent) (peer : Peer) (check : SentCheck) (at : SocketAddr) (place : ℕ)
+    (bytes : List ℕ) → a.peer ≡ Some peer → is_same_address at check.to ≡ true
+    → IsSealed (type_number Error 1) check.id ((place, conflict_value) ∷ []) peer.password bytes
     → (given a at (judgement_of a (Some check) at bytes)
     ≡ responded (RoleConflict (is_same_role a.role check.role)))
     × (role_left a.role (judgement_of a (Some check) at bytes)
     ≡ role_after_outcome a.role (RoleConflict (is_same_role a.role check.role)))
-conflicts a check at place bytes path done =
+conflicts a peer check at place bytes known path done =
     let class : class_in bytes ≡ Error = ap class_of done.type_is in
     let id : is_answered check bytes ≡ true =
     eq-eqb check.id (transaction_id_field bytes) (sym done.id_is) in
-    let outcome = ended a check at place bytes path done in
+    let outcome = ended a check at place peer.password bytes path done in
     let reached =
     reaches-class a (Some check) at bytes Error done.message done.fingerprint class
     (ap method_of done.type_is) in
-    let digest = done.digest in
+    let digest = of_peer a peer bytes known done.digest in
     let given_is : given a at (by_class a (Some check) at bytes Error)
     ≡ responded (of_path a.role check at bytes) = rw (id, digest) refl in
     let role_is : role_left a.role (by_class a (Some check) at bytes Error)
@@ -199,16 +206,16 @@ conflicts a check at place bytes path done =
     ap (role_left a.role) reached ∙ role_is in
     (told ∙ ap responded outcome, left ∙ ap (role_after_outcome a.role) outcome)
 
-pub conflict_heard : (a b : Agent) (check : SentCheck) (at : SocketAddr) (request : List ℕ)
-    → ArePeers a b → Asks request check.id → check.id < 2 ^ 96 → is_same_address at check.to ≡ true
+pub conflict_heard : (a b : Agent) (peer : Peer) (check : SentCheck) (at : SocketAddr)
+    (request : List ℕ) → Knows a b peer → Asks request check.id → check.id < 2 ^ 96 → is_same_address at check.to ≡ true
     → let j = judgement_of a (Some check) at (conflict_answer b request Sha1) in
     (given a at j ≡ responded (RoleConflict (is_same_role a.role check.role)))
     × (role_left a.role j
     ≡ role_after_outcome a.role (RoleConflict (is_same_role a.role check.role)))
-conflict_heard a b check at request peers asks small path =
+conflict_heard a b peer check at request knows asks small path =
     let answer = conflict_answer b request Sha1 in
     let place = length (empty_message Error 1 check.id) in
-    conflicts a check at place answer path
+    conflicts a peer check at place answer knows.known path
     (subst (λ (key : List ℕ). IsSealed (type_number Error 1) check.id
-    ((place, conflict_value) ∷ []) key answer) peers.password_there
+    ((place, conflict_value) ∷ []) key answer) (sym knows.password)
     (conflict_sealed b request check.id asks small))

@@ -1,14 +1,12 @@
 -- What is read of a check is what it was made of, and its peer judges it so.
 use Rattle.std.proofs.Common.{◌≡◌, ◌≤◌, ◌<◌, ◌^◌, ◌+◌, ℕ, Bool, true, false, List, [], ◌∷◌, ◌++◌}
 use Rattle.std.proofs.Common.{length, Option, Some, None, refl, sym, ◌∙◌, ap, arith}
-use Rattle.std.specs.Str.{bytes_eq}
 use Rattle.std.specs.Prelude.{filter, not, if◌then◌else◌}
 use Rattle.std.proofs.lemmas.List.{append-nil}
 use Rattle.std.specs.Option.{is_none, is_some, option_and_then, option_map}
 use Rattle.std.specs.declared.net.socket_addr.SocketAddr.{SocketAddr}
 use Rattle.stun_base.specs.Attributes.{USERNAME}
 use Rattle.stun_base.specs.MessageType.{class_of, method_of, type_number}
-use Rattle.std.proofs.lemmas.Slice.Eq.{bytes_eq-Decides}
 use Rattle.stun_base.specs.declared.keys.algorithm.IntegrityAlgorithm.{IntegrityAlgorithm}
 use Rattle.stun_base.specs.declared.keys.algorithm.IntegrityAlgorithm.TheVariants.{Sha1}
 use Rattle.stun_base.specs.declared.wire.message_type.MessageClass.TheVariants.{Request}
@@ -22,10 +20,12 @@ use Rattle.stun_extra.specs.AttributeTypes.{USE_CANDIDATE}
 use Rattle.stun_extra.specs.Unknown.{is_empty, is_unknown, kinds_of, types_of, unknown_types}
 use Rattle.stun_extra.specs.Unknown.{without_repeats}
 use Rattle.stun_extra.specs.Values.{number_of, number_of_4-written, number_of_8-written}
-use Rattle.stun_ice.specs.Agent.{Agent, check_bytes, check_page, priority_attribute, role_attribute}
+use Rattle.stun_base.specs.Keys.{with_colon}
+use Rattle.stun_ice.specs.Agent.{Agent, Peer, check_bytes, check_page, priority_attribute}
+use Rattle.stun_ice.specs.Agent.{role_attribute}
 use Rattle.stun_ice.specs.Agent.{username_attribute, with_nomination, SentCheck, can_nominate}
 use Rattle.stun_ice.specs.Parts.{UNDERSTOOD, has_use_candidate, priority_in, rival, username_in}
-use Rattle.stun_peers.specs.Peers.{ArePeers, IsAgent, IsNumbered, SaysCheck, said_by, given_by}
+use Rattle.stun_peers.specs.Peers.{IsAgent, IsNumbered, Knows, SaysCheck, said_by, given_by}
 use Rattle.stun_peers.specs.Peers.{role_by}
 use Rattle.stun_base.specs.declared.wire.attribute_type.AttributeType.{AttributeType}
 use Rattle.stun_ice.specs.Checks.{by_name, by_priority, by_role, by_signature, is_nominated}
@@ -36,6 +36,7 @@ use Rattle.stun_ice.specs.Received.{checked, given, judgement_of, role_left}
 use Rattle.stun_ice.specs.Roles.{is_same_role, opposite, role_after_check}
 use Rattle.stun_ice.specs.declared.received.Judged.TheVariants.{Accepted}
 use Rattle.stun_ice.proofs.AcceptingLemmas.{reaches-class}
+use Rattle.stun_ice.proofs.NameLemmas.{is_named-with_colon}
 use Rattle.stun_peers.proofs.SealedLemmas.{IsPage, IsSealed, added, begun, closed, sealed}
 use Rattle.stun_ice.specs.declared.role.Role.{Role}
 use Rattle.stun_ice.specs.declared.role.Role.TheVariants.{Controlling, Controlled}
@@ -122,14 +123,14 @@ found name priority Controlled tie false p q r s place end digest print fits wid
 }
 
 -- what is read of bytes with these attributes
-says_check : (a : Agent) (id priority : ℕ) (nominates : Bool) (p q r s : ℕ) (bytes : List ℕ)
-    → IsAgent a → IsNumbered id priority
+says_check : (a : Agent) (peer : Peer) (id priority : ℕ) (nominates : Bool) (p q r s : ℕ) (bytes : List ℕ)
+    → IsAgent a peer → IsNumbered id priority
     → IsSealed (type_number Request 1) id
-    (of_check a.outgoing priority a.role a.tie_breaker nominates p q r s) a.peer_password bytes
-    → SaysCheck a id priority nominates bytes
-says_check a id priority nominates p q r s bytes agent numbered whole =
+    (of_check peer.outgoing priority a.role a.tie_breaker nominates p q r s) peer.password bytes
+    → SaysCheck a peer id priority nominates bytes
+says_check a peer id priority nominates p q r s bytes agent numbered whole =
     let all =
-    found a.outgoing priority a.role a.tie_breaker nominates p q r s whole.place whole.end
+    found peer.outgoing priority a.role a.tie_breaker nominates p q r s whole.place whole.end
     whole.value whole.print numbered.priority_fits agent.tie_breaker in
     let shown = whole.visible_is in
     record {
@@ -179,39 +180,39 @@ nominated_page false kind id members most page is small = record {
   short = omega (arith, is.short);
 }
 
-pub check_read : (a : Agent) (id priority : ℕ) (nominates : Bool) → IsAgent a
+pub check_read : (a : Agent) (peer : Peer) (id priority : ℕ) (nominates : Bool) → IsAgent a peer
     → IsNumbered id priority
-    → SaysCheck a id priority nominates (check_bytes a id priority nominates)
+    → SaysCheck a peer id priority nominates (check_bytes a peer id priority nominates)
 unfolding check_bytes
-check_read a id priority nominates agent numbered =
+check_read a peer id priority nominates agent numbered =
     let page_0 = empty_message Request 1 id in
-    let page_1 = with_attribute page_0 (username_attribute a.outgoing) in
+    let page_1 = with_attribute page_0 (username_attribute peer.outgoing) in
     let page_2 = with_attribute page_1 (priority_attribute priority) in
     let page_3 = with_attribute page_2 (role_attribute a.role a.tie_breaker) in
     let is_0 = begun Request id (omega arith) numbered.id_fits in
     let is_1 =
-    added (type_number Request 1) id [] 20 page_0 (username_attribute a.outgoing) 520 is_0
+    added (type_number Request 1) id [] 20 page_0 (username_attribute peer.outgoing) 520 is_0
     (omega arith) refl (omega (arith, agent.name)) (omega arith) in
     let is_2 =
-    added (type_number Request 1) id ((length page_0, username_attribute a.outgoing) ∷ []) 540
+    added (type_number Request 1) id ((length page_0, username_attribute peer.outgoing) ∷ []) 540
     page_1 (priority_attribute priority) 8 is_1 (omega arith) refl (omega arith) (omega arith) in
     let is_3 =
     added (type_number Request 1) id
-    ((length page_0, username_attribute a.outgoing) ∷ (length page_1, priority_attribute priority)
+    ((length page_0, username_attribute peer.outgoing) ∷ (length page_1, priority_attribute priority)
     ∷ []) 548 page_2 (role_attribute a.role a.tie_breaker) 12 is_2 (role_typed a.role a.tie_breaker)
     (role_plain a.role a.tie_breaker) (role_short a.role a.tie_breaker) (omega arith) in
     let is_4 =
     nominated_page nominates (type_number Request 1) id
-    ((length page_0, username_attribute a.outgoing) ∷ (length page_1, priority_attribute priority)
+    ((length page_0, username_attribute peer.outgoing) ∷ (length page_1, priority_attribute priority)
     ∷ (length page_2, role_attribute a.role a.tie_breaker) ∷ []) 560 page_3 is_3 (omega arith) in
     let members =
-    of_check a.outgoing priority a.role a.tie_breaker nominates (length page_0) (length page_1)
+    of_check peer.outgoing priority a.role a.tie_breaker nominates (length page_0) (length page_1)
     (length page_2) (length page_3) in
     let whole =
-    sealed (type_number Request 1) id members 564 (check_page a id priority nominates)
-    a.peer_password is_4 (omega arith) in
-    says_check a id priority nominates (length page_0) (length page_1) (length page_2)
-    (length page_3) (check_bytes a id priority nominates) agent numbered whole
+    sealed (type_number Request 1) id members 564 (check_page a peer id priority nominates)
+    peer.password is_4 (omega arith) in
+    says_check a peer id priority nominates (length page_0) (length page_1) (length page_2)
+    (length page_3) (check_bytes a peer id priority nominates) agent numbered whole
 
 -- ---- what the peer makes of it
 
@@ -238,22 +239,22 @@ decided key bytes None is = cc
 decided key bytes (Some m) is = refl
 
 -- an agent judges such a check by the roles
-verdict_is : (a b : Agent) (id priority : ℕ) (nominates : Bool) (bytes : List ℕ) → ArePeers a b
-    → SaysCheck a id priority nominates bytes
+verdict_is : (a b : Agent) (peer : Peer) (id priority : ℕ) (nominates : Bool) (bytes : List ℕ)
+    → Knows a b peer → SaysCheck a peer id priority nominates bytes
     → verdict_of b bytes
     ≡ by_role bytes Sha1 priority
     (role_after_check b.role b.tie_breaker (rival_of b.role (said_by a)))
-verdict_is a b id priority nominates bytes peers says =
+verdict_is a b peer id priority nominates bytes knows says =
     let digest : verified_algorithm bytes b.password ≡ Some Sha1 =
-    ap (verified_algorithm bytes) peers.password_there ∙ says.digest in
-    let name : username_in bytes ≡ Some b.incoming = says.name ∙ ap Some (sym peers.there) in
+    ap (verified_algorithm bytes) (sym knows.password) ∙ says.digest in
+    let name : username_in bytes ≡ Some (with_colon b.name a.name) =
+    says.name ∙ ap Some knows.name in
     let theirs = rival_said a.role b.role a.tie_breaker bytes says.role says.no_other_role in
     let left : Option ℕ → Option Role = λ o. role_after_check b.role b.tie_breaker o in
     let decides = decided b.password bytes (deciding bytes) digest in
-    let same : bytes_eq b.incoming b.incoming ≡ true =
-    (bytes_eq-Decides b.incoming b.incoming).1 refl in
+    let same = is_named-with_colon b.name a.name in
     let signed : verdict_of b bytes ≡ by_name b bytes (username_in bytes) = rw decides refl in
-    let named : by_name b bytes (Some b.incoming)
+    let named : by_name b bytes (Some (with_colon b.name a.name))
     ≡ by_signature b bytes (verified_algorithm bytes b.password) = rw same refl in
     let known : by_signature b bytes (Some Sha1) ≡ by_priority b bytes Sha1 (priority_in bytes) =
     rw says.understood refl in
@@ -267,12 +268,12 @@ verdict_is a b id priority nominates bytes peers says =
 
 given_is : (b : Agent) (from : SocketAddr) (priority : ℕ) (nominates : Bool) (bytes : List ℕ)
     (left : Option Role) → has_use_candidate bytes ≡ nominates
-    → checked (answer_of b from bytes (by_role bytes Sha1 priority left))
+    → checked bytes (answer_of b from bytes (by_role bytes Sha1 priority left))
     (judged_of b.role (by_role bytes Sha1 priority left))
     ≡ given_by b from bytes priority nominates left
 given_is b from priority nominates bytes None is = refl
 given_is b from priority nominates bytes (Some role) is =
-    ap (λ (n : Bool). checked (success_answer b from bytes Sha1)
+    ap (λ (n : Bool). checked bytes (success_answer b from bytes Sha1)
     (Accepted priority n (not (is_same_role b.role role)))) (nominated_by role nominates bytes is)
 
 left_is : (before : Role) (priority : ℕ) (bytes : List ℕ) (left : Option Role)
@@ -280,32 +281,35 @@ left_is : (before : Role) (priority : ℕ) (bytes : List ℕ) (left : Option Rol
 left_is before priority bytes None = refl
 left_is before priority bytes (Some role) = refl
 
-pub check_judged : (a b : Agent) (c : Option SentCheck) (from : SocketAddr) (id priority : ℕ)
-    (nominates : Bool) (bytes : List ℕ) → ArePeers a b → SaysCheck a id priority nominates bytes
+pub check_judged : (a b : Agent) (peer : Peer) (c : Option SentCheck) (from : SocketAddr)
+    (id priority : ℕ) (nominates : Bool) (bytes : List ℕ) → Knows a b peer
+    → SaysCheck a peer id priority nominates bytes
     → given b from (judgement_of b c from bytes)
     ≡ given_by b from bytes priority nominates
     (role_after_check b.role b.tie_breaker (rival_of b.role (said_by a)))
-check_judged a b c from id priority nominates bytes peers says =
+check_judged a b peer c from id priority nominates bytes knows says =
     let left = role_after_check b.role b.tie_breaker (rival_of b.role (said_by a)) in
     let reached : given b from (judgement_of b c from bytes)
-    ≡ checked (answer_of b from bytes (verdict_of b bytes)) (judged_of b.role (verdict_of b bytes)) =
+    ≡ checked bytes (answer_of b from bytes (verdict_of b bytes))
+    (judged_of b.role (verdict_of b bytes)) =
     ap (given b from)
     (reaches-class b c from bytes Request says.message says.fingerprint says.class says.method) in
     reached
-    ∙ ap (λ v. checked (answer_of b from bytes v) (judged_of b.role v))
-    (verdict_is a b id priority nominates bytes peers says)
+    ∙ ap (λ v. checked bytes (answer_of b from bytes v) (judged_of b.role v))
+    (verdict_is a b peer id priority nominates bytes knows says)
     ∙ given_is b from priority nominates bytes left says.nominated
 
-pub role_judged : (a b : Agent) (c : Option SentCheck) (from : SocketAddr) (id priority : ℕ)
-    (nominates : Bool) (bytes : List ℕ) → ArePeers a b → SaysCheck a id priority nominates bytes
+pub role_judged : (a b : Agent) (peer : Peer) (c : Option SentCheck) (from : SocketAddr)
+    (id priority : ℕ) (nominates : Bool) (bytes : List ℕ) → Knows a b peer
+    → SaysCheck a peer id priority nominates bytes
     → role_left b.role (judgement_of b c from bytes)
     ≡ role_by b.role (role_after_check b.role b.tie_breaker (rival_of b.role (said_by a)))
-role_judged a b c from id priority nominates bytes peers says =
+role_judged a b peer c from id priority nominates bytes knows says =
     let left = role_after_check b.role b.tie_breaker (rival_of b.role (said_by a)) in
     let reached : role_left b.role (judgement_of b c from bytes)
     ≡ role_of b.role (verdict_of b bytes) =
     ap (role_left b.role)
     (reaches-class b c from bytes Request says.message says.fingerprint says.class says.method) in
     reached
-    ∙ ap (role_of b.role) (verdict_is a b id priority nominates bytes peers says)
+    ∙ ap (role_of b.role) (verdict_is a b peer id priority nominates bytes knows says)
     ∙ left_is b.role priority bytes left

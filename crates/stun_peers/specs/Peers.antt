@@ -5,6 +5,7 @@ use Rattle.std.specs.Prelude.{Option, Some, None}
 use Rattle.std.specs.Net.Socket.{socket_ip, socket_port}
 use Rattle.std.specs.declared.net.socket_addr.SocketAddr.{SocketAddr}
 use Rattle.stun_base.specs.Header.{transaction_id_field, type_field}
+use Rattle.stun_base.specs.Keys.{with_colon}
 use Rattle.stun_base.specs.MessageType.{class_in, method_of}
 use Rattle.stun_base.specs.declared.keys.algorithm.IntegrityAlgorithm.TheVariants.{Sha1}
 use Rattle.stun_base.specs.declared.wire.message_type.MessageClass.TheVariants.{Request}
@@ -15,7 +16,7 @@ use Rattle.stun_extra.specs.CanonicalAddress.{xored_canonical}
 use Rattle.stun_extra.specs.Fingerprint.{fingerprint_in}
 use Rattle.stun_extra.specs.Unknown.{unknown_types}
 use Rattle.stun_extra.specs.declared.fingerprint.Fingerprint.TheVariants.{Right}
-use Rattle.stun_ice.specs.Agent.{Agent, SentCheck, can_nominate, check_bytes}
+use Rattle.stun_ice.specs.Agent.{Agent, Peer, SentCheck, can_nominate, check_bytes}
 use Rattle.stun_ice.specs.Answers.{conflict_answer, success_answer}
 use Rattle.stun_ice.specs.Conflicts.{Said}
 use Rattle.stun_ice.specs.Parts.{UNDERSTOOD, has_use_candidate, priority_in, rival, username_in}
@@ -27,19 +28,19 @@ use Rattle.stun_ice.specs.declared.role.Role.{Role}
 
 -- ---- the two agents
 
--- USERNAME fits an attribute, and the tie-breaker has 64 bits. This holds of each agent that the
--- contract of `Checker::new` gives: its names have at most 256 bytes each
-pub record IsAgent (a : Agent) : Type 0 where
-  pub name : length a.outgoing ≤ USERNAME_LIMIT
+-- the tie-breaker has 64 bits, and USERNAME of the checks to this peer fits an attribute. This holds
+-- of each agent that `Checker::new` creates, and after `Checker::set_remote`: each name has at most
+-- 256 bytes
+pub record IsAgent (a : Agent) (peer : Peer) : Type 0 where
+  pub name : length peer.outgoing ≤ USERNAME_LIMIT
   pub tie_breaker : a.tie_breaker < 2 ^ 64
 
--- each of two agents has the credentials of the other, as the contract of `Checker::new` gives them
--- if the `local` of one is the `remote` of the other
-pub record ArePeers (a b : Agent) : Type 0 where
-  pub there : b.incoming ≡ a.outgoing
-  pub back : a.incoming ≡ b.outgoing
-  pub password_there : b.password ≡ a.peer_password
-  pub password_back : a.password ≡ b.peer_password
+-- one agent has the credentials of another, as `Checker::new` and `Checker::set_remote` give them if
+-- the `remote` of the one is the `local` of the other. The other may know nothing of the one
+pub record Knows (a b : Agent) (peer : Peer) : Type 0 where
+  pub known : a.peer ≡ Some peer
+  pub name : peer.outgoing ≡ with_colon b.name a.name
+  pub password : peer.password ≡ b.password
 
 -- ---- a check
 
@@ -52,15 +53,15 @@ pub record IsNumbered (id priority : ℕ) : Type 0 where
 -- and of the agent in this order, a priority, and the role and the tie-breaker of the agent. It has
 -- a digest under the password of the peer, a right FINGERPRINT, and no attribute that must be
 -- understood and is not
-pub record SaysCheck (a : Agent) (id priority : ℕ) (nominates : Bool) (bytes : List ℕ)
-    : Type 0 where
+pub record SaysCheck (a : Agent) (peer : Peer) (id priority : ℕ) (nominates : Bool)
+    (bytes : List ℕ) : Type 0 where
   pub message : refusal bytes ≡ None
   pub fingerprint : fingerprint_in bytes ≡ Right
   pub class : class_in bytes ≡ Request
   pub method : method_of (type_field bytes) ≡ 1
   pub of_id : transaction_id_field bytes ≡ id
-  pub name : username_in bytes ≡ Some a.outgoing
-  pub digest : verified_algorithm bytes a.peer_password ≡ Some Sha1
+  pub name : username_in bytes ≡ Some peer.outgoing
+  pub digest : verified_algorithm bytes peer.password ≡ Some Sha1
   pub understood : unknown_types UNDERSTOOD bytes ≡ []
   pub priority_is : priority_in bytes ≡ Some priority
   pub role : rival a.role bytes ≡ Some a.tie_breaker
@@ -76,9 +77,9 @@ said_by a = record { role = a.role; tie_breaker = a.tie_breaker }
 -- to an agent that is controlled
 abbrev pub given_by : Agent → SocketAddr → List ℕ → ℕ → Bool → Option Role → Given
 given_by b from bytes priority nominates None =
-    checked (conflict_answer b bytes Sha1) RoleConflict
+    checked bytes (conflict_answer b bytes Sha1) RoleConflict
 given_by b from bytes priority nominates (Some role) =
-    checked (success_answer b from bytes Sha1)
+    checked bytes (success_answer b from bytes Sha1)
     (Accepted priority (can_nominate (opposite role) nominates) (not (is_same_role b.role role)))
 
 -- the role of an agent after it, whose role was this one
@@ -87,13 +88,13 @@ role_by before None = before
 role_by before (Some role) = role
 
 -- a check as its agent stores it
-abbrev pub written_check : Agent → ℕ → SocketAddr → ℕ → Bool → SentCheck
-written_check a id to priority nominates = record {
+abbrev pub written_check : Agent → Peer → ℕ → SocketAddr → ℕ → Bool → SentCheck
+written_check a peer id to priority nominates = record {
   id = id;
   to = to;
   role = a.role;
   nominates = nominates;
-  bytes = check_bytes a id priority nominates;
+  bytes = check_bytes a peer id priority nominates;
 }
 
 -- ---- its answer

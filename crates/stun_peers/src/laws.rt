@@ -8,7 +8,7 @@ ghost use Rattle.std.specs.declared.net.socket_addr.SocketAddr.{SocketAddr};
 ghost use Rattle.stun_base.specs.declared.keys.algorithm.IntegrityAlgorithm.TheVariants.{Sha1};
 ghost use Rattle.stun_types.specs.XorMappedAddress.{IsHidden, xor_port};
 ghost use Rattle.stun_extra.specs.CanonicalAddress.{is_same_address};
-ghost use Rattle.stun_ice.specs.Agent.{Agent, SentCheck, check_bytes};
+ghost use Rattle.stun_ice.specs.Agent.{Agent, Peer, SentCheck, check_bytes, remote_peer};
 ghost use Rattle.stun_ice.specs.Answers.{conflict_answer, success_answer};
 ghost use Rattle.stun_ice.specs.Conflicts.{rival_of};
 ghost use Rattle.stun_ice.specs.Received.{given, judgement_of, responded, role_after_outcome};
@@ -16,7 +16,7 @@ ghost use Rattle.stun_ice.specs.Received.{role_left};
 ghost use Rattle.stun_ice.specs.Responses.{IsValid};
 ghost use Rattle.stun_ice.specs.Roles.{is_same_role, role_after_check};
 ghost use Rattle.stun_ice.specs.declared.received.Outcome.TheVariants as Outcome;
-ghost use Rattle.stun_peers.specs.Peers.{ArePeers, IsAgent, IsNumbered, SaysCheck, mapped_of};
+ghost use Rattle.stun_peers.specs.Peers.{IsAgent, IsNumbered, Knows, SaysCheck, mapped_of};
 ghost use Rattle.stun_peers.specs.Peers.{given_by, role_by, said_by, written_check};
 
 use std::alloc::Allocator;
@@ -28,24 +28,30 @@ use stun_ice::role::Role;
 /// nominates. Its signature is valid under the password of the peer, its FINGERPRINT is right, and
 /// it has no attribute that an agent does not understand.
 pub fn checks_are_read_back()
-    ensures { (a : Agent) (id priority : ℕ) (nominates : Bool) → IsAgent a
+    ensures { (a : Agent) (peer : Peer) (id priority : ℕ) (nominates : Bool) → IsAgent a peer
         → IsNumbered id priority
-        → SaysCheck a id priority nominates (check_bytes a id priority nominates) }
+        → SaysCheck a peer id priority nominates (check_bytes a peer id priority nominates) }
 {}
 
-/// Two agents that are created from the same credentials, one on each side, are peers, and each of
-/// them writes checks that are read back.
-pub fn agents_of_one_session_are_peers<A: Allocator + Copy>(
+/// The agents of one session know each other. The one that answers an offer knows the other from
+/// the start; the one that makes it, as soon as the answer has arrived (`set_remote`). Each of them
+/// writes checks that are read back.
+pub fn agents_of_one_session_know_each_other<A: Allocator + Copy>(
     alloc: A,
     one: Credentials<'_>,
     other: Credentials<'_>,
     tie_breakers: (u64, u64),
     roles: (Role, Role),
 ) -> Result<(Checker<A>, Checker<A>), BuildError>
-    ensures { IfOk result (λ both. IsAgent both.0 × IsAgent both.1 × ArePeers both.0 both.1) }
+    ensures { let right = remote_peer one.entry.name.now other.entry.name.now
+        other.entry.password.now in
+        let left = remote_peer other.entry.name.now one.entry.name.now one.entry.password.now in
+        IfOk result (λ both. IsAgent both.0 right × Knows both.0 both.1 right
+        × IsAgent both.1 left × Knows both.1 both.0 left) }
 {
-    let left = Checker::new(alloc, one, other, tie_breakers.0, roles.0)?;
+    let mut left = Checker::offer(alloc, one, tie_breakers.0, roles.0)?;
     let right = Checker::new(alloc, other, one, tie_breakers.1, roles.1)?;
+    left.set_remote(other)?;
     Ok((left, right))
 }
 
@@ -54,20 +60,23 @@ pub fn agents_of_one_session_are_peers<A: Allocator + Copy>(
 /// roles and the tie-breakers of both. What `roles_end_opposite` calls the arrival of a check is
 /// this.
 ///
-/// Two agents are peers (`ArePeers`) if each has the credentials of the other. Law
-/// `agents_of_one_session_are_peers` says which calls create such agents.
+/// The agent has the credentials of its peer (`Knows`), but the peer need not have those of the
+/// agent: it may have made an offer whose answer has not arrived yet. Law
+/// `agents_of_one_session_know_each_other` says which calls create such agents.
 pub fn a_check_is_accepted_by_its_peer()
-    ensures judged { (a b : Agent) (c : Option SentCheck) (from : SocketAddr) (id priority : ℕ)
-        (nominates : Bool) → IsAgent a → IsNumbered id priority → ArePeers a b
-        → let bytes = check_bytes a id priority nominates in
+    ensures judged { (a b : Agent) (peer : Peer) (c : Option SentCheck) (from : SocketAddr)
+        (id priority : ℕ) (nominates : Bool) → IsAgent a peer → IsNumbered id priority
+        → Knows a b peer
+        → let bytes = check_bytes a peer id priority nominates in
         given b from (judgement_of b c from bytes)
         ≡ given_by b from bytes priority nominates
         (role_after_check b.role b.tie_breaker (rival_of b.role (said_by a))) }
 
     // The role that it leaves the peer.
-    ensures role { (a b : Agent) (c : Option SentCheck) (from : SocketAddr) (id priority : ℕ)
-        (nominates : Bool) → IsAgent a → IsNumbered id priority → ArePeers a b
-        → role_left b.role (judgement_of b c from (check_bytes a id priority nominates))
+    ensures role { (a b : Agent) (peer : Peer) (c : Option SentCheck) (from : SocketAddr)
+        (id priority : ℕ) (nominates : Bool) → IsAgent a peer → IsNumbered id priority
+        → Knows a b peer
+        → role_left b.role (judgement_of b c from (check_bytes a peer id priority nominates))
         ≡ role_by b.role
         (role_after_check b.role b.tie_breaker (rival_of b.role (said_by a))) }
 {}
@@ -76,26 +85,27 @@ pub fn a_check_is_accepted_by_its_peer()
 /// the check went. A success makes the pair valid, with the address that the check came from. A 487
 /// switches the role of the peer, if it still has the role that it sent the check in.
 ///
-/// `a` is the agent that sent the check, and `now` is the agent when the answer arrives, whose role
-/// and tie-breaker may be others by then. The check came to `b` from the address `from`, and the
-/// answer comes from the address `source`.
+/// `a` is the agent that sent the check to the peer `sent`, and `now` is the agent when the answer
+/// arrives, whose role and tie-breaker may be others by then. The check came to `b` from the
+/// address `from`, and the answer comes from the address `source`.
 pub fn its_answer_makes_the_pair_valid()
-    ensures valid { (a b now : Agent) (id priority : ℕ) (nominates : Bool)
-        (to from source : SocketAddr) → IsAgent a → IsNumbered id priority → ArePeers now b
+    ensures valid { (a b now : Agent) (sent peer : Peer) (id priority : ℕ) (nominates : Bool)
+        (to from source : SocketAddr) → IsAgent a sent → IsNumbered id priority → Knows now b peer
         → IsSocketAddr from → is_same_address source to ≡ true
-        → IsValid now (written_check a id to priority nominates) source
-        (success_answer b from (check_bytes a id priority nominates) Sha1) (mapped_of from id) }
+        → IsValid now (written_check a sent id to priority nominates) source
+        (success_answer b from (check_bytes a sent id priority nominates) Sha1)
+        (mapped_of from id) }
 
     // What `Mapped::address` then returns is that address, in one of its spellings.
     ensures address { (from address : SocketAddr) (id : ℕ) → IsSocketAddr from
         → IsHidden id (mapped_of from id).attribute (socket_ip address)
         → IsPlainSocket address (xor_port (mapped_of from id).attribute.port)
         → is_same_address address from ≡ true }
-    ensures conflict { (a b now : Agent) (id priority : ℕ) (nominates : Bool)
-        (to source : SocketAddr) → IsAgent a → IsNumbered id priority → ArePeers now b
+    ensures conflict { (a b now : Agent) (sent peer : Peer) (id priority : ℕ) (nominates : Bool)
+        (to source : SocketAddr) → IsAgent a sent → IsNumbered id priority → Knows now b peer
         → is_same_address source to ≡ true
-        → let j = judgement_of now (Some (written_check a id to priority nominates)) source
-        (conflict_answer b (check_bytes a id priority nominates) Sha1) in
+        → let j = judgement_of now (Some (written_check a sent id to priority nominates)) source
+        (conflict_answer b (check_bytes a sent id priority nominates) Sha1) in
         (given now source j ≡ responded (Outcome.RoleConflict (is_same_role now.role a.role)))
         × (role_left now.role j
         ≡ role_after_outcome now.role (Outcome.RoleConflict (is_same_role now.role a.role))) }

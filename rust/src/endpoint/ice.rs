@@ -1,10 +1,11 @@
 //! Connectivity checks of ICE: one check and its answer, in both roles (RFC 8445, sections 7.2 and
 //! 7.3).
 //!
-//! A [`Checker`] has the credentials of both sides, the tie-breaker and the role of one agent. It
-//! writes checks, judges those of the peer and writes their answers, and judges the answers to its
-//! own. Candidates, pairs, their order and pacing, and retransmissions are yours. For them there
-//! are [`priority`], [`pair_priority`], [`Candidate`] with its line in SDP, and [`Consent`].
+//! A [`Checker`] has the credentials of one agent, those of its peer once they are known, the
+//! tie-breaker and the role. It writes checks, judges those of the peer and writes their answers,
+//! and judges the answers to its own. Candidates, pairs, their order and pacing, and
+//! retransmissions are yours. For them there are [`priority`], [`pair_priority`], [`Candidate`]
+//! with its line in SDP, and [`Consent`].
 //!
 //! # Examples
 //!
@@ -20,11 +21,11 @@
 //! let mut there = Checker::new(right, left, 0xfedc_ba98_7654_3210, Role::Controlled)?;
 //!
 //! let id = TransactionId::from([7; 12]); // must be random: `TransactionId::generate`
-//! let check = here.check(id, "198.51.100.7:3478".parse()?, 0x6e00_01ff, true);
+//! let check = here.check(id, "198.51.100.7:3478".parse()?, 0x6e00_01ff, true)?;
 //!
 //! // At the other side, where a translator has changed the source address:
 //! let seen = "203.0.113.9:4242".parse()?;
-//! let Received::Check { answer, judged } = there.receive(check.bytes(), seen, None) else {
+//! let Received::Check { answer, judged, .. } = there.receive(check.bytes(), seen, None) else {
 //!     panic!("no check")
 //! };
 //! assert_eq!(
@@ -35,6 +36,39 @@
 //! // Back here, the answer is judged with the check that has its transaction ID.
 //! let received = here.receive(&answer, check.to(), Some(&check));
 //! assert!(matches!(received, Received::Response(Outcome::Valid { mapped }) if mapped == seen));
+//! # Ok::<(), Box<dyn std::error::Error>>(())
+//! ```
+//!
+//! # Checks that arrive before the answer
+//!
+//! The agent that makes an offer often receives checks before the answer to the offer, because they
+//! take a shorter way. It has to answer them at once (RFC 8445, section 7.3), and can: an answer
+//! depends on its own credentials alone. [`Checker::offer`] creates such an agent, and
+//! [`Checker::set_remote`] gives it the credentials of the peer when the answer has arrived:
+//!
+//! ```
+//! use seatcrane_stun::endpoint::ice::{CheckError, Checker, Judged, Received, Role};
+//! use seatcrane_stun::types::message::TransactionId;
+//!
+//! let (ours, theirs) = (("evtj", "asd88fgpdd777uzjYhagZg"), ("h6vY", "VOkJxbRl1RmTxUk/WvJxBt"));
+//! let mut here = Checker::offer(ours, 0x0123_4567_89ab_cdef, Role::Controlling)?;
+//! let there = Checker::new(theirs, ours, 0xfedc_ba98_7654_3210, Role::Controlled)?;
+//!
+//! // The peer has the offer, and checks.
+//! let (id, to) = (TransactionId::from([7; 12]), "192.0.2.1:5000".parse()?);
+//! let check = there.check(id, to, 0x6e00_01ff, false)?;
+//! let seen = "203.0.113.9:4242".parse()?;
+//! match here.receive(check.bytes(), seen, None) {
+//!     Received::Check { fragment, judged: Judged::Accepted { .. }, .. } => {
+//!         assert_eq!(fragment, Some(&b"h6vY"[..])) // who answers the offer: send the answer
+//!     }
+//!     other => panic!("{other:?}"),
+//! }
+//!
+//! // This side cannot check yet.
+//! assert_eq!(here.check(id, seen, 1, false).err(), Some(CheckError::NoRemote));
+//! here.set_remote(theirs)?; // the answer has arrived
+//! assert!(here.check(id, seen, 1, false).is_ok());
 //! # Ok::<(), Box<dyn std::error::Error>>(())
 //! ```
 //!
@@ -54,14 +88,14 @@
 //! they end:
 //!
 //! ```ignore
-//! let check = checker.check(TransactionId::generate(), pair.remote, priority, nominate);
+//! let check = checker.check(TransactionId::generate(), pair.remote, priority, nominate)?;
 //! let sent = agent.send_request(check.bytes(), check.to(), now)?;
 //! socket.send_to(&sent.data, sent.to)?;
 //! pairs.store(check); // then send what `poll_transmit` returns, and call `poll`
 //! // .. later, a datagram arrives. `check` is the stored check that has its transaction ID:
 //! let id = MessageHeader::from_bytes(&bytes)?.transaction_id();
 //! match checker.receive(&bytes, from, pairs.check(id)) {
-//!     Received::Check { answer, judged } => {
+//!     Received::Check { answer, judged, .. } => {
 //!         socket.send_to(&answer, from)?;
 //!         pairs.triggered(from, judged);
 //!     }
@@ -71,7 +105,7 @@
 //! }
 //! ```
 
-use crate::copies::{copy, granted};
+use crate::copies::copy;
 use crate::exported::stun_base::attribute_type::AttributeType;
 use crate::exported::stun_ice::{check, checker, received};
 use crate::extra::finish_with_fingerprint;
@@ -88,7 +122,7 @@ use core::net::SocketAddr;
 mod candidate;
 mod consent;
 
-pub use crate::exported::stun_ice::checker::BuildError;
+pub use crate::exported::stun_ice::checker::{BuildError, CheckError};
 pub use crate::exported::stun_ice::received::{Judged, Refusal};
 pub use crate::exported::stun_ice::role::Role;
 pub use candidate::{Candidate, CandidateError, CandidateKind, pair_priority, priority};
@@ -117,6 +151,15 @@ pub struct IceCredentials<'a> {
     pub password: &'a str,
 }
 
+impl<'a> IceCredentials<'a> {
+    fn core(self) -> checker::Credentials<'a> {
+        checker::Credentials {
+            name: self.fragment,
+            password: self.password,
+        }
+    }
+}
+
 /// It shows the fragment, and not the password.
 impl fmt::Debug for IceCredentials<'_> {
     fn fmt(&self, f: &mut fmt::Formatter<'_>) -> fmt::Result {
@@ -133,8 +176,8 @@ impl<'a> From<(&'a str, &'a str)> for IceCredentials<'a> {
     }
 }
 
-/// One agent in a session with one peer: the credentials of both sides, the tie-breaker, and the
-/// role that the agent has now.
+/// One agent in a session with one peer: its own credentials, those of the peer once they are
+/// known, the tie-breaker, and the role that the agent has now.
 ///
 /// The [module](self) has an example.
 pub struct Checker(checker::Checker<Global>);
@@ -149,7 +192,8 @@ impl fmt::Debug for Checker {
 
 impl Checker {
     /// Creates an agent. `local` and `remote` are the username fragment and the password of each
-    /// side, the tie-breaker is a random number, and `role` is the one to begin with.
+    /// side, the tie-breaker is a random number, and `role` is the one to begin with. If the
+    /// credentials of the peer are not known yet, use [`offer`](Self::offer).
     ///
     /// # Errors
     ///
@@ -165,16 +209,63 @@ impl Checker {
         tie_breaker: u64,
         role: Role,
     ) -> Result<Checker, BuildError> {
-        let [local, remote] = [local.into(), remote.into()].map(|side| checker::Credentials {
-            name: side.fragment,
-            password: side.password,
-        });
+        let (local, remote) = (local.into().core(), remote.into().core());
         checker::Checker::new(Global, local, remote, tie_breaker, role).map(Checker)
+    }
+
+    /// Creates an agent that does not know the credentials of its peer yet, because it makes the
+    /// offer and the answer has not arrived. It answers the checks of the peer, and writes its own
+    /// once [`set_remote`](Self::set_remote) was called. The [module](self) has an example.
+    ///
+    /// # Errors
+    ///
+    /// The first of these that applies:
+    ///
+    /// - [`BuildError::NameLength`]: the username fragment has fewer than 4 or more than 256 bytes.
+    /// - [`BuildError::ColonInName`]: the username fragment has a colon.
+    /// - [`BuildError::PasswordLength`]: the password has fewer than 22 or more than 256 bytes.
+    /// - [`BuildError::OutOfMemory`]: an allocation failed.
+    pub fn offer<'a>(
+        local: impl Into<IceCredentials<'a>>,
+        tie_breaker: u64,
+        role: Role,
+    ) -> Result<Checker, BuildError> {
+        checker::Checker::offer(Global, local.into().core(), tie_breaker, role).map(Checker)
+    }
+
+    /// Sets the credentials of the peer, in place of those that were set before. Answers to checks
+    /// that were written with those are then dropped.
+    ///
+    /// # Errors
+    ///
+    /// The first of these that applies. The agent is then unchanged.
+    ///
+    /// - [`BuildError::NameLength`]: the username fragment has fewer than 4 or more than 256 bytes.
+    /// - [`BuildError::ColonInName`]: the username fragment has a colon.
+    /// - [`BuildError::PasswordLength`]: the password has fewer than 22 or more than 256 bytes.
+    /// - [`BuildError::OutOfMemory`]: an allocation failed.
+    pub fn set_remote<'a>(
+        &mut self,
+        remote: impl Into<IceCredentials<'a>>,
+    ) -> Result<(), BuildError> {
+        self.0.set_remote(remote.into().core())
+    }
+
+    /// Returns `true` if the credentials of the peer are known, so that [`check`](Self::check) does
+    /// not fail with [`CheckError::NoRemote`].
+    pub fn has_remote(&self) -> bool {
+        self.0.has_remote()
     }
 
     /// Returns the role that the agent has now.
     pub fn role(&self) -> Role {
         self.0.role()
+    }
+
+    /// Sets the role. For an agent that learns from the answer to its offer that its peer is lite,
+    /// and so has to control (RFC 8445, section 6.1.1).
+    pub fn set_role(&mut self, role: Role) {
+        self.0.set_role(role);
     }
 
     /// Returns the tie-breaker.
@@ -194,10 +285,22 @@ impl Checker {
     /// The transaction ID must be random and new. `priority` is the one that a peer-reflexive
     /// candidate would have that the peer learns from this check (section 7.1.1). The check
     /// nominates its pair if `nominate` is true and this agent controls.
-    pub fn check(&self, id: TransactionId, to: SocketAddr, priority: u32, nominate: bool) -> Check {
-        let check = Check(granted(self.0.check(id.0, to, priority, nominate)));
+    ///
+    /// # Errors
+    ///
+    /// - [`CheckError::NoRemote`]: the credentials of the peer, which sign a check, are not known
+    ///   yet. Call [`set_remote`](Self::set_remote) when the answer arrives.
+    /// - [`CheckError::OutOfMemory`]: an allocation failed.
+    pub fn check(
+        &self,
+        id: TransactionId,
+        to: SocketAddr,
+        priority: u32,
+        nominate: bool,
+    ) -> Result<Check, CheckError> {
+        let check = Check(self.0.check(id.0, to, priority, nominate)?);
         event!(%id, %to, nominates = check.nominates(), "wrote a check");
-        check
+        Ok(check)
     }
 
     /// Writes a Binding indication with FINGERPRINT, which keeps the path of a selected pair open
@@ -229,12 +332,13 @@ impl Checker {
     ///
     /// - Bytes that are not a message, messages without a valid FINGERPRINT, and methods other than
     ///   Binding are dropped.
-    /// - A check is accepted if its USERNAME has the names of this agent and its peer in this
-    ///   order, and it is signed with the password of this agent. It must have no attribute that
-    ///   must be understood and is not, and it must have PRIORITY. If it says that the peer has the
-    ///   role of this agent, the agent with the larger tie-breaker becomes controlling, and this one
-    ///   if they are equal (RFC 8445, section 7.3.1.1): either this agent switches its role, or its
-    ///   answer is a 487.
+    /// - A check is accepted if its USERNAME begins with the name of this agent and a colon, and it
+    ///   is signed with the password of this agent. It must have no attribute that must be
+    ///   understood and is not, and it must have PRIORITY. If it says that the peer has the role of
+    ///   this agent, the agent with the larger tie-breaker becomes controlling, and this one if
+    ///   they are equal (RFC 8445, section 7.3.1.1): either this agent switches its role, or its
+    ///   answer is a 487. The answer is the same whether or not the credentials of the peer are
+    ///   known.
     /// - A response is dropped if it does not answer `check`, or is not signed by the peer.
     ///   Otherwise it ends the check. After a 487 this agent has the other role than the one that
     ///   the check was sent in (section 7.2.5.1).
@@ -246,7 +350,13 @@ impl Checker {
         check: Option<&Check>,
     ) -> Received<'a> {
         let received = match self.0.receive(bytes, from, check.map(|check| &check.0)) {
-            Ok(received::Received::Check { answer, judged }) => Received::Check {
+            Ok(received::Received::Check {
+                message,
+                answer,
+                judged,
+            }) => Received::Check {
+                fragment: self.0.sender(&message),
+                message: Message(message),
                 answer: answer.into_std(),
                 judged,
             },
@@ -331,6 +441,12 @@ impl Check {
 pub enum Received<'a> {
     /// A check of the peer. Send the answer to the address that the check came from.
     Check {
+        /// The check, for its other attributes.
+        message: Message<'a>,
+        /// The username fragment of the peer: what follows that of this agent and a colon in
+        /// USERNAME. Each check that is accepted has one. If one offer has several answers, it says
+        /// which of them the check belongs to.
+        fragment: Option<&'a [u8]>,
         /// The bytes to send.
         answer: Vec<u8>,
         /// What the check comes to.
@@ -514,8 +630,9 @@ pub enum DropReason {
     UnknownAttribute,
     /// It is a response, and not to the check that was passed.
     NotAsked,
-    /// It is a response whose signature is missing or invalid. A refusal by 400 or 401 is not
-    /// signed, so such a check ends by its timeout.
+    /// It is a response whose signature is missing or invalid, or arrives before the credentials of
+    /// the peer are known. A refusal by 400 or 401 is not signed, so such a check ends by its
+    /// timeout.
     WrongSignature,
     /// An allocation failed. Whoever sent the check sends it again.
     OutOfMemory,

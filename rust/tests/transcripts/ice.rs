@@ -32,6 +32,8 @@ impl IceStage {
     pub fn call(&mut self, around: &Around<'_>, words: &[&str]) -> Option<String> {
         match words {
             ["new", words @ ..] => self.build(words),
+            ["offer", words @ ..] => self.offer(words),
+            ["peer", words @ ..] => self.set_remote(words),
             ["role"] => Some(role_name(self.checker.as_ref()?.role()).to_string()),
             ["tie-breaker", word] => {
                 let (checker, tie_breaker) = (self.checker.as_mut()?, number(word)?);
@@ -84,6 +86,42 @@ impl IceStage {
         Some(String::new())
     }
 
+    /// `offer NAME PASSWORD TIE-BREAKER ROLE`
+    fn offer(&mut self, words: &[&str]) -> Option<String> {
+        let [name, password, tie_breaker, word] = words else {
+            return None;
+        };
+        let local = (text(name), text(password));
+        let (tie_breaker, role) = (number(tie_breaker)?, role(word)?);
+        let made = until_enough(
+            || Checker::offer((&*local.0, &*local.1), tie_breaker, role),
+            |made| matches!(made, Err(BuildError::OutOfMemory)),
+        );
+        match made {
+            Ok(checker) => (self.checker, self.checks) = (Some(checker), Vec::new()),
+            Err(why) => return Some(format!("{why:?}")),
+        }
+        Some(String::new())
+    }
+
+    /// `peer NAME PASSWORD`
+    fn set_remote(&mut self, words: &[&str]) -> Option<String> {
+        let [name, password] = words else {
+            return None;
+        };
+        let remote = (text(name), text(password));
+        let checker = self.checker.as_mut()?;
+        let set = until_enough(
+            || checker.set_remote((&*remote.0, &*remote.1)),
+            |set| matches!(set, Err(BuildError::OutOfMemory)),
+        );
+        match set {
+            Ok(()) if checker.has_remote() => Some(String::new()),
+            Ok(()) => None,
+            Err(why) => Some(format!("{why:?}")),
+        }
+    }
+
     /// `check ID ADDRESS PRIORITY [nominates]`
     fn check(&mut self, words: &[&str]) -> Option<String> {
         let [word, to, priority, words @ ..] = words else {
@@ -92,7 +130,14 @@ impl IceStage {
         let (id, to) = (TransactionId::from(id(word)?), address(to)?);
         let priority = u32::try_from(number(priority)?).ok()?;
         let checker = self.checker.as_ref()?;
-        let check = checker.check(id, to, priority, words == ["nominates"]);
+        let written = until_enough(
+            || checker.check(id, to, priority, words == ["nominates"]),
+            |written| matches!(written, Err(CheckError::OutOfMemory)),
+        );
+        let check = match written {
+            Ok(check) => check,
+            Err(why) => return Some(format!("{why:?}")),
+        };
         let (role, nominates) = (role_name(check.role()), check.nominates());
         let nominates = if nominates { " nominates" } else { "" };
         let is_so = check.id() == id && check.to() == to;
@@ -110,8 +155,16 @@ impl IceStage {
             |received| matches!(received, Received::Dropped(DropReason::OutOfMemory)),
         );
         Some(match received {
-            Received::Check { answer, judged } => {
-                format!("{}: {}", of_check(judged), in_words(&answer))
+            Received::Check {
+                message,
+                fragment,
+                answer,
+                judged,
+            } => {
+                let is_named = fragment.is_some() || !matches!(judged, Judged::Accepted { .. });
+                let is_so = is_of(&message, bytes) && is_named;
+                let (judged, answer) = (of_check(judged), in_words(&answer));
+                format!("{judged}: {answer}{}", unless(is_so))
             }
             Received::Response(outcome) => {
                 let nominates = check.is_some_and(Check::nominates);

@@ -4,14 +4,15 @@
 //! agent.
 
 ghost use Rattle.std.specs.Prelude.{◌≡◌, None};
-ghost use Rattle.stun_c_endpoint.specs.Agents.{MakesAgent, SetsTieBreaker, controlling_answer};
+ghost use Rattle.stun_c_endpoint.specs.Agents.{MakesAgent, MakesOffering, SetsPeer};
+ghost use Rattle.stun_c_endpoint.specs.Agents.{SetsTieBreaker, controlling_answer};
 ghost use Rattle.stun_c_endpoint.specs.Checks.{WritesCheck, check_asked};
 ghost use Rattle.stun_c_endpoint.specs.Given.{Fills};
 ghost use Rattle.stun_c_endpoint.specs.Judged.{SeesAs, ice_failed, seen_at};
 ghost use Rattle.stun_c_endpoint.specs.Kept.{agent_in};
 
 use crate::handle::endpoint::EndpointHandle;
-use crate::ice::agent::{Given, controlling, set_tie_breaker};
+use crate::ice::agent::{Given, Side, controlling, set_tie_breaker};
 use crate::ice::judging::judge_at;
 use crate::ice::told::{IceCheck, IceReceived};
 use crate::ice::writing::write_of;
@@ -61,6 +62,63 @@ pub extern "C" fn stunp_ice_checker_new_with(
     given.place(alloc, checker)
 }
 
+/// Creates an agent of ICE from its own credentials alone, its tie-breaker and the role that it
+/// begins with.
+///
+/// Fails with `FullHandle`, then with `NotText` for the name or the password, then with
+/// `BadArgument` for a name of fewer than 4 or more than 256 bytes, for one with a colon, and for a
+/// password of fewer than 22 or more than 256 bytes. Then comes `OutOfMemory`.
+#[unsafe(no_mangle)]
+pub extern "C" fn stunp_ice_checker_offer_with(
+    alloc: Global,
+    checker: &mut EndpointHandle,
+    name: &[u8],
+    password: &[u8],
+    tie_breaker: u64,
+    is_controlling: bool,
+) -> i64
+    ensures { Fills checker.old.kept checker.new.kept result (MakesOffering (record {
+      name = name.now;
+      password = password.now;
+    }) tie_breaker is_controlling) }
+{
+    if let Some(kept) = checker.take(alloc) {
+        checker.put(alloc, kept);
+        return Refusal::FullHandle.code();
+    }
+    let own = Side { name, password };
+    own.place(alloc, tie_breaker, is_controlling, checker)
+}
+
+/// Gives the agent the credentials of its peer. Those that were set before are forgotten.
+///
+/// Fails with `NotText` for the name or the password, then with `BadArgument` for a name of fewer
+/// than 4 or more than 256 bytes, for one with a colon, and for a password of fewer than 22 or more
+/// than 256 bytes. Then comes `OutOfMemory`.
+#[unsafe(no_mangle)]
+pub extern "C" fn stunp_ice_checker_set_peer_with(
+    alloc: Global,
+    checker: &mut EndpointHandle,
+    peer_name: &[u8],
+    peer_password: &[u8],
+) -> i64
+    ensures { SetsPeer (agent_in checker.old.kept) (record {
+      name = peer_name.now;
+      password = peer_password.now;
+    }) result checker.old.kept checker.new.kept }
+{
+    let Some(mut kept) = checker.take(alloc) else {
+        return Refusal::EmptyHandle.code();
+    };
+    let peer = Side {
+        name: peer_name,
+        password: peer_password,
+    };
+    let answer = answers::done(peer.set_at(&mut kept));
+    checker.put(alloc, kept);
+    answer
+}
+
 /// Frees the agent, and makes the handle empty.
 #[unsafe(no_mangle)]
 pub extern "C" fn stunp_ice_checker_clear(alloc: Global, checker: &mut EndpointHandle)
@@ -107,7 +165,8 @@ pub extern "C" fn stunp_ice_checker_set_tie_breaker(
 /// Writes a check to the front of `out`, and returns its length. What the agent needs to judge the
 /// answer is written to `check`.
 ///
-/// Fails with `BadArgument` for the address, then with `OutOfMemory`, then with `BufferTooSmall`.
+/// Fails with `BadArgument` for the address, then with `CannotSign` if the credentials of the peer
+/// are not known yet, then with `OutOfMemory`, then with `BufferTooSmall`.
 #[unsafe(no_mangle)]
 pub extern "C" fn stunp_ice_checker_check_with(
     alloc: Global,

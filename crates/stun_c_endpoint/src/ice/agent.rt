@@ -1,11 +1,13 @@
 //! Creates and reads the agent of ICE that a caller holds.
 
-ghost use Rattle.std.specs.Prelude.{◌≡◌, IfOk, None, Some};
+ghost use Rattle.std.specs.Prelude.{◌≡◌, IfOk, None, OnErr, OnOk, Some};
 ghost use Rattle.stun_c_endpoint.specs.Agents.{MakesAgent, agent_given, agent_refusal};
-ghost use Rattle.stun_c_endpoint.specs.Agents.{SetsTieBreaker, controlling_answer};
+ghost use Rattle.stun_c_endpoint.specs.Agents.{MakesOffering, SetsPeer, SetsTieBreaker};
+ghost use Rattle.stun_c_endpoint.specs.Agents.{controlling_answer, knowing_agent, offering_agent};
 ghost use Rattle.stun_c_endpoint.specs.Agents.{is_controlling, refusal_of_building, role_if};
+ghost use Rattle.stun_c_endpoint.specs.Agents.{side_given_refusal};
 ghost use Rattle.stun_c_endpoint.specs.Kept.{agent_of};
-ghost use Rattle.stun_c_endpoint.specs.code.Building.{Builds};
+ghost use Rattle.stun_c_endpoint.specs.code.Building.{Builds, RefusedFor};
 ghost use Rattle.stun_handles.specs.Numbers.{done_answer, number_answer};
 ghost use Rattle.stun_c_endpoint.specs.declared.handle.endpoint.Kept.TheVariants as kind;
 
@@ -36,6 +38,24 @@ pub fn is_controlling(role: Role) -> bool
         Role::Controlling => true,
         Role::Controlled => false,
     }
+}
+
+/// The username fragment and the password of one side. Contracts see bytes.
+#[derive(Drop)]
+pub struct Side<'a> {
+    pub name: &'a [u8],
+    pub password: &'a [u8],
+}
+
+impl<'a> Model for Side<'a> {
+    ghost use Rattle.stun_c_endpoint.specs.Agents.{SideGiven};
+
+    ghost Value = { SideGiven };
+
+    ghost view = { λ side. record {
+      name = side.name.now;
+      password = side.password.now;
+    } };
 }
 
 /// The arguments of a caller. Contracts see bytes and numbers.
@@ -128,6 +148,81 @@ impl<'a> Given<'a> {
         ) {
             Ok(checker) => Ok(checker),
             Err(error) => Err(refusal_of_building(error)),
+        }
+    }
+}
+
+impl<'a> Side<'a> {
+    /// Creates the agent that does not know its peer yet in an empty handle. Returns 0 or the
+    /// number of the error.
+    pub fn place(
+        &self,
+        alloc: Global,
+        tie_breaker: u64,
+        is_controlling: bool,
+        handle: &mut EndpointHandle,
+    ) -> i64
+        requires { handle.old.kept ≡ None }
+        ensures { MakesOffering self.now tie_breaker is_controlling result handle.new.kept }
+    {
+        match self.checker(alloc, tie_breaker, is_controlling) {
+            Ok(checker) => match boxed(alloc, checker) {
+                Ok(made) => {
+                    handle.put(alloc, made);
+                    0
+                }
+                Err(_) => Refusal::OutOfMemory.code(),
+            },
+            Err(refusal) => refusal.code(),
+        }
+    }
+
+    /// Creates the agent.
+    #[tactic(auto, unfolding(crate::specs::Agents::side_given_refusal))]
+    fn checker(
+        &self,
+        alloc: Global,
+        tie_breaker: u64,
+        is_controlling: bool,
+    ) -> Result<Checker<Global>, Refusal>
+        ensures { Builds (side_given_refusal self.now)
+            (offering_agent self.now tie_breaker is_controlling) result }
+    {
+        let local = Credentials {
+            name: text(self.name)?,
+            password: text(self.password)?,
+        };
+        match Checker::offer(alloc, local, tie_breaker, role_if(is_controlling)) {
+            Ok(checker) => Ok(checker),
+            Err(error) => Err(refusal_of_building(error)),
+        }
+    }
+
+    /// Gives the agent the credentials of its peer.
+    #[tactic(auto, unfolding(crate::specs::Agents::side_given_refusal))]
+    fn set(&self, checker: &mut Checker<Global>) -> Result<(), Refusal>
+        ensures refused { RefusedFor (side_given_refusal self.now) result }
+        ensures set { OnOk result (checker.new ≡ knowing_agent checker.old self.now) }
+        ensures err { OnErr result (checker.new ≡ checker.old) }
+    {
+        let remote = Credentials {
+            name: text(self.name)?,
+            password: text(self.password)?,
+        };
+        match checker.set_remote(remote) {
+            Ok(()) => Ok(()),
+            Err(error) => Err(refusal_of_building(error)),
+        }
+    }
+
+    /// Gives the agent of a handle the credentials of its peer.
+    pub fn set_at(&self, kept: &mut Kept) -> Result<(), Refusal>
+        ensures { SetsPeer (agent_of kept.old) self.now (done_answer result) (Some kept.old)
+            (Some kept.new) }
+    {
+        match kept {
+            Kept::Checker(checker) => self.set(checker),
+            _ => Err(Refusal::WrongHandle),
         }
     }
 }

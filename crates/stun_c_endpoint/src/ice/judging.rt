@@ -1,7 +1,7 @@
 //! The call that judges a datagram with an agent of ICE.
 
 ghost use Rattle.std.specs.Prelude.{◌≡◌, IfOk, IfErr, None, Ok, Some, length};
-ghost use Rattle.stun_ice.specs.Received.{checked, responded};
+ghost use Rattle.stun_ice.specs.Received.{given_of, responded};
 ghost use Rattle.stun_handles.specs.Numbers.{number_answer};
 ghost use Rattle.stun_c_endpoint.specs.Checks.{check_given};
 ghost use Rattle.stun_c_endpoint.specs.Judged.{LeavesSeen, SeesAs, TellsMapped, ice_blank};
@@ -16,7 +16,7 @@ use std::alloc::Global;
 use stun_handles::address::Address;
 use stun_ice::check::Check;
 use stun_ice::checker::Checker;
-use stun_ice::received::{Judged, Outcome, Received};
+use stun_ice::received::{Outcome, Received};
 use stun_ice::role::Role;
 use stun_numbers::buffer::put;
 use stun_numbers::id::transaction_id;
@@ -85,9 +85,35 @@ fn judge(
     let from = from.socket()?;
     let check = stored(alloc, has_check, check)?;
     let before = checker.role();
-    match checker.receive(message, from, check.as_ref())? {
-        Received::Check { answer, judged } => {
-            answered(checker, before, answer.as_slice(), judged, out, received)
+    let seen = checker.receive(message, from, check.as_ref())?;
+    tell(checker, before, seen, out, received)
+}
+
+/// Writes what a datagram comes to, at the agent whose role was this one.
+fn tell(
+    checker: &mut Checker<Global>,
+    before: Role,
+    seen: Received<'_, Global>,
+    out: &mut [u8],
+    received: &mut IceReceived,
+) -> Result<u32, Refusal>
+    ensures { LeavesSeen (missing_room (length out.old) (given_of seen.entry))
+        (record { agent = checker.old; given = given_of seen.entry }) (number_answer result)
+        out.old out.new received.old received.new
+        (Some (kind.Checker (record checker.old { role = before })))
+        (Some (kind.Checker checker.new)) }
+{
+    match seen {
+        Received::Check { answer, judged, .. } => {
+            // The answer must fit, or the agent gets its role back.
+            if out.len() < answer.len() {
+                checker.set_role(before);
+                received.needed = answer.len();
+                return Err(Refusal::BufferTooSmall);
+            }
+            put(out, answer.as_slice());
+            received.checked(judged, answer.len());
+            Ok(1)
         }
         Received::Response(outcome) => {
             ended(&outcome, received);
@@ -104,33 +130,6 @@ fn judge(
         // There is no other one in this release.
         _ => Err(Refusal::BadArgument),
     }
-}
-
-/// Writes the answer to a check to the front of the buffer, and its length to the result. If the
-/// buffer has no room for it, only the room that it needs is written, and the agent gets its role
-/// back.
-fn answered(
-    checker: &mut Checker<Global>,
-    before: Role,
-    answer: &[u8],
-    judged: Judged,
-    out: &mut [u8],
-    received: &mut IceReceived,
-) -> Result<u32, Refusal>
-    ensures { LeavesSeen (missing_room (length out.old) (checked answer.now judged))
-        (record { agent = checker.old; given = checked answer.now judged }) (number_answer result)
-        out.old out.new received.old received.new
-        (Some (kind.Checker (record checker.old { role = before })))
-        (Some (kind.Checker checker.new)) }
-{
-    if out.len() < answer.len() {
-        checker.set_role(before);
-        received.needed = answer.len();
-        return Err(Refusal::BufferTooSmall);
-    }
-    put(out, answer);
-    received.checked(judged, answer.len());
-    Ok(1)
 }
 
 /// Writes the outcome of a check of this agent to the result.

@@ -1,18 +1,31 @@
 //! The call that writes a check.
 
-ghost use Rattle.std.specs.Prelude.{Ok};
+ghost use Rattle.std.specs.Prelude.{◌≡◌, Ok};
 ghost use Rattle.stun_handles.specs.Numbers.{length_answer};
 ghost use Rattle.stun_c_endpoint.specs.Checks.{WritesCheck, check_asked};
 ghost use Rattle.stun_c_endpoint.specs.Kept.{agent_of};
+ghost use Rattle.stun_c_endpoint.specs.code.Unwritten.{refusal_of_check};
 
 use crate::handle::endpoint::Kept;
 use crate::ice::told::IceCheck;
 use std::alloc::Global;
 use stun_handles::address::Address;
-use stun_ice::checker::Checker;
+use stun_ice::checker::{CheckError, Checker};
 use stun_numbers::buffer::put;
 use stun_numbers::id::transaction_id;
 use stun_numbers::refusal::Refusal;
+
+/// Converts an error of writing a check.
+fn refusal_of_check(error: CheckError) -> Refusal
+    ensures { result ≡ refusal_of_check error }
+{
+    match error {
+        CheckError::NoRemote => Refusal::CannotSign,
+        CheckError::OutOfMemory => Refusal::OutOfMemory,
+        // There is no other one in this release.
+        _ => Refusal::BadArgument,
+    }
+}
 
 /// Writes a check of the agent of a handle.
 pub fn write_of(
@@ -48,7 +61,10 @@ fn write(
 {
     let to = to.socket()?;
     let id = transaction_id(id)?;
-    let written = checker.check(id, to, priority, nominate)?;
+    let written = match checker.check(id, to, priority, nominate) {
+        Ok(written) => written,
+        Err(error) => return Err(refusal_of_check(error)),
+    };
     let bytes = written.bytes();
     if out.len() < bytes.len() {
         return Err(Refusal::BufferTooSmall);

@@ -6,7 +6,7 @@ ghost use Rattle.stun_ice.specs.Checks.{by_priority, by_signature, is_nominated}
 ghost use Rattle.stun_ice.specs.Checks.{judged_of, role_of, verdict_of};
 
 use crate::checker::Checker;
-use crate::parts::{has_use_candidate, is_understood, priority, rival, username};
+use crate::parts::{has_use_candidate, is_understood, peer_name, priority, rival, username};
 use crate::received::{Judged, Refusal};
 use crate::role::Role;
 use std::alloc::Allocator;
@@ -72,7 +72,9 @@ impl<A: Allocator> Checker<A> {
         let Some(name) = username(check) else {
             return Verdict::Refused(Refusal::BadRequest, None);
         };
-        if name != self.incoming.as_bytes() {
+        // Only the first half of the name counts, so that checks can be answered before the peer's
+        // credentials arrive (RFC 8445, section 7.3).
+        if peer_name(&self.name, name).is_none() {
             return Verdict::Refused(Refusal::Unauthenticated, None);
         }
         self.by_signature(check, place, &attribute)

@@ -141,12 +141,12 @@ impl<A: Allocator + Copy> Checker<A> {
     ///
     /// - Bytes that are no message, or have no right FINGERPRINT, are dropped, and so is another
     ///   method than Binding.
-    /// - A check is accepted if its USERNAME has the names of this agent and its peer in this order,
-    ///   and it is signed with the password of this agent. It must have no attribute that must be
+    /// - A check is accepted if its USERNAME begins with the name of this agent and a colon, and it
+    ///   is signed with the password of this agent. It must have no attribute that must be
     ///   understood and is not, and it must have PRIORITY. If it says that the peer has the role of
     ///   this agent, the one with the larger tie-breaker is to control, and this agent's counts as
     ///   the larger if they are equal (RFC 8445, section 7.3.1.1). Either this agent switches its
-    ///   role, or the peer is told to.
+    ///   role, or the peer is told to. None of this needs the credentials of the peer.
     /// - A response is dropped if it does not answer `check`, or is not signed by the peer. Otherwise
     ///   it ends the check. After a 487 this agent has the other role than the one that the check was
     ///   sent in (section 7.2.5.1).
@@ -199,7 +199,7 @@ impl<A: Allocator + Copy> Checker<A> {
         ensures err { OnErr result (self.new ≡ self.old) }
     {
         match self.judge(bytes, from, check) {
-            Judgement::Check(message, verdict) => self.answered(&message, from, verdict),
+            Judgement::Check(message, verdict) => self.answered(message, from, verdict),
             Judgement::Response(outcome) => {
                 self.role = role_after_outcome(self.role, &outcome);
                 Ok(Received::Response(outcome))
@@ -212,23 +212,27 @@ impl<A: Allocator + Copy> Checker<A> {
     /// Writes the answer to a check, and takes the role that the check leaves.
     fn answered<'a>(
         &mut self,
-        check: &Message<'_>,
+        message: Message<'a>,
         from: SocketAddr,
         verdict: Verdict,
     ) -> Result<Received<'a, A>, AllocError>
         ensures received { IfOk result (λ received. given_of received
-            ≡ given self.old from (Judgement.Check check.now verdict)) }
+            ≡ given self.old from (Judgement.Check message.entry verdict)) }
         ensures role { OnOk result (self.new ≡ record self.old {
-          role = role_left self.old.role (Judgement.Check check.now verdict);
+          role = role_left self.old.role (Judgement.Check message.entry verdict);
         }) }
         ensures err { OnErr result (self.new ≡ self.old) }
     {
         let writer = MessageWriteVec::new(self.alloc);
-        let Ok(answer) = self.answer(check, from, verdict, writer) else {
+        let Ok(answer) = self.answer(&message, from, verdict, writer) else {
             return Err(AllocError);
         };
         let judged = verdict.judged(self.role);
         self.role = verdict.role(self.role);
-        Ok(Received::Check { answer, judged })
+        Ok(Received::Check {
+            message,
+            answer,
+            judged,
+        })
     }
 }

@@ -24,7 +24,10 @@ impl<A: Allocator> Checker<A> {
     pub(super) fn is_signed(&self, response: &Message<'_>) -> bool
         ensures { result ≡ is_signed self.now response.now }
     {
-        match response.validate_integrity_with_prepared_key(&self.peer_password) {
+        let Some(remote) = &self.remote else {
+            return false;
+        };
+        match response.validate_integrity_with_prepared_key(&remote.password) {
             Ok(IntegrityAlgorithm::Sha1) => true,
             Ok(IntegrityAlgorithm::Sha256) => false,
             Err(_) => false,

@@ -13,8 +13,8 @@ const LASTS: Duration = Duration::from_secs(30);
 /// Create it when a pair is selected, and call [`poll`](Self::poll) until it returns
 /// [`ConsentStep::Wait`]. Send the checks once each, and call [`answered`](Self::answered) when the
 /// answer to any of them is [`Outcome::Valid`](super::Outcome::Valid). Checks for consent keep the
-/// path open too, so that no [`keepalive`](super::Checker::keepalive) is needed. It is tested, and not
-/// proved.
+/// path open too, so that no [`keepalive`](super::Checker::keepalive) is needed. It is tested, and
+/// not proved.
 ///
 /// # Examples
 ///

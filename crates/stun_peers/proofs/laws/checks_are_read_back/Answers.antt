@@ -3,4 +3,4 @@ use Rattle.stun_peers.proofs.PeerLemmas.{check_read}
 use Rattle.stun_peers.proofs.laws.checks_are_read_back.Goals as goal
 
 pub returns : goal.returns
-returns c = λ a id priority nominates. check_read a id priority nominates
+returns c = λ a peer id priority nominates. check_read a peer id priority nominates
